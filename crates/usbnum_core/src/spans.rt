@@ -1,10 +1,15 @@
+ghost use Rattle.std.specs.Prelude.{nat_eq};
+ghost use Rattle.std.specs.Ordering.{on, eq_of_both};
+ghost use Rattle.std.specs.Cmp.Lexicographic.{pointwise};
+ghost use Rattle.std.specs.Cmp.Rules.{comparing};
+ghost use Rattle.std.proofs.Common.{rules};
 ghost use Rattle.std.specs.Prelude.{◌≡◌, ◌↔◌, ◌+◌, ◌<◌, ◌≤◌, ℕ, List, [], ◌∷◌, ◌++◌, ◌||◌, ◌&&◌, not, true, false, length, take, drop, IsTrue, IsSome, OnOk, OnErr, MatchOption};
 ghost use Rattle.std.specs.List.{AllWithin};
 ghost use Rattle.std.specs.List.Sorted.{IsStrictlyIncreasing};
 ghost use Rattle.usbnum_core.specs.Spans.{span_has, spans_have, IsSpread, count_to, is_taken, IsLeastOutside, IsRestBefore, IsRestAfter, spliced, IsReach, IsJoined, IsFirstFree, width};
 
 use crate::{NoMemory, Pid, Span};
-use std::alloc::Global;
+use std::alloc::{AllocError, Global};
 use std::marker::Model;
 
 /// A set of product numbers, as spans.
@@ -291,4 +296,28 @@ impl Spans {
     {
         self.parts == other.parts
     }
+}
+
+impl Clone for Spans {
+    ghost is_clone = { λ value copy. copy ≡ value };
+
+    fn clone(&self) -> Result<Spans, AllocError> {
+        Ok(Spans {
+            parts: self.parts.clone()?,
+        })
+    }
+}
+
+impl PartialEq for Spans {
+    ghost eq = { pointwise (eq_of_both (on (λ x. x.first) nat_eq) (on (λ x. x.last) nat_eq)) };
+
+    ghost laws = { Prim.search (comparing, rules) };
+
+    fn eq(&self, other: &Spans) -> bool {
+        self.parts == other.parts
+    }
+}
+
+impl Eq for Spans {
+    ghost laws = { Prim.search (comparing, rules) };
 }
