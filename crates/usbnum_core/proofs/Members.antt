@@ -1,8 +1,8 @@
 -- Which numbers spans have, after an edit in their midst.
 use Rattle.std.proofs.Common.{◌≡◌, ℕ, ◌+◌, ◌-◌, ◌<◌, ◌≤◌, Bool, true, false, leb, List, ◌++◌, length, get_or, take, drop, refl, sym, ap, ◌∙◌, arith, inl, inr}
 use Rattle.std.specs.Prelude.{◌||◌, ◌⊎◌}
-use Rattle.std.specs.List.{between, list_any}
-use Rattle.std.proofs.lemmas.Bool.{cases_lt, le-leb, lt-leb, and_from, and_left, and_right, or_right}
+use Rattle.std.specs.List.{AllWithin, between, list_any}
+use Rattle.std.proofs.lemmas.Bool.{cases_lt, le-leb, lt-leb, leb-true, and_parts, and_from, and_left, and_right, or_right}
 use Rattle.std.proofs.lemmas.List.Edits.{split_between, length-between, get_or-between}
 use Rattle.std.proofs.lemmas.List.Elements.{All-from_get_or}
 use Rattle.std.proofs.lemmas.List.Folds.{list_any-append, list_any_none, list_any_at}
@@ -18,6 +18,16 @@ lacks_below x n low = and_left _ _ (lt-leb _ _ low)
 
 pub lacks_above : (x : Span) (n : ℕ) → x.last < n → span_has x n ≡ false
 lacks_above x n high = and_right _ _ (lt-leb _ _ high)
+
+pub within_of : (x : Span) (n : ℕ) → span_has x n ≡ true → (x.first ≤ n) × (n ≤ x.last)
+within_of x n e = let both = and_parts _ _ e in (leb-true _ _ both.0, leb-true _ _ both.1)
+
+-- no part has a number that all the parts before a place end below, and all from it on begin above
+pub none_between : (xs : List Span) (low high : ℕ) (n : ℕ) → high ≤ low → AllWithin (λ part. part.last < n) xs 0 low → AllWithin (λ part. n < part.first) xs high (length xs) → spans_have xs n ≡ false
+none_between xs low high n le before after = list_any_none (λ part. span_has part n) xs (λ k d lt. elim (cases_lt k low) [
+  | inl early ↦ lacks_above (get_or xs k d) n (before k d (omega arith) early)
+  | inr late ↦ lacks_below (get_or xs k d) n (after k d (omega arith) lt)
+])
 
 -- a list in three, its midst replaced
 pub any_replaced : {X : Type 0} (p : X → Bool) (xs ms : List X) (low high : ℕ) → list_any p (take low xs ++ (ms ++ drop high xs)) ≡ (list_any p (take low xs) || (list_any p ms || list_any p (drop high xs)))

@@ -6,7 +6,8 @@ use Rattle.std.proofs.lemmas.Bool.{cases_lt}
 use Rattle.std.proofs.lemmas.List.{get_or_default}
 use Rattle.std.specs.Option.{option_to_list}
 use Rattle.usbnum_core.specs.declared.number.Span.{Span}
-use Rattle.usbnum_core.specs.Spans.{IsSpread, IsRestBefore, IsRestAfter, spliced}
+use Rattle.usbnum_core.specs.Spans.{IsSpread}
+use Rattle.usbnum_core.specs.Parts.{IsRestBefore, IsRestAfter, spliced}
 
 -- each span begins at the start or later
 pub spread_first : (start : ℕ) (xs : List Span) → IsSpread start xs → (i : ℕ) (d : Span) → i < length xs → start ≤ (get_or xs i d).first

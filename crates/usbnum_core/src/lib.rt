@@ -16,9 +16,8 @@ mod error;
 mod key;
 mod link;
 mod number;
-
+mod parts;
 mod slug;
 mod spans;
 mod text;
 mod title;
-

@@ -132,7 +132,11 @@ impl Vid {
     pub fn new(number: u16) -> Option<Vid>
         ensures { SomeIff result (IsNumber number) number }
     {
-        if number == 0 { None } else { Some(Vid { number }) }
+        if number == 0 {
+            None
+        } else {
+            Some(Vid { number })
+        }
     }
 
     /// The number, from 1 to 65,535.
@@ -166,7 +170,11 @@ impl Pid {
     pub fn new(number: u16) -> Option<Pid>
         ensures { SomeIff result (IsNumber number) number }
     {
-        if number == 0 { None } else { Some(Pid { number }) }
+        if number == 0 {
+            None
+        } else {
+            Some(Pid { number })
+        }
     }
 
     /// The number, from 1 to 65,535.
@@ -190,7 +198,9 @@ impl Pid {
         requires { 1 < self }
         ensures { result + 1 ≡ self }
     {
-        Pid { number: self.number - 1 }
+        Pid {
+            number: self.number - 1,
+        }
     }
 
     // The number after this one.
@@ -198,7 +208,9 @@ impl Pid {
         requires { self < 65535 }
         ensures { result ≡ self + 1 }
     {
-        Pid { number: self.number + 1 }
+        Pid {
+            number: self.number + 1,
+        }
     }
 }
 

@@ -1,7 +1,7 @@
 -- The span joined with the parts that it touches, or put where it touches none.
-use Rattle.std.proofs.Common.{arith}
-use Rattle.usbnum_core.specs.Spans.{IsUnion}
-use Rattle.usbnum_core.proofs.Edits.{union_joined, union_inserted}
+use Rattle.std.proofs.Common.{◌≡◌, ℕ, IsTrue, false, arith, rules}
+use Rattle.usbnum_core.specs.Spans.{span_touches, spans_have}
+use Rattle.usbnum_core.proofs.Unions.{IsUnion, union_joined, union_inserted, untouched}
 use Rattle.usbnum_core.proofs.spans.Spans.add.Goals as goal
 
 joined : (c : goal.After-replace) → IsUnion c.self.inside.parts.items c.args.span c.replace.new.parts.items
@@ -26,3 +26,16 @@ returns-then-low-high-clause-union c = rw (← c.self.view_is) (joined c).number
 
 pub returns-in_ok-insert-clause-union : goal.returns-in_ok-insert-clause-union
 returns-in_ok-insert-clause-union c = rw (← c.self.view_is) (inserted c).numbers
+
+pub returns-then-low-high-clause-spread : goal.returns-then-low-high-clause-spread
+returns-then-low-high-clause-spread c = (joined c).spread
+
+pub returns-in_ok-insert-clause-spread : goal.returns-in_ok-insert-clause-spread
+returns-in_ok-insert-clause-spread c = (inserted c).spread
+
+pub returns-in_err-insert-clause-lone : goal.returns-in_err-insert-clause-lone
+returns-in_err-insert-clause-lone c =
+    let reach = rw c.deref.ensures.value at c.reach-low.ensures in
+    let lone : (n : ℕ) → IsTrue (span_touches c.args.span n) → spans_have c.self.inside.parts.items n ≡ false
+    = untouched _ c.self.invariant _ _ _ _ c.args.span (omega arith) (omega arith) reach (omega arith) (omega arith) (omega arith) in
+    rw (← c.self.view_is) (search rules)

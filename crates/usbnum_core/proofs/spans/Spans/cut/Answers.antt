@@ -1,7 +1,6 @@
 -- What is left of the parts that the span meets.
 use Rattle.std.proofs.Common.{arith, rules}
-use Rattle.usbnum_core.specs.Spans.{IsDifference}
-use Rattle.usbnum_core.proofs.Edits.{difference_cut, difference_none}
+use Rattle.usbnum_core.proofs.Differences.{IsDifference, difference_cut, difference_none}
 use Rattle.usbnum_core.proofs.spans.Spans.cut.Goals as goal
 
 after_cut : (c : goal.In_ok-splice) → IsDifference c.self.inside.parts.items c.args.span c.splice.new.parts.items
@@ -20,3 +19,6 @@ pub returns-else-low-high-clause-difference : goal.returns-else-low-high-clause-
 returns-else-low-high-clause-difference c =
     let reach = rw (c.deref.ensures.value) at c.reach-low.ensures in
     rw (← c.self.view_is) (difference_none c.self.inside.parts.items c.self.invariant c.reach-low.result.0 c.reach-low.result.1 c.args.span (omega arith) (omega arith) (search rules) (omega arith)).numbers
+
+pub returns-in_ok-splice-clause-spread : goal.returns-in_ok-splice-clause-spread
+returns-in_ok-splice-clause-spread c = (after_cut c).spread

@@ -1,7 +1,7 @@
 -- What lies below the free number is taken, and what was passed lies below it.
 use Rattle.std.proofs.Common.{◌+◌, ◌-◌, length}
-use Rattle.usbnum_core.specs.Spans.{IsPassed}
-use Rattle.usbnum_core.proofs.spans.first_free.Given as goal
+use Rattle.usbnum_core.proofs.FirstFree.{IsPassed}
+use Rattle.usbnum_core.proofs.parts.first_free.Given as goal
 
 abbrev pub invariant-loop-part : goal.invariant-loop-part
 invariant-loop-part l = IsPassed l.parts l.numbers l.part l.place l.free
