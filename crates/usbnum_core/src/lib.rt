@@ -19,5 +19,7 @@ mod number;
 mod parts;
 mod slug;
 mod spans;
+#[cfg(test)]
+mod tests;
 mod text;
 mod title;
