@@ -3,23 +3,29 @@
 //! No call here ends the process or waits, and each that may allocate says so by [`NoMemory`].
 #![tactic(auto)]
 
+pub use code::parse_code;
 pub use error::NoMemory;
 pub use key::{Key, KeyRule};
 pub use link::{Link, LinkRule};
-pub use number::{Number, Pid, Span, Vid, parse_code, parse_pid, parse_vid};
+pub use number::{Number, Span};
+pub use pid::{Pid, parse_pid};
 pub use slug::{Slug, SlugRule};
 pub use spans::Spans;
 pub use text::{Text, TextRule};
 pub use title::{Title, TitleRule};
+pub use vid::{Vid, parse_vid};
 
+mod code;
 mod error;
 mod key;
 mod link;
 mod number;
 mod parts;
+mod pid;
 mod slug;
 mod spans;
 #[cfg(test)]
 mod tests;
 mod text;
 mod title;
+mod vid;

@@ -1,0 +1,88 @@
+ghost use Rattle.std.specs.Prelude.{◌≡◌, ◌+◌, ◌<◌, ℕ, Some};
+ghost use Rattle.std.specs.Option.{SomeIff};
+ghost use Rattle.usbnum_core.specs.Number.{IsNumber, number_of, digits_of};
+
+use crate::code::{ascii_text, four_digits, parse_code};
+use std::fmt;
+use std::marker::Model;
+
+/// The number of a product among its vendor's, from 1 to 65,535.
+#[derive(Clone, Copy, Debug, PartialEq, Eq, PartialOrd, Ord, Hash)]
+pub struct Pid {
+    number: u16,
+}
+
+impl Model for Pid {
+    ghost Value = { ℕ };
+
+    ghost view = { λ a. a.number };
+
+    ghost invariant = { λ a. IsNumber a.number };
+
+    ghost inverse = { λ n. record { number = n } };
+}
+
+/// The product number that exactly four hexadecimal digits of either case stand for; None for `0000` and any other text.
+pub fn parse_pid(text: &[u8]) -> Option<Pid>
+    ensures { result ≡ number_of text.now }
+{
+    Pid::new(parse_code(text)?)
+}
+
+impl Pid {
+    /// The number as a product number; None for 0.
+    pub fn new(number: u16) -> Option<Pid>
+        ensures { SomeIff result (IsNumber number) number }
+    {
+        if number == 0 {
+            None
+        } else {
+            Some(Pid { number })
+        }
+    }
+
+    /// The number, from 1 to 65,535.
+    pub fn get(&self) -> u16
+        ensures number { result ≡ self.now }
+        ensures valid { IsNumber result }
+    {
+        self.number
+    }
+
+    /// Four lower-case hexadecimal digits, which `parse_pid` reads back.
+    pub fn digits(&self) -> [u8; 4]
+        ensures digits { result ≡ digits_of self.now }
+        ensures reads_back { number_of result ≡ Some self.now }
+    {
+        four_digits(self.get())
+    }
+
+    // The number before this one.
+    pub(crate) fn before(self) -> Pid
+        requires { 1 < self }
+        ensures { result + 1 ≡ self }
+    {
+        Pid {
+            number: self.get() - 1,
+        }
+    }
+
+    // The number after this one.
+    pub(crate) fn after(self) -> Pid
+        requires { self < 65535 }
+        ensures { result ≡ self + 1 }
+    {
+        Pid {
+            number: self.get() + 1,
+        }
+    }
+}
+
+/// Four lower-case hexadecimal digits: `00ff`.
+impl fmt::Display for Pid {
+    ghost output = { λ number. Some (digits_of number) };
+
+    fn fmt<W: fmt::Write>(&self, f: &mut fmt::Formatter<W>) -> fmt::Result {
+        f.write_str(ascii_text(&self.digits()))
+    }
+}
