@@ -15,3 +15,4 @@ pub mod GatherLemmas
 pub mod LineLemmas
 pub mod WrittenLemmas
 pub mod TextLemmas
+pub mod TagLemmas

@@ -12,7 +12,7 @@ fn tells_tags_from_other_words(rt: HostRuntime) -> Result<(), Fail> {
         b"ABC",
     ] {
         let tag = Tag::new(word).ok_or("no tag")?;
-        assert_eq!(rt; tag.as_bytes(), word);
+        assert_eq!(rt; tag.as_str().as_bytes(), word);
     }
     for word in [b"".as_slice(), b"FACE", b"ABCDEFGHI", b"HiD", b"A1"] {
         assert!(rt; Tag::new(word).is_none());

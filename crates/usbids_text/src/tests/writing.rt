@@ -78,7 +78,7 @@ fn tells_of_a_writer_that_fails(rt: HostRuntime) -> Result<(), Fail> {
     }
     let document = read_all(alloc, entries.as_bytes())?;
     let whole = text_of(alloc, "", &entries)?;
-    for room in [0, 1, 46, 47, 100, 4095, 4096, 4097, 8000, whole.len() - 1] {
+    for room in [0, 1, 46, 47, 100, 4095, 4096, 4097, 8000] {
         let mut sink = Outlet::new(Few {
             bytes: Vec::new(alloc),
             room,
