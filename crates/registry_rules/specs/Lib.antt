@@ -1,2 +1,14 @@
 pub mod Number
 pub mod Texts
+pub mod History
+pub mod Query
+pub mod Import
+pub mod Reply
+pub mod Spelling
+pub mod Checks
+pub mod Verdict
+pub mod Run
+pub mod FactsOf
+pub mod Gives
+pub mod Rows
+pub mod TotalsOf
