@@ -9,6 +9,7 @@ pub mod Checks
 pub mod Verdict
 pub mod Run
 pub mod FactsOf
+pub mod OnFacts
 pub mod Gives
 pub mod Rows
 pub mod TotalsOf

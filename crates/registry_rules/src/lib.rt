@@ -23,6 +23,7 @@ pub use verdict::{Reply, Verdict};
 
 mod change;
 mod changing;
+mod checks;
 mod deed;
 mod facts;
 mod founding;
@@ -34,6 +35,8 @@ mod order;
 mod record;
 mod refusal;
 mod reply;
+mod rows;
+mod span_rows;
 mod spelling;
 mod stop;
 mod text;

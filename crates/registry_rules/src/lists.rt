@@ -1,4 +1,4 @@
-ghost use Rattle.std.specs.Prelude.{◌≡◌, ◌==◌, ◌<◌, ◌≤◌, ◌↔◌, IsSome, IfSome, length};
+ghost use Rattle.std.specs.Prelude.{◌≡◌, ◌≤◌, ◌↔◌, ℕ, List, IsTrue, IsSome, IfSome, length};
 ghost use Rattle.std.specs.List.{list_any};
 ghost use Rattle.std.specs.Str.{bytes_eq};
 
@@ -28,6 +28,18 @@ impl Curators {
         ensures { result ≡ list_any (bytes_eq slug.now) self.now }
     {
         self.slugs.iter().any(|other| slug == other)
+    }
+
+    pub fn len(&self) -> usize
+        ensures { result ≡ length self.now }
+    {
+        self.slugs.len()
+    }
+
+    pub fn is_empty(&self) -> bool
+        ensures { IsTrue result ↔ (length self.now ≡ 0) }
+    {
+        self.slugs.is_empty()
     }
 
     pub fn as_slice(&self) -> &[Slug]
@@ -69,6 +81,18 @@ impl Licences {
         ensures { result ≡ list_any (bytes_eq title.now) self.now }
     {
         self.titles.iter().any(|other| title == other)
+    }
+
+    pub fn len(&self) -> usize
+        ensures { result ≡ length self.now }
+    {
+        self.titles.len()
+    }
+
+    pub fn is_empty(&self) -> bool
+        ensures { IsTrue result ↔ (length self.now ≡ 0) }
+    {
+        self.titles.is_empty()
     }
 
     pub fn as_slice(&self) -> &[Title]
