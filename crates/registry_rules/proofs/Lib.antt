@@ -1,2 +1,4 @@
 pub mod SpanNumbers
 pub mod LeastOwned
+pub mod ItemWalks
+pub mod Bridge

@@ -27,6 +27,7 @@ mod checks;
 mod deed;
 mod facts;
 mod founding;
+mod importing;
 mod item;
 mod judging;
 mod lists;
