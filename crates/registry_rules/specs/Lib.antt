@@ -8,6 +8,7 @@ pub mod Spelling
 pub mod Checks
 pub mod Verdict
 pub mod Run
+pub mod Laws
 pub mod FactsOf
 pub mod Gives
 pub mod Rows
