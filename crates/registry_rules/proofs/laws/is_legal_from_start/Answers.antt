@@ -1,3 +1,4 @@
+use Rattle.registry_rules.proofs.RowsLemmas.{grant_ok}
 use Rattle.registry_rules.proofs.RunLemmas.{legal_founded}
 use Rattle.registry_rules.proofs.laws.is_legal_from_start.Goals as goal
 
