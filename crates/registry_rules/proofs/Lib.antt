@@ -1,2 +1,5 @@
 pub mod RunLemmas
 pub mod RowsLemmas
+pub mod ImportLemmas
+pub mod SpanLemmas
+pub mod FollowLemmas
