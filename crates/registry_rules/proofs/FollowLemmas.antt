@@ -1,14 +1,13 @@
 -- What an accepted act says of the history before it.
-use Rattle.std.proofs.Common.{◌≡◌, ℕ, ◌+◌, List, [], ◌∷◌, Option, Some, None, Result, Ok, Bool, true, false, length, refl, ap, sym, ◌∙◌, subst}
+use Rattle.std.proofs.Common.{◌≡◌, ℕ, ◌+◌, List, [], ◌∷◌, Option, Some, None, Ok, true, false, length, refl, ap, sym, ◌∙◌, subst}
 use Rattle.std.specs.Prelude.{nat_lt, is_some, option_and_then}
 use Rattle.std.specs.Option.{option_map}
 use Rattle.std.specs.List.{AllByRecursion}
 use Rattle.usbnum_core.specs.declared.number.Number.{Number}
-use Rattle.usbnum_core.specs.declared.number.Span.{Span}
 use Rattle.usbnum_core.specs.Spans.{span_has}
 use Rattle.registry_rules.specs.Number.{number, name_of, span_name_of}
 use Rattle.registry_rules.specs.History.{History}
-use Rattle.registry_rules.specs.Query.{owner_of, is_held, org_of, enrolled, asked, petition_of, open_count, vendors, has_vendor, vendor_meant, licences, is_licence, is_fixed, is_reserved}
+use Rattle.registry_rules.specs.Query.{owner_of, org_of, enrolled, asked, petition_of, open_count, vendors, has_vendor, vendor_meant, licences, is_licence, is_fixed, is_reserved}
 use Rattle.registry_rules.specs.Import.{Standing, classes_from}
 use Rattle.registry_rules.specs.Verdict.{verdict, outcome, standing_of, standing_at, org_owning, org_petitioning, least_for, number_chosen, pid_chosen, meets_fixed, all_reserved, least_owned, new_org, new_petition, new_card}
 use Rattle.registry_rules.specs.Run.{Legal, request_of}
@@ -29,7 +28,6 @@ use Rattle.registry_rules.specs.declared.order.Request.{Request}
 use Rattle.registry_rules.specs.declared.record.Org.{Org}
 use Rattle.registry_rules.specs.declared.record.Petition.{Petition}
 use Rattle.registry_rules.specs.declared.record.PetitionState.TheVariants.{Open}
-use Rattle.registry_rules.specs.declared.record.Card.{Card}
 use Rattle.registry_rules.specs.declared.verdict.Verdict.TheVariants.{New}
 
 -- What each kind of act says.
@@ -142,7 +140,7 @@ can_grant : (h : History) (named : Option ℕ) (found : Option Petition) (petiti
 can_grant h named found petition standing there picked =
     let is = mapped (standing_of h) (number_chosen named found (least_for h found)) standing picked in
     let chosen : number_chosen named (Some petition) (least_for h (Some petition)) ≡ Some is.0
-      = subst (λ (f : Option Petition). number_chosen named f (least_for h f) ≡ Some is.0) there is.1 in
+    = subst (λ (f : Option Petition). number_chosen named f (least_for h f) ≡ Some is.0) there is.1 in
     let same : is.0 ≡ number petition.vid is.0.pid = chosen_is named petition (least_for h (Some petition)) is.0 chosen in
     subst (λ (s : Standing). s ≡ standing_at h petition.vid s.number.pid) is.2 (ap (standing_of h) same)
 
@@ -157,22 +155,22 @@ follows h caller (AmendOrg org title site) act e =
     let is = amend_org_ok (org_of h org) caller title site act e in
     let slug : is.org.slug ≡ org = slug_is h org is.org is.there in
     subst (Follows h caller) (sym is.does)
-      (record { before = is.org; there = ap (org_of h) slug ∙ is.there; keeper_before = is.keeper; keeper = is.keeper })
+    (record { before = is.org; there = ap (org_of h) slug ∙ is.there; keeper_before = is.keeper; keeper = is.keeper })
 follows h caller (Ask org want title terms vendor) act e =
     let vid = vendor_meant h vendor in
     let is = ask_ok (org_of h org) (has_vendor h vid) (is_licence h terms.licence) (open_count h org) (length (asked h)) (option_map (standing_at h vid) want) caller (new_petition vid org want title terms) act e in
     subst (Follows h caller) (sym is.does)
-      (record { org = is.org; there = is.there; keeper = is.keeper; vendor = is.vendor; licence = is.licence; few_open = is.few_open; below = is.below; next = refl; is_open = refl })
+    (record { org = is.org; there = is.there; keeper = is.keeper; vendor = is.vendor; licence = is.licence; few_open = is.few_open; below = is.below; next = refl; is_open = refl })
 follows h caller (Grant id named) act e =
     let is = grant_ok h.founding.curators h.founding.vendor (petition_of h id) (option_map (standing_of h) (number_chosen named (petition_of h id) (least_for h (petition_of h id)))) caller id act e in
     let same : is.standing ≡ standing_at h is.petition.vid is.standing.number.pid = can_grant h named (petition_of h id) is.petition is.standing is.there is.picked in
     subst (Follows h caller) (sym is.does)
-      (record {
-        there = is.there;
-        was_open = is.was_open;
-        fits = subst (λ (s : Standing). CanBeGiven s is.petition.org) same is.fits;
-        named = ap (λ (s : Standing). name_of h.founding.vendor s.number) same;
-      })
+    (record {
+      there = is.there;
+      was_open = is.was_open;
+      fits = subst (λ (s : Standing). CanBeGiven s is.petition.org) same is.fits;
+      named = ap (λ (s : Standing). name_of h.founding.vendor s.number) same;
+    })
 follows h caller (Decline id) act e =
     let is = decline_ok h.founding.curators (petition_of h id) caller id act e in
     subst (Follows h caller) (sym is.does) (record { there = is.there; was_open = is.was_open })
@@ -191,27 +189,27 @@ follows h caller (Reserve span vendor) act e =
     let vid = vendor_meant h vendor in
     let is = reserve_ok h.founding.curators h.founding.vendor (has_vendor h vid) (meets_fixed h vid span) (least_owned h vid span) caller vid span act e in
     subst (Follows h caller) (sym is.does)
-      (record {
-        vendor = is.vendor;
-        unfixed = none_of_span (λ pid. is_fixed h (number vid pid)) span is.unfixed;
-        unowned = none_in_span (λ pid. is_some (owner_of h (number vid pid))) span is.unowned;
-        named = refl;
-      })
+    (record {
+      vendor = is.vendor;
+      unfixed = none_of_span (λ pid. is_fixed h (number vid pid)) span is.unfixed;
+      unowned = none_in_span (λ pid. is_some (owner_of h (number vid pid))) span is.unowned;
+      named = refl;
+    })
 follows h caller (Release span vendor) act e =
     let vid = vendor_meant h vendor in
     let is = release_ok h.founding.curators h.founding.vendor (has_vendor h vid) (meets_fixed h vid span) (all_reserved h vid span) caller vid span act e in
     subst (Follows h caller) (sym is.does)
-      (record {
-        vendor = is.vendor;
-        unfixed = none_of_span (λ pid. is_fixed h (number vid pid)) span is.unfixed;
-        reserved = all_of_span (λ pid. is_reserved h (number vid pid)) span is.reserved;
-        named = refl;
-      })
+    (record {
+      vendor = is.vendor;
+      unfixed = none_of_span (λ pid. is_fixed h (number vid pid)) span is.unfixed;
+      reserved = all_of_span (λ pid. is_reserved h (number vid pid)) span is.reserved;
+      named = refl;
+    })
 follows h caller (Import org items vendor) act e =
     let vid = vendor_meant h vendor in
     let is = import_ok h.founding.curators (org_of h org) (has_vendor h vid) (classes_from (standing_at h vid) [] items) caller vid org items act e in
     subst (Follows h caller) (sym is.does)
-      (record { receiver = is.receiver; there = is.there; vendor = is.vendor; each = all_fresh (standing_at h vid) [] items; apart = all_apart (standing_at h vid) [] items })
+    (record { receiver = is.receiver; there = is.there; vendor = is.vendor; each = all_fresh (standing_at h vid) [] items; apart = all_apart (standing_at h vid) [] items })
 follows h caller (AddVendor vid name) act e =
     let is = add_vendor_ok h.founding.curators (has_vendor h vid) (length (vendors h)) caller vid name act e in
     subst (Follows h caller) (sym is.does) (record { unknown = is.unknown; below = is.below })

@@ -2,7 +2,7 @@
 use Rattle.std.proofs.Common.{◌≡◌, ℕ, List, [], ◌∷◌, Option, Some, None, Bool, true, false, refl, sym, ap, ◌∙◌, subst, cond, inl, inr, ⊎_elim, ◌⊎◌}
 use Rattle.std.specs.Prelude.{nat_eq, is_none, is_some, find, ◌&&◌, ◌||◌, if◌then◌else◌}
 use Rattle.std.specs.List.{list_any, AllByRecursion}
-use Rattle.std.proofs.lemmas.Bool.{eqb-true, eq-eqb, or_parts, or_from, or_right, cases_Bool, both_ways}
+use Rattle.std.proofs.lemmas.Bool.{eqb-true, eq-eqb, or_from, or_right, cases_Bool, both_ways}
 use Rattle.usbnum_core.specs.declared.number.Number.{Number}
 use Rattle.registry_rules.specs.Query.{item_of}
 use Rattle.registry_rules.specs.Import.{Standing, is_doubled, class_of, classes_from, fresh_of}
@@ -45,9 +45,9 @@ pub all_fresh : (standing : ℕ → Standing) (before items : List Item) → All
 all_fresh standing before [] = tt
 all_fresh standing before (item ∷ items) =
     each_step (IsFreshItem standing) (class_of (standing item.code) before item) (classes_from standing (item ∷ before) items) item items
-      (λ e. let t = tests_of (standing item.code) before item e in
-        record { code = t.0; titled = t.1; unreserved = t.3; unowned = t.4 })
-      (all_fresh standing (item ∷ before) items)
+    (λ e. let t = tests_of (standing item.code) before item e in
+    record { code = t.0; titled = t.1; unreserved = t.3; unowned = t.4 })
+    (all_fresh standing (item ∷ before) items)
 
 -- No two fresh items have one code.
 
@@ -80,8 +80,8 @@ no_more : (standing : ℕ → Standing) (before items : List Item) (code : ℕ) 
 no_more standing before [] code there = refl
 no_more standing before (item ∷ items) code there =
     code_step (class_of (standing item.code) before item) (classes_from standing (item ∷ before) items) item items code
-      (λ e. other_code before item.code code there (tests_of (standing item.code) before item e).2)
-      (no_more standing (item ∷ before) items code (or_right (nat_eq item.code code && is_some item.title) (is_doubled before code) there))
+    (λ e. other_code before item.code code there (tests_of (standing item.code) before item e).2)
+    (no_more standing (item ∷ before) items code (or_right (nat_eq item.code code && is_some item.title) (is_doubled before code) there))
 
 apart_step : (class : ItemClass) (classes : List ItemClass) (item : Item) (items : List Item) →
     (class ≡ Fresh → has_code (fresh_of classes items) item.code ≡ false) → AreApart (fresh_of classes items) → AreApart (fresh_of (class ∷ classes) (item ∷ items))
@@ -100,9 +100,9 @@ pub all_apart : (standing : ℕ → Standing) (before items : List Item) → Are
 all_apart standing before [] = tt
 all_apart standing before (item ∷ items) =
     apart_step (class_of (standing item.code) before item) (classes_from standing (item ∷ before) items) item items
-      (λ e. no_more standing (item ∷ before) items item.code
-        (doubled_now item.code item.title (is_doubled before item.code) (tests_of (standing item.code) before item e).1))
-      (all_apart standing (item ∷ before) items)
+    (λ e. no_more standing (item ∷ before) items item.code
+    (doubled_now item.code item.title (is_doubled before item.code) (tests_of (standing item.code) before item e).1))
+    (all_apart standing (item ∷ before) items)
 
 -- The item that a number has among the fresh ones.
 

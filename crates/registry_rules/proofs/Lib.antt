@@ -3,3 +3,5 @@ pub mod RowsLemmas
 pub mod ImportLemmas
 pub mod SpanLemmas
 pub mod FollowLemmas
+pub mod NumberLemmas
+pub mod CountLemmas

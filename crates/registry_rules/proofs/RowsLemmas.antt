@@ -1,6 +1,6 @@
 -- What an order's row says where it accepts: which checks passed, and what the act is.
-use Rattle.std.proofs.Common.{◌≡◌, ℕ, ◌+◌, ◌<◌, List, [], ◌∷◌, Option, Some, None, Result, Ok, Err, Bool, true, false, length, refl, ap, sym, ◌∙◌}
-use Rattle.std.specs.Prelude.{not, nat_lt, nat_le, is_none, ◌≤◌}
+use Rattle.std.proofs.Common.{◌≡◌, ℕ, ◌+◌, List, Option, Some, None, Result, Ok, Err, Bool, true, false, length, refl, sym}
+use Rattle.std.specs.Prelude.{not, nat_lt, nat_le}
 use Rattle.std.specs.List.{list_any}
 use Rattle.std.specs.Str.{bytes_eq}
 use Rattle.std.proofs.lemmas.Slice.Eq.{bytes_eq-Decides}
@@ -8,7 +8,7 @@ use Rattle.usbnum_core.specs.declared.number.Span.{Span}
 use Rattle.registry_rules.specs.Number.{name_of, span_name_of}
 use Rattle.registry_rules.specs.Query.{is_open}
 use Rattle.registry_rules.specs.Import.{Standing, fresh_of, tally_of}
-use Rattle.registry_rules.specs.Checks.{◌>>=◌, Passed, ◌>>◌, check, present, open_petition, by_known_keeper, by_keeper, not_anothers, can_be_given, wanted_can_be_given, held_by_keeper, none_owned, enrol_row, amend_org_row, ask_row, grant_row, decline_row, withdraw_row, amend_row, return_row, reserve_row, release_row, import_row, add_vendor_row, add_licence_row}
+use Rattle.registry_rules.specs.Checks.{◌>>=◌, Passed, ◌>>◌, check, present, open_petition, by_known_keeper, not_anothers, can_be_given, wanted_can_be_given, held_by_keeper, none_owned, enrol_row, amend_org_row, ask_row, grant_row, decline_row, withdraw_row, amend_row, return_row, reserve_row, release_row, import_row, add_vendor_row, add_licence_row}
 use Rattle.registry_rules.specs.declared.deed.Act.{Act}
 use Rattle.registry_rules.specs.declared.deed.Act.TheVariants.{Enrolled, OrgAmended, Asked, Granted, Declined, Withdrawn, CardAmended, Returned, Reserved, Released, Imported, VendorAdded, LicenceAdded}
 use Rattle.registry_rules.specs.declared.item.Item.{Item}

@@ -1,6 +1,11 @@
 -- The laws of histories, each as one statement.
-use Rattle.std.specs.Prelude.{◌≡◌, List}
+use Rattle.std.specs.Prelude.{◌≡◌, ℕ, ◌+◌, List, Some, Bool, false, ◌&&◌, not, is_some, is_none}
+use Rattle.std.specs.List.{Contains}
+use Rattle.usbnum_core.specs.Spans.{count_to}
+use Rattle.usbnum_core.specs.declared.number.Number.{Number}
+use Rattle.registry_rules.specs.Number.{number}
 use Rattle.registry_rules.specs.History.{History, founded, with_deed}
+use Rattle.registry_rules.specs.Query.{receiver, owner_of, is_held, is_reserved, is_free}
 use Rattle.registry_rules.specs.Reply.{act_text}
 use Rattle.registry_rules.specs.Verdict.{verdict}
 use Rattle.registry_rules.specs.Run.{Legal, after, after_one, answer_one}
@@ -28,3 +33,26 @@ abbrev pub IsKeptForGood : Type 0
 IsKeptForGood = (h : History) (request : Request) (deed : Deed) (between : List Request) → verdict h request ≡ New deed →
     (after_one (after (with_deed h deed) between) request ≡ after (with_deed h deed) between)
     × (answer_one (after (with_deed h deed) between) request ≡ Done (act_text deed.act))
+
+-- in a legal history all grants and imports of a number name one organisation, which owns it
+abbrev pub HasOneOrganisation : Type 0
+HasOneOrganisation = (h : History) (n : Number) (deed : Deed) (org : List ℕ) → Legal h →
+    Contains h.deeds deed → receiver n deed.act ≡ Some org → owner_of h n ≡ Some org
+
+-- owned, and not held
+abbrev pub is_returned : History → Number → Bool
+is_returned h n = is_some (owner_of h n) && not (is_held h n)
+
+-- how many of the vendor's product numbers, 1 to 65,535, pass the test
+abbrev pub count_of : (Number → Bool) → ℕ → ℕ
+count_of test vid = count_to (λ pid. test (number vid pid)) 65535
+
+-- the free, reserved, held and returned numbers of a vendor are all of its numbers
+abbrev pub HasFourStates : Type 0
+HasFourStates = (h : History) (vid : ℕ) → Legal h →
+    count_of (is_free h) vid + count_of (is_reserved h) vid + count_of (is_held h) vid + count_of (is_returned h) vid ≡ 65535
+
+-- in a legal history no number is both owned and reserved, and only an owned one is held
+abbrev pub IsOwnedOrReserved : Type 0
+IsOwnedOrReserved = (h : History) (n : Number) → Legal h →
+    ((is_some (owner_of h n) && is_reserved h n) ≡ false) × ((is_held h n && is_none (owner_of h n)) ≡ false)
