@@ -5,3 +5,4 @@ pub mod SpanLemmas
 pub mod FollowLemmas
 pub mod NumberLemmas
 pub mod CountLemmas
+pub mod PetitionLemmas
