@@ -2,3 +2,12 @@ pub mod SpanNumbers
 pub mod LeastOwned
 pub mod ItemWalks
 pub mod Bridge
+pub mod RunLemmas
+pub mod RowsLemmas
+pub mod ImportLemmas
+pub mod SpanLemmas
+pub mod FollowLemmas
+pub mod NumberLemmas
+pub mod CountLemmas
+pub mod PetitionLemmas
+pub mod ChangeLemmas

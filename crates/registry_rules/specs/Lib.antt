@@ -8,8 +8,10 @@ pub mod Spelling
 pub mod Checks
 pub mod Verdict
 pub mod Run
+pub mod Laws
 pub mod FactsOf
 pub mod OnFacts
 pub mod Gives
 pub mod Rows
+pub mod Changes
 pub mod TotalsOf

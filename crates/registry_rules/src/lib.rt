@@ -30,6 +30,7 @@ mod founding;
 mod importing;
 mod item;
 mod judging;
+pub mod laws;
 mod lists;
 mod name;
 mod order;
