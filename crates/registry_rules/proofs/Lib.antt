@@ -7,3 +7,7 @@ pub mod NumberLemmas
 pub mod CountLemmas
 pub mod PetitionLemmas
 pub mod OrderLemmas
+pub mod SpanNumbers
+pub mod LeastOwned
+pub mod ItemWalks
+pub mod Bridge

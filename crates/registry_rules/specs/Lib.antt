@@ -10,6 +10,7 @@ pub mod Verdict
 pub mod Run
 pub mod Laws
 pub mod FactsOf
+pub mod OnFacts
 pub mod Gives
 pub mod Rows
 pub mod TotalsOf
