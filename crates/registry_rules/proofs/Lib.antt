@@ -11,3 +11,4 @@ pub mod NumberLemmas
 pub mod CountLemmas
 pub mod PetitionLemmas
 pub mod ChangeLemmas
+pub mod OrderLemmas
