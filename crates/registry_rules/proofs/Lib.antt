@@ -6,3 +6,4 @@ pub mod FollowLemmas
 pub mod NumberLemmas
 pub mod CountLemmas
 pub mod PetitionLemmas
+pub mod SpellingLemmas
