@@ -7,3 +7,5 @@ pub mod NumberLemmas
 pub mod CountLemmas
 pub mod PetitionLemmas
 pub mod SpellingLemmas
+pub mod FieldLemmas
+pub mod OrderLemmas
