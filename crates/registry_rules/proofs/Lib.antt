@@ -11,4 +11,7 @@ pub mod NumberLemmas
 pub mod CountLemmas
 pub mod PetitionLemmas
 pub mod ChangeLemmas
+pub mod SpellingLemmas
+pub mod FieldLemmas
 pub mod OrderLemmas
+pub mod ReadLemmas

@@ -5,6 +5,7 @@ pub mod Query
 pub mod Import
 pub mod Reply
 pub mod Spelling
+pub mod Orders
 pub mod Checks
 pub mod Verdict
 pub mod Run
