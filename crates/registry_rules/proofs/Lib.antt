@@ -12,3 +12,5 @@ pub mod CountLemmas
 pub mod PetitionLemmas
 pub mod ChangeLemmas
 pub mod OrderLemmas
+pub mod OpenLemmas
+pub mod SetsLemmas
