@@ -15,3 +15,5 @@ pub mod SpellingLemmas
 pub mod FieldLemmas
 pub mod OrderLemmas
 pub mod ReadLemmas
+pub mod OpenLemmas
+pub mod SetsLemmas

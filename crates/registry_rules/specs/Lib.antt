@@ -16,3 +16,4 @@ pub mod Gives
 pub mod Rows
 pub mod Changes
 pub mod TotalsOf
+pub mod Sets

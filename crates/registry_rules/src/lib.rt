@@ -23,6 +23,7 @@ pub use verdict::{Reply, Verdict};
 
 mod change;
 mod changing;
+mod counting;
 mod checks;
 mod deed;
 mod facts;
