@@ -17,3 +17,4 @@ pub mod OrderLemmas
 pub mod ReadLemmas
 pub mod OpenLemmas
 pub mod SetsLemmas
+pub mod ConcernLemmas

@@ -4,6 +4,7 @@
 
 pub use change::Change;
 pub use changing::changes;
+pub use concern::{VendorSpan, numbers_concerned, org_concerned};
 pub use deed::{Act, Deed};
 pub use facts::{Facts, Holdings, Kept};
 pub use founding::Founding;
@@ -23,8 +24,9 @@ pub use verdict::{Reply, Verdict};
 
 mod change;
 mod changing;
-mod counting;
 mod checks;
+mod concern;
+mod counting;
 mod deed;
 mod facts;
 mod founding;
@@ -35,6 +37,8 @@ pub mod laws;
 mod lists;
 mod name;
 mod order;
+#[cfg(test)]
+mod plain;
 mod record;
 mod refusal;
 mod reply;
@@ -42,6 +46,8 @@ mod rows;
 mod span_rows;
 mod spelling;
 mod stop;
+#[cfg(test)]
+mod tests;
 mod text;
 mod totals;
 mod vendors;

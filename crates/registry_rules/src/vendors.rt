@@ -5,7 +5,7 @@ use crate::Vendor;
 use std::marker::Model;
 use usbnum_core::Vid;
 
-/// The vendors of a registry, ascending, the founding one included.
+/// The vendors of a registry, the founding one included.
 #[derive(Debug, Drop)]
 pub struct Vendors {
     items: Vec<Vendor>,
@@ -22,6 +22,13 @@ impl Model for Vendors {
 
 impl Vendors {
     ghost use Rattle.registry_rules.specs.FactsOf.{vendor_in};
+
+    /// These vendors; each is to be there once.
+    pub fn new(items: Vec<Vendor>) -> Vendors
+        ensures { result ≡ items.items }
+    {
+        Vendors { items }
+    }
 
     pub fn as_slice(&self) -> &[Vendor]
         ensures { result.now ≡ self.now }
