@@ -1,3 +1,7 @@
+pub mod SpanNumbers
+pub mod LeastOwned
+pub mod ItemWalks
+pub mod Bridge
 pub mod RunLemmas
 pub mod RowsLemmas
 pub mod ImportLemmas
@@ -6,6 +10,8 @@ pub mod FollowLemmas
 pub mod NumberLemmas
 pub mod CountLemmas
 pub mod PetitionLemmas
+pub mod ChangeLemmas
+pub mod OrderLemmas
 pub mod SpellingLemmas
 pub mod FieldLemmas
-pub mod OrderLemmas
+pub mod ReadLemmas

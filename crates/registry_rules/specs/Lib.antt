@@ -11,6 +11,8 @@ pub mod Verdict
 pub mod Run
 pub mod Laws
 pub mod FactsOf
+pub mod OnFacts
 pub mod Gives
 pub mod Rows
+pub mod Changes
 pub mod TotalsOf

@@ -23,9 +23,11 @@ pub use verdict::{Reply, Verdict};
 
 mod change;
 mod changing;
+mod checks;
 mod deed;
 mod facts;
 mod founding;
+mod importing;
 mod item;
 mod judging;
 pub mod laws;
@@ -35,9 +37,13 @@ mod order;
 mod record;
 mod refusal;
 mod reply;
+mod rows;
+mod span_rows;
 mod spelling;
 mod stop;
 mod text;
+#[cfg(test)]
+mod text_tests;
 mod totals;
 mod vendors;
 mod verdict;
