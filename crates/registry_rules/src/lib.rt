@@ -49,6 +49,8 @@ mod stop;
 #[cfg(test)]
 mod tests;
 mod text;
+#[cfg(test)]
+mod text_tests;
 mod totals;
 mod vendors;
 mod verdict;
