@@ -18,3 +18,4 @@ pub mod ReadLemmas
 pub mod OpenLemmas
 pub mod SetsLemmas
 pub mod ConcernLemmas
+pub mod LeastFree

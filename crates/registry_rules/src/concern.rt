@@ -3,7 +3,7 @@ ghost use Rattle.std.specs.List.{list_any};
 ghost use Rattle.std.specs.Option.{option_copied, option_map};
 ghost use Rattle.usbnum_core.specs.Spans.{span_has};
 ghost use Rattle.usbnum_core.specs.declared.number.Number.{Number};
-ghost use Rattle.registry_rules.specs.FactsOf.{petition_named, slug_concerned, concerns, holding_in, holding_of};
+ghost use Rattle.registry_rules.specs.FactsOf.{petition_named, slug_concerned, vendor_concerned, concerns, holding_in, holding_of};
 ghost use Rattle.registry_rules.specs.History.{History};
 ghost use Rattle.registry_rules.specs.Number.{number};
 ghost use Rattle.registry_rules.specs.OnFacts.{meant};
@@ -114,6 +114,26 @@ pub fn numbers_concerned(
             Some(VendorSpan { vid, span })
         }
         _ => None,
+    }
+}
+
+/// The vendor that the order means, or its petition's, by the petition that the order names.
+#[tactic(auto, unfolding(crate::specs::FactsOf::vendor_concerned, crate::specs::FactsOf::petition_named))]
+pub(crate) fn vid_concerned(order: &Order, founding: Vid, petition: Option<&Petition>) -> Vid
+    ensures { (h : History) → founding ≡ h.founding.vendor → option_copied petition.entry ≡ petition_named h order.now → result ≡ vendor_concerned h order.now }
+{
+    match order {
+        Order::Ask { vendor, .. } => vendor.unwrap_or(founding),
+        Order::Amend { vendor, .. } => vendor.unwrap_or(founding),
+        Order::Return { vendor, .. } => vendor.unwrap_or(founding),
+        Order::Reserve { vendor, .. } => vendor.unwrap_or(founding),
+        Order::Release { vendor, .. } => vendor.unwrap_or(founding),
+        Order::Import { vendor, .. } => vendor.unwrap_or(founding),
+        Order::Grant { .. } | Order::Decline { .. } | Order::Withdraw { .. } => match petition {
+            Some(petition) => petition.vid,
+            None => founding,
+        },
+        _ => founding,
     }
 }
 

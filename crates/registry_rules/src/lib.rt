@@ -22,6 +22,7 @@ pub use totals::Totals;
 pub use vendors::Vendors;
 pub use verdict::{Reply, Verdict};
 
+mod asking;
 mod change;
 mod changing;
 mod checks;

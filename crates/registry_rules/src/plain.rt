@@ -10,10 +10,10 @@ ghost use Rattle.registry_rules.specs.Query.{item_of, receiver, holds, reserves,
 use crate::{Act, Deed, Item, Items, NumberName, Org, Petition, PetitionState};
 use usbnum_core::{Key, Number, Slug, Vid};
 
-fn is_named(vid: Vid, name: &NumberName, number: &Number) -> bool
-    ensures { result ≡ is_number number.now (number vid name.now.pid) }
+fn is_named(vid: Vid, name: &NumberName, wanted: &Number) -> bool
+    ensures { result ≡ is_number wanted.now (number vid name.now.pid) }
 {
-    number.vid == vid && number.pid == name.pid
+    wanted.vid == vid && wanted.pid == name.pid
 }
 
 fn item_by<'a>(vid: Vid, items: &'a Items, number: &Number) -> Option<&'a Item>

@@ -12,25 +12,19 @@ use std::alloc::Global;
 use std::collections::BTreeMap;
 use usbnum_core::{NoMemory, Number, Slug, Span, Spans, Vid};
 
-/// The numbers of a vendor that aren't free, and those of them that are reserved.
-#[derive(Debug, Drop)]
-struct VendorSpans {
-    vid: Vid,
-    taken: Spans,
-    reserved: Spans,
-}
-
 /// What a request needs of a history that no single record shows. It is kept in memory, and carried
 /// on by each deed.
 #[derive(Debug, Drop)]
 pub struct Totals {
-    founding: Founding,
-    vendors: Vendors,
-    orgs: u32,
-    petitions: u32,
-    still_open: BTreeMap<Slug, u32>,
-    spans: Vec<VendorSpans>,
-    nothing: Spans,
+    pub(crate) founding: Founding,
+    pub(crate) vendors: Vendors,
+    pub(crate) orgs: u32,
+    pub(crate) petitions: u32,
+    pub(crate) still_open: BTreeMap<Slug, u32>,
+    pub(crate) taken: BTreeMap<Vid, Spans>,
+    pub(crate) reserved: BTreeMap<Vid, Spans>,
+    pub(crate) nothing: Spans,
+    pub(crate) alloc: Global,
 }
 
 impl Totals {
