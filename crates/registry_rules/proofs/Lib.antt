@@ -14,3 +14,4 @@ pub mod ChangeLemmas
 pub mod OrderLemmas
 pub mod OpenLemmas
 pub mod SetsLemmas
+pub mod TotalsLemmas

@@ -14,5 +14,6 @@ pub mod OnFacts
 pub mod Gives
 pub mod Rows
 pub mod Changes
-pub mod TotalsOf
 pub mod Sets
+pub mod TotalsOf
+pub mod Carrying

@@ -1,16 +1,14 @@
 -- Totals as a summary of a history.
-use Rattle.std.specs.Prelude.{◌≡◌, ℕ, List, [], Option, Bool, ◌||◌, find, length, unwrap_or, is_some, nat_eq, ◌&&◌, map}
+use Rattle.std.specs.Prelude.{◌≡◌, ℕ, List, [], Bool, ◌||◌, find, length, is_some, nat_eq, ◌&&◌, map}
 use Rattle.std.specs.Option.{option_map}
 use Rattle.std.specs.List.{list_any}
 use Rattle.std.specs.List.Sorted.{IsStrictlyIncreasing}
-use Rattle.std.specs.Ordering.{nat_cmp}
-use Rattle.std.specs.Cmp.Lexicographic.{slice_cmp}
-use Rattle.std.specs.BTreeMap.{get}
 use Rattle.std.specs.Str.{bytes_eq}
 use Rattle.usbnum_core.specs.Spans.{span_has, spans_have}
 use Rattle.usbnum_core.specs.declared.number.Number.{Number}
 use Rattle.usbnum_core.specs.declared.number.Span.{Span}
 use Rattle.registry_rules.specs.Number.{is_number}
+use Rattle.registry_rules.specs.Sets.{count_at, numbers_at}
 use Rattle.registry_rules.specs.Texts.{IsAscending}
 use Rattle.registry_rules.specs.History.{History}
 use Rattle.registry_rules.specs.Query.{owner_of, enrolled, asked, open_count, org_of, petition_of, is_reserved, is_ordered}
@@ -22,21 +20,10 @@ use Rattle.registry_rules.specs.declared.record.Petition.{Petition}
 use Rattle.registry_rules.specs.declared.record.Entry.{Entry}
 use Rattle.registry_rules.specs.declared.record.Vendor.{Vendor}
 use Rattle.registry_rules.specs.declared.totals.Totals.{Totals}
-use Rattle.registry_rules.specs.declared.totals.VendorSpans.{VendorSpans}
 
 -- owned or reserved
 abbrev pub is_taken : History → Number → Bool
 is_taken h n = is_some (owner_of h n) || is_reserved h n
-
--- the spans of the vendor, where there are any
-abbrev pub spans_at : List VendorSpans → ℕ → Option VendorSpans
-spans_at list vid = find (λ spans. nat_eq spans.vid vid) list
-
-abbrev pub taken_at : List VendorSpans → ℕ → List Span
-taken_at list vid = unwrap_or (option_map (λ spans. spans.taken) (spans_at list vid)) []
-
-abbrev pub reserved_at : List VendorSpans → ℕ → List Span
-reserved_at list vid = unwrap_or (option_map (λ spans. spans.reserved) (spans_at list vid)) []
 
 -- the totals are the history's: its founding and vendors, how many organisations and petitions it has, how many
 -- petitions of each organisation are open, and which numbers of each vendor are taken and which reserved
@@ -45,9 +32,9 @@ pub record IsSummary (h : History) (totals : Totals) : Type 0 where
   pub vendors : AreVendorsOf h totals.vendors
   pub orgs : totals.orgs ≡ length (enrolled h)
   pub petitions : totals.petitions ≡ length (asked h)
-  pub still_open : (slug : List ℕ) → unwrap_or (get (slice_cmp nat_cmp) totals.still_open slug) 0 ≡ open_count h slug
-  pub taken : (n : Number) → spans_have (taken_at totals.spans.items n.vid) n.pid ≡ is_taken h n
-  pub reserved : (n : Number) → spans_have (reserved_at totals.spans.items n.vid) n.pid ≡ is_reserved h n
+  pub still_open : (slug : List ℕ) → count_at totals.still_open slug ≡ open_count h slug
+  pub taken : (n : Number) → spans_have (numbers_at totals.taken n.vid) n.pid ≡ is_taken h n
+  pub reserved : (n : Number) → spans_have (numbers_at totals.reserved n.vid) n.pid ≡ is_reserved h n
   pub nothing : totals.nothing ≡ []
 
 unfoldable pub AreTotalsOf : History → Totals → Type 0

@@ -8,7 +8,7 @@ ghost use Rattle.registry_rules.specs.Sets.{count_at, numbers_at};
 
 use std::alloc::Global;
 use std::collections::BTreeMap;
-use usbnum_core::{NoMemory, Slug, Span, Spans, Vid};
+use usbnum_core::{NoMemory, Pid, Slug, Span, Spans, Vid};
 
 pub(crate) fn open_of(counts: &BTreeMap<Slug, u32>, org: &Slug) -> u32
     ensures { result ≡ count_at counts.now org.now }
@@ -64,14 +64,30 @@ pub(crate) fn add_span(
     alloc: Global,
     sets: &mut BTreeMap<Vid, Spans>,
     vid: Vid,
-    span: Span,
+    span: &Span,
 ) -> Result<(), NoMemory>
     ensures { OnOk result ((n : Number) → spans_have (numbers_at sets.new n.vid) n.pid
-        ≡ (spans_have (numbers_at sets.old n.vid) n.pid || (nat_eq vid n.vid && span_has span n.pid))) }
+        ≡ (spans_have (numbers_at sets.old n.vid) n.pid || (nat_eq vid n.vid && span_has span.now n.pid))) }
 {
     let mut set = taken_out(alloc, sets, vid);
-    set.add(span)?;
+    set.add(*span)?;
     put_back(sets, vid, set)
+}
+
+/// The product number joins those of the vendor.
+pub(crate) fn add_number(
+    alloc: Global,
+    sets: &mut BTreeMap<Vid, Spans>,
+    vid: Vid,
+    pid: Pid,
+) -> Result<(), NoMemory>
+    ensures { OnOk result ((n : Number) → spans_have (numbers_at sets.new n.vid) n.pid
+        ≡ (spans_have (numbers_at sets.old n.vid) n.pid || (nat_eq vid n.vid && nat_eq pid n.pid))) }
+{
+    match Span::new(pid, pid) {
+        Some(span) => add_span(alloc, sets, vid, &span),
+        None => unreachable!(),
+    }
 }
 
 /// The numbers of the span leave those of the vendor.
@@ -79,12 +95,12 @@ pub(crate) fn cut_span(
     alloc: Global,
     sets: &mut BTreeMap<Vid, Spans>,
     vid: Vid,
-    span: Span,
+    span: &Span,
 ) -> Result<(), NoMemory>
     ensures { OnOk result ((n : Number) → spans_have (numbers_at sets.new n.vid) n.pid
-        ≡ (spans_have (numbers_at sets.old n.vid) n.pid && not (nat_eq vid n.vid && span_has span n.pid))) }
+        ≡ (spans_have (numbers_at sets.old n.vid) n.pid && not (nat_eq vid n.vid && span_has span.now n.pid))) }
 {
     let mut set = taken_out(alloc, sets, vid);
-    set.cut(span)?;
+    set.cut(*span)?;
     put_back(sets, vid, set)
 }

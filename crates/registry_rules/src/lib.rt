@@ -21,6 +21,7 @@ pub use totals::Totals;
 pub use vendors::Vendors;
 pub use verdict::{Reply, Verdict};
 
+mod carrying;
 mod change;
 mod changing;
 mod counting;

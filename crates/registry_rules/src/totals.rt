@@ -1,4 +1,6 @@
-ghost use Rattle.std.specs.Prelude.{◌≡◌, length, IfOk, OnOk};
+ghost use Rattle.std.specs.Prelude.{◌≡◌, length, IfOk, OnOk, ◌&&◌, nat_eq};
+ghost use Rattle.usbnum_core.specs.Spans.{spans_have};
+ghost use Rattle.registry_rules.specs.Sets.{numbers_at};
 ghost use Rattle.registry_rules.specs.FactsOf.{IsFoundingOf, AreVendorsOf};
 ghost use Rattle.registry_rules.specs.History.{History, founded, with_deed};
 ghost use Rattle.registry_rules.specs.Query.{enrolled, asked, open_count};
@@ -6,39 +8,48 @@ ghost use Rattle.registry_rules.specs.Run.{Legal};
 ghost use Rattle.registry_rules.specs.TotalsOf.{AreTotalsOf, AreListsOf};
 ghost use Rattle.registry_rules.specs.Verdict.{verdict};
 ghost use Rattle.registry_rules.specs.declared.order.Request.{Request};
+ghost use Rattle.usbnum_core.specs.declared.number.Number.{Number};
 
+use crate::carrying::carry_act;
 use crate::{Deed, Entry, Founding, Org, Petition, Vendors, Verdict};
 use std::alloc::Global;
 use std::collections::BTreeMap;
 use usbnum_core::{NoMemory, Number, Slug, Span, Spans, Vid};
 
-/// The numbers of a vendor that aren't free, and those of them that are reserved.
-#[derive(Debug, Drop)]
-struct VendorSpans {
-    vid: Vid,
-    taken: Spans,
-    reserved: Spans,
-}
-
 /// What a request needs of a history that no single record shows. It is kept in memory, and carried
 /// on by each deed.
 #[derive(Debug, Drop)]
 pub struct Totals {
-    founding: Founding,
-    vendors: Vendors,
-    orgs: u32,
-    petitions: u32,
-    still_open: BTreeMap<Slug, u32>,
-    spans: Vec<VendorSpans>,
-    nothing: Spans,
+    pub(crate) founding: Founding,
+    pub(crate) vendors: Vendors,
+    pub(crate) orgs: u32,
+    pub(crate) petitions: u32,
+    pub(crate) still_open: BTreeMap<Slug, u32>,
+    pub(crate) taken: BTreeMap<Vid, Spans>,
+    pub(crate) reserved: BTreeMap<Vid, Spans>,
+    pub(crate) nothing: Spans,
+    pub(crate) alloc: Global,
 }
 
 impl Totals {
     /// The totals of a registry that was just founded.
-    pub fn founded(_alloc: Global, _founding: &Founding) -> Result<Totals, NoMemory>
-        ensures { IfOk result (λ totals. AreTotalsOf (founded _founding.now) totals) }
+    #[tactic(auto, unfolding(crate::specs::TotalsOf::AreTotalsOf))]
+    pub fn founded(alloc: Global, founding: &Founding) -> Result<Totals, NoMemory>
+        ensures { IfOk result (λ totals. AreTotalsOf (founded founding.now) totals) }
     {
-        Err(NoMemory)
+        let fixed = fixed_of(alloc, founding)?;
+        let reserved = fixed_of(alloc, founding)?;
+        Ok(Totals {
+            founding: founding.clone()?,
+            vendors: Vendors::founded(alloc, founding)?,
+            orgs: 0,
+            petitions: 0,
+            still_open: BTreeMap::new(alloc),
+            taken: fixed,
+            reserved,
+            nothing: Spans::new(alloc),
+            alloc,
+        })
     }
 
     /// The totals of a history, of the lists of all that is kept of it.
@@ -58,11 +69,12 @@ impl Totals {
     }
 
     /// Adds a deed. After NoMemory the totals are those of no history, and may not be used any more.
-    pub fn carry(&mut self, _deed: &Deed) -> Result<(), NoMemory>
+    pub fn carry(&mut self, deed: &Deed) -> Result<(), NoMemory>
         ensures { OnOk result ((h : History) (request : Request) → Legal h → AreTotalsOf h self.old →
-            verdict h request ≡ Verdict.New _deed.now → AreTotalsOf (with_deed h _deed.now) self.new) }
+            verdict h request ≡ Verdict.New deed.now → AreTotalsOf (with_deed h deed.now) self.new) }
     {
-        Err(NoMemory)
+        carry_act(self, &deed.act)?;
+        Ok(())
     }
 
     /// The founding, with the licences that are allowed now.
@@ -104,4 +116,14 @@ impl Totals {
     {
         self.still_open.get(org).copied().unwrap_or(0)
     }
+}
+
+// The fixed numbers, which are the founding vendor's, by vendor.
+fn fixed_of(alloc: Global, founding: &Founding) -> Result<BTreeMap<Vid, Spans>, NoMemory>
+    ensures { IfOk result (λ sets. (n : Number) → spans_have (numbers_at sets n.vid) n.pid
+        ≡ (nat_eq founding.now.vendor n.vid && spans_have founding.now.fixed n.pid)) }
+{
+    let mut sets = BTreeMap::new(alloc);
+    sets.insert(founding.vendor, founding.fixed.clone()?)?;
+    Ok(sets)
 }
