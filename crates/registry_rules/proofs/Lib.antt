@@ -11,7 +11,12 @@ pub mod NumberLemmas
 pub mod CountLemmas
 pub mod PetitionLemmas
 pub mod ChangeLemmas
+pub mod SpellingLemmas
+pub mod FieldLemmas
 pub mod OrderLemmas
+pub mod ReadLemmas
 pub mod OpenLemmas
 pub mod SetsLemmas
 pub mod TotalsLemmas
+pub mod ConcernLemmas
+pub mod LeastLemmas

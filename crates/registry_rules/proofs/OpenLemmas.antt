@@ -48,12 +48,12 @@ pub count_dropped : (f g : ℕ → Bool) (limit at : ℕ) → 1 ≤ at → at �
 count_dropped f g zero at above within out same = absurd (omega (arith, above, within))
 count_dropped f g (suc limit) at above within out same = ⊎_elim
     (λ (is : at ≡ suc limit).
-        let last : g (suc limit) ≡ false = subst (λ n. g n ≡ false) is out in
-        let whole = dropped_last f g limit (f (suc limit)) refl last (count_alike f g limit (λ n one most. same n (λ e. omega (arith, e, is, most)))) in
-        subst (λ n. count_to f (suc limit) ≡ count_to g (suc limit) + cond (f n) 1 0) (sym is) whole)
+    let last : g (suc limit) ≡ false = subst (λ n. g n ≡ false) is out in
+    let whole = dropped_last f g limit (f (suc limit)) refl last (count_alike f g limit (λ n one most. same n (λ e. omega (arith, e, is, most)))) in
+    subst (λ n. count_to f (suc limit) ≡ count_to g (suc limit) + cond (f n) 1 0) (sym is) whole)
     (λ (below : at ≤ limit).
-        let rest = count_dropped f g limit at above below out same in
-        kept_last f g limit at (f (suc limit)) refl (sym (same (suc limit) (λ e. omega (arith, e, below)))) rest)
+    let rest = count_dropped f g limit at above below out same in
+    kept_last f g limit at (f (suc limit)) refl (sym (same (suc limit) (λ e. omega (arith, e, below)))) rest)
     (last_or_before at limit (nat_eq at (suc limit)) refl within)
 
 -- a limit higher by one, whose number may pass
@@ -81,8 +81,8 @@ open_after_ask h after id petition at next opened more slug =
     let there : petition_of after (length (asked h) + 1) ≡ Some petition = sym (at (length (asked h) + 1)) ∙ rw (eq-eqb id (length (asked h) + 1) next) refl in
     ap (count_to (λ i. is_open_of slug (petition_of after i))) more
     ∙ asked_count (λ i. is_open_of slug (petition_of h i)) (λ i. is_open_of slug (petition_of after i)) (length (asked h)) (bytes_eq petition.org slug)
-      (ap (is_open_of slug) there ∙ and_true (bytes_eq petition.org slug) (is_open petition.state) (ap is_open opened))
-      (λ i above within. let other : id ≢ i = (λ e. omega (arith, e, next, within)) in ap (is_open_of slug) (sym (at i) ∙ rw (ne_eqb id i other) refl))
+    (ap (is_open_of slug) there ∙ and_true (bytes_eq petition.org slug) (is_open petition.state) (ap is_open opened))
+    (λ i above within. let other : id ≢ i = (λ e. omega (arith, e, next, within)) in ap (is_open_of slug) (sym (at i) ∙ rw (ne_eqb id i other) refl))
 
 -- a petition that is closed is one less
 pub open_after_close : (h after : History) (id : ℕ) (petition : Petition) (state : PetitionState)
@@ -99,4 +99,4 @@ open_after_close h after id petition state at there opened closed same slug =
     let others : (i : ℕ) → i ≢ id → f i ≡ g i = λ i ne. ap (is_open_of slug) (sym (rw (ne_eqb id i (λ e. ne (sym e))) refl) ∙ at i) in
     let counted : count_to f (length (asked h)) ≡ count_to g (length (asked h)) + cond (f id) 1 0 = count_dropped f g (length (asked h)) id within.0 within.1 out others in
     ap (count_to g) same ∙ closed_by (count_to f (length (asked h))) (count_to g (length (asked h))) (bytes_eq petition.org slug)
-      (subst (λ b. count_to f (length (asked h)) ≡ count_to g (length (asked h)) + cond b 1 0) was counted)
+    (subst (λ b. count_to f (length (asked h)) ≡ count_to g (length (asked h)) + cond b 1 0) was counted)

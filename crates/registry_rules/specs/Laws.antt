@@ -7,10 +7,13 @@ use Rattle.registry_rules.specs.Number.{number}
 use Rattle.registry_rules.specs.History.{History, founded, with_deed}
 use Rattle.registry_rules.specs.Query.{receiver, owner_of, is_held, is_reserved, is_free}
 use Rattle.registry_rules.specs.Reply.{act_text}
+use Rattle.registry_rules.specs.Spelling.{spelling_of}
+use Rattle.registry_rules.specs.Orders.{IsOrder}
 use Rattle.registry_rules.specs.Verdict.{verdict}
 use Rattle.registry_rules.specs.Run.{Legal, after, after_one, answer_one}
 use Rattle.registry_rules.specs.declared.deed.Deed.{Deed}
 use Rattle.registry_rules.specs.declared.founding.Founding.{Founding}
+use Rattle.registry_rules.specs.declared.order.Order.{Order}
 use Rattle.registry_rules.specs.declared.order.Request.{Request}
 use Rattle.registry_rules.specs.declared.verdict.Verdict.TheVariants.{New}
 use Rattle.registry_rules.specs.declared.verdict.Reply.TheVariants.{Done}
@@ -56,3 +59,7 @@ HasFourStates = (h : History) (vid : ℕ) → Legal h →
 abbrev pub IsOwnedOrReserved : Type 0
 IsOwnedOrReserved = (h : History) (n : Number) → Legal h →
     ((is_some (owner_of h n) && is_reserved h n) ≡ false) × ((is_held h n && is_none (owner_of h n)) ≡ false)
+
+-- no two orders share a spelling
+abbrev pub HasOwnSpelling : Type 0
+HasOwnSpelling = (a b : Order) → IsOrder a → IsOrder b → spelling_of a ≡ spelling_of b → a ≡ b

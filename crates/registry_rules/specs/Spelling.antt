@@ -41,6 +41,11 @@ fields_of (Import org items vendor) = codes "import" ∷ org ∷ vendor_fields v
 fields_of (AddVendor vendor name) = codes "add-vendor" ∷ digits_of vendor ∷ name ∷ []
 fields_of (AddLicence licence) = codes "add-licence" ∷ licence ∷ []
 
+-- fields, each after a tab
+abbrev pub after_tabs : List (List ℕ) → List ℕ
+after_tabs [] = []
+after_tabs (field ∷ fields) = 9 ∷ field ++ after_tabs fields
+
 -- the fields with a tab between any two
 unfoldable pub spelling_of : Order → List ℕ
 spelling_of order = join_with_byte 9 (fields_of order)

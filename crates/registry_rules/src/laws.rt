@@ -1,4 +1,4 @@
-ghost use Rattle.registry_rules.specs.Laws.{IsLegalFromStart, StaysLegal, MayBeRepeated, IsKeptForGood, HasOneOrganisation, IsOwnedOrReserved, HasFourStates};
+ghost use Rattle.registry_rules.specs.Laws.{IsLegalFromStart, StaysLegal, MayBeRepeated, IsKeptForGood, HasOneOrganisation, IsOwnedOrReserved, HasFourStates, HasOwnSpelling};
 
 /// The law that the history of a registry that was just founded is legal.
 pub fn is_legal_from_start()
@@ -34,4 +34,9 @@ pub fn is_owned_or_reserved()
 /// The law that the free, reserved, held and returned numbers of a vendor add up to 65,535.
 pub fn has_four_states()
     ensures { HasFourStates }
+{}
+
+/// The law that no two orders share a spelling.
+pub fn has_own_spelling()
+    ensures { HasOwnSpelling }
 {}

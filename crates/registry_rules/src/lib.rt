@@ -4,6 +4,7 @@
 
 pub use change::Change;
 pub use changing::changes;
+pub use concern::{VendorSpan, numbers_concerned, org_concerned};
 pub use deed::{Act, Deed};
 pub use facts::{Facts, Holdings, Kept};
 pub use founding::Founding;
@@ -24,8 +25,9 @@ pub use verdict::{Reply, Verdict};
 mod carrying;
 mod change;
 mod changing;
-mod counting;
 mod checks;
+mod concern;
+mod counting;
 mod deed;
 mod facts;
 mod founding;
@@ -36,6 +38,8 @@ pub mod laws;
 mod lists;
 mod name;
 mod order;
+#[cfg(test)]
+mod plain;
 mod record;
 mod refusal;
 mod reply;
@@ -43,7 +47,11 @@ mod rows;
 mod span_rows;
 mod spelling;
 mod stop;
+#[cfg(test)]
+mod tests;
 mod text;
+#[cfg(test)]
+mod text_tests;
 mod totals;
 mod vendors;
 mod verdict;

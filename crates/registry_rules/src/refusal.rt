@@ -1,5 +1,9 @@
-use crate::NumberName;
-use usbnum_core::Slug;
+ghost use Rattle.std.specs.Prelude.{◌≡◌, IfOk};
+ghost use Rattle.registry_rules.specs.Reply.{refusal_number, refusal_name, refusal_detail};
+
+use crate::{NumberName, Text};
+use std::alloc::Global;
+use usbnum_core::{NoMemory, Slug};
 
 /// Why the rules refuse a request. Nothing is changed then.
 #[derive(Clone, Debug, PartialEq, Eq, Drop)]
@@ -48,4 +52,77 @@ pub enum Refusal {
     NoVendor,
     /// The licence is allowed already.
     LicenceTaken,
+}
+
+impl Refusal {
+    /// The number of the refusal.
+    pub fn number(&self) -> u8
+        ensures { result ≡ refusal_number self.now }
+    {
+        match self {
+            Refusal::KeyReused => 1,
+            Refusal::NotCurator => 2,
+            Refusal::NotKeeper => 3,
+            Refusal::NoOrg => 4,
+            Refusal::OrgTaken => 5,
+            Refusal::NoPetition => 6,
+            Refusal::PetitionClosed => 7,
+            Refusal::NumberReserved => 8,
+            Refusal::NumberOwned(_) => 9,
+            Refusal::NumberHeld => 10,
+            Refusal::NumberNotHeld => 11,
+            Refusal::NoneFree => 12,
+            Refusal::LicenceUnknown => 13,
+            Refusal::TooManyOpen => 14,
+            Refusal::RangeOwned(_) => 15,
+            Refusal::RangeFixed => 16,
+            Refusal::RangeNotReserved => 17,
+            Refusal::Full => 18,
+            Refusal::ImportTooLong => 19,
+            Refusal::VendorTaken => 33,
+            Refusal::NoVendor => 34,
+            Refusal::LicenceTaken => 35,
+        }
+    }
+
+    /// Its name, as `NumberOwned`.
+    pub fn name(&self) -> &'static str
+        ensures { result.now ≡ refusal_name self.now }
+    {
+        match self {
+            Refusal::KeyReused => "KeyReused",
+            Refusal::NotCurator => "NotCurator",
+            Refusal::NotKeeper => "NotKeeper",
+            Refusal::NoOrg => "NoOrg",
+            Refusal::OrgTaken => "OrgTaken",
+            Refusal::NoPetition => "NoPetition",
+            Refusal::PetitionClosed => "PetitionClosed",
+            Refusal::NumberReserved => "NumberReserved",
+            Refusal::NumberOwned(_) => "NumberOwned",
+            Refusal::NumberHeld => "NumberHeld",
+            Refusal::NumberNotHeld => "NumberNotHeld",
+            Refusal::NoneFree => "NoneFree",
+            Refusal::LicenceUnknown => "LicenceUnknown",
+            Refusal::TooManyOpen => "TooManyOpen",
+            Refusal::RangeOwned(_) => "RangeOwned",
+            Refusal::RangeFixed => "RangeFixed",
+            Refusal::RangeNotReserved => "RangeNotReserved",
+            Refusal::Full => "Full",
+            Refusal::ImportTooLong => "ImportTooLong",
+            Refusal::VendorTaken => "VendorTaken",
+            Refusal::NoVendor => "NoVendor",
+            Refusal::LicenceTaken => "LicenceTaken",
+        }
+    }
+
+    /// What it says more than its name: the owner that stands in the way, or the least owned number.
+    pub fn detail(&self, alloc: Global) -> Result<Option<Text>, NoMemory>
+        ensures { IfOk result (λ detail. detail ≡ refusal_detail self.now) }
+    {
+        match self {
+            Refusal::NumberOwned(owner) => Ok(Some(Text::new(format!(in alloc; "{owner}")?))),
+            Refusal::RangeOwned(name) => Ok(Some(Text::new(format!(in alloc; "{name}")?))),
+            _ => Ok(None),
+        }
+    }
 }

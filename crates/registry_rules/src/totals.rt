@@ -1,20 +1,26 @@
-ghost use Rattle.std.specs.Prelude.{◌≡◌, length, IfOk, OnOk, ◌&&◌, nat_eq};
+ghost use Rattle.std.specs.Prelude.{◌≡◌, length, IfOk, OnOk, ◌&&◌, nat_eq, true, ℕ};
 ghost use Rattle.usbnum_core.specs.Spans.{spans_have};
 ghost use Rattle.registry_rules.specs.Sets.{numbers_at};
-ghost use Rattle.registry_rules.specs.FactsOf.{IsFoundingOf, AreVendorsOf};
+ghost use Rattle.std.specs.Option.{option_copied};
+ghost use Rattle.registry_rules.specs.FactsOf.{IsFoundingOf, AreVendorsOf, AreFactsOf, petition_named, open_concerned, org_concerned, concerns, holding_in, holding_of};
+ghost use Rattle.registry_rules.specs.Number.{number};
 ghost use Rattle.registry_rules.specs.History.{History, founded, with_deed};
-ghost use Rattle.registry_rules.specs.Query.{enrolled, asked, open_count};
+ghost use Rattle.registry_rules.specs.Query.{enrolled, asked, open_count, is_reserved, least};
 ghost use Rattle.registry_rules.specs.Run.{Legal};
 ghost use Rattle.registry_rules.specs.TotalsOf.{AreTotalsOf, AreListsOf};
-ghost use Rattle.registry_rules.specs.Verdict.{verdict};
+ghost use Rattle.registry_rules.specs.Verdict.{verdict, kept_under};
 ghost use Rattle.registry_rules.specs.declared.order.Request.{Request};
 ghost use Rattle.usbnum_core.specs.declared.number.Number.{Number};
 
 use crate::carrying::carry_act;
-use crate::{Deed, Entry, Founding, Org, Petition, Vendors, Verdict};
+use crate::concern::{org_concerned, vid_concerned};
+use crate::counting::{numbers_of, open_of};
+use crate::{
+    Deed, Entry, Facts, Founding, Holdings, Kept, Order, Org, Petition, Request, Vendors, Verdict,
+};
 use std::alloc::Global;
 use std::collections::BTreeMap;
-use usbnum_core::{NoMemory, Number, Slug, Span, Spans, Vid};
+use usbnum_core::{NoMemory, Number, Pid, Slug, Span, Spans, Vid};
 
 /// What a request needs of a history that no single record shows. It is kept in memory, and carried
 /// on by each deed.
@@ -114,7 +120,68 @@ impl Totals {
     pub fn open_count(&self, org: &Slug) -> u32
         ensures { (h : History) → AreTotalsOf h self.now → result ≡ open_count h org.now }
     {
-        self.still_open.get(org).copied().unwrap_or(0)
+        open_of(&self.still_open, org)
+    }
+
+    /// The reserved numbers of the vendor; none of a vendor that isn't there.
+    #[tactic(auto, unfolding(crate::specs::TotalsOf::AreTotalsOf))]
+    pub fn reserved(&self, vid: Vid) -> &Spans
+        ensures { (h : History) → AreTotalsOf h self.now → (pid : ℕ) → spans_have result.now pid ≡ is_reserved h (number vid pid) }
+    {
+        numbers_of(&self.reserved, &self.nothing, vid)
+    }
+
+    /// The least free number of the vendor; none of a vendor that isn't there.
+    #[tactic(auto, unfolding(crate::specs::TotalsOf::AreTotalsOf))]
+    pub fn least(&self, vid: Vid) -> Option<Pid>
+        ensures { (h : History) → AreTotalsOf h self.now → result ≡ least h vid }
+    {
+        if !self.vendors.contains(vid) {
+            return None;
+        }
+        numbers_of(&self.taken, &self.nothing, vid).least_outside(&[])
+    }
+
+    /// How many petitions of the organisation that the order concerns are open.
+    #[tactic(auto, unfolding(crate::specs::FactsOf::open_concerned))]
+    fn open_concerned(&self, order: &Order, petition: Option<&Petition>, holdings: &Holdings) -> u32
+        ensures { (h : History) → AreTotalsOf h self.now → option_copied petition.entry ≡ petition_named h order.now →
+            ((n : Number) → concerns h order.now n ≡ true → holding_in holdings.now n ≡ holding_of h n) → result ≡ open_concerned h order.now }
+    {
+        match org_concerned(order, self.founding.vendor, petition, holdings) {
+            Some(org) => self.open_count(org),
+            None => 0,
+        }
+    }
+
+    /// The facts for a request: the totals, and what was looked up of the history.
+    pub fn facts(
+        &self,
+        request: &Request,
+        kept: Option<Kept>,
+        petition: Option<Petition>,
+        org: Option<Org>,
+        holdings: Holdings,
+    ) -> Facts<'_>
+        ensures { (h : History) → AreTotalsOf h self.now → kept ≡ kept_under h request.now.caller request.now.key → petition ≡ petition_named h request.now.order →
+            org ≡ org_concerned h request.now.order → ((n : Number) → concerns h request.now.order n ≡ true → holding_in holdings n ≡ holding_of h n) →
+            AreFactsOf h request.now result }
+    {
+        let vid = vid_concerned(&request.order, self.founding.vendor, petition.as_ref());
+        let open_count = self.open_concerned(&request.order, petition.as_ref(), &holdings);
+        Facts {
+            founding: &self.founding,
+            vendors: &self.vendors,
+            kept,
+            org,
+            orgs: self.orgs,
+            open_count,
+            petition,
+            petitions: self.petitions,
+            holdings,
+            reserved: self.reserved(vid),
+            least: self.least(vid),
+        }
     }
 }
 

@@ -6,7 +6,7 @@ use std::alloc::Global;
 use std::marker::Model;
 use usbnum_core::{NoMemory, Vid};
 
-/// The vendors of a registry, ascending, the founding one included.
+/// The vendors of a registry, the founding one included.
 #[derive(Debug, Drop)]
 pub struct Vendors {
     items: Vec<Vendor>,
@@ -37,6 +37,13 @@ impl Vendors {
         Ok(Vendors {
             items: vec![in alloc; vendor]?,
         })
+    }
+
+    /// These vendors; each is to be there once.
+    pub fn new(items: Vec<Vendor>) -> Vendors
+        ensures { result ≡ items.items }
+    {
+        Vendors { items }
     }
 
     pub fn as_slice(&self) -> &[Vendor]
