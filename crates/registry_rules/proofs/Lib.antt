@@ -17,5 +17,7 @@ pub mod OrderLemmas
 pub mod ReadLemmas
 pub mod OpenLemmas
 pub mod SetsLemmas
+pub mod TotalsLemmas
 pub mod ConcernLemmas
 pub mod LeastFree
+pub mod LeastLemmas

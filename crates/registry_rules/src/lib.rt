@@ -23,6 +23,7 @@ pub use vendors::Vendors;
 pub use verdict::{Reply, Verdict};
 
 mod asking;
+mod carrying;
 mod change;
 mod changing;
 mod checks;

@@ -1,9 +1,10 @@
-ghost use Rattle.std.specs.Prelude.{◌≡◌, ◌↔◌, IsTrue, is_some, length};
+ghost use Rattle.std.specs.Prelude.{◌≡◌, ◌↔◌, IsTrue, is_some, length, IfOk};
 ghost use Rattle.std.specs.Option.{option_copied};
 
-use crate::Vendor;
+use crate::{Founding, Vendor};
+use std::alloc::Global;
 use std::marker::Model;
-use usbnum_core::Vid;
+use usbnum_core::{NoMemory, Vid};
 
 /// The vendors of a registry, the founding one included.
 #[derive(Debug, Drop)]
@@ -21,7 +22,22 @@ impl Model for Vendors {
 }
 
 impl Vendors {
+    ghost use Rattle.registry_rules.specs.FactsOf.{AreVendorsOf};
+    ghost use Rattle.registry_rules.specs.History.{founded};
     ghost use Rattle.registry_rules.specs.FactsOf.{vendor_in};
+
+    /// The founding vendor alone.
+    pub fn founded(alloc: Global, founding: &Founding) -> Result<Vendors, NoMemory>
+        ensures { IfOk result (AreVendorsOf (founded founding.now)) }
+    {
+        let vendor = Vendor {
+            vid: founding.vendor,
+            name: founding.name.clone()?,
+        };
+        Ok(Vendors {
+            items: vec![in alloc; vendor]?,
+        })
+    }
 
     /// These vendors; each is to be there once.
     pub fn new(items: Vec<Vendor>) -> Vendors
