@@ -1,0 +1,291 @@
+-- An order is read back from its fields, and no field of it holds a tab.
+use Rattle.std.proofs.Common.{◌≡◌, ◌≢◌, ◌≤◌, ◌<◌, ◌+◌, ◌/◌, ◌%◌, ◌^◌, ℕ, List, [], ◌∷◌, ◌++◌, Option, Some, None, Bool, true, false, map, length, drop, refl, ap, sym, ◌∙◌, subst, arith, ⊎_elim, inl, inr}
+use Rattle.std.specs.Prelude.{codes, slice_index_or, option_and_then, nat_eq, is_some, unwrap_or, if◌then◌else◌, IfSome, ◌⊎◌}
+use Rattle.std.specs.Fmt.{decimal}
+use Rattle.std.specs.Char.{digit_value}
+use Rattle.std.specs.Str.{bytes_eq}
+use Rattle.std.specs.Str.Parse.{digits_value, AllDigits}
+use Rattle.std.specs.List.{list_any, AllByRecursion, join_with_byte}
+use Rattle.std.proofs.lemmas.Fmt.{decimal_is_IsNumeral}
+use Rattle.std.proofs.lemmas.List.Elements.{recursion_from_All}
+use Rattle.std.proofs.lemmas.Bool.{or_parts, eqb-false, eq-eqb, and_from, cases_lt, cases_eq}
+use Rattle.std.proofs.lemmas.Bool.Decides.{nat_tests}
+use Rattle.usbnum_core.specs.Number.{IsNumber, digits_of, lower_hex_digit, code_of}
+use Rattle.usbnum_core.specs.Text.{IsTitle}
+use Rattle.usbnum_core.specs.declared.number.Span.{Span}
+use Rattle.usbnum_core.proofs.Digits.{digits_read}
+use Rattle.usbnum_core.proofs.Same.{span_decides}
+use Rattle.registry_rules.specs.Spelling.{fields_of, spelling_of, number_field, vendor_fields, item_field}
+use Rattle.registry_rules.specs.Orders.{IsOrder, IsItem, IsNumberIfAny}
+use Rattle.registry_rules.proofs.FieldLemmas.{HasNoTab, same_fields, slug_has_no_tab, title_has_no_tab, link_has_no_tab}
+use Rattle.registry_rules.specs.declared.item.Item.{Item}
+use Rattle.registry_rules.specs.declared.record.Terms.{Terms}
+use Rattle.registry_rules.specs.declared.order.Order.{Order}
+use Rattle.registry_rules.specs.declared.order.Order.TheVariants.{Enrol, AmendOrg, Ask, Grant, Decline, Withdraw, Amend, Return, Reserve, Release, Import, AddVendor, AddLicence}
+
+-- The fields hold no tab.
+
+fixed_text : (text : List ℕ) → list_any (λ byte. nat_eq byte 9) text ≡ false → HasNoTab text
+fixed_text [] e = tt
+fixed_text (byte ∷ text) e =
+    let both = or_parts (nat_eq byte 9) (list_any (λ byte. nat_eq byte 9) text) e in (eqb-false byte 9 both.0, fixed_text text both.1)
+
+hex_digit : (value : ℕ) → lower_hex_digit value ≢ 9
+hex_digit value = λ e. absurd (let below : 48 ≤ lower_hex_digit value = grind (arith, nat_tests) in omega arith)
+
+digits_tabless : (n : ℕ) → HasNoTab (digits_of n)
+digits_tabless n = (hex_digit (n / 4096), (hex_digit (n / 256 % 16), (hex_digit (n / 16 % 16), (hex_digit (n % 16), tt))))
+
+digit_byte : (byte : ℕ) → digit_value byte < 10 → byte ≢ 9
+digit_byte byte small = λ e. let at_tab : digit_value 9 < 10 = subst (λ b. digit_value b < 10) e small in absurd (omega arith)
+
+numeral_tabless : (text : List ℕ) → AllDigits 10 text → HasNoTab text
+numeral_tabless [] each = tt
+numeral_tabless (byte ∷ text) each = (digit_byte byte each.0, numeral_tabless text each.1)
+
+decimal_tabless : (n : ℕ) → n < 2 ^ 32 → HasNoTab (decimal n)
+decimal_tabless n small = numeral_tabless (decimal n) (decimal_is_IsNumeral n (omega arith)).0.1
+
+named_tabless : (number : Option ℕ) → HasNoTab (number_field number)
+named_tabless None = fixed_text (codes "-") refl
+named_tabless (Some number) = digits_tabless number
+
+vendor_tabless : (vendor : Option ℕ) (fields : List (List ℕ)) → AllByRecursion HasNoTab fields → AllByRecursion HasNoTab (vendor_fields vendor ++ fields)
+vendor_tabless None fields each = each
+vendor_tabless (Some vid) fields each = (digits_tabless vid, each)
+
+last_tabless : (vendor : Option ℕ) → AllByRecursion HasNoTab (vendor_fields vendor)
+last_tabless None = tt
+last_tabless (Some vid) = (digits_tabless vid, tt)
+
+title_tabless : (title : Option (List ℕ)) → IfSome title IsTitle → HasNoTab (unwrap_or title [])
+title_tabless None valid = tt
+title_tabless (Some title) valid = title_has_no_tab title valid
+
+item_tabless : (item : Item) → IsItem item → HasNoTab (item_field item)
+item_tabless item valid =
+    let n = item.code in
+    (hex_digit (n / 4096), (hex_digit (n / 256 % 16), (hex_digit (n / 16 % 16), (hex_digit (n % 16), ((λ e. absurd (omega arith)), title_tabless item.title valid.title)))))
+
+items_tabless : (items : List Item) → AllByRecursion IsItem items → AllByRecursion HasNoTab (map item_field items)
+items_tabless [] each = tt
+items_tabless (item ∷ items) each = (item_tabless item each.0, items_tabless items each.1)
+
+tabless : (order : Order) → IsOrder order → AllByRecursion HasNoTab (fields_of order)
+tabless (Enrol org title site) is = (fixed_text (codes "enrol") refl, (slug_has_no_tab org is.0, (title_has_no_tab title is.1, (link_has_no_tab site is.2, tt))))
+tabless (AmendOrg org title site) is = (fixed_text (codes "amend-org") refl, (slug_has_no_tab org is.0, (title_has_no_tab title is.1, (link_has_no_tab site is.2, tt))))
+tabless (Ask org want title terms vendor) is = (
+  fixed_text (codes "ask") refl,
+  (
+    slug_has_no_tab org is.0,
+    (
+      named_tabless want,
+      (
+        title_has_no_tab title is.2,
+        (title_has_no_tab terms.licence is.3.licence, (link_has_no_tab terms.site is.3.site, (link_has_no_tab terms.source is.3.source, last_tabless vendor))),
+      ),
+    ),
+  ),
+)
+tabless (Grant petition number) is = (fixed_text (codes "grant") refl, (decimal_tabless petition is.0, (named_tabless number, tt)))
+tabless (Decline petition) is = (fixed_text (codes "decline") refl, (decimal_tabless petition is, tt))
+tabless (Withdraw petition) is = (fixed_text (codes "withdraw") refl, (decimal_tabless petition is, tt))
+tabless (Amend number title terms vendor) is = (
+  fixed_text (codes "amend") refl,
+  (
+    digits_tabless number,
+    (
+      title_has_no_tab title is.1,
+      (title_has_no_tab terms.licence is.2.licence, (link_has_no_tab terms.site is.2.site, (link_has_no_tab terms.source is.2.source, last_tabless vendor))),
+    ),
+  ),
+)
+tabless (Return number vendor) is = (fixed_text (codes "return") refl, (digits_tabless number, last_tabless vendor))
+tabless (Reserve span vendor) is = (fixed_text (codes "reserve") refl, (digits_tabless span.first, (digits_tabless span.last, last_tabless vendor)))
+tabless (Release span vendor) is = (fixed_text (codes "release") refl, (digits_tabless span.first, (digits_tabless span.last, last_tabless vendor)))
+tabless (Import org items vendor) is =
+    (fixed_text (codes "import") refl, (slug_has_no_tab org is.0, vendor_tabless vendor (map item_field items) (items_tabless items (recursion_from_All IsItem items is.1))))
+tabless (AddVendor vendor name) is = (fixed_text (codes "add-vendor") refl, (digits_tabless vendor, (title_has_no_tab name is.1, tt)))
+tabless (AddLicence licence) is = (fixed_text (codes "add-licence") refl, (title_has_no_tab licence is, tt))
+
+-- Reading numbers and items.
+
+not_zero : (b : Bool) (c n : ℕ) → (if b then None else Some c) ≡ Some n → Some c ≡ Some n
+not_zero true c n e = absurd cc
+not_zero false c n e = e
+
+code_by : (found : Option ℕ) (n : ℕ) → option_and_then (λ code. if nat_eq code 0 then None else Some code) found ≡ Some n → found ≡ Some n
+code_by None n e = absurd cc
+code_by (Some c) n e = not_zero (nat_eq c 0) c n e
+
+code_reads : (n : ℕ) → n ≤ 65535 → code_of (digits_of n) ≡ Some n
+code_reads n within = ⊎_elim
+    (λ (z : n ≡ 0). subst (λ m. code_of (digits_of m) ≡ Some m) (sym z) refl)
+    (λ (z : n ≡ 0 → ⊥). code_by (code_of (digits_of n)) n (digits_read n (record { above = omega (arith, z); within = within })))
+    (cases_eq n 0)
+
+number_reads : (n : ℕ) → IsNumber n → unwrap_or (code_of (digits_of n)) 0 ≡ n
+number_reads n valid = ap (λ found. unwrap_or found 0) (code_reads n valid.within)
+
+named_reads : (number : Option ℕ) → IsNumberIfAny number → code_of (number_field number) ≡ number
+named_reads None valid = refl
+named_reads (Some number) valid = code_reads number valid.within
+
+-- the field at a place, or nothing past the end
+abbrev at : List (List ℕ) → ℕ → List ℕ
+at fields i = slice_index_or fields i []
+
+vendor_reads : (vendor : Option ℕ) → IsNumberIfAny vendor → code_of (at (vendor_fields vendor) 0) ≡ vendor
+vendor_reads None valid = refl
+vendor_reads (Some vid) valid = code_reads vid valid.within
+
+title_read : List ℕ → Option (List ℕ)
+title_read [] = None
+title_read (byte ∷ text) = Some (byte ∷ text)
+
+title_reads : (title : Option (List ℕ)) → IfSome title IsTitle → title_read (unwrap_or title []) ≡ title
+unfolding title_read
+title_reads None valid = refl
+title_reads (Some []) valid = let some : 1 ≤ length {A = ℕ} [] = valid.filled in absurd (omega arith)
+title_reads (Some (byte ∷ text)) valid = refl
+
+abbrev new_item : ℕ → Option (List ℕ) → Item
+new_item code title = record { code = code; title = title }
+
+abbrev item_read : List ℕ → Item
+item_read (a ∷ b ∷ c ∷ d ∷ e ∷ title) = new_item (unwrap_or (code_of (a ∷ b ∷ c ∷ d ∷ [])) 0) (title_read title)
+item_read _ = new_item 0 None
+
+item_reads : (item : Item) → IsItem item → item_read (item_field item) ≡ item
+item_reads item valid =
+    ap (λ found. new_item (unwrap_or found 0) (title_read (unwrap_or item.title []))) (code_reads item.code valid.code)
+    ∙ ap (new_item item.code) (title_reads item.title valid.title)
+
+each_reads : (items : List Item) → AllByRecursion IsItem items → map item_read (map item_field items) ≡ items
+each_reads [] each = refl
+each_reads (item ∷ items) each =
+    let first : item_read (item_field item) ≡ item = item_reads item each.0 in
+    let rest : map item_read (map item_field items) ≡ items = each_reads items each.1 in
+    cc
+
+abbrev items_read : List (List ℕ) → List Item
+items_read [] = []
+items_read (field ∷ fields) = if is_some (code_of field) then map item_read fields else map item_read (field ∷ fields)
+
+items_are : (vendor : Option ℕ) (items : List Item) → IsNumberIfAny vendor → AllByRecursion IsItem items → items_read (vendor_fields vendor ++ map item_field items) ≡ items
+items_are None [] valid each = refl
+items_are None (item ∷ items) valid each = each_reads (item ∷ items) each
+items_are (Some vid) items valid each =
+    ap (λ found. if is_some found then map item_read (map item_field items) else map item_read (digits_of vid ∷ map item_field items)) (code_reads vid valid.within)
+    ∙ each_reads items each
+
+vendor_is : (vendor : Option ℕ) (items : List Item) → IsNumberIfAny vendor → code_of (at (vendor_fields vendor ++ map item_field items) 0) ≡ vendor
+vendor_is None [] valid = refl
+vendor_is None (item ∷ items) valid = refl
+vendor_is (Some vid) items valid = code_reads vid valid.within
+
+abbrev span_from : (first last : ℕ) → (last < first) ⊎ (first ≤ last) → Option Span
+span_from first last (inl less) = None
+span_from first last (inr ordered) = Some (record { first = first; last = last; ordered = ordered })
+
+same_span : (a b : Span) → a.first ≡ b.first → a.last ≡ b.last → a ≡ b
+same_span a b p q = (span_decides a b).0 (and_from _ _ (eq-eqb a.first b.first p) (eq-eqb a.last b.last q))
+
+span_is : (span : Span) (order : (span.last < span.first) ⊎ (span.first ≤ span.last)) → span_from span.first span.last order ≡ Some span
+span_is span (inl less) = let ordered : span.first ≤ span.last = span.ordered in absurd (omega arith)
+span_is span (inr ordered) = ap Some (same_span (record { first = span.first; last = span.last; ordered = ordered }) span refl refl)
+
+abbrev span_read : List ℕ → List ℕ → Option Span
+span_read first last = span_from (unwrap_or (code_of first) 0) (unwrap_or (code_of last) 0) (cases_lt (unwrap_or (code_of last) 0) (unwrap_or (code_of first) 0))
+
+span_by : (span : Span) (first last : ℕ) → first ≡ span.first → last ≡ span.last → span_from first last (cases_lt last first) ≡ Some span
+span_by span first last p q =
+    ap (λ a. span_from a last (cases_lt last a)) p ∙ ap (λ b. span_from span.first b (cases_lt b span.first)) q ∙ span_is span (cases_lt span.last span.first)
+
+span_reads : (span : Span) → IsNumber span.first → IsNumber span.last → span_read (digits_of span.first) (digits_of span.last) ≡ Some span
+span_reads span p q =
+    span_by span (unwrap_or (code_of (digits_of span.first)) 0) (unwrap_or (code_of (digits_of span.last)) 0) (number_reads span.first p) (number_reads span.last q)
+
+-- Reading orders.
+
+abbrev terms_at : List (List ℕ) → ℕ → Terms
+terms_at fields i = record { licence = at fields i; site = at fields (i + 1); source = at fields (i + 2) }
+
+-- what an order on a span is, where there is a span
+abbrev on_span : (Span → Order) → Option Span → Order
+on_span make None = AddLicence []
+on_span make (Some span) = make span
+
+abbrev number_at : List (List ℕ) → ℕ → ℕ
+number_at fields i = unwrap_or (code_of (at fields i)) 0
+
+-- the order that fields are of
+abbrev read : List (List ℕ) → Order
+read [] = AddLicence []
+read (name ∷ fields) =
+    if bytes_eq name (codes "enrol") then Enrol (at fields 0) (at fields 1) (at fields 2)
+    else if bytes_eq name (codes "amend-org") then AmendOrg (at fields 0) (at fields 1) (at fields 2)
+    else if bytes_eq name (codes "ask") then Ask (at fields 0) (code_of (at fields 1)) (at fields 2) (terms_at fields 3) (code_of (at fields 6))
+    else if bytes_eq name (codes "grant") then Grant (digits_value 10 (at fields 0)) (code_of (at fields 1))
+    else if bytes_eq name (codes "decline") then Decline (digits_value 10 (at fields 0))
+    else if bytes_eq name (codes "withdraw") then Withdraw (digits_value 10 (at fields 0))
+    else if bytes_eq name (codes "amend") then Amend (number_at fields 0) (at fields 1) (terms_at fields 2) (code_of (at fields 5))
+    else if bytes_eq name (codes "return") then Return (number_at fields 0) (code_of (at fields 1))
+    else if bytes_eq name (codes "reserve") then on_span (λ span. Reserve span (code_of (at fields 2))) (span_read (at fields 0) (at fields 1))
+    else if bytes_eq name (codes "release") then on_span (λ span. Release span (code_of (at fields 2))) (span_read (at fields 0) (at fields 1))
+    else if bytes_eq name (codes "import") then Import (at fields 0) (items_read (drop 1 fields)) (code_of (at fields 1))
+    else if bytes_eq name (codes "add-vendor") then AddVendor (number_at fields 0) (at fields 1)
+    else AddLicence (at fields 0)
+
+petition_reads : (n : ℕ) → n < 2 ^ 32 → digits_value 10 (decimal n) ≡ n
+petition_reads n small = (decimal_is_IsNumeral n (omega arith)).1
+
+reads : (order : Order) → IsOrder order → read (fields_of order) ≡ order
+reads (Enrol org title site) is = refl
+reads (AmendOrg org title site) is = refl
+reads (Ask org want title terms vendor) is =
+    ap (λ w. Ask org w title terms (code_of (at (vendor_fields vendor) 0))) (named_reads want is.1) ∙ ap (Ask org want title terms) (vendor_reads vendor is.4)
+reads (Grant petition number) is = ap (λ p. Grant p (code_of (number_field number))) (petition_reads petition is.0) ∙ ap (Grant petition) (named_reads number is.1)
+reads (Decline petition) is = ap Decline (petition_reads petition is)
+reads (Withdraw petition) is = ap Withdraw (petition_reads petition is)
+reads (Amend number title terms vendor) is =
+    ap (λ n. Amend n title terms (code_of (at (vendor_fields vendor) 0))) (number_reads number is.0) ∙ ap (Amend number title terms) (vendor_reads vendor is.3)
+reads (Return number vendor) is =
+    ap (λ n. Return n (code_of (at (vendor_fields vendor) 0))) (number_reads number is.0) ∙ ap (Return number) (vendor_reads vendor is.1)
+reads (Reserve span vendor) is =
+    ap (on_span (λ span. Reserve span (code_of (at (vendor_fields vendor) 0)))) (span_reads span is.0 is.1) ∙ ap (Reserve span) (vendor_reads vendor is.2)
+reads (Release span vendor) is =
+    ap (on_span (λ span. Release span (code_of (at (vendor_fields vendor) 0)))) (span_reads span is.0 is.1) ∙ ap (Release span) (vendor_reads vendor is.2)
+reads (Import org items vendor) is =
+    let each : AllByRecursion IsItem items = recursion_from_All IsItem items is.1 in
+    ap (λ found. Import org found (code_of (at (vendor_fields vendor ++ map item_field items) 0))) (items_are vendor items is.2 each)
+    ∙ ap (Import org items) (vendor_is vendor items is.2)
+reads (AddVendor vendor name) is = ap (λ v. AddVendor v name) (number_reads vendor is.0)
+reads (AddLicence licence) is = refl
+
+-- Orders with one spelling are one order.
+
+filled : (order : Order) → 1 ≤ length (fields_of order)
+filled (Enrol org title site) = omega arith
+filled (AmendOrg org title site) = omega arith
+filled (Ask org want title terms vendor) = omega arith
+filled (Grant petition number) = omega arith
+filled (Decline petition) = omega arith
+filled (Withdraw petition) = omega arith
+filled (Amend number title terms vendor) = omega arith
+filled (Return number vendor) = omega arith
+filled (Reserve span vendor) = omega arith
+filled (Release span vendor) = omega arith
+filled (Import org items vendor) = omega arith
+filled (AddVendor vendor name) = omega arith
+filled (AddLicence licence) = omega arith
+
+same_joined : (xs ys : List (List ℕ)) → 1 ≤ length xs → 1 ≤ length ys → AllByRecursion HasNoTab xs → AllByRecursion HasNoTab ys → join_with_byte 9 xs ≡ join_with_byte 9 ys → xs ≡ ys
+same_joined [] ys p q each others e = absurd (omega arith)
+same_joined (x ∷ xs) [] p q each others e = absurd (omega arith)
+same_joined (x ∷ xs) (y ∷ ys) p q each others e = same_fields x y xs ys each others e
+
+pub own_spelling : (a b : Order) → IsOrder a → IsOrder b → spelling_of a ≡ spelling_of b → a ≡ b
+unfolding spelling_of
+own_spelling a b is also e =
+    sym (reads a is) ∙ ap read (same_joined (fields_of a) (fields_of b) (filled a) (filled b) (tabless a is) (tabless b also) e) ∙ reads b also

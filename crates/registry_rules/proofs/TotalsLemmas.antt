@@ -1,0 +1,320 @@
+-- Totals after a deed are those of the history with it.
+use Rattle.std.proofs.Common.{◌≡◌, ◌∙◌, ap, ap₂, subst, sym, refl, ℕ, ◌+◌, ◌-◌, ◌<◌, ◌≤◌, Bool, true, false, cond, List, [], ◌∷◌, ◌++◌, Option, Some, None, length, length-append, arith, ◌⊎◌, ⊎_elim}
+use Rattle.std.specs.Prelude.{nat_eq, nat_lt, unwrap_or, is_some, if◌then◌else◌, ◌&&◌, ◌||◌, not, find}
+use Rattle.std.specs.List.{list_any}
+use Rattle.std.proofs.lemmas.Bool.{ltb-true, eq-eqb, ne_eqb, eqb-true, eqb-false, and_parts}
+use Rattle.std.specs.Str.{bytes_eq}
+use Rattle.usbnum_core.specs.Spans.{span_has, spans_have}
+use Rattle.usbnum_core.specs.declared.number.Number.{Number}
+use Rattle.usbnum_core.specs.declared.number.Span.{Span}
+use Rattle.registry_rules.specs.Number.{number, is_number}
+use Rattle.std.specs.Option.{option_or}
+use Rattle.registry_rules.specs.History.{History, with_deed, sooner, last_of}
+use Rattle.registry_rules.specs.Query.{enrolled, asked, open_count, owner_of, is_reserved, is_fixed, is_ordered, is_licence, licences, vendors, vendor_of, adds_licence, adds_vendor, given, reserves}
+use Rattle.registry_rules.specs.Rows.{LeadsTo}
+use Rattle.registry_rules.specs.Changes.{act_changes}
+use Rattle.registry_rules.specs.Run.{Legal}
+use Rattle.registry_rules.specs.Sets.{count_at, numbers_at}
+use Rattle.registry_rules.specs.FactsOf.{IsFoundingOf, AreVendorsOf}
+use Rattle.registry_rules.specs.TotalsOf.{IsSummary, is_taken, AreTotalsOf}
+use Rattle.registry_rules.specs.Carrying.{Asks, Closes, HasTaken, Reserves, Releases, Carries}
+use Rattle.registry_rules.specs.Verdict.{verdict}
+use Rattle.registry_rules.proofs.FollowLemmas.{CanEnrol, CanAsk, CanGrant, CanClose, CanReserve, CanRelease, Follows, new_follows}
+use Rattle.registry_rules.proofs.NumberLemmas.{owned_or_reserved}
+use Rattle.registry_rules.proofs.OpenLemmas.{open_after_ask, open_after_close}
+use Rattle.registry_rules.proofs.ChangeLemmas.{leads_to}
+use Rattle.registry_rules.specs.declared.deed.Deed.{Deed}
+use Rattle.registry_rules.specs.declared.deed.Act.{Act}
+use Rattle.registry_rules.specs.declared.deed.Act.TheVariants.{Enrolled, OrgAmended, Asked, Granted, Declined, Withdrawn, CardAmended, Returned, Reserved, Released, Imported, VendorAdded, LicenceAdded}
+use Rattle.registry_rules.specs.declared.founding.Founding.{Founding}
+use Rattle.registry_rules.specs.declared.order.Order.{Order}
+use Rattle.registry_rules.specs.declared.order.Request.{Request}
+use Rattle.registry_rules.specs.declared.record.Org.{Org}
+use Rattle.registry_rules.specs.declared.record.Petition.{Petition}
+use Rattle.registry_rules.specs.declared.record.Card.{Card}
+use Rattle.registry_rules.specs.declared.record.PetitionState.{PetitionState}
+use Rattle.registry_rules.specs.declared.record.PetitionState.TheVariants.{Open, Granted as IsGranted, Declined as IsDeclined, Withdrawn as IsWithdrawn}
+use Rattle.registry_rules.specs.declared.record.Vendor.{Vendor}
+use Rattle.registry_rules.specs.declared.name.NumberName.{NumberName}
+use Rattle.registry_rules.specs.declared.name.SpanName.{SpanName}
+use Rattle.registry_rules.specs.declared.totals.Totals.{Totals}
+use Rattle.registry_rules.specs.declared.verdict.Verdict.TheVariants.{New}
+
+-- a deed that adds no licence keeps what stands in the founding's place
+keeps_founding : (h : History) (deed : Deed) (founding : Founding) → adds_licence deed.act ≡ None → IsFoundingOf h founding → IsFoundingOf (with_deed h deed) founding
+keeps_founding h deed founding none s = record {
+  vendor = s.vendor;
+  name = s.name;
+  curators = s.curators;
+  fixed = s.fixed;
+  allowed = λ licence. rw none (s.allowed licence);
+  allowed_count = rw none s.allowed_count;
+}
+
+-- one that adds no vendor keeps the vendors
+keeps_vendors : (h : History) (deed : Deed) (list : List Vendor) → adds_vendor deed.act ≡ None → AreVendorsOf h list → AreVendorsOf (with_deed h deed) list
+keeps_vendors h deed list none s = record {
+  each = λ vid. rw none (s.each vid);
+  count = rw none s.count;
+}
+
+below_limit : (n limit most : ℕ) → nat_lt n limit ≡ true → limit ≤ most → n < most
+below_limit n limit most e within = let less : n < limit = ltb-true n limit e in omega (arith, less, within)
+
+-- the founding, where no deed was done yet
+abbrev the_deed : List ℕ → List ℕ → Order → Act → Deed
+the_deed caller key order act = record { caller = caller; key = key; order = order; act = act }
+
+-- an enrolment: one organisation more
+enrolled_more : (h : History) (caller key : List ℕ) (order : Order) (org : Org) (old new : Totals) → CanEnrol h caller org
+    → (old.orgs < 4294967295 → new ≡ record old { orgs = old.orgs + 1 }) → IsSummary h old → IsSummary (with_deed h (the_deed caller key order (Enrolled org))) new
+enrolled_more h caller key order org old new can is s =
+    let deed = the_deed caller key order (Enrolled org) in
+    let few : length (enrolled h) < 4294967295 = below_limit (length (enrolled h)) 65536 4294967295 can.below (omega arith) in
+    let count : old.orgs ≡ length (enrolled h) = s.orgs in
+    let now : new ≡ record old { orgs = old.orgs + 1 } = is (omega (arith, few, count)) in
+    let more : length (enrolled h ++ org ∷ []) ≡ length (enrolled h) + 1 = length-append (enrolled h) (org ∷ []) in
+    subst (λ t. IsSummary (with_deed h deed) t) (sym now) (record {
+      founding = keeps_founding h deed old.founding refl s.founding;
+      vendors = keeps_vendors h deed old.vendors refl s.vendors;
+      orgs = ap (λ n. n + 1) s.orgs ∙ sym more;
+      petitions = s.petitions;
+      still_open = s.still_open;
+      taken = s.taken;
+      reserved = s.reserved;
+      nothing = s.nothing;
+    })
+
+-- an ask: one petition more, which is open
+asked_more : (h : History) (caller key : List ℕ) (order : Order) (id : ℕ) (petition : Petition) (old new : Totals) → CanAsk h caller id petition
+    → LeadsTo (act_changes (Asked id petition)) h (with_deed h (the_deed caller key order (Asked id petition)))
+    → Asks old new petition.org → IsSummary h old → IsSummary (with_deed h (the_deed caller key order (Asked id petition))) new
+asked_more h caller key order id petition old new can leads is s =
+    let deed = the_deed caller key order (Asked id petition) in
+    let few : length (asked h) < 4294967295 = below_limit (length (asked h)) 1000000 4294967295 can.below (omega arith) in
+    let few_open : open_count h petition.org < 4294967295 = below_limit (open_count h petition.org) 16 4294967295 can.few_open (omega arith) in
+    let count : old.petitions ≡ length (asked h) = s.petitions in
+    let count_open : count_at old.still_open petition.org ≡ open_count h petition.org = s.still_open petition.org in
+    let more : length (asked h ++ petition ∷ []) ≡ length (asked h) + 1 = length-append (asked h) (petition ∷ []) in
+    subst (λ t. IsSummary (with_deed h deed) t) (sym is.same) (record {
+      founding = keeps_founding h deed old.founding refl s.founding;
+      vendors = keeps_vendors h deed old.vendors refl s.vendors;
+      orgs = s.orgs;
+      petitions = is.petitions (omega (arith, few, count)) ∙ ap (λ n. n + 1) s.petitions ∙ sym more;
+      still_open = λ slug. is.opened (omega (arith, few_open, count_open)) slug
+          ∙ ap (λ n. if bytes_eq petition.org slug then n + 1 else n) (s.still_open slug)
+          ∙ sym (open_after_ask h (with_deed h deed) id petition leads.petitions can.next can.is_open more slug);
+      taken = s.taken;
+      reserved = s.reserved;
+      nothing = s.nothing;
+    })
+
+-- the numbers that are taken, by one more that has an owner
+taken_more : (owner : Option (List ℕ)) (reserved this : Bool) (org : List ℕ) → ((is_some owner || reserved) || this) ≡ (is_some (sooner owner (given this org)) || reserved)
+taken_more None false false org = refl
+taken_more None false true org = refl
+taken_more None true false org = refl
+taken_more None true true org = refl
+taken_more (Some owner) false false org = refl
+taken_more (Some owner) false true org = refl
+taken_more (Some owner) true false org = refl
+taken_more (Some owner) true true org = refl
+
+-- a test of two numbers, either way round
+equal_by : (a b : ℕ) (same : Bool) → nat_eq a b ≡ same → nat_eq a b ≡ nat_eq b a
+equal_by a b true e = e ∙ sym (eq-eqb b a (sym (eqb-true a b e)))
+equal_by a b false e = e ∙ sym (ne_eqb b a (λ is. eqb-false a b e (sym is)))
+
+same_test : (vid pid : ℕ) (n : Number) → (nat_eq vid n.vid && nat_eq pid n.pid) ≡ is_number n (number vid pid)
+same_test vid pid n = ap₂ ◌&&◌ (equal_by vid n.vid (nat_eq vid n.vid) refl) (equal_by pid n.pid (nat_eq pid n.pid) refl)
+
+-- a grant: one open petition less, and one number more that is taken
+granted_more : (h : History) (caller key : List ℕ) (order : Order) (id : ℕ) (petition : Petition) (name : NumberName) (old mid new : Totals) → CanGrant h id petition name
+    → LeadsTo (act_changes (Granted id petition name)) h (with_deed h (the_deed caller key order (Granted id petition name)))
+    → Closes old mid petition.org → HasTaken mid new petition.vid name.pid → IsSummary h old → IsSummary (with_deed h (the_deed caller key order (Granted id petition name))) new
+granted_more h caller key order id petition name old mid new can leads closes takes s =
+    let deed = the_deed caller key order (Granted id petition name) in
+    let now : new ≡ record old { still_open = mid.still_open; taken = new.taken } = takes.same ∙ ap (λ (m : Totals). record m { taken = new.taken }) closes.same in
+    subst (λ t. IsSummary (with_deed h deed) t) (sym now) (record {
+      founding = keeps_founding h deed old.founding refl s.founding;
+      vendors = keeps_vendors h deed old.vendors refl s.vendors;
+      orgs = s.orgs;
+      petitions = s.petitions;
+      still_open = λ slug. closes.closed slug ∙ ap (λ n. if bytes_eq petition.org slug then n - 1 else n) (s.still_open slug)
+          ∙ sym (open_after_close h (with_deed h deed) id petition (IsGranted name.pid) leads.petitions can.there can.was_open refl refl slug);
+      taken = λ n. takes.taken n
+          ∙ ap (λ b. spans_have (numbers_at mid.taken n.vid) n.pid || b) (same_test petition.vid name.pid n)
+          ∙ ap (λ (m : Totals). spans_have (numbers_at m.taken n.vid) n.pid || is_number n (number petition.vid name.pid)) closes.same
+          ∙ ap (λ b. b || is_number n (number petition.vid name.pid)) (s.taken n)
+          ∙ taken_more (owner_of h n) (is_reserved h n) (is_number n (number petition.vid name.pid)) petition.org;
+      reserved = s.reserved;
+      nothing = s.nothing;
+    })
+
+declined_less : (h : History) (caller key : List ℕ) (order : Order) (id : ℕ) (petition : Petition) (old new : Totals) → CanClose h id petition
+    → LeadsTo (act_changes (Declined id petition)) h (with_deed h (the_deed caller key order (Declined id petition)))
+    → Closes old new petition.org → IsSummary h old → IsSummary (with_deed h (the_deed caller key order (Declined id petition))) new
+declined_less h caller key order id petition old new can leads is s =
+    let deed = the_deed caller key order (Declined id petition) in
+    subst (λ t. IsSummary (with_deed h deed) t) (sym is.same) (record {
+      founding = keeps_founding h deed old.founding refl s.founding;
+      vendors = keeps_vendors h deed old.vendors refl s.vendors;
+      orgs = s.orgs;
+      petitions = s.petitions;
+      still_open = λ slug. is.closed slug ∙ ap (λ n. if bytes_eq petition.org slug then n - 1 else n) (s.still_open slug)
+          ∙ sym (open_after_close h (with_deed h deed) id petition IsDeclined leads.petitions can.there can.was_open refl refl slug);
+      taken = s.taken;
+      reserved = s.reserved;
+      nothing = s.nothing;
+    })
+
+withdrawn_less : (h : History) (caller key : List ℕ) (order : Order) (id : ℕ) (petition : Petition) (old new : Totals) → CanClose h id petition
+    → LeadsTo (act_changes (Withdrawn id petition)) h (with_deed h (the_deed caller key order (Withdrawn id petition)))
+    → Closes old new petition.org → IsSummary h old → IsSummary (with_deed h (the_deed caller key order (Withdrawn id petition))) new
+withdrawn_less h caller key order id petition old new can leads is s =
+    let deed = the_deed caller key order (Withdrawn id petition) in
+    subst (λ t. IsSummary (with_deed h deed) t) (sym is.same) (record {
+      founding = keeps_founding h deed old.founding refl s.founding;
+      vendors = keeps_vendors h deed old.vendors refl s.vendors;
+      orgs = s.orgs;
+      petitions = s.petitions;
+      still_open = λ slug. is.closed slug ∙ ap (λ n. if bytes_eq petition.org slug then n - 1 else n) (s.still_open slug)
+          ∙ sym (open_after_close h (with_deed h deed) id petition IsWithdrawn leads.petitions can.there can.was_open refl refl slug);
+      taken = s.taken;
+      reserved = s.reserved;
+      nothing = s.nothing;
+    })
+
+-- an amendment or a return changes no total
+org_amended_same : (h : History) (caller key : List ℕ) (order : Order) (org : Org) (old new : Totals) → new ≡ old → IsSummary h old
+    → IsSummary (with_deed h (the_deed caller key order (OrgAmended org))) new
+org_amended_same h caller key order org old new is s =
+    let deed = the_deed caller key order (OrgAmended org) in
+    subst (λ t. IsSummary (with_deed h deed) t) (sym is) (record { founding = keeps_founding h deed old.founding refl s.founding; vendors = keeps_vendors h deed old.vendors refl s.vendors;
+      orgs = s.orgs; petitions = s.petitions; still_open = s.still_open; taken = s.taken; reserved = s.reserved; nothing = s.nothing })
+
+card_amended_same : (h : History) (caller key : List ℕ) (order : Order) (vid : ℕ) (name : NumberName) (card : Card) (old new : Totals) → new ≡ old → IsSummary h old
+    → IsSummary (with_deed h (the_deed caller key order (CardAmended vid name card))) new
+card_amended_same h caller key order vid name card old new is s =
+    let deed = the_deed caller key order (CardAmended vid name card) in
+    subst (λ t. IsSummary (with_deed h deed) t) (sym is) (record { founding = keeps_founding h deed old.founding refl s.founding; vendors = keeps_vendors h deed old.vendors refl s.vendors;
+      orgs = s.orgs; petitions = s.petitions; still_open = s.still_open; taken = s.taken; reserved = s.reserved; nothing = s.nothing })
+
+returned_same : (h : History) (caller key : List ℕ) (order : Order) (vid : ℕ) (name : NumberName) (old new : Totals) → new ≡ old → IsSummary h old
+    → IsSummary (with_deed h (the_deed caller key order (Returned vid name))) new
+returned_same h caller key order vid name old new is s =
+    let deed = the_deed caller key order (Returned vid name) in
+    subst (λ t. IsSummary (with_deed h deed) t) (sym is) (record { founding = keeps_founding h deed old.founding refl s.founding; vendors = keeps_vendors h deed old.vendors refl s.vendors;
+      orgs = s.orgs; petitions = s.petitions; still_open = s.still_open; taken = s.taken; reserved = s.reserved; nothing = s.nothing })
+
+and_true : (b : Bool) → (b && true) ≡ b
+and_true true = refl
+and_true false = refl
+
+and_false : (b : Bool) → (b && false) ≡ false
+and_false true = refl
+and_false false = refl
+
+or_true : (b : Bool) → (b || true) ≡ true
+or_true true = refl
+or_true false = refl
+
+or_false : (b : Bool) → (b || false) ≡ b
+or_false true = refl
+or_false false = refl
+
+-- the spans: what a reservation and a release leave of a number
+reserves_taken : (owner fixed this : Bool) (last : Option Bool) → ((owner || (fixed || unwrap_or last false)) || this) ≡ (owner || (fixed || unwrap_or (option_or (given this true) last) false))
+reserves_taken true fixed this last = refl
+reserves_taken false true this last = refl
+reserves_taken false false true last = or_true (unwrap_or last false)
+reserves_taken false false false last = or_false (unwrap_or last false)
+
+reserves_reserved : (fixed this : Bool) (last : Option Bool) → ((fixed || unwrap_or last false) || this) ≡ (fixed || unwrap_or (option_or (given this true) last) false)
+reserves_reserved true this last = refl
+reserves_reserved false true last = or_true (unwrap_or last false)
+reserves_reserved false false last = or_false (unwrap_or last false)
+
+reserved_more : (h : History) (caller key : List ℕ) (order : Order) (vid : ℕ) (name : SpanName) (old new : Totals) → Reserves old new vid name.span
+    → IsSummary h old → IsSummary (with_deed h (the_deed caller key order (Reserved vid name))) new
+reserved_more h caller key order vid name old new is s =
+    let deed = the_deed caller key order (Reserved vid name) in
+    subst (λ t. IsSummary (with_deed h deed) t) (sym is.same) (record {
+      founding = keeps_founding h deed old.founding refl s.founding;
+      vendors = keeps_vendors h deed old.vendors refl s.vendors;
+      orgs = s.orgs;
+      petitions = s.petitions;
+      still_open = s.still_open;
+      taken = λ n. is.taken n ∙ ap (λ b. b || (nat_eq vid n.vid && span_has name.span n.pid)) (s.taken n)
+          ∙ reserves_taken (is_some (owner_of h n)) (is_fixed h n) (nat_eq vid n.vid && span_has name.span n.pid) (last_of (λ d. reserves n d.act) h.deeds);
+      reserved = λ n. is.reserved n ∙ ap (λ b. b || (nat_eq vid n.vid && span_has name.span n.pid)) (s.reserved n)
+          ∙ reserves_reserved (is_fixed h n) (nat_eq vid n.vid && span_has name.span n.pid) (last_of (λ d. reserves n d.act) h.deeds);
+      nothing = s.nothing;
+    })
+
+-- what a release leaves
+released_taken : (owner : Option (List ℕ)) (fixed this : Bool) (last : Option Bool) → (this ≡ true → is_some owner ≡ false) → (this ≡ true → fixed ≡ false)
+    → ((is_some owner || (fixed || unwrap_or last false)) && not this) ≡ (is_some owner || (fixed || unwrap_or (option_or (given this false) last) false))
+released_taken owner fixed false last unowned unfixed = and_true (is_some owner || (fixed || unwrap_or last false))
+released_taken owner fixed true last unowned unfixed = and_false (is_some owner || (fixed || unwrap_or last false)) ∙ sym (rw (unowned refl, unfixed refl) refl)
+
+released_reserved : (fixed this : Bool) (last : Option Bool) → (this ≡ true → fixed ≡ false)
+    → ((fixed || unwrap_or last false) && not this) ≡ (fixed || unwrap_or (option_or (given this false) last) false)
+released_reserved fixed false last unfixed = and_true (fixed || unwrap_or last false)
+released_reserved fixed true last unfixed = and_false (fixed || unwrap_or last false) ∙ sym (rw (unfixed refl) refl)
+
+-- a reserved number has no owner
+unowned_by : (owner : Option (List ℕ)) (reserved : Bool) → (owner ≡ None) ⊎ (reserved ≡ false) → reserved ≡ true → is_some owner ≡ false
+unowned_by owner reserved either e = ⊎_elim (λ (none : owner ≡ None). ap is_some none) (λ (free : reserved ≡ false). absurd (let both : true ≡ false = sym e ∙ free in cc)) either
+
+-- a number in the vendor's span is that product number of the vendor
+in_span : (vid : ℕ) (span : Span) (n : Number) → (nat_eq vid n.vid && span_has span n.pid) ≡ true → (number vid n.pid ≡ n) × (span_has span n.pid ≡ true)
+in_span vid span n e =
+    let parts = and_parts (nat_eq vid n.vid) (span_has span n.pid) e in
+    (ap (λ v. number v n.pid) (eqb-true vid n.vid parts.0), parts.1)
+
+released_less : (h : History) (caller key : List ℕ) (order : Order) (vid : ℕ) (name : SpanName) (old new : Totals) → Legal h → CanRelease h vid name → Releases old new vid name.span
+    → IsSummary h old → IsSummary (with_deed h (the_deed caller key order (Released vid name))) new
+released_less h caller key order vid name old new legal can is s =
+    let deed = the_deed caller key order (Released vid name) in
+    let unfixed : (n : Number) → (nat_eq vid n.vid && span_has name.span n.pid) ≡ true → is_fixed h n ≡ false
+        = λ n e. let at = in_span vid name.span n e in subst (λ m. is_fixed h m ≡ false) at.0 (can.unfixed n.pid at.1) in
+    let unowned : (n : Number) → (nat_eq vid n.vid && span_has name.span n.pid) ≡ true → is_some (owner_of h n) ≡ false
+        = λ n e. let at = in_span vid name.span n e in
+            unowned_by (owner_of h n) (is_reserved h n) (owned_or_reserved h legal n) (subst (λ m. is_reserved h m ≡ true) at.0 (can.reserved n.pid at.1)) in
+    subst (λ t. IsSummary (with_deed h deed) t) (sym is.same) (record {
+      founding = keeps_founding h deed old.founding refl s.founding;
+      vendors = keeps_vendors h deed old.vendors refl s.vendors;
+      orgs = s.orgs;
+      petitions = s.petitions;
+      still_open = s.still_open;
+      taken = λ n. is.taken n ∙ ap (λ b. b && not (nat_eq vid n.vid && span_has name.span n.pid)) (s.taken n)
+          ∙ released_taken (owner_of h n) (is_fixed h n) (nat_eq vid n.vid && span_has name.span n.pid) (last_of (λ d. reserves n d.act) h.deeds) (unowned n) (unfixed n);
+      reserved = λ n. is.reserved n ∙ ap (λ b. b && not (nat_eq vid n.vid && span_has name.span n.pid)) (s.reserved n)
+          ∙ released_reserved (is_fixed h n) (nat_eq vid n.vid && span_has name.span n.pid) (last_of (λ d. reserves n d.act) h.deeds) (unfixed n);
+      nothing = s.nothing;
+    })
+
+carries_by : (h : History) (caller key : List ℕ) (order : Order) (act : Act) (old new : Totals) → Legal h → Follows h caller act
+    → LeadsTo (act_changes act) h (with_deed h (the_deed caller key order act)) → Carries old new act → IsSummary h old → IsSummary (with_deed h (the_deed caller key order act)) new
+carries_by h caller key order (Enrolled org) old new legal can leads is s = enrolled_more h caller key order org old new can is s
+carries_by h caller key order (OrgAmended org) old new legal can leads is s = org_amended_same h caller key order org old new is s
+carries_by h caller key order (Asked id petition) old new legal can leads is s = asked_more h caller key order id petition old new can leads is s
+carries_by h caller key order (Granted id petition name) old new legal can leads is s = granted_more h caller key order id petition name old is.0 new can leads is.1 is.2 s
+carries_by h caller key order (Declined id petition) old new legal can leads is s = declined_less h caller key order id petition old new can leads is s
+carries_by h caller key order (Withdrawn id petition) old new legal can leads is s = withdrawn_less h caller key order id petition old new can leads is s
+carries_by h caller key order (CardAmended vid name card) old new legal can leads is s = card_amended_same h caller key order vid name card old new is s
+carries_by h caller key order (Returned vid name) old new legal can leads is s = returned_same h caller key order vid name old new is s
+carries_by h caller key order (Reserved vid name) old new legal can leads is s = reserved_more h caller key order vid name old new is s
+carries_by h caller key order (Released vid name) old new legal can leads is s = released_less h caller key order vid name old new legal can is s
+carries_by h caller key order (Imported vid org fresh tally) old new legal can leads is s = absurd is
+carries_by h caller key order (VendorAdded vendor name) old new legal can leads is s = absurd is
+carries_by h caller key order (LicenceAdded licence) old new legal can leads is s = absurd is
+
+-- totals carried on by a new deed are those of the history with it
+pub carries : (h : History) (request : Request) (deed : Deed) (old new : Totals) → Legal h → verdict h request ≡ New deed → Carries old new deed.act
+    → AreTotalsOf h old → AreTotalsOf (with_deed h deed) new
+unfolding AreTotalsOf
+carries h request deed old new legal new_deed is s =
+    carries_by h deed.caller deed.key deed.order deed.act old new legal (new_follows h request deed new_deed)
+    (leads_to h request deed (act_changes deed.act) legal new_deed refl) is s

@@ -1,0 +1,89 @@
+//! What each kind of act does to totals.
+
+ghost use Rattle.std.specs.Prelude.{◌≡◌, ◌<◌, ◌+◌, OnOk};
+ghost use Rattle.registry_rules.specs.Carrying.{Asks, Closes, HasTaken, Reserves, Releases, Carries};
+
+use crate::counting::{add_number, add_span, cut_span, one_less, one_more};
+use crate::{Act, Totals};
+use usbnum_core::{NoMemory, Pid, Slug, Span, Vid};
+
+/// Carries the totals on by what a deed did. Nothing is said of the totals after NoMemory.
+pub(crate) fn carry_act(totals: &mut Totals, act: &Act) -> Result<(), NoMemory>
+    ensures { OnOk result (Carries totals.old totals.new act.now) }
+{
+    match act {
+        Act::Enrolled(_) => {
+            enrolled(totals);
+            Ok(())
+        }
+        Act::Asked { id: _, petition } => asked(totals, &petition.org),
+        Act::Granted {
+            id: _,
+            petition,
+            name,
+        } => {
+            closed(totals, &petition.org)?;
+            taken(totals, petition.vid, name.pid)
+        }
+        Act::Declined { id: _, petition } => closed(totals, &petition.org),
+        Act::Withdrawn { id: _, petition } => closed(totals, &petition.org),
+        Act::OrgAmended(_)
+        | Act::CardAmended {
+            vid: _,
+            name: _,
+            card: _,
+        }
+        | Act::Returned { vid: _, name: _ } => Ok(()),
+        Act::Reserved { vid, name } => reserved(totals, *vid, &name.span),
+        Act::Released { vid, name } => released(totals, *vid, &name.span),
+        Act::Imported {
+            vid: _,
+            org: _,
+            fresh: _,
+            tally: _,
+        }
+        | Act::VendorAdded { vendor: _, name: _ }
+        | Act::LicenceAdded { licence: _ } => Err(NoMemory),
+    }
+}
+
+fn enrolled(totals: &mut Totals)
+    ensures { totals.old.orgs < 4294967295 → totals.new ≡ record totals.old { orgs = totals.old.orgs + 1 } }
+{
+    totals.orgs = totals.orgs.saturating_add(1);
+}
+
+fn asked(totals: &mut Totals, org: &Slug) -> Result<(), NoMemory>
+    ensures { OnOk result (Asks totals.old totals.new org.now) }
+{
+    totals.petitions = totals.petitions.saturating_add(1);
+    one_more(&mut totals.still_open, org)
+}
+
+fn closed(totals: &mut Totals, org: &Slug) -> Result<(), NoMemory>
+    ensures { OnOk result (Closes totals.old totals.new org.now) }
+{
+    one_less(&mut totals.still_open, org)
+}
+
+fn taken(totals: &mut Totals, vid: Vid, pid: Pid) -> Result<(), NoMemory>
+    ensures { OnOk result (HasTaken totals.old totals.new vid pid) }
+{
+    add_number(totals.alloc, &mut totals.taken, vid, pid)
+}
+
+fn reserved(totals: &mut Totals, vid: Vid, span: &Span) -> Result<(), NoMemory>
+    ensures { OnOk result (Reserves totals.old totals.new vid span.now) }
+{
+    let alloc = totals.alloc;
+    add_span(alloc, &mut totals.taken, vid, span)?;
+    add_span(alloc, &mut totals.reserved, vid, span)
+}
+
+fn released(totals: &mut Totals, vid: Vid, span: &Span) -> Result<(), NoMemory>
+    ensures { OnOk result (Releases totals.old totals.new vid span.now) }
+{
+    let alloc = totals.alloc;
+    cut_span(alloc, &mut totals.taken, vid, span)?;
+    cut_span(alloc, &mut totals.reserved, vid, span)
+}

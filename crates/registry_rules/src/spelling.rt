@@ -1,0 +1,168 @@
+ghost use Rattle.std.specs.Prelude.{◌≡◌, ◌++◌, ◌∷◌, Some, IfOk, map, codes};
+ghost use Rattle.std.specs.List.{join_with_byte};
+ghost use Rattle.std.specs.String.{string_bytes};
+ghost use Rattle.usbnum_core.specs.Number.{digits_of};
+ghost use Rattle.registry_rules.specs.Spelling.{spelling_of, number_field, vendor_fields, terms_fields, item_field, after_tabs};
+
+use crate::{Item, Order, Request, Spelling, Terms};
+use std::alloc::{AllocError, Global};
+use std::fmt::{self, Write};
+use usbnum_core::{NoMemory, Pid, Slug, Title, Vid};
+
+/// The spelling of the request's order: its fields, separated by tabs. Two orders are the same where
+/// their spellings are.
+pub fn request_bytes(alloc: Global, request: &Request) -> Result<Spelling, NoMemory>
+    ensures { IfOk result (λ bytes. bytes ≡ spelling_of request.now.order) }
+{
+    Ok(Spelling::new(order_text(alloc, &request.order)?.into_bytes()))
+}
+
+#[tactic(auto, unfolding(crate::specs::Spelling::spelling_of))]
+fn order_text(alloc: Global, order: &Order) -> Result<String, AllocError>
+    ensures { IfOk result (λ text. string_bytes text ≡ spelling_of order.now) }
+{
+    match order {
+        Order::Enrol { org, title, site } => format!(in alloc; "enrol\t{org}\t{title}\t{site}"),
+        Order::AmendOrg { org, title, site } => {
+            format!(in alloc; "amend-org\t{org}\t{title}\t{site}")
+        }
+        Order::Ask {
+            org,
+            want,
+            title,
+            terms,
+            vendor,
+        } => {
+            let want = NumberField { number: *want };
+            let card = card_text(alloc, title, terms, *vendor)?;
+            format!(in alloc; "ask\t{org}\t{want}\t{card}")
+        }
+        Order::Grant { petition, number } => {
+            let number = NumberField { number: *number };
+            format!(in alloc; "grant\t{petition}\t{number}")
+        }
+        Order::Decline { petition } => format!(in alloc; "decline\t{petition}"),
+        Order::Withdraw { petition } => format!(in alloc; "withdraw\t{petition}"),
+        Order::Amend {
+            number,
+            title,
+            terms,
+            vendor,
+        } => {
+            let card = card_text(alloc, title, terms, *vendor)?;
+            format!(in alloc; "amend\t{number}\t{card}")
+        }
+        Order::Return { number, vendor } => {
+            let vendor = VendorField { vendor: *vendor };
+            format!(in alloc; "return\t{number}{vendor}")
+        }
+        Order::Reserve { span, vendor } => {
+            let first = span.first();
+            let last = span.last();
+            let vendor = VendorField { vendor: *vendor };
+            format!(in alloc; "reserve\t{first}\t{last}{vendor}")
+        }
+        Order::Release { span, vendor } => {
+            let first = span.first();
+            let last = span.last();
+            let vendor = VendorField { vendor: *vendor };
+            format!(in alloc; "release\t{first}\t{last}{vendor}")
+        }
+        Order::Import { org, items, vendor } => import_text(alloc, org, items.as_slice(), *vendor),
+        Order::AddVendor { vendor, name } => format!(in alloc; "add-vendor\t{vendor}\t{name}"),
+        Order::AddLicence { licence } => format!(in alloc; "add-licence\t{licence}"),
+    }
+}
+
+// The title, the terms and the vendor of an order.
+fn card_text(
+    alloc: Global,
+    title: &Title,
+    terms: &Terms,
+    vendor: Option<Vid>,
+) -> Result<String, AllocError>
+    ensures { IfOk result (λ text. string_bytes text ≡ join_with_byte 9 (title.now ∷ terms_fields terms.now ++ vendor_fields vendor)) }
+{
+    let licence = &terms.licence;
+    let site = &terms.site;
+    let source = &terms.source;
+    let vendor = VendorField { vendor };
+    format!(in alloc; "{title}\t{licence}\t{site}\t{source}{vendor}")
+}
+
+fn import_text(
+    alloc: Global,
+    org: &Slug,
+    items: &[Item],
+    vendor: Option<Vid>,
+) -> Result<String, AllocError>
+    ensures { IfOk result (λ text. string_bytes text ≡ join_with_byte 9 (codes "import" ∷ org.now ∷ vendor_fields vendor ++ map item_field items.now)) }
+{
+    let vendor = VendorField { vendor };
+    let mut text = format!(in alloc; "import\t{org}{vendor}")?;
+    for item in items {
+        push_item(&mut text, item)?;
+    }
+    Ok(text)
+}
+
+fn push_item(text: &mut String, item: &Item) -> Result<(), AllocError>
+    ensures { IfOk result (λ _. string_bytes text.new ≡ string_bytes text.old ++ 9 ∷ item_field item.now) }
+{
+    let code = CodeField { code: item.code };
+    match &item.title {
+        Some(title) => write!(text, "\t{code}={title}"),
+        None => write!(text, "\t{code}="),
+    }
+}
+
+// The code of an item: four digits, also of 0.
+#[derive(Drop)]
+struct CodeField {
+    code: u16,
+}
+
+impl fmt::Display for CodeField {
+    ghost output = { λ field. Some (digits_of field.code) };
+
+    fn fmt<W: fmt::Write>(&self, f: &mut fmt::Formatter<W>) -> fmt::Result {
+        match Pid::new(self.code) {
+            None => f.write_str("0000"),
+            Some(pid) => write!(f, "{pid}"),
+        }
+    }
+}
+
+// A number that an order may name: four digits, or `-`.
+#[derive(Drop)]
+struct NumberField {
+    number: Option<Pid>,
+}
+
+impl fmt::Display for NumberField {
+    ghost output = { λ field. Some (number_field field.number) };
+
+    fn fmt<W: fmt::Write>(&self, f: &mut fmt::Formatter<W>) -> fmt::Result {
+        match self.number {
+            None => f.write_str("-"),
+            Some(number) => write!(f, "{number}"),
+        }
+    }
+}
+
+// A vendor that an order may name: a tab and four digits, or nothing.
+#[derive(Drop)]
+struct VendorField {
+    vendor: Option<Vid>,
+}
+
+impl fmt::Display for VendorField {
+    ghost output = { λ field. Some (after_tabs (vendor_fields field.vendor)) };
+
+    fn fmt<W: fmt::Write>(&self, f: &mut fmt::Formatter<W>) -> fmt::Result {
+        match self.vendor {
+            None => Ok(()),
+            Some(vendor) => write!(f, "\t{vendor}"),
+        }
+    }
+}
