@@ -1,0 +1,4 @@
+pub mod Decisions
+pub mod Fields
+pub mod Kinds
+pub mod Reading

@@ -1,0 +1,15 @@
+//! What comes from outside, read as requests or refused, and the texts of replies.
+#![tactic(auto)]
+
+pub use field::Field;
+pub use refusal::WireRefusal;
+pub use request::{line_request, request_from_json};
+
+mod field;
+mod fields;
+mod kind;
+mod link;
+mod orders;
+mod refusal;
+mod request;
+mod text;
