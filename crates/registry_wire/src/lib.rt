@@ -3,6 +3,7 @@
 
 pub use field::Field;
 pub use refusal::WireRefusal;
+pub use reply::{refusal_json, reply_json};
 pub use request::{line_request, request_from_json};
 
 mod field;
@@ -11,5 +12,8 @@ mod kind;
 mod link;
 mod orders;
 mod refusal;
+mod reply;
 mod request;
+#[cfg(test)]
+mod tests;
 mod text;
