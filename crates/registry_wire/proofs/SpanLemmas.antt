@@ -3,7 +3,7 @@ use Rattle.std.proofs.Common.{◌≡◌, ℕ, ◌≤◌, ◌↔◌, Option, Some
 use Rattle.std.proofs.Math.Bridge.{le_prop}
 use mathlib.Core.HLevel.{is_prop→PathP}
 use Rattle.usbnum_core.specs.declared.number.Span.{Span}
-use Rattle.registry_wire.specs.Reading.{span_if}
+use Rattle.registry_wire.specs.Spans.{span_if}
 
 same_ends : (span : Span) (first last : ℕ) (ordered : first ≤ last) → span.first ≡ first → span.last ≡ last → span ≡ record { first = first; last = last; ordered = ordered }
 same_ends span first last ordered p q = λ i. record { first = p i; last = q i; ordered = is_prop→PathP (λ j. p j ≤ q j) (λ j. le_prop) span.ordered ordered i }

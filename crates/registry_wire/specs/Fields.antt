@@ -2,6 +2,8 @@
 use Rattle.std.specs.Prelude.{ℕ, List, codes, bytes_eq, Option, Some, None, if◌then◌else◌}
 use Rattle.registry_wire.specs.declared.field.Field.{Field}
 use Rattle.registry_wire.specs.declared.field.Field.TheVariants as fields
+use Rattle.registry_wire.specs.declared.refusal.FoundingFault.{FoundingFault}
+use Rattle.registry_wire.specs.declared.refusal.FoundingFault.TheVariants as faults
 use Rattle.registry_wire.specs.declared.kind.Kind.{Kind}
 use Rattle.registry_wire.specs.declared.kind.Kind.TheVariants.{Enrol, AmendOrg, Ask, Grant, Decline, Withdraw, Amend, Return, Reserve, Release, AddVendor, AddLicence}
 
@@ -21,6 +23,15 @@ name_of fields.First = codes "first"
 name_of fields.Last = codes "last"
 name_of fields.Vendor = codes "vendor"
 name_of fields.Name = codes "name"
+
+-- the key of a founding file that is bad, or `toml`
+abbrev pub fault_name : FoundingFault → List ℕ
+fault_name faults.Toml = codes "toml"
+fault_name faults.Vendor = codes "vendor"
+fault_name faults.Name = codes "name"
+fault_name faults.Curators = codes "curators"
+fault_name faults.Licences = codes "licences"
+fault_name faults.Fixed = codes "fixed"
 
 -- the kind of order that a name stands for
 abbrev pub kind_of : List ℕ → Option Kind

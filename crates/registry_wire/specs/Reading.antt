@@ -1,11 +1,8 @@
 -- The request that bytes of JSON are, or the first fault that they have.
-use Rattle.std.specs.Prelude.{◌≡◌, ℕ, ◌&&◌, ◌≤◌, nat_le, List, ⊤, Option, Some, None, is_some, option_and_then, Result, Ok, Err, if◌then◌else◌}
+use Rattle.std.specs.Prelude.{ℕ, ◌&&◌, nat_le, List, Option, Some, None, is_some, option_and_then, Result, Ok, Err, if◌then◌else◌}
 use Rattle.std.specs.Str.{is_utf8}
-use Rattle.std.proofs.Math.Decide.{dec_le}
 use Rattle.serde_json.specs.Data.{Data}
 use Rattle.serde_json.specs.Read.{read}
-use Rattle.serde_json.specs.View.{view}
-use Rattle.serde_json.specs.declared.value.Value.{Value}
 use Rattle.serde_json.specs.Find.{get, as_str, as_null, as_object, as_number, as_u64}
 use Rattle.usbnum_core.specs.Number.{number_of}
 use Rattle.usbnum_core.specs.declared.number.Span.{Span}
@@ -19,35 +16,16 @@ use Rattle.registry_wire.specs.declared.kind.Kind.{Kind}
 use Rattle.registry_wire.specs.declared.kind.Kind.TheVariants as kinds
 use Rattle.registry_wire.specs.declared.refusal.WireRefusal.{WireRefusal}
 use Rattle.registry_wire.specs.declared.refusal.WireRefusal.TheVariants.{BadJson, BadField}
-use Rattle.registry_wire.specs.declared.refusal.Stop.{Stop}
-use Rattle.registry_wire.specs.declared.refusal.Stop.TheVariants.{Refused, OutOfMemory}
+use Rattle.registry_wire.specs.Gives.{◌>>=◌, present}
 use Rattle.registry_wire.specs.Fields.{name_of, kind_of}
+use Rattle.registry_wire.specs.Spans.{span_of}
 use Rattle.registry_wire.specs.Kinds.{slug_of, key_of, title_of, link_of}
-
--- one reading after the other: the first fault is the whole's
-infixl 10 ◌>>=◌
-abbrev pub ◌>>=◌ : {A B : Type 0} → Result A WireRefusal → (A → Result B WireRefusal) → Result B WireRefusal
-(Ok x) >>= next = next x
-(Err refusal) >>= next = Err refusal
-
--- what a function answered is what was to be read, unless memory ran out
-abbrev pub Gives : {A : Type 0} → Result A Stop → Result A WireRefusal → Type 0
-Gives (Ok x) expected = expected ≡ Ok x
-Gives (Err (Refused refusal)) expected = expected ≡ Err refusal
-Gives (Err OutOfMemory) expected = ⊤
-
--- the same of a tree
-abbrev pub GivesTree : Result Value Stop → Result Data WireRefusal → Type 0
-GivesTree (Ok value) expected = expected ≡ Ok (view value)
-GivesTree (Err (Refused refusal)) expected = expected ≡ Err refusal
-GivesTree (Err OutOfMemory) expected = ⊤
 
 -- ---- fields
 
 -- the value, or that its field is bad
 abbrev pub wanted : {A : Type 0} → Field → Option A → Result A WireRefusal
-wanted field None = Err (BadField field)
-wanted field (Some x) = Ok x
+wanted field found = present (BadField field) found
 
 -- the text at a field
 abbrev pub text_in : Field → Data → Option (List ℕ)
@@ -93,14 +71,6 @@ whole_in field tree = option_and_then as_u64 (option_and_then as_number (get (na
 
 unfoldable pub petition_in : Data → Result ℕ WireRefusal
 petition_in tree = wanted fields.Petition (option_and_then petition_of (whole_in fields.Petition tree))
-
-abbrev pub span_if : (first last : ℕ) → Dec (first ≤ last) → Option Span
-span_if first last (yes ordered) = Some (record { first = first; last = last; ordered = ordered })
-span_if first last (no disordered) = None
-
--- the span between two numbers, where they are in order
-unfoldable pub span_of : ℕ → ℕ → Option Span
-span_of first last = span_if first last (dec_le first last)
 
 -- a last number below the first is a bad last number
 unfoldable pub span_in : Data → Result Span WireRefusal

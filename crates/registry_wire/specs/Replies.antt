@@ -5,23 +5,26 @@ use Rattle.registry_rules.specs.declared.verdict.Reply.{Reply}
 use Rattle.registry_rules.specs.declared.verdict.Reply.TheVariants.{Done, Refused}
 use Rattle.registry_rules.specs.Reply.{refusal_number, refusal_name, refusal_detail}
 use Rattle.registry_wire.specs.declared.refusal.WireRefusal.{WireRefusal}
-use Rattle.registry_wire.specs.declared.refusal.WireRefusal.TheVariants.{BadJson, BadField}
+use Rattle.registry_wire.specs.declared.refusal.WireRefusal.TheVariants.{BadJson, BadField, BadFounding}
 use Rattle.registry_wire.specs.Fields as fields
 
 -- the number of a refusal
 abbrev pub number_of : WireRefusal → ℕ
 number_of BadJson = 27
 number_of (BadField field) = 28
+number_of (BadFounding fault) = 32
 
 -- and its name
 abbrev pub name_of : WireRefusal → List ℕ
 name_of BadJson = codes "BadJson"
 name_of (BadField field) = codes "BadField"
+name_of (BadFounding fault) = codes "BadFounding"
 
--- the name of the bad field
+-- the name of the bad field, or of the bad key of a founding file
 abbrev pub detail_of : WireRefusal → Option (List ℕ)
 detail_of BadJson = None
 detail_of (BadField field) = Some (fields.name_of field)
+detail_of (BadFounding fault) = Some (fields.fault_name fault)
 
 abbrev pub with_detail : Option (List ℕ) → Members → Members
 with_detail None others = others

@@ -2,11 +2,13 @@ ghost use Rattle.std.specs.Prelude.{◌≡◌, option_copied, option_map, option
 ghost use Rattle.usbnum_core.specs.Number.{number_of};
 ghost use Rattle.serde_json.specs.View.{view};
 ghost use Rattle.serde_json.specs.Find.{as_str};
-ghost use Rattle.registry_wire.specs.Reading.{Gives, wanted, text_in, given_in, slug_in, key_in, title_in, link_in, number_in, optional_number_in, petition_of, whole_in, petition_in, span_of, span_in, kind_in};
+ghost use Rattle.registry_wire.specs.Gives.{Gives};
+ghost use Rattle.registry_wire.specs.Reading.{wanted, text_in, given_in, slug_in, key_in, title_in, link_in, number_in, optional_number_in, petition_of, whole_in, petition_in, span_in, kind_in};
 
 use crate::kind::{Kind, kind_of};
 use crate::link::link_of;
-use crate::refusal::Stop;
+use crate::span::span_of;
+use crate::stop::{Stop, present};
 use crate::text::{key_of, slug_of, title_of};
 use crate::{Field, WireRefusal};
 use serde_json::Value;
@@ -17,10 +19,7 @@ use usbnum_core::{Key, Link, Pid, Slug, Span, Title, Vid, parse_pid, parse_vid};
 fn wanted<T>(field: Field, found: Option<T>) -> Result<T, Stop>
     ensures { Gives result (wanted field found) }
 {
-    match found {
-        Some(value) => Ok(value),
-        None => Err(Stop::Refused(WireRefusal::BadField(field))),
-    }
+    present(WireRefusal::BadField(field), found)
 }
 
 // The text at a field.
@@ -172,14 +171,6 @@ pub(crate) fn petition_at(value: &Value) -> Result<u32, Stop>
         Some(number) => wanted(Field::Petition, petition_of(number)),
         None => wanted(Field::Petition, None),
     }
-}
-
-// The span between two numbers.
-#[tactic(auto, unfolding(crate::specs::Reading::span_of))]
-fn span_of(first: Pid, last: Pid) -> Option<Span>
-    ensures { result ≡ span_of first last }
-{
-    Span::new(first, last)
 }
 
 #[tactic(auto, unfolding(crate::specs::Reading::span_in))]

@@ -1,6 +1,7 @@
 ghost use Rattle.std.specs.Prelude.{◌≡◌};
 ghost use Rattle.serde_json.specs.View.{view};
-ghost use Rattle.registry_wire.specs.Reading.{Gives, terms_in, enrol_in, amend_org_in, ask_in, grant_in, decline_in, withdraw_in, amend_in, return_in, reserve_in, release_in, add_vendor_in, add_licence_in, order_in};
+ghost use Rattle.registry_wire.specs.Gives.{Gives};
+ghost use Rattle.registry_wire.specs.Reading.{terms_in, enrol_in, amend_org_in, ask_in, grant_in, decline_in, withdraw_in, amend_in, return_in, reserve_in, release_in, add_vendor_in, add_licence_in, order_in};
 
 use crate::Field;
 use crate::fields::{
@@ -8,7 +9,7 @@ use crate::fields::{
     title_at, vid_at,
 };
 use crate::kind::Kind;
-use crate::refusal::Stop;
+use crate::stop::Stop;
 use registry_rules::{Order, Terms};
 use serde_json::Value;
 use std::alloc::Global;

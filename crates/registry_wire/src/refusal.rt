@@ -1,5 +1,4 @@
 use crate::Field;
-use usbnum_core::NoMemory;
 
 /// Why what came from outside is no request.
 #[derive(Clone, Copy, Debug, PartialEq, Eq)]
@@ -8,6 +7,39 @@ pub enum WireRefusal {
     BadJson,
     /// The first field that is missing, or no value of its kind.
     BadField(Field),
+    /// A founding file is no TOML, or the first key that is missing or bad.
+    BadFounding(FoundingFault),
+}
+
+/// What is wrong with a founding file.
+#[derive(Clone, Copy, Debug, PartialEq, Eq)]
+pub enum FoundingFault {
+    /// It is no TOML.
+    Toml,
+    Vendor,
+    Name,
+    Curators,
+    Licences,
+    Fixed,
+}
+
+impl FoundingFault {
+    ghost use Rattle.std.specs.Prelude.{◌≡◌};
+    ghost use Rattle.registry_wire.specs.Fields.{fault_name};
+
+    /// The bad key, or `toml`.
+    pub fn name(self) -> &'static str
+        ensures { result.now ≡ fault_name self }
+    {
+        match self {
+            FoundingFault::Toml => "toml",
+            FoundingFault::Vendor => "vendor",
+            FoundingFault::Name => "name",
+            FoundingFault::Curators => "curators",
+            FoundingFault::Licences => "licences",
+            FoundingFault::Fixed => "fixed",
+        }
+    }
 }
 
 impl WireRefusal {
@@ -21,6 +53,7 @@ impl WireRefusal {
         match self {
             WireRefusal::BadJson => 27,
             WireRefusal::BadField(_) => 28,
+            WireRefusal::BadFounding(_) => 32,
         }
     }
 
@@ -31,34 +64,18 @@ impl WireRefusal {
         match self {
             WireRefusal::BadJson => "BadJson",
             WireRefusal::BadField(_) => "BadField",
+            WireRefusal::BadFounding(_) => "BadFounding",
         }
     }
 
-    /// What the refusal is about: the name of the bad field.
+    /// What the refusal is about: the name of the bad field, or of the bad key of a founding file.
     pub fn detail(self) -> Option<&'static str>
         ensures { option_copied result ≡ detail_of self }
     {
         match self {
             WireRefusal::BadJson => None,
             WireRefusal::BadField(field) => Some(field.name()),
+            WireRefusal::BadFounding(fault) => Some(fault.name()),
         }
-    }
-}
-
-// Why nothing was read.
-#[derive(Clone, Copy, Debug, PartialEq, Eq)]
-pub(crate) enum Stop {
-    Refused(WireRefusal),
-    OutOfMemory,
-}
-
-impl From<NoMemory> for Stop {
-    ghost use Rattle.std.specs.Prelude.{◌≡◌};
-    ghost use Rattle.registry_wire.specs.declared.refusal.Stop.TheVariants.{OutOfMemory};
-
-    ghost from_gives = { λ _ stop. stop ≡ OutOfMemory };
-
-    fn from(_error: NoMemory) -> Stop {
-        Stop::OutOfMemory
     }
 }

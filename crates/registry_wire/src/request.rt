@@ -1,10 +1,11 @@
 ghost use Rattle.std.specs.Prelude.{◌≡◌, IfOk};
 ghost use Rattle.serde_json.specs.View.{view};
-ghost use Rattle.registry_wire.specs.Reading.{Gives, GivesTree, object_of, body_reading, line_reading};
+ghost use Rattle.registry_wire.specs.Gives.{Gives, GivesSeen};
+ghost use Rattle.registry_wire.specs.Reading.{object_of, body_reading, line_reading};
 
 use crate::fields::{key_at, slug_at};
 use crate::orders::order_at;
-use crate::refusal::Stop;
+use crate::stop::Stop;
 use crate::{Field, WireRefusal};
 use registry_rules::Request;
 use serde_json::Value;
@@ -14,7 +15,7 @@ use usbnum_core::{Key, NoMemory, Slug};
 // The JSON object that the bytes are.
 #[tactic(auto, unfolding(crate::specs::Reading::object_of))]
 fn object_of(alloc: Global, bytes: &[u8]) -> Result<Value, Stop>
-    ensures { GivesTree result (object_of bytes.now) }
+    ensures { GivesSeen view result (object_of bytes.now) }
 {
     match Value::from_slice(alloc, bytes) {
         Ok(value) => {

@@ -1,7 +1,7 @@
 use Rattle.std.proofs.Math.Decide.{dec_le}
-use Rattle.registry_wire.specs.Reading.{span_of}
+use Rattle.registry_wire.specs.Spans.{span_of}
 use Rattle.registry_wire.proofs.SpanLemmas.{same_span}
-use Rattle.registry_wire.proofs.fields.span_of.Goals as goal
+use Rattle.registry_wire.proofs.span.span_of.Goals as goal
 
 pub returns : goal.returns
 unfolding span_of
