@@ -2,6 +2,7 @@ pub mod Decisions
 pub mod Fields
 pub mod Founding
 pub mod Gives
+pub mod Import
 pub mod Kinds
 pub mod Reading
 pub mod Replies

@@ -39,7 +39,7 @@ pub(crate) fn slug_at(alloc: Global, value: &Value, field: Field) -> Result<Slug
     let Some(text) = text_at(value, field) else {
         return wanted(field, None);
     };
-    wanted(field, slug_of(alloc, text)?)
+    wanted(field, slug_of(alloc, text.as_bytes())?)
 }
 
 #[tactic(auto, unfolding(crate::specs::Reading::key_in))]
@@ -49,7 +49,7 @@ pub(crate) fn key_at(alloc: Global, value: &Value, field: Field) -> Result<Key, 
     let Some(text) = text_at(value, field) else {
         return wanted(field, None);
     };
-    wanted(field, key_of(alloc, text)?)
+    wanted(field, key_of(alloc, text.as_bytes())?)
 }
 
 #[tactic(auto, unfolding(crate::specs::Reading::title_in))]
@@ -59,7 +59,7 @@ pub(crate) fn title_at(alloc: Global, value: &Value, field: Field) -> Result<Tit
     let Some(text) = text_at(value, field) else {
         return wanted(field, None);
     };
-    wanted(field, title_of(alloc, text)?)
+    wanted(field, title_of(alloc, text.as_bytes())?)
 }
 
 #[tactic(auto, unfolding(crate::specs::Reading::link_in))]

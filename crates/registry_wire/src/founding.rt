@@ -30,7 +30,12 @@ fn one_at<T: FromToml>(alloc: Global, table: &Table, key: FoundingFault) -> Resu
 
 // An array of at least one item and at most so many.
 #[tactic(auto, unfolding(crate::specs::Founding::some_in))]
-fn some_at<T: FromToml>(alloc: Global, table: &Table, key: FoundingFault, most: usize) -> Result<Vec<T>, Stop>
+fn some_at<T: FromToml>(
+    alloc: Global,
+    table: &Table,
+    key: FoundingFault,
+    most: usize,
+) -> Result<Vec<T>, Stop>
     ensures { GivesSeen (λ list. list.items) result (some_in T.kind most key (table_view table.now)) }
 {
     let Some(found) = value_at(table, key) else {

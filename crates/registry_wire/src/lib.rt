@@ -2,6 +2,7 @@
 #![tactic(auto)]
 
 pub use field::Field;
+pub use import::import_request;
 pub use refusal::{FoundingFault, WireRefusal};
 pub use reply::{refusal_json, reply_json};
 pub use request::{line_request, request_from_json};
@@ -9,6 +10,7 @@ pub use request::{line_request, request_from_json};
 mod field;
 mod fields;
 mod founding;
+mod import;
 mod kind;
 mod link;
 mod orders;
@@ -16,8 +18,8 @@ mod refusal;
 mod reply;
 mod request;
 mod span;
-mod toml_value;
 mod stop;
 #[cfg(test)]
 mod tests;
 mod text;
+mod toml_value;

@@ -1,4 +1,4 @@
-ghost use Rattle.std.specs.Prelude.{◌≡◌, IfOk, option_copied, option_map};
+ghost use Rattle.std.specs.Prelude.{◌≡◌, IfOk, option_copied};
 ghost use Rattle.std.specs.String.{string_bytes};
 ghost use Rattle.serde_json.specs.View.{view};
 ghost use Rattle.serde_json.specs.Written.{compact_text};
@@ -6,7 +6,7 @@ ghost use Rattle.registry_rules.specs.Reply.{refusal_number, refusal_name, refus
 ghost use Rattle.registry_wire.specs.Replies.{refused_data, refusal_data, reply_data};
 
 use crate::WireRefusal;
-use registry_rules::{Refusal, Reply};
+use registry_rules::{Refusal, Reply, Text};
 use serde_json::{Value, json};
 use std::alloc::{AllocError, Global};
 use usbnum_core::NoMemory;
@@ -87,11 +87,14 @@ fn rule_name(refusal: &Refusal) -> &'static str
 }
 
 // What stands in the way, where the refusal names it.
-fn rule_detail(alloc: Global, refusal: &Refusal) -> Result<Option<String>, NoMemory>
-    ensures { IfOk result (λ detail. option_map string_bytes detail ≡ refusal_detail refusal.now) }
+fn rule_detail(alloc: Global, refusal: &Refusal) -> Result<Option<Text>, NoMemory>
+    ensures { IfOk result (λ detail. detail ≡ refusal_detail refusal.now) }
 {
     match refusal {
-        Refusal::NumberOwned(owner) => Ok(Some(String::from_str(alloc, owner.as_str())?)),
+        Refusal::NumberOwned(owner) => Ok(Some(Text::new(String::from_str(
+            alloc,
+            owner.as_str(),
+        )?))),
         Refusal::RangeOwned(_) => Err(NoMemory),
         _ => Ok(None),
     }
@@ -100,12 +103,8 @@ fn rule_detail(alloc: Global, refusal: &Refusal) -> Result<Option<String>, NoMem
 fn rule_value(alloc: Global, refusal: &Refusal) -> Result<Value, NoMemory>
     ensures { IfOk result (λ value. view value ≡ refused_data (refusal_number refusal.now) (refusal_name refusal.now) (refusal_detail refusal.now)) }
 {
-    let number = rule_number(refusal);
-    let name = rule_name(refusal);
-    match rule_detail(alloc, refusal)? {
-        Some(detail) => Ok(refused_value(alloc, number, name, Some(detail.as_str()))?),
-        None => Ok(refused_value(alloc, number, name, None)?),
-    }
+    let detail = rule_detail(alloc, refusal)?;
+    refused_for(alloc, rule_number(refusal), rule_name(refusal), detail)
 }
 
 fn reply_value(alloc: Global, reply: &Reply) -> Result<Value, NoMemory>
@@ -120,10 +119,30 @@ fn reply_value(alloc: Global, reply: &Reply) -> Result<Value, NoMemory>
     }
 }
 
+// A refusal whose detail is a text.
+fn refused_for(
+    alloc: Global,
+    number: u16,
+    name: &str,
+    detail: Option<Text>,
+) -> Result<Value, NoMemory>
+    ensures { IfOk result (λ value. view value ≡ refused_data number name.now detail) }
+{
+    match detail {
+        Some(detail) => Ok(refused_value(alloc, number, name, Some(detail.as_str()))?),
+        None => Ok(refused_value(alloc, number, name, None)?),
+    }
+}
+
 fn refusal_value(alloc: Global, refusal: WireRefusal) -> Result<Value, NoMemory>
     ensures { IfOk result (λ value. view value ≡ refusal_data refusal) }
 {
-    Ok(refused_value(alloc, refusal.number(), refusal.name(), refusal.detail())?)
+    refused_for(
+        alloc,
+        refusal.number(),
+        refusal.name(),
+        refusal.detail(alloc)?,
+    )
 }
 
 /// A reply as one line of JSON, without a line end: `{"done":TEXT}`, or for a refusal

@@ -35,7 +35,7 @@ impl FromToml for Slug {
 
     fn read(alloc: Global, value: &Value) -> Result<Option<Slug>, NoMemory> {
         match value.as_str() {
-            Some(text) => slug_of(alloc, text),
+            Some(text) => slug_of(alloc, text.as_bytes()),
             None => Ok(None),
         }
     }
@@ -46,7 +46,7 @@ impl FromToml for Title {
 
     fn read(alloc: Global, value: &Value) -> Result<Option<Title>, NoMemory> {
         match value.as_str() {
-            Some(text) => title_of(alloc, text),
+            Some(text) => title_of(alloc, text.as_bytes()),
             None => Ok(None),
         }
     }
@@ -86,7 +86,10 @@ impl FromToml for Span {
 }
 
 // The values of an array, where all are of the kind.
-pub(crate) fn all_of<T: FromToml>(alloc: Global, values: &[Value]) -> Result<Option<Vec<T>>, NoMemory>
+pub(crate) fn all_of<T: FromToml>(
+    alloc: Global,
+    values: &[Value],
+) -> Result<Option<Vec<T>>, NoMemory>
     ensures { IfOk result (λ found. option_map (λ list. list.items) found ≡ all_of T.kind (items_view values.now)) }
 {
     let mut list = Vec::new(alloc);

@@ -24,8 +24,8 @@ loop-value-preserved g c =
     let value = c.value-item.result in
     let read : Some c.in-Some.read ≡ kind (view value) = sym c.in-Some.is ∙ c.in_ok-read.ensures in
     rw c.in_ok-push-in-Some.ensures.items
-      (sym (all_more kind front c.in-Some.read (view value) (items_view (drop (i + 1) values)) read)
-      ∙ (sym (ap (λ items. with_front front (all_of kind items)) (items_step values i value c.loop-value-test.true c.value-item.is)) ∙ c.loop-value.invariant))
+    (sym (all_more kind front c.in-Some.read (view value) (items_view (drop (i + 1) values)) read)
+    ∙ (sym (ap (λ items. with_front front (all_of kind items)) (items_step values i value c.loop-value-test.true c.value-item.is)) ∙ c.loop-value.invariant))
 
 pub returns : goal.returns
 returns g c = sym (all_end g.T.FromToml.kind c.loop-value.list.items c.args.values.now c.loop-value.value-index (omega arith)) ∙ c.loop-value.invariant
