@@ -5,7 +5,7 @@ use Rattle.std.specs.List.{list_any}
 use Rattle.std.specs.Str.{bytes_eq}
 use Rattle.usbnum_core.specs.Spans.{span_has, spans_have, count_to}
 use Rattle.usbnum_core.specs.declared.number.Number.{Number}
-use Rattle.registry_rules.specs.Number.{number, is_number}
+use Rattle.registry_rules.specs.Number.{number, is_number, numbers_from}
 use Rattle.registry_rules.specs.History.{History, first_of, last_of, all_of}
 use Rattle.registry_rules.specs.declared.deed.Deed.{Deed}
 use Rattle.registry_rules.specs.declared.deed.Act.{Act}
@@ -192,14 +192,9 @@ is_reserved h n = is_fixed h n || is_ordered h n
 abbrev pub is_free : History → Number → Bool
 is_free h n = is_none (owner_of h n) && not (is_reserved h n)
 
--- the least number of the next so many, from n on, that passes the test
-unfoldable pub least_from : (ℕ → Bool) → ℕ → ℕ → Option ℕ
-least_from test n zero = None
-least_from test n (suc left) = if test n then Some n else least_from test (suc n) left
-
 -- the least free product number of the vendor; none of a vendor that isn't there
 abbrev pub least : History → ℕ → Option ℕ
-least h vid = if has_vendor h vid then least_from (λ pid. is_free h (number vid pid)) 1 65535 else None
+least h vid = if has_vendor h vid then find (λ pid. is_free h (number vid pid)) (numbers_from 1 65535) else None
 
 -- the deed of the caller's request under the key
 abbrev pub kept : History → List ℕ → List ℕ → Option Deed

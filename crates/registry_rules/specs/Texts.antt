@@ -1,5 +1,7 @@
 -- Lists of texts in the order of their bytes.
-use Rattle.std.specs.Prelude.{ℕ, ◌≤◌, List, length}
+use Rattle.std.specs.Prelude.{ℕ, ◌≡◌, ◌≤◌, List, length}
+use Rattle.std.specs.List.{list_any}
+use Rattle.std.specs.Str.{bytes_eq}
 use Rattle.std.specs.Ordering.{nat_cmp}
 use Rattle.std.specs.Cmp.Lexicographic.{slice_cmp}
 use Rattle.std.specs.List.Sorted.{IsStrictlySortedBy}
@@ -7,6 +9,11 @@ use Rattle.std.specs.List.Sorted.{IsStrictlySortedBy}
 -- the texts are in the order of their bytes, and none is there twice
 abbrev pub IsAscending : List (List ℕ) → Type 0
 IsAscending = IsStrictlySortedBy (slice_cmp nat_cmp)
+
+-- the texts given, each once, in the order of their bytes
+pub record AreInOrder (given ordered : List (List ℕ)) : Type 0 where
+  pub ascending : IsAscending ordered
+  pub same : (text : List ℕ) → list_any (bytes_eq text) ordered ≡ list_any (bytes_eq text) given
 
 -- 1 to 64 slugs, each once, in the order of their bytes
 pub record IsCurators (slugs : List (List ℕ)) : Type 0 where

@@ -1,16 +1,112 @@
-ghost use Rattle.std.specs.Prelude.{◌≡◌, IfOk};
+ghost use Rattle.std.specs.Prelude.{◌≡◌, Result, IfOk};
 ghost use Rattle.registry_rules.specs.FactsOf.{AreFactsOf};
+ghost use Rattle.registry_rules.specs.Gives.{Gives};
 ghost use Rattle.registry_rules.specs.History.{History};
-ghost use Rattle.registry_rules.specs.Verdict.{verdict};
+ghost use Rattle.registry_rules.specs.OnFacts.{outcome_on};
+ghost use Rattle.registry_rules.specs.Verdict.{verdict, verdict_by, deed_for};
 
-use crate::{Facts, Request, Verdict};
-use std::alloc::Global;
-use usbnum_core::NoMemory;
+use crate::checks::vendor_meant;
+use crate::importing::import;
+use crate::rows::{
+    add_licence, add_vendor, amend, amend_org, ask, decline, enrol, give_back, grant, withdraw,
+};
+use crate::span_rows::{release, reserve};
+use crate::stop::Stop;
+use crate::{Act, Deed, Facts, Kept, Order, Refusal, Request, Verdict, request_bytes};
+use std::alloc::{AllocError, Global};
+use usbnum_core::{NoMemory, Number, Slug};
+
+// What the order does, by the row of its checks.
+#[tactic(auto, unfolding(crate::specs::OnFacts::outcome_on))]
+fn act_on(alloc: Global, facts: &Facts<'_>, caller: &Slug, order: &Order) -> Result<Act, Stop>
+    ensures { Gives result (outcome_on facts.now caller.now order.now) }
+{
+    match order {
+        Order::Enrol { org, title, site } => enrol(facts, caller, org, title, site),
+        Order::AmendOrg {
+            org: _,
+            title,
+            site,
+        } => amend_org(facts, caller, title, site),
+        Order::Ask {
+            org,
+            want,
+            title,
+            terms,
+            vendor,
+        } => {
+            let vid = vendor_meant(facts.founding, *vendor);
+            ask(facts, caller, vid, org, *want, title, terms)
+        }
+        Order::Grant { petition, number } => grant(facts, caller, *petition, *number),
+        Order::Decline { petition } => decline(facts, caller, *petition),
+        Order::Withdraw { petition } => withdraw(facts, caller, *petition),
+        Order::Amend {
+            number,
+            title,
+            terms,
+            vendor,
+        } => {
+            let vid = vendor_meant(facts.founding, *vendor);
+            let number = Number { vid, pid: *number };
+            amend(facts, caller, &number, title, terms)
+        }
+        Order::Return { number, vendor } => {
+            let vid = vendor_meant(facts.founding, *vendor);
+            let number = Number { vid, pid: *number };
+            give_back(facts, caller, &number)
+        }
+        Order::Reserve { span, vendor } => {
+            let vid = vendor_meant(facts.founding, *vendor);
+            reserve(facts, caller, vid, span)
+        }
+        Order::Release { span, vendor } => {
+            let vid = vendor_meant(facts.founding, *vendor);
+            release(facts, caller, vid, span)
+        }
+        Order::Import { org, items, vendor } => {
+            let vid = vendor_meant(facts.founding, *vendor);
+            import(alloc, facts, caller, vid, org, items)
+        }
+        Order::AddVendor { vendor, name } => add_vendor(facts, caller, *vendor, name),
+        Order::AddLicence { licence } => add_licence(facts, caller, licence),
+    }
+}
+
+fn deed_of(request: &Request, act: Act) -> Result<Deed, AllocError>
+    ensures { IfOk result (λ deed. deed ≡ deed_for request.now act) }
+{
+    Ok(Deed {
+        caller: request.caller.clone()?,
+        key: request.key.clone()?,
+        order: request.order.clone()?,
+        act,
+    })
+}
+
+// The verdict on a request whose key is kept.
+fn repeated(alloc: Global, kept: &Kept, request: &Request) -> Result<Verdict, NoMemory>
+    ensures { IfOk result (λ found. (outcome : Result Act Refusal) → found ≡ verdict_by (Some kept.now) request.now outcome) }
+{
+    let order = request_bytes(alloc, request)?;
+    if kept.order.as_bytes() == order.as_bytes() {
+        Ok(Verdict::Kept(kept.reply.clone()?))
+    } else {
+        Ok(Verdict::Refused(Refusal::KeyReused))
+    }
+}
 
 /// What becomes of a request, by the facts of a history. On facts of no history it returns, and
 /// promises nothing more.
-pub fn judge(_alloc: Global, _facts: &Facts<'_>, _request: &Request) -> Result<Verdict, NoMemory>
-    ensures { (h : History) → AreFactsOf h _request.now _facts.now → IfOk result (λ found. found ≡ verdict h _request.now) }
+pub fn judge(alloc: Global, facts: &Facts<'_>, request: &Request) -> Result<Verdict, NoMemory>
+    ensures { (h : History) → AreFactsOf h request.now facts.now → IfOk result (λ found. found ≡ verdict h request.now) }
 {
-    Err(NoMemory)
+    if let Some(kept) = &facts.kept {
+        return repeated(alloc, kept, request);
+    }
+    match act_on(alloc, facts, &request.caller, &request.order) {
+        Ok(act) => Ok(Verdict::New(deed_of(request, act)?)),
+        Err(Stop::Refused(refusal)) => Ok(Verdict::Refused(refusal)),
+        Err(Stop::OutOfMemory) => Err(NoMemory),
+    }
 }

@@ -1,10 +1,11 @@
-ghost use Rattle.std.specs.Prelude.{◌≡◌, ◌==◌, ◌<◌, ◌≤◌, ◌↔◌, IsSome, IfSome, length};
+ghost use Rattle.std.specs.Prelude.{◌≡◌, ◌≤◌, ◌↔◌, ℕ, List, IsTrue, IsSome, IfSome, length};
 ghost use Rattle.std.specs.List.{list_any};
 ghost use Rattle.std.specs.Str.{bytes_eq};
+ghost use Rattle.registry_rules.specs.Texts.{AreInOrder};
 
 use std::alloc::AllocError;
 use std::marker::Model;
-use usbnum_core::{Slug, Title};
+use usbnum_core::{Slug, Text, TextRule, Title};
 
 /// The curators of a registry: 1 to 64, each once, in the order of their bytes.
 #[derive(Debug, Drop)]
@@ -24,14 +25,43 @@ impl Model for Curators {
 }
 
 impl Curators {
+    ghost use Rattle.registry_rules.specs.Texts.{IsCurators};
+
+    /// These slugs, each once and in order, or None where there are none or more than 64, repeats
+    /// counted.
+    pub fn new(slugs: Vec<Slug>) -> Option<Curators>
+        ensures counted { IsSome result ↔ ((1 ≤ length slugs.items) × (length slugs.items ≤ 64)) }
+        ensures same { IfSome result (AreInOrder slugs.items) }
+    {
+        if slugs.is_empty() || slugs.len() > 64 {
+            return None;
+        }
+        Some(Curators {
+            slugs: in_order(slugs),
+        })
+    }
+
     pub fn contains(&self, slug: &Slug) -> bool
         ensures { result ≡ list_any (bytes_eq slug.now) self.now }
     {
         self.slugs.iter().any(|other| slug == other)
     }
 
+    pub fn len(&self) -> usize
+        ensures { result ≡ length self.now }
+    {
+        self.slugs.len()
+    }
+
+    pub fn is_empty(&self) -> bool
+        ensures { IsTrue result ↔ (length self.now ≡ 0) }
+    {
+        self.slugs.is_empty()
+    }
+
     pub fn as_slice(&self) -> &[Slug]
-        ensures { result.now ≡ self.now }
+        ensures slugs { result.now ≡ self.now }
+        ensures valid { IsCurators self.now }
     {
         &self.slugs
     }
@@ -65,14 +95,43 @@ impl Model for Licences {
 }
 
 impl Licences {
+    ghost use Rattle.registry_rules.specs.Texts.{IsLicences};
+
+    /// These titles, each once and in order, or None where there are none or more than 1,024,
+    /// repeats counted.
+    pub fn new(titles: Vec<Title>) -> Option<Licences>
+        ensures counted { IsSome result ↔ ((1 ≤ length titles.items) × (length titles.items ≤ 1024)) }
+        ensures same { IfSome result (AreInOrder titles.items) }
+    {
+        if titles.is_empty() || titles.len() > 1024 {
+            return None;
+        }
+        Some(Licences {
+            titles: in_order(titles),
+        })
+    }
+
     pub fn contains(&self, title: &Title) -> bool
         ensures { result ≡ list_any (bytes_eq title.now) self.now }
     {
         self.titles.iter().any(|other| title == other)
     }
 
+    pub fn len(&self) -> usize
+        ensures { result ≡ length self.now }
+    {
+        self.titles.len()
+    }
+
+    pub fn is_empty(&self) -> bool
+        ensures { IsTrue result ↔ (length self.now ≡ 0) }
+    {
+        self.titles.is_empty()
+    }
+
     pub fn as_slice(&self) -> &[Title]
-        ensures { result.now ≡ self.now }
+        ensures titles { result.now ≡ self.now }
+        ensures valid { IsLicences self.now }
     {
         &self.titles
     }
@@ -86,4 +145,16 @@ impl Clone for Licences {
             titles: self.titles.clone()?,
         })
     }
+}
+
+// The texts, each once, in the order of their bytes.
+fn in_order<R: TextRule>(texts: Vec<Text<R>>) -> Vec<Text<R>>
+    ensures same { AreInOrder texts.items result.items }
+    ensures some { 1 ≤ length texts.items → 1 ≤ length result.items }
+    ensures most { length result.items ≤ length texts.items }
+{
+    let mut texts = texts;
+    texts.sort_unstable();
+    texts.dedup();
+    texts
 }

@@ -1,5 +1,5 @@
-ghost use Rattle.std.specs.Prelude.{◌≡◌, nat_eq};
-ghost use Rattle.std.specs.List.{list_any};
+ghost use Rattle.std.specs.Prelude.{◌≡◌, ◌↔◌, IsTrue, is_some, length};
+ghost use Rattle.std.specs.Option.{option_copied};
 
 use crate::Vendor;
 use std::marker::Model;
@@ -21,15 +21,36 @@ impl Model for Vendors {
 }
 
 impl Vendors {
+    ghost use Rattle.registry_rules.specs.FactsOf.{vendor_in};
+
     pub fn as_slice(&self) -> &[Vendor]
         ensures { result.now ≡ self.now }
     {
         &self.items
     }
 
-    pub fn contains(&self, vid: Vid) -> bool
-        ensures { result ≡ list_any (λ vendor. nat_eq vendor.vid vid) self.now }
+    pub fn len(&self) -> usize
+        ensures { result ≡ length self.now }
     {
-        self.items.iter().any(|vendor| vendor.vid == vid)
+        self.items.len()
+    }
+
+    pub fn is_empty(&self) -> bool
+        ensures { IsTrue result ↔ (length self.now ≡ 0) }
+    {
+        self.items.is_empty()
+    }
+
+    /// The vendor of the number.
+    pub fn of(&self, vid: Vid) -> Option<&Vendor>
+        ensures { option_copied result ≡ vendor_in self.now vid }
+    {
+        self.items.iter().find(|vendor| vendor.vid == vid)
+    }
+
+    pub fn contains(&self, vid: Vid) -> bool
+        ensures { result ≡ is_some (vendor_in self.now vid) }
+    {
+        self.of(vid).is_some()
     }
 }

@@ -1,0 +1,14 @@
+pub mod SpanNumbers
+pub mod LeastOwned
+pub mod ItemWalks
+pub mod Bridge
+pub mod RunLemmas
+pub mod RowsLemmas
+pub mod ImportLemmas
+pub mod SpanLemmas
+pub mod FollowLemmas
+pub mod NumberLemmas
+pub mod CountLemmas
+pub mod PetitionLemmas
+pub mod ChangeLemmas
+pub mod OrderLemmas

@@ -1,0 +1,90 @@
+ghost use Rattle.std.specs.Prelude.{◌≡◌};
+ghost use Rattle.registry_rules.specs.Checks.{reserve_row, release_row};
+ghost use Rattle.registry_rules.specs.Gives.{Gives};
+ghost use Rattle.registry_rules.specs.OnFacts.{is_owned_in, least_with, vendor_there, span_meets_fixed, span_is_reserved, least_owned_in};
+
+use crate::checks::{check_curator, check_vendor, number_name, span_name};
+use crate::stop::Stop;
+use crate::{Act, Facts, Founding, Holding, Holdings, Refusal};
+use usbnum_core::{Number, Pid, Slug, Span, Spans, Vid};
+
+// Whether a number of the span is fixed.
+fn meets_fixed(founding: &Founding, vid: Vid, span: &Span) -> bool
+    ensures { result ≡ span_meets_fixed founding.now vid span.now }
+{
+    vid == founding.vendor && founding.fixed.meets(*span)
+}
+
+// Whether each number of the span is reserved.
+fn is_reserved(reserved: &Spans, span: &Span) -> bool
+    ensures { result ≡ span_is_reserved reserved.now span.now }
+{
+    reserved.covers(*span)
+}
+
+// Whether the holding is of a number of the span.
+fn is_in(holding: &Holding, vid: Vid, span: &Span) -> bool
+    ensures { result ≡ is_owned_in holding.now vid span.now }
+{
+    holding.number.vid == vid
+        && span.first() <= holding.number.pid
+        && holding.number.pid <= span.last()
+}
+
+// The least so far, or the holding's number, where that is of the span and below.
+fn lesser(least: Option<Pid>, holding: &Holding, vid: Vid, span: &Span) -> Option<Pid>
+    ensures { result ≡ least_with holding.now vid span.now least }
+{
+    let pid = holding.number.pid;
+    let found = is_in(holding, vid, span);
+    match least {
+        Some(least) if found && pid < least => Some(pid),
+        Some(least) => Some(least),
+        None if found => Some(pid),
+        None => None,
+    }
+}
+
+// The least number of the span that is owned.
+fn least_owned(holdings: &Holdings, vid: Vid, span: &Span) -> Option<Pid>
+    ensures { result ≡ least_owned_in holdings.now vid span.now }
+{
+    let mut least: Option<Pid> = None;
+    for holding in holdings.as_slice() {
+        least = lesser(least, holding, vid, span);
+    }
+    least
+}
+
+pub(crate) fn reserve(facts: &Facts<'_>, caller: &Slug, vid: Vid, span: &Span) -> Result<Act, Stop>
+    ensures { Gives result (reserve_row facts.now.founding.now.curators facts.now.founding.now.vendor (vendor_there facts.now.vendors.now vid)
+        (span_meets_fixed facts.now.founding.now vid span.now) (least_owned_in facts.now.holdings vid span.now) caller.now vid span.now) }
+{
+    check_curator(facts.founding, caller)?;
+    check_vendor(facts, vid)?;
+    if meets_fixed(facts.founding, vid, span) {
+        return Err(Stop::Refused(Refusal::RangeFixed));
+    }
+    let name = span_name(facts.founding, vid, span);
+    if let Some(pid) = least_owned(&facts.holdings, vid, span) {
+        let name = number_name(facts.founding, &Number { vid, pid });
+        return Err(Stop::Refused(Refusal::RangeOwned(name)));
+    }
+    Ok(Act::Reserved { vid, name })
+}
+
+pub(crate) fn release(facts: &Facts<'_>, caller: &Slug, vid: Vid, span: &Span) -> Result<Act, Stop>
+    ensures { Gives result (release_row facts.now.founding.now.curators facts.now.founding.now.vendor (vendor_there facts.now.vendors.now vid)
+        (span_meets_fixed facts.now.founding.now vid span.now) (span_is_reserved facts.now.reserved.now span.now) caller.now vid span.now) }
+{
+    check_curator(facts.founding, caller)?;
+    check_vendor(facts, vid)?;
+    if meets_fixed(facts.founding, vid, span) {
+        return Err(Stop::Refused(Refusal::RangeFixed));
+    }
+    if !is_reserved(facts.reserved, span) {
+        return Err(Stop::Refused(Refusal::RangeNotReserved));
+    }
+    let name = span_name(facts.founding, vid, span);
+    Ok(Act::Released { vid, name })
+}
