@@ -1,10 +1,14 @@
 -- What a founding file says, by the TOML that its bytes are.
-use Rattle.std.specs.Prelude.{ℕ, ◌&&◌, ◌==◌, nat_le, List, [], ◌∷◌, length, Option, Some, None, option_and_then, option_map, Result, Ok, if◌then◌else◌}
+use Rattle.std.specs.Prelude.{◌≡◌, ℕ, ◌&&◌, ◌==◌, nat_le, List, [], ◌∷◌, length, Option, Some, None, option_and_then, option_map, Result, Ok, Err, if◌then◌else◌}
+use Rattle.std.specs.List.{list_any}
 use Rattle.std.specs.Str.{is_utf8}
 use Rattle.toml.specs.Data.{Data, Items, no_items, item, Members, get_member, as_str, as_array}
 use Rattle.toml.specs.Parse.{parse_document}
 use Rattle.usbnum_core.specs.Number.{number_of}
+use Rattle.usbnum_core.specs.Spans.{span_has, spans_have}
 use Rattle.usbnum_core.specs.declared.number.Span.{Span}
+use Rattle.registry_rules.specs.Texts.{AreInOrder}
+use Rattle.registry_rules.specs.declared.founding.Founding.{Founding}
 use Rattle.registry_wire.specs.declared.refusal.WireRefusal.{WireRefusal}
 use Rattle.registry_wire.specs.declared.refusal.WireRefusal.TheVariants.{BadFounding}
 use Rattle.registry_wire.specs.declared.refusal.FoundingFault.{FoundingFault}
@@ -97,3 +101,16 @@ unfoldable pub founding_listed : List ℕ → Result Listed WireRefusal
 founding_listed bytes = do
   table ← table_of bytes
   listed_in table
+
+-- a founding with what was listed: each curator and licence once and in the order of their bytes, and the numbers of all fixed spans
+pub record Founds (listed : Listed) (founding : Founding) : Type 0 where
+  pub vendor : founding.vendor ≡ listed.vendor
+  pub name : founding.name ≡ listed.name
+  pub curators : AreInOrder listed.curators founding.curators
+  pub licences : AreInOrder listed.licences founding.licences
+  pub fixed : (n : ℕ) → spans_have founding.fixed n ≡ list_any (λ span. span_has span n) listed.fixed
+
+-- what was read is the founding with what the bytes list, or their first fault
+abbrev pub ReadsAs : Result Founding WireRefusal → Result Listed WireRefusal → Type 0
+ReadsAs (Ok founding) listed = (l : Listed) × (listed ≡ Ok l) × Founds l founding
+ReadsAs (Err refusal) listed = listed ≡ Err refusal

@@ -4,6 +4,7 @@ pub mod Founding
 pub mod Gives
 pub mod Import
 pub mod Kinds
+pub mod Listing
 pub mod Reading
 pub mod Replies
 pub mod Spans

@@ -2,6 +2,7 @@
 #![tactic(auto)]
 
 pub use field::Field;
+pub use founding::founding_from_toml;
 pub use import::import_request;
 pub use refusal::{FoundingFault, WireRefusal};
 pub use reply::{refusal_json, reply_json};

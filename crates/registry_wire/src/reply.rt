@@ -95,7 +95,7 @@ fn rule_detail(alloc: Global, refusal: &Refusal) -> Result<Option<Text>, NoMemor
             alloc,
             owner.as_str(),
         )?))),
-        Refusal::RangeOwned(_) => Err(NoMemory),
+        Refusal::RangeOwned(number) => Ok(Some(Text::new(format!(in alloc; "{number}")?))),
         _ => Ok(None),
     }
 }
