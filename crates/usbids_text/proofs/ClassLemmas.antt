@@ -61,7 +61,7 @@ unfolding trimmed
 trimmed-all [] e = refl
 trimmed-all (b ∷ bytes) e = rw e refl
 
-trimmed-some : (b : ℕ) (bytes : List ℕ) → list_all is_tail (b ∷ bytes) ≡ false → trimmed (b ∷ bytes) ≡ b ∷ trimmed bytes
+pub trimmed-some : (b : ℕ) (bytes : List ℕ) → list_all is_tail (b ∷ bytes) ≡ false → trimmed (b ∷ bytes) ≡ b ∷ trimmed bytes
 unfolding trimmed
 trimmed-some b bytes e = rw e refl
 
@@ -136,7 +136,7 @@ number-bound [] n c e = let same : n ≡ c = cc in omega (arith, pow-zero 16)
 number-bound (b ∷ bytes) n c e = bound-step bytes b n c (λ m x f. number-bound bytes m x f) (hex_value b) refl e
 
 pub code-fits : (bytes : List ℕ) (c : ℕ) → code_in bytes ≡ Some c → is_code c (length bytes) ≡ true
-unfolding code_in is_code
+unfolding code_in
 code-fits bytes c e = elim (cases_Bool (nat_le 1 (length bytes) && nat_le (length bytes) 4)) [
   | inl counted ↦
       let spelt : number_from 0 bytes ≡ Some c = sym (rw counted refl) ∙ e in

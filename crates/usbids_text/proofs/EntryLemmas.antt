@@ -11,12 +11,12 @@ use Rattle.usbids_text.specs.declared.kind.Depth.TheVariants.{Zero, One, Two}
 use Rattle.usbids_text.specs.Words.{is_code, is_name}
 use Rattle.usbids_text.specs.Entries.{Row, LeafEntry, MidEntry, TopEntry, leaf_row, mid_row, top_row, leaves_rows, mids_rows, tops_rows, is_vendor, has_room, is_depth, is_row, has_four, is_sound_top, IsSound}
 
-leaves_rows-append : (a b : List LeafEntry) → leaves_rows (a ++ b) ≡ leaves_rows a ++ leaves_rows b
+pub leaves_rows-append : (a b : List LeafEntry) → leaves_rows (a ++ b) ≡ leaves_rows a ++ leaves_rows b
 unfolding leaves_rows
 leaves_rows-append [] b = refl
 leaves_rows-append (x ∷ a) b = ap (λ (r : List Row). leaf_row x ∷ r) (leaves_rows-append a b)
 
-mids_rows-append : (a b : List MidEntry) → mids_rows (a ++ b) ≡ mids_rows a ++ mids_rows b
+pub mids_rows-append : (a b : List MidEntry) → mids_rows (a ++ b) ≡ mids_rows a ++ mids_rows b
 unfolding mids_rows
 mids_rows-append [] b = refl
 mids_rows-append (x ∷ a) b = ap (λ (r : List Row). mid_row x ∷ r) (ap (λ (r : List Row). leaves_rows x.leaves ++ r) (mids_rows-append a b) ∙ sym (append_assoc (leaves_rows x.leaves) (mids_rows a) (mids_rows b)))

@@ -11,3 +11,8 @@ pub mod RunLemmas
 pub mod UniqueLemmas
 pub mod FinishLemmas
 pub mod SeenLemmas
+pub mod GatherLemmas
+pub mod LineLemmas
+pub mod WrittenLemmas
+pub mod TextLemmas
+pub mod TagLemmas

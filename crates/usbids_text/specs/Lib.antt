@@ -13,3 +13,6 @@ pub mod Reading
 pub mod Held
 pub mod Readers
 pub mod Finding
+pub mod Moments
+pub mod Writing
+pub mod Gathering

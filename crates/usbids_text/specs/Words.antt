@@ -58,7 +58,7 @@ unfoldable pub is_tag : List ℕ → Bool
 is_tag bytes = nat_le 1 (length bytes) && nat_le (length bytes) 8 && list_all is_upper bytes && not (is_four bytes)
 
 -- one to four digits, which the code fits
-unfoldable pub is_code : ℕ → ℕ → Bool
+abbrev pub is_code : ℕ → ℕ → Bool
 is_code code digits = nat_le 1 digits && nat_le digits 4 && nat_lt code (16 ^ digits)
 
 -- the first byte, if there is one, is no separator

@@ -1,6 +1,8 @@
 //! Laws of texts and documents.
-ghost use Rattle.std.specs.Prelude.{◌≡◌, List, ℕ};
-ghost use Rattle.usbids_text.specs.Entries.{TopEntry};
+ghost use Rattle.std.specs.Prelude.{◌≡◌, List, ℕ, Option};
+ghost use Rattle.usbids_text.specs.Entries.{TopEntry, IsSound};
+ghost use Rattle.usbids_text.specs.Moments.{Moment};
+ghost use Rattle.usbids_text.specs.Writing.{written};
 ghost use Rattle.usbids_text.specs.Documents.{Spells, FaultAt};
 ghost use Rattle.usbids_text.specs.declared.line.Why.{Why};
 
@@ -17,4 +19,10 @@ pub fn one_fault()
 /// A text that spells a document has no fault.
 pub fn never_both()
     ensures { (text : List ℕ) (doc : List TopEntry) (n : ℕ) (why : Why) → Spells text doc → FaultAt text n why → ⊥ }
+{}
+
+/// The text that a document is written as spells that document and no other, whatever the stamp.
+pub fn written_spells()
+    ensures spells { (doc : List TopEntry) (stamp : Option Moment) → IsSound doc → Spells (written doc stamp) doc }
+    ensures no_other { (doc other : List TopEntry) (stamp : Option Moment) → IsSound doc → Spells (written doc stamp) other → other ≡ doc }
 {}

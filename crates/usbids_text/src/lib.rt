@@ -5,27 +5,32 @@ mod builder;
 mod document;
 mod ends;
 mod fault;
+mod gather;
 mod kind;
 mod laws;
 mod line;
 mod look_up;
 mod pieces;
 mod reader;
+mod stamp;
 mod streams;
 mod tag;
 mod taken;
 mod words;
+mod writing;
 
 pub use document::{Document, Leaf, Mid, Name, Top};
 pub use ends::{Broken, Sink, Source, put_all};
 pub use fault::{LineFault, ReadFault};
 pub use kind::Kind;
-pub use laws::{never_both, one_document, one_fault};
+pub use laws::{never_both, one_document, one_fault, written_spells};
 pub use line::Why;
 pub use look_up::find;
 pub use reader::{Reader, read_all};
+pub use stamp::Stamp;
 pub use streams::{Inlet, Outlet};
 pub use tag::Tag;
+pub use writing::{WriteFault, write};
 
 #[cfg(test)]
 mod tests;

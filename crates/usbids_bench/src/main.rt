@@ -1,0 +1,121 @@
+//! Reads a list of USB numbers, writes it, and reads again what was written.
+//!
+//! `usbids_bench FILE [TIMES]` says how many entries the list has and whether what was written is
+//! read as the same document. With TIMES it also prints the microseconds of that many reads and
+//! writes; with 0 it reads once.
+#![tactic(auto)]
+
+use std::alloc::{AllocError, Global};
+use std::time::Instant;
+use std::{fs, io};
+use usbids_text::{Document, Outlet, ReadFault, WriteFault, read_all, write};
+
+/// What a list has.
+#[derive(Clone, Copy, Debug, PartialEq, Eq)]
+struct Counts {
+    tops: usize,
+    mids: usize,
+    leaves: usize,
+}
+
+fn counts_of(document: &Document) -> Counts {
+    let mut mids = 0usize;
+    let mut leaves = 0usize;
+    for top in document.tops() {
+        mids = mids.saturating_add(top.mids().len());
+        for mid in top.mids() {
+            leaves = leaves.saturating_add(mid.leaves().len());
+        }
+    }
+    Counts {
+        tops: document.tops().len(),
+        mids,
+        leaves,
+    }
+}
+
+fn text_of(alloc: Global, document: &Document) -> Result<Vec<u8>, WriteFault> {
+    let mut sink = Outlet::new(Vec::new(alloc));
+    write(document, None, &mut sink)?;
+    Ok(sink.into_inner())
+}
+
+// Whether the text that is written is read as the document that it was written for: a text spells
+// one document, so the texts of both are compared.
+fn is_read_again(alloc: Global, text: &[u8]) -> bool {
+    match read_all(alloc, text) {
+        Ok(document) => match text_of(alloc, &document) {
+            Ok(again) => again.as_slice() == text,
+            Err(WriteFault) => false,
+        },
+        Err(_) => false,
+    }
+}
+
+fn report(rt: &HostRuntime, document: &Document) -> io::Result<()> {
+    let counts = counts_of(document);
+    println!(rt;
+        "{} tops, {} mids, {} leaves",
+        counts.tops, counts.mids, counts.leaves
+    )?;
+    let same = match text_of(rt.alloc(), document) {
+        Ok(text) => is_read_again(rt.alloc(), &text),
+        Err(WriteFault) => false,
+    };
+    if same {
+        println!(rt; "written and read again: the same")
+    } else {
+        println!(rt; "written and read again: another")
+    }
+}
+
+fn time_read(rt: &HostRuntime, bytes: &[u8]) -> io::Result<()> {
+    let start = Instant::now(rt)?;
+    let read = read_all(rt.alloc(), bytes);
+    let spent = start.elapsed(rt)?;
+    drop(read);
+    println!(rt; "read {}", spent.as_micros())
+}
+
+fn time_write(rt: &HostRuntime, document: &Document) -> io::Result<()> {
+    let start = Instant::now(rt)?;
+    let text = text_of(rt.alloc(), document);
+    let spent = start.elapsed(rt)?;
+    drop(text);
+    println!(rt; "write {}", spent.as_micros())
+}
+
+fn time(rt: &HostRuntime, bytes: &[u8], times: u32) -> io::Result<()> {
+    for _ in 0..times {
+        time_read(rt, bytes)?;
+    }
+    if let Ok(document) = read_all(rt.alloc(), bytes) {
+        for _ in 0..times {
+            time_write(rt, &document)?;
+        }
+    }
+    Ok(())
+}
+
+fn look_at(rt: &HostRuntime, bytes: &[u8]) -> io::Result<()> {
+    match read_all(rt.alloc(), bytes) {
+        Ok(document) => report(rt, &document),
+        Err(fault) => println!(rt; "{fault}"),
+    }
+}
+
+fn words_of(rt: &HostRuntime) -> io::Result<Vec<String>> {
+    Ok(std::env::args(rt)?.collect(rt.alloc())?)
+}
+
+fn main(rt: HostRuntime) -> io::Result<()> {
+    let words = words_of(&rt)?;
+    let Some(path) = words.get(1) else {
+        return println!(&rt; "usage: usbids_bench FILE [TIMES]");
+    };
+    let bytes = fs::read(&rt, path.as_str())?;
+    match words.get(2) {
+        Some(times) => time(&rt, &bytes, times.parse().unwrap_or(1)),
+        None => look_at(&rt, &bytes),
+    }
+}

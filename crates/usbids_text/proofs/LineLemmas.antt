@@ -1,0 +1,468 @@
+-- The line of an entry is read as that entry.
+use Rattle.std.proofs.Common.{◌≡◌, ℕ, zero, suc, ◌+◌, ◌*◌, ◌-◌, ◌/◌, ◌%◌, ◌^◌, ◌<◌, ◌≤◌, Bool, true, false, List, [], ◌∷◌, ◌++◌, length, take, drop, get_or, Option, Some, None, refl, sym, ap, subst, ◌∙◌, inl, inr, arith, append_assoc, length-append}
+use Rattle.std.specs.Prelude.{◌&&◌, ◌||◌, ◌==◌, not, nat_le, nat_lt, nat_eq, Result, Ok, Err, option_and_then, is_some, position, if◌then◌else◌}
+use Rattle.std.specs.List.{list_all, position_or_len}
+use Rattle.std.proofs.Math.Seq.{take-append_seam, drop-append_seam}
+use Rattle.std.proofs.lemmas.List.{append-nil}
+use Rattle.std.proofs.lemmas.Bool.{cases_Bool, cases_lt, le-ltb, lt-ltb, le-leb, leb-true, ltb-true, ltb-false}
+use Rattle.std.proofs.lemmas.Bool.Decides.{nat_tests}
+use Rattle.std.proofs.lemmas.List.Folds.{list_all-append}
+use Rattle.usbnum_core.specs.Number.{hex_value, lower_hex_digit, digits_of}
+use Rattle.usbids_text.specs.declared.line.Why.{Why}
+use Rattle.usbids_text.specs.declared.line.Why.TheVariants.{BadTop, LineTooLong}
+use Rattle.usbids_text.specs.declared.kind.Depth.{Depth}
+use Rattle.usbids_text.specs.declared.kind.Depth.TheVariants.{Zero, One, Two}
+use Rattle.usbids_text.specs.declared.kind.Kind.TheVariants.{Vendor, Tagged}
+use Rattle.usbids_text.specs.Words.{is_separator, is_tail, is_inner, is_upper, trimmed, before, word, past_separators, after_word, number_from, code_in, is_four, is_tag, is_code, begins_well, ends_well, is_name}
+use Rattle.usbids_text.specs.Entries.{Row, is_depth, is_row}
+use Rattle.usbids_text.specs.Lines.{short_enough, with_code, below, tagged, top, after_tab, by_tabs, is_comment, class_of}
+use Rattle.usbids_text.specs.Writing.{front, code_text, gap, line_text}
+use Rattle.usbids_text.proofs.EntryLemmas.{both, and-both, row-code, row-name, row-depth}
+use Rattle.usbids_text.proofs.WordLemmas.{trimmed_done, ends_well-last}
+
+-- words and separators
+
+abbrev is_solid : ℕ → Bool
+is_solid b = not (is_separator b)
+
+abbrev StopsWord : List ℕ → Type 0
+StopsWord [] = Unit {0}
+StopsWord (b ∷ bytes) = is_separator b ≡ true
+
+not-true : (b : Bool) → not b ≡ true → b ≡ false
+not-true true e = absurd cc
+not-true false e = refl
+
+count-le : (test : ℕ → Bool) (xs : List ℕ) → position_or_len test xs ≤ length xs
+count-le test [] = omega arith
+count-le test (b ∷ xs) = let rest = count-le test xs in elim (cases_Bool (test b)) [ inl e ↦ rw e (omega arith) | inr e ↦ rw e (omega arith) ]
+
+before-count : (test : ℕ → Bool) (xs : List ℕ) → before test xs ≡ position_or_len test xs
+unfolding before
+before-count test xs = elim (cases_Bool (nat_lt (position_or_len test xs) (length xs))) [
+  | inl less ↦ rw less refl
+  | inr more ↦ let low = ltb-false (position_or_len test xs) (length xs) more in let high = count-le test xs in rw more (omega arith)
+]
+
+count-word : (a b : List ℕ) → list_all is_solid a ≡ true → StopsWord b → position_or_len is_separator (a ++ b) ≡ length a
+count-word [] [] p s = refl
+count-word [] (b ∷ bytes) p s = rw s refl
+count-word (x ∷ a) b p s =
+    let parts = both (is_solid x) (list_all is_solid a) p in
+    let other : is_separator x ≡ false = not-true (is_separator x) parts.0 in
+    let rest = count-word a b parts.1 s in
+    rw other (omega arith)
+
+before-word : (a b : List ℕ) → list_all is_solid a ≡ true → StopsWord b → before is_separator (a ++ b) ≡ length a
+before-word a b p s = before-count is_separator (a ++ b) ∙ count-word a b p s
+
+word-is : (a b : List ℕ) → list_all is_solid a ≡ true → StopsWord b → word (a ++ b) ≡ a
+unfolding word
+word-is a b p s = ap (λ (n : ℕ). take n (a ++ b)) (before-word a b p s) ∙ take-append_seam a b
+
+after-is : (a b : List ℕ) → list_all is_solid a ≡ true → StopsWord b → after_word (a ++ b) ≡ past_separators b
+unfolding after_word
+after-is a b p s = ap (λ (l : List ℕ). past_separators l) (ap (λ (n : ℕ). drop n (a ++ b)) (before-word a b p s) ∙ drop-append_seam a b)
+
+pub past-solid : (b : ℕ) (bytes : List ℕ) → is_separator b ≡ false → past_separators (b ∷ bytes) ≡ b ∷ bytes
+past-solid b bytes e =
+    let none : before (λ x. not (is_separator x)) (b ∷ bytes) ≡ 0 = before-count (λ x. not (is_separator x)) (b ∷ bytes) ∙ rw e refl in
+    ap (λ (n : ℕ). drop n (b ∷ bytes)) none
+
+past-one : (b : ℕ) (bytes : List ℕ) → is_separator b ≡ true → past_separators (b ∷ bytes) ≡ past_separators bytes
+past-one b bytes e =
+    let n : ℕ = position_or_len (λ x. not (is_separator x)) bytes in
+    let more : position_or_len (λ x. not (is_separator x)) (b ∷ bytes) ≡ suc n = rw e (omega arith) in
+    ap (λ (k : ℕ). drop k (b ∷ bytes)) (before-count (λ x. not (is_separator x)) (b ∷ bytes) ∙ more) ∙ ap (λ (k : ℕ). drop k bytes) (sym (before-count (λ x. not (is_separator x)) bytes))
+
+past-nil : past_separators [] ≡ []
+unfolding before
+past-nil = refl
+
+gap-past : (name : List ℕ) → begins_well name ≡ true → past_separators (gap name ++ name) ≡ name
+gap-past [] h = past-nil
+gap-past (b ∷ bytes) h = past-one 32 (32 ∷ b ∷ bytes) refl ∙ (past-one 32 (b ∷ bytes) refl ∙ past-solid b bytes (not-true (is_separator b) h))
+
+gap-stops : (name : List ℕ) → StopsWord (gap name ++ name)
+gap-stops [] = tt
+gap-stops (b ∷ bytes) = refl
+
+-- codes
+
+abbrev text_of : List ℕ → List ℕ
+text_of [] = []
+text_of (v ∷ vs) = lower_hex_digit v ∷ text_of vs
+
+abbrev AreDigits : List ℕ → Type 0
+AreDigits [] = Unit {0}
+AreDigits (v ∷ vs) = (v < 16) × AreDigits vs
+
+abbrev value_of : ℕ → List ℕ → ℕ
+value_of n [] = n
+value_of n (v ∷ vs) = value_of (n * 16 + v) vs
+
+hex-reads : (v : ℕ) → v < 16 → hex_value (lower_hex_digit v) ≡ Some v
+hex-reads v small = grind (arith, nat_tests)
+
+hex-solid : (v : ℕ) → v < 16 → is_separator (lower_hex_digit v) ≡ false
+hex-solid v small = grind (arith, nat_tests)
+
+hex-kept : (v : ℕ) → v < 16 → is_tail (lower_hex_digit v) ≡ false
+hex-kept v small = grind (arith, nat_tests)
+
+hex-inner : (v : ℕ) → v < 16 → (lower_hex_digit v == 10) ≡ false
+hex-inner v small = grind (arith, nat_tests)
+
+hex-plain : (v : ℕ) → v < 16 → (lower_hex_digit v == 35) ≡ false
+hex-plain v small = grind (arith, nat_tests)
+
+hex-tab : (v : ℕ) → v < 16 → (lower_hex_digit v == 9) ≡ false
+hex-tab v small = grind (arith, nat_tests)
+
+number-text : (vs : List ℕ) (n : ℕ) → AreDigits vs → number_from n (text_of vs) ≡ Some (value_of n vs)
+unfolding number_from
+number-text [] n d = refl
+number-text (v ∷ vs) n d = ap (λ (o : Option ℕ). option_and_then (λ x. number_from (n * 16 + x) (text_of vs)) o) (hex-reads v d.0) ∙ number-text vs (n * 16 + v) d.1
+
+solid-text : (vs : List ℕ) → AreDigits vs → list_all is_solid (text_of vs) ≡ true
+solid-text [] d = refl
+solid-text (v ∷ vs) d = and-both (is_solid (lower_hex_digit v)) (list_all is_solid (text_of vs)) (ap not (hex-solid v d.0)) (solid-text vs d.1)
+
+inner-text : (vs : List ℕ) → AreDigits vs → list_all is_inner (text_of vs) ≡ true
+inner-text [] d = refl
+inner-text (v ∷ vs) d = and-both (is_inner (lower_hex_digit v)) (list_all is_inner (text_of vs)) (ap not (hex-inner v d.0)) (inner-text vs d.1)
+
+ends-text : (v : ℕ) (vs : List ℕ) → v < 16 → AreDigits vs → ends_well (text_of (v ∷ vs)) ≡ true
+unfolding ends_well
+ends-text v [] small d = ap not (hex-kept v small)
+ends-text v (w ∷ vs) small d = ends-text w vs d.0 d.1
+
+length-text : (vs : List ℕ) → length (text_of vs) ≡ length vs
+length-text [] = refl
+length-text (v ∷ vs) = let rest = length-text vs in omega arith
+
+-- a code's text is made of digits, and spells it
+record IsSpelt (digits code : ℕ) : Type 0 where
+  first : ℕ
+  others : List ℕ
+  small : first < 16
+  each : AreDigits others
+  text : code_text digits code ≡ text_of (first ∷ others)
+  counts : length (first ∷ others) ≡ digits
+  value : value_of 0 (first ∷ others) ≡ code
+
+spelt-4 : (code : ℕ) → code < 65536 → IsSpelt 4 code
+unfolding code_text
+spelt-4 code h = record { first = code / 4096; others = (code / 256 % 16) ∷ (code / 16 % 16) ∷ (code % 16) ∷ []; small = omega arith; each = (omega arith, (omega arith, (omega arith, tt))); text = refl; counts = refl; value = omega arith }
+
+spelt-3 : (code : ℕ) → code < 4096 → IsSpelt 3 code
+unfolding code_text
+spelt-3 code h = record { first = code / 256 % 16; others = (code / 16 % 16) ∷ (code % 16) ∷ []; small = omega arith; each = (omega arith, (omega arith, tt)); text = refl; counts = refl; value = omega arith }
+
+spelt-2 : (code : ℕ) → code < 256 → IsSpelt 2 code
+unfolding code_text
+spelt-2 code h = record { first = code / 16 % 16; others = (code % 16) ∷ []; small = omega arith; each = (omega arith, tt); text = refl; counts = refl; value = omega arith }
+
+spelt-1 : (code : ℕ) → code < 16 → IsSpelt 1 code
+unfolding code_text
+spelt-1 code h = record { first = code % 16; others = []; small = omega arith; each = tt; text = refl; counts = refl; value = omega arith }
+
+spelt-at : (k digits code : ℕ) → digits ≡ k → code < 16 ^ digits → (code < 16 ^ k → IsSpelt k code) → IsSpelt digits code
+spelt-at k digits code e below make = subst (λ (n : ℕ). IsSpelt n code) (sym e) (make (subst (λ (n : ℕ). code < 16 ^ n) e below))
+
+spelt : (digits code : ℕ) → is_code code digits ≡ true → IsSpelt digits code
+spelt digits code e =
+    let parts = both (nat_le 1 digits && nat_le digits 4) (nat_lt code (16 ^ digits)) e in
+    let counts = both (nat_le 1 digits) (nat_le digits 4) parts.0 in
+    let some = leb-true 1 digits counts.0 in
+    let few = leb-true digits 4 counts.1 in
+    let below = ltb-true code (16 ^ digits) parts.1 in
+    elim (cases_lt digits 2) [
+      | inl one ↦ spelt-at 1 digits code (omega arith) below (λ h. spelt-1 code h)
+      | inr more ↦ elim (cases_lt digits 3) [
+        | inl two ↦ spelt-at 2 digits code (omega arith) below (λ h. spelt-2 code h)
+        | inr three ↦ elim (cases_lt digits 4) [
+          | inl third ↦ spelt-at 3 digits code (omega arith) below (λ h. spelt-3 code h)
+          | inr four ↦ spelt-at 4 digits code (omega arith) below (λ h. spelt-4 code h)
+        ]
+      ]
+    ]
+
+code-reads : (digits code : ℕ) → is_code code digits ≡ true → IsSpelt digits code → code_in (code_text digits code) ≡ Some code
+unfolding code_in
+code-reads digits code e s =
+    let long : length (code_text digits code) ≡ digits = ap length s.text ∙ (length-text (s.first ∷ s.others) ∙ s.counts) in
+    let counted : (nat_le 1 (length (code_text digits code)) && nat_le (length (code_text digits code)) 4) ≡ true =
+    ap (λ (n : ℕ). nat_le 1 n && nat_le n 4) long ∙ (both (nat_le 1 digits && nat_le digits 4) (nat_lt code (16 ^ digits)) e).0 in
+    rw counted (ap (λ (l : List ℕ). number_from 0 l) s.text ∙ (number-text (s.first ∷ s.others) 0 (s.small, s.each) ∙ ap (λ (n : ℕ). Some n) s.value))
+
+-- lines
+
+-- bytes that begin as a code does
+record Begins (bytes : List ℕ) : Type 0 where
+  first : ℕ
+  rest : List ℕ
+  is : bytes ≡ first ∷ rest
+  solid : is_separator first ≡ false
+  plain : (first == 35) ≡ false
+  other : (first == 9) ≡ false
+
+abbrev body : ℕ → ℕ → List ℕ → List ℕ
+body digits code name = code_text digits code ++ (gap name ++ name)
+
+body-begins : (digits code : ℕ) (name : List ℕ) → IsSpelt digits code → Begins (body digits code name)
+body-begins digits code name s = record {
+  first = lower_hex_digit s.first;
+  rest = text_of s.others ++ (gap name ++ name);
+  is = ap (λ (l : List ℕ). l ++ (gap name ++ name)) s.text;
+  solid = hex-solid s.first s.small;
+  plain = hex-plain s.first s.small;
+  other = hex-tab s.first s.small;
+}
+
+code-solid : (digits code : ℕ) → IsSpelt digits code → list_all is_solid (code_text digits code) ≡ true
+code-solid digits code s = ap (list_all is_solid) s.text ∙ solid-text (s.first ∷ s.others) (s.small, s.each)
+
+abbrev mk : Depth → ℕ → ℕ → List ℕ → Row
+mk depth code digits name = record { depth = depth; code = code; digits = digits; name = name }
+
+body-word : (digits code : ℕ) (name : List ℕ) → IsSpelt digits code → word (body digits code name) ≡ code_text digits code
+body-word digits code name s = word-is (code_text digits code) (gap name ++ name) (code-solid digits code s) (gap-stops name)
+
+body-name : (digits code : ℕ) (name : List ℕ) → IsSpelt digits code → begins_well name ≡ true → after_word (body digits code name) ≡ name
+body-name digits code name s h = after-is (code_text digits code) (gap name ++ name) (code-solid digits code s) (gap-stops name) ∙ gap-past name h
+
+code-long : (digits code : ℕ) → IsSpelt digits code → length (code_text digits code) ≡ digits
+code-long digits code s = ap length s.text ∙ (length-text (s.first ∷ s.others) ∙ s.counts)
+
+short-name : (row : Row) → nat_le (length row.name) 65000 ≡ true → short_enough row ≡ Ok (Some row)
+short-name row e = rw e refl
+
+below-body : (depth : Depth) (digits code : ℕ) (name : List ℕ) → is_code code digits ≡ true → IsSpelt digits code → begins_well name ≡ true → nat_le (length name) 65000 ≡ true → below depth (body digits code name) ≡ Ok (Some (mk depth code digits name))
+unfolding below
+below-body depth digits code name e s begins short =
+    let b : List ℕ = body digits code name in
+    let reads : code_in (word b) ≡ Some code = ap code_in (body-word digits code name s) ∙ code-reads digits code e s in
+    let long : length (word b) ≡ digits = ap length (body-word digits code name s) ∙ code-long digits code s in
+    ap (with_code depth b) reads
+    ∙ (ap (λ (n : ℕ). short_enough (mk depth code n (after_word b))) long
+    ∙ (ap (λ (l : List ℕ). short_enough (mk depth code digits l)) (body-name digits code name s begins)
+    ∙ short-name (mk depth code digits name) short))
+
+-- what a name gives
+record Named (name : List ℕ) : Type 0 where
+  short : nat_le (length name) 65000 ≡ true
+  inner : list_all is_inner name ≡ true
+  begins : begins_well name ≡ true
+  ends : ends_well name ≡ true
+
+named : (name : List ℕ) → is_name name ≡ true → Named name
+unfolding is_name
+named name e =
+    let a = both (nat_le (length name) 65000 && list_all is_inner name && begins_well name) (ends_well name) e in
+    let b = both (nat_le (length name) 65000 && list_all is_inner name) (begins_well name) a.0 in
+    let c = both (nat_le (length name) 65000) (list_all is_inner name) b.0 in
+    record { short = c.0; inner = c.1; begins = b.1; ends = a.1 }
+
+ends-append : (a b : List ℕ) (x : ℕ) → ends_well (a ++ x ∷ b) ≡ ends_well (x ∷ b)
+unfolding ends_well
+ends-append [] b x = refl
+ends-append (y ∷ []) b x = refl
+ends-append (y ∷ (z ∷ a)) b x = ends-append (z ∷ a) b x
+
+body-ends : (digits code : ℕ) (name : List ℕ) → IsSpelt digits code → ends_well name ≡ true → ends_well (body digits code name) ≡ true
+body-ends digits code [] s h = ap ends_well (append-nil (code_text digits code) ∙ s.text) ∙ ends-text s.first s.others s.small s.each
+body-ends digits code (b ∷ bytes) s h = ap ends_well (sym (append_assoc (code_text digits code) (32 ∷ 32 ∷ []) (b ∷ bytes))) ∙ (ends-append (code_text digits code ++ 32 ∷ 32 ∷ []) bytes b ∙ h)
+
+-- a line that ends well and is no comment
+class-plain : (line : List ℕ) (b : ℕ) (rest : List ℕ) → length line ≤ 65536 → 0 < length line → ends_well line ≡ true → past_separators line ≡ b ∷ rest → (b == 35) ≡ false → class_of line ≡ by_tabs line
+unfolding class_of
+class-plain line b rest short some ends past plain =
+    let test : nat_lt 65536 (length line) ≡ false = le-ltb 65536 (length line) short in
+    let kept : is_tail (get_or line (length line - 1) 0) ≡ false = not-true (is_tail (get_or line (length line - 1) 0)) (sym (ends_well-last line some) ∙ ends) in
+    let same : trimmed line ≡ line = sym (trimmed_done line some kept) in
+    let open_line : class_of line ≡ (if is_comment (past_separators (trimmed line)) then Ok None else by_tabs (trimmed line)) = rw test refl in
+    let seen : is_comment (past_separators line) ≡ false = ap is_comment past ∙ plain in
+    open_line ∙ (ap (λ (l : List ℕ). if is_comment (past_separators l) then Ok None else by_tabs l) same ∙ rw seen refl)
+
+gap-short : (name : List ℕ) → length (gap name) ≤ 2
+gap-short [] = omega arith
+gap-short (b ∷ bytes) = omega arith
+
+body-short : (digits code : ℕ) (name : List ℕ) → digits ≤ 4 → IsSpelt digits code → nat_le (length name) 65000 ≡ true → length (body digits code name) ≤ 65006
+body-short digits code name few s short =
+    let long = code-long digits code s in
+    let small = leb-true (length name) 65000 short in
+    let two = gap-short name in
+    omega (arith, length-append (code_text digits code) (gap name ++ name), length-append (gap name) name)
+
+body-some : (digits code : ℕ) (name : List ℕ) → IsSpelt digits code → 0 < length (body digits code name)
+body-some digits code name s = let b = body-begins digits code name s in let e = ap length b.is in omega arith
+
+digits-few : (digits code : ℕ) → is_code code digits ≡ true → digits ≤ 4
+digits-few digits code e = leb-true digits 4 (both (nat_le 1 digits) (nat_le digits 4) (both (nat_le 1 digits && nat_le digits 4) (nat_lt code (16 ^ digits)) e).0).1
+
+-- one tab is a mid, two are a leaf
+tab-body : (bytes : List ℕ) → Begins bytes → after_tab bytes ≡ below One bytes
+tab-body bytes b = let at : after_tab (b.first ∷ b.rest) ≡ below One (b.first ∷ b.rest) = rw b.other refl in ap after_tab b.is ∙ (at ∙ ap (below One) (sym b.is))
+
+begin-top : (bytes : List ℕ) → Begins bytes → by_tabs bytes ≡ top bytes
+begin-top bytes b = let at : by_tabs (b.first ∷ b.rest) ≡ top (b.first ∷ b.rest) = rw b.other refl in ap by_tabs b.is ∙ (at ∙ ap top (sym b.is))
+
+past-begin : (bytes : List ℕ) (b : Begins bytes) → past_separators bytes ≡ b.first ∷ b.rest
+past-begin bytes b = ap (λ (l : List ℕ). past_separators l) b.is ∙ past-solid b.first b.rest b.solid
+
+ends-tab : (bytes : List ℕ) → Begins bytes → ends_well bytes ≡ true → ends_well (9 ∷ bytes) ≡ true
+ends-tab bytes b h = ap (λ (l : List ℕ). ends_well (9 ∷ l)) b.is ∙ (ends-append (9 ∷ []) b.rest b.first ∙ (ap ends_well (sym b.is) ∙ h))
+
+class-mid : (bytes : List ℕ) (b : Begins bytes) → length bytes ≤ 65500 → ends_well bytes ≡ true → class_of (9 ∷ bytes) ≡ below One bytes
+class-mid bytes b short ends =
+    class-plain (9 ∷ bytes) b.first b.rest (omega arith) (omega arith) (ends-tab bytes b ends) (past-one 9 bytes refl ∙ past-begin bytes b) b.plain ∙ tab-body bytes b
+
+ends-two : (bytes : List ℕ) → Begins bytes → ends_well bytes ≡ true → ends_well (9 ∷ (9 ∷ bytes)) ≡ true
+ends-two bytes b h = ap (λ (l : List ℕ). ends_well (9 ∷ (9 ∷ l))) b.is ∙ (ends-append (9 ∷ (9 ∷ [])) b.rest b.first ∙ (ap ends_well (sym b.is) ∙ h))
+
+class-leaf : (bytes : List ℕ) (b : Begins bytes) → length bytes ≤ 65500 → ends_well bytes ≡ true → class_of (9 ∷ (9 ∷ bytes)) ≡ below Two bytes
+class-leaf bytes b short ends =
+    class-plain (9 ∷ (9 ∷ bytes)) b.first b.rest (omega arith) (omega arith) (ends-two bytes b ends) (past-one 9 (9 ∷ bytes) refl ∙ (past-one 9 bytes refl ∙ past-begin bytes b)) b.plain
+
+class-top : (bytes : List ℕ) (b : Begins bytes) → length bytes ≤ 65536 → ends_well bytes ≡ true → class_of bytes ≡ top bytes
+class-top bytes b short ends =
+    let e = ap length b.is in
+    class-plain bytes b.first b.rest short (omega arith) ends (past-begin bytes b) b.plain ∙ begin-top bytes b
+
+-- a vendor's line
+top-four : (bytes : List ℕ) → is_four (word bytes) ≡ true → top bytes ≡ below (Zero Vendor) bytes
+unfolding top
+top-four bytes e = rw e refl
+
+code-four : (digits code : ℕ) → is_code code digits ≡ true → IsSpelt digits code → (digits == 4) ≡ true → is_four (code_text digits code) ≡ true
+unfolding is_four
+code-four digits code e s four = and-both (length (code_text digits code) == 4) (is_some (code_in (code_text digits code))) (ap (λ (n : ℕ). n == 4) (code-long digits code s) ∙ four) (ap is_some (code-reads digits code e s))
+
+-- a tagged line
+record Tags (tag : List ℕ) : Type 0 where
+  first : ℕ
+  rest : List ℕ
+  is : tag ≡ first ∷ rest
+  upper : list_all is_upper tag ≡ true
+  short : length tag ≤ 8
+  none : is_four tag ≡ false
+
+tags : (tag : List ℕ) → is_tag tag ≡ true → Tags tag
+unfolding is_tag
+tags [] e = absurd cc
+tags (b ∷ bytes) e =
+    let a = both (nat_le 1 (length (b ∷ bytes)) && nat_le (length (b ∷ bytes)) 8 && list_all is_upper (b ∷ bytes)) (not (is_four (b ∷ bytes))) e in
+    let c = both (nat_le 1 (length (b ∷ bytes)) && nat_le (length (b ∷ bytes)) 8) (list_all is_upper (b ∷ bytes)) a.0 in
+    let d = both (nat_le 1 (length (b ∷ bytes))) (nat_le (length (b ∷ bytes)) 8) c.0 in
+    record { first = b; rest = bytes; is = refl; upper = c.1; short = leb-true (length (b ∷ bytes)) 8 d.1; none = not-true (is_four (b ∷ bytes)) a.1 }
+
+upper-solid : (b : ℕ) → is_upper b ≡ true → is_separator b ≡ false
+upper-solid b e = grind (arith, nat_tests)
+
+upper-plain : (b : ℕ) → is_upper b ≡ true → (b == 35) ≡ false
+upper-plain b e = grind (arith, nat_tests)
+
+upper-other : (b : ℕ) → is_upper b ≡ true → (b == 9) ≡ false
+upper-other b e = grind (arith, nat_tests)
+
+upper-inner : (b : ℕ) → is_upper b ≡ true → (b == 10) ≡ false
+upper-inner b e = grind (arith, nat_tests)
+
+tag-solid : (bytes : List ℕ) → list_all is_upper bytes ≡ true → list_all is_solid bytes ≡ true
+tag-solid [] e = refl
+tag-solid (b ∷ bytes) e = let p = both (is_upper b) (list_all is_upper bytes) e in and-both (is_solid b) (list_all is_solid bytes) (ap not (upper-solid b p.0)) (tag-solid bytes p.1)
+
+tag-inner : (bytes : List ℕ) → list_all is_upper bytes ≡ true → list_all is_inner bytes ≡ true
+tag-inner [] e = refl
+tag-inner (b ∷ bytes) e = let p = both (is_upper b) (list_all is_upper bytes) e in and-both (is_inner b) (list_all is_inner bytes) (ap not (upper-inner b p.0)) (tag-inner bytes p.1)
+
+abbrev tag_line : List ℕ → List ℕ → List ℕ
+tag_line tag bytes = tag ++ (32 ∷ bytes)
+
+tag-begins : (tag bytes : List ℕ) → Tags tag → Begins (tag_line tag bytes)
+tag-begins tag bytes t =
+    let upper : is_upper t.first ≡ true = (both (is_upper t.first) (list_all is_upper t.rest) (ap (list_all is_upper) (sym t.is) ∙ t.upper)).0 in
+    record { first = t.first; rest = t.rest ++ (32 ∷ bytes); is = ap (λ (l : List ℕ). l ++ (32 ∷ bytes)) t.is; solid = upper-solid t.first upper; plain = upper-plain t.first upper; other = upper-other t.first upper }
+
+tag-word : (tag bytes : List ℕ) → Tags tag → word (tag_line tag bytes) ≡ tag
+tag-word tag bytes t = word-is tag (32 ∷ bytes) (tag-solid tag t.upper) refl
+
+tag-after : (tag bytes : List ℕ) → Tags tag → Begins bytes → after_word (tag_line tag bytes) ≡ bytes
+tag-after tag bytes t b = after-is tag (32 ∷ bytes) (tag-solid tag t.upper) refl ∙ (past-one 32 bytes refl ∙ (past-begin bytes b ∙ sym b.is))
+
+top-tagged : (tag bytes : List ℕ) → is_tag tag ≡ true → Tags tag → Begins bytes → top (tag_line tag bytes) ≡ below (Zero (Tagged tag)) bytes
+unfolding top tagged
+top-tagged tag bytes e t b =
+    let line : List ℕ = tag_line tag bytes in
+    let is = tag-word tag bytes t in
+    let none : is_four (word line) ≡ false = ap is_four is ∙ t.none in
+    let tagged_word : is_tag (word line) ≡ true = ap is_tag is ∙ e in
+    let chosen : top line ≡ below (Zero (Tagged (word line))) (after_word line) = rw (none, tagged_word) refl in
+    chosen ∙ (ap (λ (w : List ℕ). below (Zero (Tagged w)) (after_word line)) is ∙ ap (below (Zero (Tagged tag))) (tag-after tag bytes t b))
+
+ends-tag : (tag bytes : List ℕ) → Begins bytes → ends_well bytes ≡ true → ends_well (tag_line tag bytes) ≡ true
+ends-tag tag bytes b h =
+    ap (λ (l : List ℕ). ends_well (tag ++ (32 ∷ l))) b.is
+    ∙ (ap ends_well (sym (append_assoc tag (32 ∷ []) (b.first ∷ b.rest)))
+    ∙ (ends-append (tag ++ 32 ∷ []) b.rest b.first ∙ (ap ends_well (sym b.is) ∙ h)))
+
+line-tag : (tag : List ℕ) (digits code : ℕ) (name : List ℕ) → line_text (tag ++ 32 ∷ []) digits code name ≡ tag_line tag (body digits code name)
+unfolding line_text
+line-tag tag digits code name = append_assoc tag (32 ∷ []) (body digits code name)
+
+line-read : (depth : Depth) (digits code : ℕ) (name : List ℕ) → is_code code digits ≡ true → is_name name ≡ true → is_depth depth digits ≡ true → class_of (line_text (front depth) digits code name) ≡ Ok (Some (mk depth code digits name))
+unfolding line_text
+line-read One digits code name e n d =
+    let s = spelt digits code e in
+    let w = named name n in
+    let short = body-short digits code name (digits-few digits code e) s w.short in
+    class-mid (body digits code name) (body-begins digits code name s) (omega arith) (body-ends digits code name s w.ends) ∙ below-body One digits code name e s w.begins w.short
+line-read Two digits code name e n d =
+    let s = spelt digits code e in
+    let w = named name n in
+    let short = body-short digits code name (digits-few digits code e) s w.short in
+    class-leaf (body digits code name) (body-begins digits code name s) (omega arith) (body-ends digits code name s w.ends) ∙ below-body Two digits code name e s w.begins w.short
+line-read (Zero Vendor) digits code name e n d =
+    let s = spelt digits code e in
+    let w = named name n in
+    let short = body-short digits code name (digits-few digits code e) s w.short in
+    class-top (body digits code name) (body-begins digits code name s) (omega arith) (body-ends digits code name s w.ends)
+    ∙ (top-four (body digits code name) (ap is_four (body-word digits code name s) ∙ code-four digits code e s d) ∙ below-body (Zero Vendor) digits code name e s w.begins w.short)
+line-read (Zero (Tagged tag)) digits code name e n d =
+    let s = spelt digits code e in
+    let w = named name n in
+    let t = tags tag d in
+    let b = body-begins digits code name s in
+    let short = body-short digits code name (digits-few digits code e) s w.short in
+    let brief = t.short in
+    ap class_of (line-tag tag digits code name)
+    ∙ (class-top (tag_line tag (body digits code name)) (tag-begins tag (body digits code name) t) (omega (arith, length-append tag (32 ∷ body digits code name))) (ends-tag tag (body digits code name) b (body-ends digits code name s w.ends))
+    ∙ (top-tagged tag (body digits code name) d t b ∙ below-body (Zero (Tagged tag)) digits code name e s w.begins w.short))
+
+pub row-read : (row : Row) → is_row row ≡ true → class_of (line_text (front row.depth) row.digits row.code row.name) ≡ Ok (Some row)
+row-read row e = line-read row.depth row.digits row.code row.name (row-code row e) (row-name row e) (row-depth row e)
+
+inner-body : (digits code : ℕ) (name : List ℕ) → IsSpelt digits code → list_all is_inner name ≡ true → list_all is_inner (body digits code name) ≡ true
+inner-body digits code name s h =
+    list_all-append is_inner (code_text digits code) (gap name ++ name)
+    ∙ and-both (list_all is_inner (code_text digits code)) (list_all is_inner (gap name ++ name)) (ap (list_all is_inner) s.text ∙ inner-text (s.first ∷ s.others) (s.small, s.each)) (gap-inner name h)
+  where
+    gap-inner : (name : List ℕ) → list_all is_inner name ≡ true → list_all is_inner (gap name ++ name) ≡ true
+    gap-inner [] h = refl
+    gap-inner (b ∷ bytes) h = h
+
+front-inner : (depth : Depth) (digits : ℕ) → is_depth depth digits ≡ true → list_all is_inner (front depth) ≡ true
+front-inner One digits d = refl
+front-inner Two digits d = refl
+front-inner (Zero Vendor) digits d = refl
+front-inner (Zero (Tagged tag)) digits d = let t = tags tag d in list_all-append is_inner tag (32 ∷ []) ∙ rw (tag-inner tag t.upper) refl
+
+pub row-inner : (row : Row) → is_row row ≡ true → list_all is_inner (line_text (front row.depth) row.digits row.code row.name) ≡ true
+unfolding line_text
+row-inner row e =
+    let s = spelt row.digits row.code (row-code row e) in
+    let w = named row.name (row-name row e) in
+    list_all-append is_inner (front row.depth) (body row.digits row.code row.name)
+    ∙ and-both (list_all is_inner (front row.depth)) (list_all is_inner (body row.digits row.code row.name)) (front-inner row.depth row.digits (row-depth row e)) (inner-body row.digits row.code row.name s w.inner)

@@ -1,0 +1,78 @@
+//! Small writes are gathered, so that the sink is called once for many of them.
+ghost use Rattle.std.specs.Prelude.{◌≡◌, [], ◌++◌, OnOk, true, false};
+ghost use Rattle.usbids_text.specs.Gathering.{Gathers};
+
+use crate::ends::{Broken, Sink, put_all};
+use arrayvec::ArrayVec;
+
+/// The bytes that wait for the sink.
+#[derive(Drop)]
+pub struct Waiting {
+    pub bytes: ArrayVec<u8, 4096>,
+}
+
+/// Hands all that waits to the sink.
+pub fn pour<W: Sink>(sink: &mut W, waiting: &mut Waiting) -> Result<(), Broken>
+    ensures gathers { Gathers (W.contents sink.old) waiting.old.bytes.items (W.contents sink.new) waiting.new.bytes.items (W.failures sink.old) (W.failures sink.new) result [] }
+    ensures empty { OnOk result (waiting.new.bytes.items ≡ []) }
+{
+    match put_all(sink, waiting.bytes.as_slice()) {
+        Ok(()) => {
+            waiting.bytes.clear();
+            Ok(())
+        }
+        Err(broken) => Err(broken),
+    }
+}
+
+// Keeps the bytes if there is room for them.
+fn keeps(waiting: &mut Waiting, bytes: &[u8]) -> bool
+    ensures kept { result ≡ true → waiting.new.bytes.items ≡ waiting.old.bytes.items ++ bytes.now }
+    ensures same { result ≡ false → waiting.new.bytes.items ≡ waiting.old.bytes.items }
+{
+    waiting.bytes.try_extend_from_slice(bytes).is_ok()
+}
+
+// Hands the bytes on after those that wait, unless there is room for them when these are gone.
+fn make_room<W: Sink>(sink: &mut W, waiting: &mut Waiting, bytes: &[u8]) -> Result<(), Broken>
+    ensures { Gathers (W.contents sink.old) waiting.old.bytes.items (W.contents sink.new) waiting.new.bytes.items (W.failures sink.old) (W.failures sink.new) result bytes.now }
+{
+    match pour(sink, waiting) {
+        Ok(()) => {
+            if keeps(waiting, bytes) {
+                return Ok(());
+            }
+            put_all(sink, bytes)
+        }
+        Err(broken) => Err(broken),
+    }
+}
+
+/// Writes the bytes after those that wait.
+pub fn gather<W: Sink>(sink: &mut W, waiting: &mut Waiting, bytes: &[u8]) -> Result<(), Broken>
+    ensures { Gathers (W.contents sink.old) waiting.old.bytes.items (W.contents sink.new) waiting.new.bytes.items (W.failures sink.old) (W.failures sink.new) result bytes.now }
+{
+    if keeps(waiting, bytes) {
+        return Ok(());
+    }
+    make_room(sink, waiting, bytes)
+}
+
+/// Writes three times.
+pub fn gather_three<W: Sink>(
+    sink: &mut W,
+    waiting: &mut Waiting,
+    first: &[u8],
+    second: &[u8],
+    third: &[u8],
+) -> Result<(), Broken>
+    ensures { Gathers (W.contents sink.old) waiting.old.bytes.items (W.contents sink.new) waiting.new.bytes.items (W.failures sink.old) (W.failures sink.new) result (first.now ++ (second.now ++ third.now)) }
+{
+    match gather(sink, waiting, first) {
+        Ok(()) => match gather(sink, waiting, second) {
+            Ok(()) => gather(sink, waiting, third),
+            Err(broken) => Err(broken),
+        },
+        Err(broken) => Err(broken),
+    }
+}

@@ -1,0 +1,294 @@
+//! A document as its one text.
+ghost use Rattle.std.specs.Prelude.{◌≡◌, ◌<◌, ◌-◌, ◌∷◌, [], ◌++◌, drop, Some};
+ghost use Rattle.usbnum_core.specs.Number.{lower_hex_digit, digits_of};
+ghost use Rattle.usbids_text.specs.Ends.{Writes};
+ghost use Rattle.usbids_text.specs.Gathering.{Gathers};
+ghost use Rattle.usbids_text.specs.Entries.{leaf_row, mid_row, top_row, leaves_rows, mids_rows, tops_rows};
+ghost use Rattle.usbids_text.specs.Writing.{code_text, gap, line_text, row_text, rows_text, stamp_text, title, head_text, written};
+ghost use Rattle.usbids_text.specs.Documents.{Spells};
+
+use crate::document::{Document, Leaf, Mid, Top};
+use crate::ends::{Broken, Sink};
+use crate::gather::{Waiting, gather, gather_three, pour};
+use crate::kind::Kind;
+use crate::stamp::Stamp;
+use arrayvec::ArrayVec;
+use std::error::Error;
+use std::fmt;
+
+/// The writer failed, and took a beginning of the text.
+#[derive(Clone, Copy, Debug, PartialEq, Eq)]
+pub struct WriteFault;
+
+impl fmt::Display for WriteFault {
+    fn fmt<W: fmt::Write>(&self, f: &mut fmt::Formatter<W>) -> fmt::Result {
+        f.write_str("the list could not be written")
+    }
+}
+
+impl Error for WriteFault {}
+
+const TITLE: &[u8] = b"# List of USB numbers in the syntax of usb.ids\n";
+
+fn lower_digit(value: u16) -> u8
+    requires { value < 16 }
+    ensures { result ≡ lower_hex_digit value }
+{
+    let value = value as u8;
+    if value < 10 {
+        b'0' + value
+    } else {
+        b'a' + (value - 10)
+    }
+}
+
+fn four_digits(code: u16) -> [u8; 4]
+    ensures { result ≡ digits_of code }
+{
+    [
+        lower_digit(code / 4096),
+        lower_digit(code / 256 % 16),
+        lower_digit(code / 16 % 16),
+        lower_digit(code % 16),
+    ]
+}
+
+// The last of the four digits, as many as are wanted.
+fn last_digits(all: &[u8; 4], digits: u8) -> &[u8]
+    ensures { result.now ≡ drop (4 - digits) all.now }
+{
+    &all[4usize.saturating_sub(usize::from(digits))..]
+}
+
+fn gap(name: &[u8]) -> &'static [u8]
+    ensures { result.now ≡ gap name.now }
+{
+    match name {
+        [] => b"",
+        _ => b"  ",
+    }
+}
+
+// One line: what is in front of the code in two parts, the code in its digits, and the name.
+fn put_line<W: Sink>(
+    sink: &mut W,
+    waiting: &mut Waiting,
+    tag: &[u8],
+    space: &[u8],
+    code: u16,
+    digits: u8,
+    name: &[u8],
+) -> Result<(), Broken>
+    ensures { Gathers (W.contents sink.old) waiting.old.bytes.items (W.contents sink.new) waiting.new.bytes.items (W.failures sink.old) (W.failures sink.new) result (line_text (tag.now ++ space.now) digits code name.now ++ 10 ∷ []) }
+{
+    let all = four_digits(code);
+    match gather_three(sink, waiting, tag, space, last_digits(&all, digits)) {
+        Ok(()) => gather_three(sink, waiting, gap(name), name, b"\n"),
+        Err(broken) => Err(broken),
+    }
+}
+
+fn put_leaf<W: Sink>(sink: &mut W, waiting: &mut Waiting, leaf: &Leaf) -> Result<(), Broken>
+    ensures { Gathers (W.contents sink.old) waiting.old.bytes.items (W.contents sink.new) waiting.new.bytes.items (W.failures sink.old) (W.failures sink.new) result (rows_text (leaves_rows (leaf.now ∷ []))) }
+{
+    put_line(
+        sink,
+        waiting,
+        b"\t\t",
+        b"",
+        leaf.code(),
+        leaf.digits(),
+        leaf.name(),
+    )
+}
+
+fn put_leaves<W: Sink>(sink: &mut W, waiting: &mut Waiting, leaves: &[Leaf]) -> Result<(), Broken>
+    ensures { Gathers (W.contents sink.old) waiting.old.bytes.items (W.contents sink.new) waiting.new.bytes.items (W.failures sink.old) (W.failures sink.new) result (rows_text (leaves_rows leaves.now)) }
+{
+    for leaf in leaves {
+        match put_leaf(sink, waiting, leaf) {
+            Ok(()) => {}
+            Err(broken) => return Err(broken),
+        }
+    }
+    Ok(())
+}
+
+fn put_mid_line<W: Sink>(sink: &mut W, waiting: &mut Waiting, mid: &Mid) -> Result<(), Broken>
+    ensures { Gathers (W.contents sink.old) waiting.old.bytes.items (W.contents sink.new) waiting.new.bytes.items (W.failures sink.old) (W.failures sink.new) result (row_text (mid_row mid.now)) }
+{
+    put_line(
+        sink,
+        waiting,
+        b"\t",
+        b"",
+        mid.code(),
+        mid.digits(),
+        mid.name(),
+    )
+}
+
+fn put_mid<W: Sink>(sink: &mut W, waiting: &mut Waiting, mid: &Mid) -> Result<(), Broken>
+    ensures { Gathers (W.contents sink.old) waiting.old.bytes.items (W.contents sink.new) waiting.new.bytes.items (W.failures sink.old) (W.failures sink.new) result (rows_text (mids_rows (mid.now ∷ []))) }
+{
+    match put_mid_line(sink, waiting, mid) {
+        Ok(()) => put_leaves(sink, waiting, mid.leaves()),
+        Err(broken) => Err(broken),
+    }
+}
+
+fn put_mids<W: Sink>(sink: &mut W, waiting: &mut Waiting, mids: &[Mid]) -> Result<(), Broken>
+    ensures { Gathers (W.contents sink.old) waiting.old.bytes.items (W.contents sink.new) waiting.new.bytes.items (W.failures sink.old) (W.failures sink.new) result (rows_text (mids_rows mids.now)) }
+{
+    for mid in mids {
+        match put_mid(sink, waiting, mid) {
+            Ok(()) => {}
+            Err(broken) => return Err(broken),
+        }
+    }
+    Ok(())
+}
+
+fn put_top_line<W: Sink>(sink: &mut W, waiting: &mut Waiting, top: &Top) -> Result<(), Broken>
+    ensures { Gathers (W.contents sink.old) waiting.old.bytes.items (W.contents sink.new) waiting.new.bytes.items (W.failures sink.old) (W.failures sink.new) result (row_text (top_row top.now)) }
+{
+    match top.kind() {
+        Kind::Vendor => put_line(
+            sink,
+            waiting,
+            b"",
+            b"",
+            top.code(),
+            top.digits(),
+            top.name(),
+        ),
+        Kind::Tagged(tag) => {
+            put_line(
+                sink,
+                waiting,
+                tag.as_bytes(),
+                b" ",
+                top.code(),
+                top.digits(),
+                top.name(),
+            )
+        }
+    }
+}
+
+fn put_top<W: Sink>(sink: &mut W, waiting: &mut Waiting, top: &Top) -> Result<(), Broken>
+    ensures { Gathers (W.contents sink.old) waiting.old.bytes.items (W.contents sink.new) waiting.new.bytes.items (W.failures sink.old) (W.failures sink.new) result (rows_text (tops_rows (top.now ∷ []))) }
+{
+    match put_top_line(sink, waiting, top) {
+        Ok(()) => put_mids(sink, waiting, top.mids()),
+        Err(broken) => Err(broken),
+    }
+}
+
+fn put_tops<W: Sink>(sink: &mut W, waiting: &mut Waiting, tops: &[Top]) -> Result<(), Broken>
+    ensures { Gathers (W.contents sink.old) waiting.old.bytes.items (W.contents sink.new) waiting.new.bytes.items (W.failures sink.old) (W.failures sink.new) result (rows_text (tops_rows tops.now)) }
+{
+    for top in tops {
+        match put_top(sink, waiting, top) {
+            Ok(()) => {}
+            Err(broken) => return Err(broken),
+        }
+    }
+    Ok(())
+}
+
+#[tactic(auto, unfolding(crate::specs::Writing::stamp_text))]
+fn put_stamp<W: Sink>(sink: &mut W, waiting: &mut Waiting, stamp: &Stamp) -> Result<(), Broken>
+    ensures { Gathers (W.contents sink.old) waiting.old.bytes.items (W.contents sink.new) waiting.new.bytes.items (W.failures sink.old) (W.failures sink.new) result (stamp_text (Some stamp.now)) }
+{
+    match gather_three(sink, waiting, b"# Version: ", &stamp.date(b'.'), b"\n") {
+        Ok(()) => gather_three(
+            sink,
+            waiting,
+            b"# Date:    ",
+            &stamp.date(b'-'),
+            &stamp.time(),
+        ),
+        Err(broken) => Err(broken),
+    }
+}
+
+#[tactic(auto, unfolding(crate::specs::Writing::stamp_text))]
+fn put_stamps<W: Sink>(
+    sink: &mut W,
+    waiting: &mut Waiting,
+    stamp: Option<Stamp>,
+) -> Result<(), Broken>
+    ensures { Gathers (W.contents sink.old) waiting.old.bytes.items (W.contents sink.new) waiting.new.bytes.items (W.failures sink.old) (W.failures sink.new) result (stamp_text stamp) }
+{
+    match stamp {
+        Some(stamp) => put_stamp(sink, waiting, &stamp),
+        None => gather(sink, waiting, b""),
+    }
+}
+
+#[tactic(auto, unfolding(crate::specs::Writing::title))]
+fn put_title<W: Sink>(sink: &mut W, waiting: &mut Waiting) -> Result<(), Broken>
+    ensures { Gathers (W.contents sink.old) waiting.old.bytes.items (W.contents sink.new) waiting.new.bytes.items (W.failures sink.old) (W.failures sink.new) result (title ++ 10 ∷ []) }
+{
+    gather(sink, waiting, TITLE)
+}
+
+fn put_head<W: Sink>(
+    sink: &mut W,
+    waiting: &mut Waiting,
+    stamp: Option<Stamp>,
+) -> Result<(), Broken>
+    ensures { Gathers (W.contents sink.old) waiting.old.bytes.items (W.contents sink.new) waiting.new.bytes.items (W.failures sink.old) (W.failures sink.new) result (head_text stamp) }
+{
+    match put_title(sink, waiting) {
+        Ok(()) => match put_stamps(sink, waiting, stamp) {
+            Ok(()) => gather(sink, waiting, b"\n"),
+            Err(broken) => Err(broken),
+        },
+        Err(broken) => Err(broken),
+    }
+}
+
+fn put_all_lines<W: Sink>(
+    sink: &mut W,
+    waiting: &mut Waiting,
+    document: &Document,
+    stamp: Option<Stamp>,
+) -> Result<(), Broken>
+    ensures { Gathers (W.contents sink.old) waiting.old.bytes.items (W.contents sink.new) waiting.new.bytes.items (W.failures sink.old) (W.failures sink.new) result (written document.now stamp) }
+{
+    match put_head(sink, waiting, stamp) {
+        Ok(()) => put_tops(sink, waiting, document.tops()),
+        Err(broken) => Err(broken),
+    }
+}
+
+/// Writes the text of the document: a title, the stamp if there is one, an empty line, and a line
+/// for each entry in the order of the list, each with a tab for its depth, its code in lower-case
+/// digits, two spaces and its name. It takes no memory.
+///
+/// # Errors
+///
+/// The sink failed during this call. It then took a beginning of the text.
+pub fn write<W: Sink>(
+    document: &Document,
+    stamp: Option<Stamp>,
+    sink: &mut W,
+) -> Result<(), WriteFault>
+    ensures writes { Writes (W.contents sink.old) (W.contents sink.new) (W.failures sink.old) (W.failures sink.new) result (written document.now stamp) }
+    ensures spells { Spells (written document.now stamp) document.now }
+{
+    let mut waiting = Waiting {
+        bytes: ArrayVec::new(),
+    };
+    // Its clause says that the document is sound, which `spells` rests on.
+    let _tops = document.tops();
+    match put_all_lines(sink, &mut waiting, document, stamp) {
+        Ok(()) => match pour(sink, &mut waiting) {
+            Ok(()) => Ok(()),
+            Err(Broken) => Err(WriteFault),
+        },
+        Err(Broken) => Err(WriteFault),
+    }
+}
