@@ -52,3 +52,7 @@ pub query_keeps : (old new : State) (sql : List ℕ) (params : Row) (rows : List
 unfolding Shown
 query_keeps old new sql params rows plain h =
     let bare = subst IsPlain h.1.is plain in (subst (ShowsRows old new sql h.0 (timed params h.0.formats h.1.now) rows) bare.0 h.2).3
+
+-- one call of a transaction and then another
+pub goes_then : (a b c : State) → GoesOn a b → GoesOn b c → GoesOn a c
+goes_then a b c p q = record { was_open = p.was_open; is_open = q.is_open; now_is = refl; committed_is = q.committed_is ∙ p.committed_is; mode = q.mode }

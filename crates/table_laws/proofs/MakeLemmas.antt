@@ -13,7 +13,8 @@ use Rattle.sqlite.specs.Does.{Tally, lacks_sequence}
 use Rattle.sqlite.specs.State.{State, Executes, Writes}
 use Rattle.sqlite.specs.Listing.{understood}
 use Rattle.sqlite.proofs.Callers.{IsPlain, command_of, statement_of, runs_as}
-use Rattle.table_laws.specs.Making.{IsBlank, HasMade}
+use Rattle.table_laws.specs.Making.{IsBlank, HasMade, Adds}
+use Rattle.table_laws.proofs.InsideLemmas.{goes_then}
 use Rattle.table_laws.proofs.PartLemmas.{same_ok, went}
 
 -- under the schema the text is one CREATE TABLE, of this table
@@ -55,3 +56,7 @@ adds_blank old new schema sql table makes count h blank =
           (all_both (λ (t : Table). new.now.trees t.tree ≡ old.now.trees t.tree) (λ (t : Table). old.now.trees t.tree ≡ []) (λ (t : Table). new.now.trees t.tree ≡ []) (λ t a b. a ∙ b) schema.tables made.others blank.none)
           (made.empty, tt);
     }
+
+-- one step of making the tables and then another
+pub adds_then : (before mid after : Schema) (a b c : State) → Adds before mid a b → Adds mid after b c → Adds before after a c
+adds_then before mid after a b c p q = (goes_then a b c p.0 q.0, λ blank. q.1 (p.1 blank))
