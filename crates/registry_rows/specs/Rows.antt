@@ -1,6 +1,6 @@
 -- The rows that stand for the values of a registry. A row of a table whose key is its rowid has NULL in the place of
 -- the key's column; what SELECT shows of it has the key there.
-use Rattle.std.specs.Prelude.{ℕ, ℤ, pos, Bool, if◌then◌else◌, List, [], ◌∷◌, Option, Some, None, IfSome, ◌^◌, ◌<◌, nat_eq, ◌&&◌, IsUtf8}
+use Rattle.std.specs.Prelude.{ℕ, ℤ, pos, Bool, if◌then◌else◌, List, [], ◌∷◌, Option, Some, None, IfSome, ◌^◌, ◌<◌, nat_eq, nat_le, ◌&&◌, IsUtf8}
 use Rattle.std.specs.declared.cmp.Ordering.{Ordering}
 use Rattle.std.specs.Ordering.{nat_cmp, ordering_then}
 use Rattle.std.specs.Cmp.Lexicographic.{slice_cmp}
@@ -149,6 +149,10 @@ entry_row e =
 
 abbrev pub is_of : Number → Number × Entry → Bool
 is_of number e = is_number number e.0
+
+-- the vendor's number, from the low to the high one
+abbrev pub is_between : ℕ → ℕ → ℕ → Number × Entry → Bool
+is_between vid low high e = nat_eq e.0.vid vid && (nat_le low e.0.pid && nat_le e.0.pid high)
 
 -- by vendor and then by product
 abbrev pub by_number : Number × Entry → Number × Entry → Ordering

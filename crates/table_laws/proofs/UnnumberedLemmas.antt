@@ -36,7 +36,8 @@ same_tests false true f g = g refl
 same_tests false false f g = refl
 
 module _ {X : Type 0} where
-  kept_all : (xs : List X) → filter (λ _. true) xs ≡ xs
+  -- a test that all pass keeps all
+  pub kept_all : (xs : List X) → filter (λ _. true) xs ≡ xs
   kept_all [] = refl
   kept_all (x ∷ xs) = ap (λ l. x ∷ l) (kept_all xs)
 
