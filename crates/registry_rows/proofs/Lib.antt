@@ -5,3 +5,6 @@ pub mod PutTexts
 pub mod ReadTexts
 pub mod PutLemmas
 pub mod ReadLemmas
+pub mod DecodeLemmas
+pub mod AnswerLemmas
+pub mod GivenLemmas

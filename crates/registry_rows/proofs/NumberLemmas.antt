@@ -1,5 +1,5 @@
 -- Numbers and texts in SQL are compared as the values are.
-use Rattle.std.proofs.Common.{◌≡◌, ℕ, List, pos, int_eq, int_cmp, nat_eq, nat_cmp, arith, is_eq, sym, ◌∙◌}
+use Rattle.std.proofs.Common.{◌≡◌, ℕ, List, pos, int_eq, int_cmp, nat_eq, nat_cmp, arith, is_eq}
 use Rattle.std.proofs.lemmas.Int.{ints}
 use Rattle.std.specs.Cmp.Lexicographic.{slice_cmp}
 use Rattle.std.specs.Str.{bytes_eq}

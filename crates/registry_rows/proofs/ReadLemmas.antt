@@ -1,7 +1,7 @@
 -- What the statements that read rows show of the values of the tables.
-use Rattle.std.proofs.Common.{◌≡◌, ℕ, ℤ, pos, nat_eq, nat_cmp, true, false, Bool, ◌&&◌, nat_le, List, [], ◌∷◌, map, filter, refl, ap, ap₂, ◌∙◌, int_cmp, Ordering, Less, Equal, Greater}
+use Rattle.std.proofs.Common.{◌≡◌, ℕ, pos, nat_cmp, true, false, List, [], ◌∷◌, map, filter, refl, ap, ◌∙◌, int_cmp, Ordering, Less, Equal, Greater}
 use Rattle.std.specs.Ordering.{ordering_then}
-use Rattle.sqlite.specs.declared.types.Value.TheVariants.{Int, Text}
+use Rattle.sqlite.specs.declared.types.Value.TheVariants.{Text}
 use Rattle.sqlite.specs.Order.{Row}
 use Rattle.sqlite.specs.Program.{overlay}
 use Rattle.sqlite.specs.State.{State, Shown, IsUnchanged}
@@ -10,9 +10,6 @@ use Rattle.sqlite_sql.specs.declared.ops.CompareOp.TheVariants.{Eq, Ge, Le}
 use Rattle.sqlite_value.proofs.OrderLemmas.{value_cmp-Int, value_cmp-Text}
 use Rattle.sqlite_typed.proofs.TestLemmas.{at_ints, at_texts, then_term, last_term, then_key, last_key}
 use Rattle.usbnum_core.specs.Text.{IsSlug, IsTitle}
-use Rattle.usbnum_core.specs.declared.number.Number.{Number}
-use Rattle.usbnum_core.specs.declared.number.Span.{Span}
-use Rattle.registry_rules.specs.declared.record.Entry.{Entry}
 use Rattle.table_laws.proofs.StatementLemmas.{answers}
 use Rattle.table_laws.proofs.ReadLemmas.{shows_rows}
 use Rattle.table_laws.proofs.UnnumberedLemmas.{shows_unnumbered, kept_all}

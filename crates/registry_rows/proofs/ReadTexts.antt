@@ -1,7 +1,6 @@
 -- What the texts that read rows mean.
-use Rattle.std.proofs.Common.{◌≡◌, ℕ, pos, List, [], ◌∷◌, codes, refl}
-use Rattle.sqlite.specs.declared.types.Value.TheVariants.{Null, Int}
-use Rattle.sqlite.specs.Term.{Term, lit, col, op2}
+use Rattle.std.proofs.Common.{ℕ, List, [], ◌∷◌, codes, refl}
+use Rattle.sqlite.specs.Term.{col, op2}
 use Rattle.sqlite.specs.Listing.{understood}
 use Rattle.sqlite.specs.Query.{Query}
 use Rattle.sqlite_sql.specs.declared.ops.BinaryOp.TheVariants.{Compare}
@@ -9,7 +8,7 @@ use Rattle.sqlite_sql.specs.declared.ops.CompareOp.TheVariants.{Eq, Ge, Le}
 use Rattle.sqlite_tied.specs.Compute.{everything}
 use Rattle.sqlite_value.specs.declared.keys.Collation.TheVariants.{Binary}
 use Rattle.sqlite_value.specs.Keys.{ascending}
-use Rattle.table_laws.proofs.StatementLemmas.{IsPut, IsSelect, table_query, no_limit}
+use Rattle.table_laws.proofs.StatementLemmas.{IsSelect, table_query, no_limit}
 use Rattle.registry_schema.specs.Schema.{schema_3}
 
 abbrev pub find_meta_text : List ℕ
