@@ -1,0 +1,23 @@
+-- Values that may be NULL as they are given to a statement.
+use Rattle.std.proofs.Common.{◌≡◌, ℕ, List, Option, Some, None, IfSome, refl}
+use Rattle.std.specs.Option.{option_copied, option_map}
+use Rattle.std.specs.Borrow.{Bor}
+use Rattle.sqlite.specs.declared.types.Value.TheVariants.{Text}
+use Rattle.sqlite.specs.Values.{bound_value, or_null}
+use Rattle.usbnum_core.specs.Text.{IsTitle, IsLink}
+use Rattle.registry_rules.specs.declared.record.Terms.{Terms}
+use Rattle.registry_rows.specs.Rows.{part, whole, IsTerms}
+
+pub part_given : (f : Terms → List ℕ) (terms : Option Terms) (o : Option (Bor (List ℕ))) → option_copied o ≡ option_map f terms → bound_value (or_null (λ s. Text s.now) o) ≡ part f terms
+part_given f None None h = refl
+part_given f None (Some s) h = absurd cc
+part_given f (Some t) None h = absurd cc
+part_given f (Some t) (Some s) h = let same : s.now ≡ f t = cc in rw same refl
+
+pub whole_given : (o : Option ℕ) → bound_value (or_null whole o) ≡ or_null whole o
+whole_given None = refl
+whole_given (Some n) = refl
+
+pub all_terms : (o : Option Terms) → IfSome o (λ t. IsTitle t.licence) → IfSome o (λ t. IsLink t.site) → IfSome o (λ t. IsLink t.source) → IfSome o IsTerms
+all_terms None a b c = tt
+all_terms (Some t) a b c = record { licence = a; site = b; source = c }

@@ -1,0 +1,8 @@
+use Rattle.std.proofs.Common.{sym}
+use Rattle.registry_rows.proofs.DecodeLemmas.{value_at}
+use Rattle.registry_rows.proofs.decode.first_from.Goals as goal
+
+pub returns-in-Err : goal.returns-in-Err
+returns-in-Err g c values valid same foreign =
+    let it = value_at g.T.FromRow.is_valid g.T.FromRow.columns values c.args.rows.now valid same 0 c.in-Some.row.now (sym c.in-Some.ensures.value) in
+    c.in-Err.ensures it.0 it.3 it.2 foreign

@@ -1,0 +1,211 @@
+//! The numbers that have an owner.
+
+ghost use Rattle.std.specs.Prelude.{◌≡◌, ◌≢◌, [], ◌∷◌, ◌++◌, map, filter, IsTrue, Err, IfSome};
+ghost use Rattle.std.specs.Option.{option_map, option_copied};
+ghost use Rattle.usbnum_core.specs.Text.{IsTitle, IsLink};
+ghost use Rattle.sqlite.specs.State.{HasCleanDisk, Survives};
+ghost use Rattle.sqlite.specs.Held.{state};
+ghost use Rattle.sqlite_keyed.specs.Lists.{delete_where, sort_by};
+ghost use Rattle.registry_rows.specs.Rows.{IsEntry, entry_row, is_of, is_between, by_number};
+ghost use Rattle.registry_rows.specs.Steps.{Answers, Changes, Decodes};
+
+use crate::columns::{
+    flag_at, link_or_null_at, pid_at, slug_at, title_at, title_or_null_at, vid_at,
+};
+use crate::decode::{FromRow, all_from};
+use registry_rules::{Card, Entry, Terms};
+use registry_schema::{TableFault, fault_of};
+use sqlite::{Alter, Row, Transaction, params};
+use std::alloc::Global;
+use usbnum_core::{Number, Pid, Vid};
+
+fn terms_from(alloc: Global, row: &Row) -> Result<Option<Terms>, TableFault>
+    ensures { (e : _) → IsEntry e → row.now ≡ entry_row e → Decodes result e.1.card.terms }
+{
+    let licence = title_or_null_at(alloc, row, 5)?;
+    let site = link_or_null_at(alloc, row, 6)?;
+    let source = link_or_null_at(alloc, row, 7)?;
+    match (licence, site, source) {
+        (Some(licence), Some(site), Some(source)) => Ok(Some(Terms {
+            licence,
+            site,
+            source,
+        })),
+        (None, None, None) => Ok(None),
+        _ => Err(TableFault::Foreign),
+    }
+}
+
+fn card_from(alloc: Global, row: &Row) -> Result<Card, TableFault>
+    ensures { (e : _) → IsEntry e → row.now ≡ entry_row e → Decodes result e.1.card }
+{
+    Ok(Card {
+        title: title_at(alloc, row, 4)?,
+        terms: terms_from(alloc, row)?,
+    })
+}
+
+fn entry_from(alloc: Global, row: &Row) -> Result<Entry, TableFault>
+    ensures { (e : _) → IsEntry e → row.now ≡ entry_row e → Decodes result e.1 }
+{
+    Ok(Entry {
+        org: slug_at(alloc, row, 2)?,
+        held: flag_at(row, 3)?,
+        card: card_from(alloc, row)?,
+    })
+}
+
+fn number_from(row: &Row) -> Result<Number, TableFault>
+    ensures { (e : _) → IsEntry e → row.now ≡ entry_row e → Decodes result e.0 }
+{
+    Ok(Number {
+        vid: vid_at(row, 0)?,
+        pid: pid_at(row, 1)?,
+    })
+}
+
+impl FromRow for (Number, Entry) {
+    ghost use Rattle.registry_rows.specs.Rows.{IsEntry, entry_row};
+
+    ghost is_valid = { IsEntry };
+
+    ghost columns = { entry_row };
+
+    fn from_row(alloc: Global, row: &Row) -> Result<(Number, Entry), TableFault> {
+        Ok((number_from(row)?, entry_from(alloc, row)?))
+    }
+}
+
+fn licence_of(card: &Card) -> Option<&str>
+    ensures value { option_copied result ≡ option_map (λ terms. terms.licence) card.now.terms }
+    ensures valid { IfSome card.now.terms (λ terms. IsTitle terms.licence) }
+{
+    match &card.terms {
+        Some(terms) => Some(terms.licence.as_str()),
+        None => None,
+    }
+}
+
+fn site_of(card: &Card) -> Option<&str>
+    ensures value { option_copied result ≡ option_map (λ terms. terms.site) card.now.terms }
+    ensures valid { IfSome card.now.terms (λ terms. IsLink terms.site) }
+{
+    match &card.terms {
+        Some(terms) => Some(terms.site.as_str()),
+        None => None,
+    }
+}
+
+fn source_of(card: &Card) -> Option<&str>
+    ensures value { option_copied result ≡ option_map (λ terms. terms.source) card.now.terms }
+    ensures valid { IfSome card.now.terms (λ terms. IsLink terms.source) }
+{
+    match &card.terms {
+        Some(terms) => Some(terms.source.as_str()),
+        None => None,
+    }
+}
+
+/// Puts the entry in, in the place of the one of its number, if there is one.
+pub fn put_entry<S: Alter>(
+    tx: &mut Transaction<'_, S>,
+    number: Number,
+    entry: &Entry,
+) -> Result<(), TableFault>
+    ensures same_reference { tx.new.conn.ghost_name ≡ tx.old.conn.ghost_name }
+    ensures put { HasCleanDisk (state S.Store tx.new.conn.now) → IsTrue (state S.Store tx.old.conn.now).in_transaction
+        → Changes (state S.Store tx.old.conn.now) (state S.Store tx.new.conn.now) result (λ t. record t { entries = delete_where (λ other. is_of number other) t.entries ++ (number, entry.now) ∷ [] }) }
+    ensures survives { Survives (state S.Store tx.old.conn.now) (state S.Store tx.new.conn.now) (λ _. ⊥) }
+{
+    let ran = tx.execute(
+        "INSERT OR REPLACE INTO entries3 (vid, pid, org, held, title, licence, site, source) VALUES (?1, ?2, ?3, ?4, ?5, ?6, ?7, ?8)",
+        params![
+            u32::from(number.vid.get()),
+            u32::from(number.pid.get()),
+            entry.org.as_str(),
+            entry.held,
+            entry.card.title.as_str(),
+            licence_of(&entry.card),
+            site_of(&entry.card),
+            source_of(&entry.card)
+        ],
+    );
+    match ran {
+        Ok(_) => Ok(()),
+        Err(error) => Err(fault_of(error)),
+    }
+}
+
+fn rows_between<S: Alter>(
+    tx: &mut Transaction<'_, S>,
+    vid: Vid,
+    low: Pid,
+    high: Pid,
+) -> Result<Vec<Row>, TableFault>
+    ensures same_reference { tx.new.conn.ghost_name ≡ tx.old.conn.ghost_name }
+    ensures rows { HasCleanDisk (state S.Store tx.new.conn.now) → IsTrue (state S.Store tx.old.conn.now).in_transaction
+        → Answers (state S.Store tx.old.conn.now) (state S.Store tx.new.conn.now) result (λ t rows. rows.items ≡ map entry_row (sort_by by_number (filter (is_between vid low high) t.entries))) }
+    ensures fault { result ≢ Err TableFault.Foreign }
+    ensures survives { Survives (state S.Store tx.old.conn.now) (state S.Store tx.new.conn.now) (λ _. ⊥) }
+{
+    let ran = tx.query_all(
+        "SELECT vid, pid, org, held, title, licence, site, source FROM entries3 WHERE vid = ?1 AND pid BETWEEN ?2 AND ?3 ORDER BY vid, pid, rowid",
+        params![
+            u32::from(vid.get()),
+            u32::from(low.get()),
+            u32::from(high.get())
+        ],
+    );
+    match ran {
+        Ok(rows) => Ok(rows),
+        Err(error) => Err(fault_of(error)),
+    }
+}
+
+/// The entries of the vendor from the low number to the high one, ascending.
+pub fn find_entries<S: Alter>(
+    alloc: Global,
+    tx: &mut Transaction<'_, S>,
+    vid: Vid,
+    low: Pid,
+    high: Pid,
+) -> Result<Vec<(Number, Entry)>, TableFault>
+    ensures same_reference { tx.new.conn.ghost_name ≡ tx.old.conn.ghost_name }
+    ensures listed { HasCleanDisk (state S.Store tx.new.conn.now) → IsTrue (state S.Store tx.old.conn.now).in_transaction
+        → Answers (state S.Store tx.old.conn.now) (state S.Store tx.new.conn.now) result (λ t all. all.items ≡ sort_by by_number (filter (is_between vid low high) t.entries)) }
+    ensures survives { Survives (state S.Store tx.old.conn.now) (state S.Store tx.new.conn.now) (λ _. ⊥) }
+{
+    let rows = rows_between(tx, vid, low, high)?;
+    all_from(alloc, &rows)
+}
+
+fn all_rows<S: Alter>(tx: &mut Transaction<'_, S>) -> Result<Vec<Row>, TableFault>
+    ensures same_reference { tx.new.conn.ghost_name ≡ tx.old.conn.ghost_name }
+    ensures rows { HasCleanDisk (state S.Store tx.new.conn.now) → IsTrue (state S.Store tx.old.conn.now).in_transaction
+        → Answers (state S.Store tx.old.conn.now) (state S.Store tx.new.conn.now) result (λ t rows. rows.items ≡ map entry_row (sort_by by_number t.entries)) }
+    ensures fault { result ≢ Err TableFault.Foreign }
+    ensures survives { Survives (state S.Store tx.old.conn.now) (state S.Store tx.new.conn.now) (λ _. ⊥) }
+{
+    let ran = tx.query_all(
+        "SELECT vid, pid, org, held, title, licence, site, source FROM entries3 ORDER BY vid, pid, rowid",
+        &[],
+    );
+    match ran {
+        Ok(rows) => Ok(rows),
+        Err(error) => Err(fault_of(error)),
+    }
+}
+
+/// All of them, by vendor and then by product.
+pub fn list_entries<S: Alter>(
+    alloc: Global,
+    tx: &mut Transaction<'_, S>,
+) -> Result<Vec<(Number, Entry)>, TableFault>
+    ensures same_reference { tx.new.conn.ghost_name ≡ tx.old.conn.ghost_name }
+    ensures listed { HasCleanDisk (state S.Store tx.new.conn.now) → IsTrue (state S.Store tx.old.conn.now).in_transaction
+        → Answers (state S.Store tx.old.conn.now) (state S.Store tx.new.conn.now) result (λ t all. all.items ≡ sort_by by_number t.entries) }
+    ensures survives { Survives (state S.Store tx.old.conn.now) (state S.Store tx.new.conn.now) (λ _. ⊥) }
+{
+    let rows = all_rows(tx)?;
+    all_from(alloc, &rows)
+}

@@ -1,0 +1,108 @@
+//! The replies that are kept.
+
+ghost use Rattle.std.specs.Prelude.{◌≡◌, ◌≢◌, [], ◌∷◌, ◌++◌, map, filter, find, IsTrue, Err};
+ghost use Rattle.sqlite.specs.State.{HasCleanDisk, Survives};
+ghost use Rattle.sqlite.specs.Held.{state};
+ghost use Rattle.sqlite_keyed.specs.Lists.{delete_where};
+ghost use Rattle.registry_rows.specs.Rows.{kept_row, is_kept_under};
+ghost use Rattle.registry_rows.specs.Steps.{Answers, Changes};
+
+use crate::columns::{key_at, reply_at, slug_at, spelling_at};
+use crate::decode::{FromRow, first_from};
+use registry_rules::{Kept, Spelling, Text};
+use registry_schema::{TableFault, fault_of};
+use sqlite::{Alter, Row, Transaction, params};
+use std::alloc::Global;
+use usbnum_core::{Key, Slug};
+
+/// What is kept of an accepted request, under its caller and key.
+#[derive(Debug, Drop)]
+pub struct KeptRow {
+    pub caller: Slug,
+    pub key: Key,
+    pub kept: Kept,
+}
+
+impl FromRow for KeptRow {
+    ghost use Rattle.registry_rows.specs.Rows.{IsKept, kept_row};
+
+    ghost is_valid = { IsKept };
+
+    ghost columns = { kept_row };
+
+    fn from_row(alloc: Global, row: &Row) -> Result<KeptRow, TableFault> {
+        Ok(KeptRow {
+            caller: slug_at(alloc, row, 0)?,
+            key: key_at(alloc, row, 1)?,
+            kept: Kept {
+                order: spelling_at(alloc, row, 2)?,
+                reply: reply_at(alloc, row, 3)?,
+            },
+        })
+    }
+}
+
+/// Keeps the spelling and the reply under the caller and key.
+pub fn put_kept<S: Alter>(
+    tx: &mut Transaction<'_, S>,
+    caller: &Slug,
+    key: &Key,
+    order: &Spelling,
+    reply: &Text,
+) -> Result<(), TableFault>
+    ensures same_reference { tx.new.conn.ghost_name ≡ tx.old.conn.ghost_name }
+    ensures put { HasCleanDisk (state S.Store tx.new.conn.now) → IsTrue (state S.Store tx.old.conn.now).in_transaction
+        → Changes (state S.Store tx.old.conn.now) (state S.Store tx.new.conn.now) result (λ t. record t { kept = delete_where (λ other. is_kept_under caller.now key.now other) t.kept ++ record { caller = caller.now; key = key.now; kept = record { order = order.now; reply = reply.now } } ∷ [] }) }
+    ensures survives { Survives (state S.Store tx.old.conn.now) (state S.Store tx.new.conn.now) (λ _. ⊥) }
+{
+    let ran = tx.execute(
+        "INSERT OR REPLACE INTO kept (caller, request_key, request, reply) VALUES (?1, ?2, ?3, ?4)",
+        params![
+            caller.as_str(),
+            key.as_str(),
+            order.as_bytes(),
+            reply.as_str()
+        ],
+    );
+    match ran {
+        Ok(_) => Ok(()),
+        Err(error) => Err(fault_of(error)),
+    }
+}
+
+fn kept_rows<S: Alter>(
+    tx: &mut Transaction<'_, S>,
+    caller: &Slug,
+    key: &Key,
+) -> Result<Vec<Row>, TableFault>
+    ensures same_reference { tx.new.conn.ghost_name ≡ tx.old.conn.ghost_name }
+    ensures rows { HasCleanDisk (state S.Store tx.new.conn.now) → IsTrue (state S.Store tx.old.conn.now).in_transaction
+        → Answers (state S.Store tx.old.conn.now) (state S.Store tx.new.conn.now) result (λ t rows. rows.items ≡ map kept_row (filter (is_kept_under caller.now key.now) t.kept)) }
+    ensures fault { result ≢ Err TableFault.Foreign }
+    ensures survives { Survives (state S.Store tx.old.conn.now) (state S.Store tx.new.conn.now) (λ _. ⊥) }
+{
+    let ran = tx.query_all(
+        "SELECT caller, request_key, request, reply FROM kept WHERE caller = ?1 AND request_key = ?2 ORDER BY rowid",
+        params![caller.as_str(), key.as_str()],
+    );
+    match ran {
+        Ok(rows) => Ok(rows),
+        Err(error) => Err(fault_of(error)),
+    }
+}
+
+/// What is kept under the caller and key, if there is anything.
+pub fn find_kept<S: Alter>(
+    alloc: Global,
+    tx: &mut Transaction<'_, S>,
+    caller: &Slug,
+    key: &Key,
+) -> Result<Option<KeptRow>, TableFault>
+    ensures same_reference { tx.new.conn.ghost_name ≡ tx.old.conn.ghost_name }
+    ensures found { HasCleanDisk (state S.Store tx.new.conn.now) → IsTrue (state S.Store tx.old.conn.now).in_transaction
+        → Answers (state S.Store tx.old.conn.now) (state S.Store tx.new.conn.now) result (λ t found. found ≡ find (is_kept_under caller.now key.now) t.kept) }
+    ensures survives { Survives (state S.Store tx.old.conn.now) (state S.Store tx.new.conn.now) (λ _. ⊥) }
+{
+    let rows = kept_rows(tx, caller, key)?;
+    first_from(alloc, &rows)
+}

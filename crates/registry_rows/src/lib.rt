@@ -1,0 +1,24 @@
+//! The rows of a registry's store as values, and each SQL statement as a change of them.
+#![tactic(auto)]
+
+pub use entries::{find_entries, list_entries, put_entry};
+pub use fixed::{list_fixed, put_fixed};
+pub use kept::{KeptRow, find_kept, put_kept};
+pub use meta::{Meta, list_metas, put_meta};
+pub use names::{list_curators, list_licences, put_curator, put_licence};
+pub use orgs::{find_org, list_orgs, put_org};
+pub use petitions::{find_petition, list_petitions, put_petition};
+pub use spans::list_spans;
+pub use vendors::{list_vendors, put_vendor};
+
+mod columns;
+mod decode;
+mod entries;
+mod fixed;
+mod kept;
+mod meta;
+mod names;
+mod orgs;
+mod petitions;
+mod spans;
+mod vendors;

@@ -1,0 +1,89 @@
+//! What a store is.
+
+ghost use Rattle.std.specs.Prelude.{◌≡◌, ◌≢◌, map, IsTrue, Err};
+ghost use Rattle.sqlite.specs.State.{HasCleanDisk, Survives};
+ghost use Rattle.sqlite.specs.Held.{state};
+ghost use Rattle.sqlite_keyed.specs.Keyed.{insert_by};
+ghost use Rattle.registry_rows.specs.Rows.{meta_key, meta_shown};
+ghost use Rattle.registry_rows.specs.Steps.{Answers, Changes};
+
+use crate::columns::{number_at, title_at, vid_at};
+use crate::decode::{FromRow, all_from};
+use registry_schema::{TableFault, fault_of};
+use sqlite::{Alter, Row, Transaction, params};
+use std::alloc::Global;
+use usbnum_core::{Title, Vid};
+
+/// What a store is: the number of its schema, and the vendor that it was founded for.
+#[derive(Debug, Drop)]
+pub struct Meta {
+    pub version: u32,
+    pub vendor: Vid,
+    pub name: Title,
+}
+
+impl FromRow for Meta {
+    ghost use Rattle.registry_rows.specs.Rows.{IsMeta, meta_shown};
+
+    ghost is_valid = { IsMeta };
+
+    ghost columns = { meta_shown };
+
+    fn from_row(alloc: Global, row: &Row) -> Result<Meta, TableFault> {
+        Ok(Meta {
+            version: number_at(row, 0)?,
+            vendor: vid_at(row, 1)?,
+            name: title_at(alloc, row, 2)?,
+        })
+    }
+}
+
+/// Says what the store is.
+pub fn put_meta<S: Alter>(
+    tx: &mut Transaction<'_, S>,
+    version: u32,
+    vendor: Vid,
+    name: &Title,
+) -> Result<(), TableFault>
+    ensures same_reference { tx.new.conn.ghost_name ≡ tx.old.conn.ghost_name }
+    ensures put { HasCleanDisk (state S.Store tx.new.conn.now) → IsTrue (state S.Store tx.old.conn.now).in_transaction
+        → Changes (state S.Store tx.old.conn.now) (state S.Store tx.new.conn.now) result (λ t. record t { metas = insert_by meta_key t.metas (record { version = version; vendor = vendor; name = name.now }) }) }
+    ensures survives { Survives (state S.Store tx.old.conn.now) (state S.Store tx.new.conn.now) (λ _. ⊥) }
+{
+    let ran = tx.execute(
+        "INSERT OR REPLACE INTO meta (id, version, vendor, name) VALUES (1, ?1, ?2, ?3)",
+        params![version, u32::from(vendor.get()), name.as_str()],
+    );
+    match ran {
+        Ok(_) => Ok(()),
+        Err(error) => Err(fault_of(error)),
+    }
+}
+
+fn all_rows<S: Alter>(tx: &mut Transaction<'_, S>) -> Result<Vec<Row>, TableFault>
+    ensures same_reference { tx.new.conn.ghost_name ≡ tx.old.conn.ghost_name }
+    ensures rows { HasCleanDisk (state S.Store tx.new.conn.now) → IsTrue (state S.Store tx.old.conn.now).in_transaction
+        → Answers (state S.Store tx.old.conn.now) (state S.Store tx.new.conn.now) result (λ t rows. rows.items ≡ map meta_shown t.metas) }
+    ensures fault { result ≢ Err TableFault.Foreign }
+    ensures survives { Survives (state S.Store tx.old.conn.now) (state S.Store tx.new.conn.now) (λ _. ⊥) }
+{
+    let ran = tx.query_all("SELECT version, vendor, name FROM meta ORDER BY id", &[]);
+    match ran {
+        Ok(rows) => Ok(rows),
+        Err(error) => Err(fault_of(error)),
+    }
+}
+
+/// The rows that say what the store is, of which there is one.
+pub fn list_metas<S: Alter>(
+    alloc: Global,
+    tx: &mut Transaction<'_, S>,
+) -> Result<Vec<Meta>, TableFault>
+    ensures same_reference { tx.new.conn.ghost_name ≡ tx.old.conn.ghost_name }
+    ensures listed { HasCleanDisk (state S.Store tx.new.conn.now) → IsTrue (state S.Store tx.old.conn.now).in_transaction
+        → Answers (state S.Store tx.old.conn.now) (state S.Store tx.new.conn.now) result (λ t all. all.items ≡ t.metas) }
+    ensures survives { Survives (state S.Store tx.old.conn.now) (state S.Store tx.new.conn.now) (λ _. ⊥) }
+{
+    let rows = all_rows(tx)?;
+    all_from(alloc, &rows)
+}

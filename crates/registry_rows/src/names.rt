@@ -1,0 +1,131 @@
+//! The curators and the allowed licences.
+
+ghost use Rattle.std.specs.Prelude.{◌≡◌, ◌≢◌, [], ◌∷◌, ◌++◌, map, IsTrue, Err};
+ghost use Rattle.sqlite.specs.State.{HasCleanDisk, Survives};
+ghost use Rattle.sqlite.specs.Held.{state};
+ghost use Rattle.sqlite_keyed.specs.Lists.{delete_where, sort_by};
+ghost use Rattle.registry_rows.specs.Rows.{name_row, is_named, by_bytes};
+ghost use Rattle.registry_rows.specs.Steps.{Answers, Changes};
+
+use crate::columns::{slug_at, title_at};
+use crate::decode::{FromRow, all_from};
+use registry_schema::{TableFault, fault_of};
+use sqlite::{Alter, Row, Transaction, params};
+use std::alloc::Global;
+use usbnum_core::{Slug, Title};
+
+impl FromRow for Slug {
+    ghost use Rattle.registry_rows.specs.Rows.{name_row};
+    ghost use Rattle.usbnum_core.specs.Text.{IsSlug};
+
+    ghost is_valid = { IsSlug };
+
+    ghost columns = { name_row };
+
+    fn from_row(alloc: Global, row: &Row) -> Result<Slug, TableFault> {
+        slug_at(alloc, row, 0)
+    }
+}
+
+impl FromRow for Title {
+    ghost use Rattle.registry_rows.specs.Rows.{name_row};
+    ghost use Rattle.usbnum_core.specs.Text.{IsTitle};
+
+    ghost is_valid = { IsTitle };
+
+    ghost columns = { name_row };
+
+    fn from_row(alloc: Global, row: &Row) -> Result<Title, TableFault> {
+        title_at(alloc, row, 0)
+    }
+}
+
+/// Puts the curator in, if it is not there yet.
+pub fn put_curator<S: Alter>(tx: &mut Transaction<'_, S>, name: &Slug) -> Result<(), TableFault>
+    ensures same_reference { tx.new.conn.ghost_name ≡ tx.old.conn.ghost_name }
+    ensures put { HasCleanDisk (state S.Store tx.new.conn.now) → IsTrue (state S.Store tx.old.conn.now).in_transaction
+        → Changes (state S.Store tx.old.conn.now) (state S.Store tx.new.conn.now) result (λ t. record t { curators = delete_where (λ other. is_named other name.now) t.curators ++ name.now ∷ [] }) }
+    ensures survives { Survives (state S.Store tx.old.conn.now) (state S.Store tx.new.conn.now) (λ _. ⊥) }
+{
+    let ran = tx.execute(
+        "INSERT OR REPLACE INTO curators (name) VALUES (?1)",
+        params![name.as_str()],
+    );
+    match ran {
+        Ok(_) => Ok(()),
+        Err(error) => Err(fault_of(error)),
+    }
+}
+
+fn curator_rows<S: Alter>(tx: &mut Transaction<'_, S>) -> Result<Vec<Row>, TableFault>
+    ensures same_reference { tx.new.conn.ghost_name ≡ tx.old.conn.ghost_name }
+    ensures rows { HasCleanDisk (state S.Store tx.new.conn.now) → IsTrue (state S.Store tx.old.conn.now).in_transaction
+        → Answers (state S.Store tx.old.conn.now) (state S.Store tx.new.conn.now) result (λ t rows. rows.items ≡ map name_row (sort_by by_bytes t.curators)) }
+    ensures fault { result ≢ Err TableFault.Foreign }
+    ensures survives { Survives (state S.Store tx.old.conn.now) (state S.Store tx.new.conn.now) (λ _. ⊥) }
+{
+    let ran = tx.query_all("SELECT name FROM curators ORDER BY name, rowid", &[]);
+    match ran {
+        Ok(rows) => Ok(rows),
+        Err(error) => Err(fault_of(error)),
+    }
+}
+
+/// All curators, by their bytes.
+pub fn list_curators<S: Alter>(
+    alloc: Global,
+    tx: &mut Transaction<'_, S>,
+) -> Result<Vec<Slug>, TableFault>
+    ensures same_reference { tx.new.conn.ghost_name ≡ tx.old.conn.ghost_name }
+    ensures listed { HasCleanDisk (state S.Store tx.new.conn.now) → IsTrue (state S.Store tx.old.conn.now).in_transaction
+        → Answers (state S.Store tx.old.conn.now) (state S.Store tx.new.conn.now) result (λ t all. all.items ≡ sort_by by_bytes t.curators) }
+    ensures survives { Survives (state S.Store tx.old.conn.now) (state S.Store tx.new.conn.now) (λ _. ⊥) }
+{
+    let rows = curator_rows(tx)?;
+    all_from(alloc, &rows)
+}
+
+/// Puts the licence in, if it is not there yet.
+pub fn put_licence<S: Alter>(tx: &mut Transaction<'_, S>, name: &Title) -> Result<(), TableFault>
+    ensures same_reference { tx.new.conn.ghost_name ≡ tx.old.conn.ghost_name }
+    ensures put { HasCleanDisk (state S.Store tx.new.conn.now) → IsTrue (state S.Store tx.old.conn.now).in_transaction
+        → Changes (state S.Store tx.old.conn.now) (state S.Store tx.new.conn.now) result (λ t. record t { licences = delete_where (λ other. is_named other name.now) t.licences ++ name.now ∷ [] }) }
+    ensures survives { Survives (state S.Store tx.old.conn.now) (state S.Store tx.new.conn.now) (λ _. ⊥) }
+{
+    let ran = tx.execute(
+        "INSERT OR REPLACE INTO licences (name) VALUES (?1)",
+        params![name.as_str()],
+    );
+    match ran {
+        Ok(_) => Ok(()),
+        Err(error) => Err(fault_of(error)),
+    }
+}
+
+fn licence_rows<S: Alter>(tx: &mut Transaction<'_, S>) -> Result<Vec<Row>, TableFault>
+    ensures same_reference { tx.new.conn.ghost_name ≡ tx.old.conn.ghost_name }
+    ensures rows { HasCleanDisk (state S.Store tx.new.conn.now) → IsTrue (state S.Store tx.old.conn.now).in_transaction
+        → Answers (state S.Store tx.old.conn.now) (state S.Store tx.new.conn.now) result (λ t rows. rows.items ≡ map name_row (sort_by by_bytes t.licences)) }
+    ensures fault { result ≢ Err TableFault.Foreign }
+    ensures survives { Survives (state S.Store tx.old.conn.now) (state S.Store tx.new.conn.now) (λ _. ⊥) }
+{
+    let ran = tx.query_all("SELECT name FROM licences ORDER BY name, rowid", &[]);
+    match ran {
+        Ok(rows) => Ok(rows),
+        Err(error) => Err(fault_of(error)),
+    }
+}
+
+/// All licences, by their bytes.
+pub fn list_licences<S: Alter>(
+    alloc: Global,
+    tx: &mut Transaction<'_, S>,
+) -> Result<Vec<Title>, TableFault>
+    ensures same_reference { tx.new.conn.ghost_name ≡ tx.old.conn.ghost_name }
+    ensures listed { HasCleanDisk (state S.Store tx.new.conn.now) → IsTrue (state S.Store tx.old.conn.now).in_transaction
+        → Answers (state S.Store tx.old.conn.now) (state S.Store tx.new.conn.now) result (λ t all. all.items ≡ sort_by by_bytes t.licences) }
+    ensures survives { Survives (state S.Store tx.old.conn.now) (state S.Store tx.new.conn.now) (λ _. ⊥) }
+{
+    let rows = licence_rows(tx)?;
+    all_from(alloc, &rows)
+}

@@ -1,0 +1,64 @@
+//! The numbers that an order reserved.
+
+ghost use Rattle.std.specs.Prelude.{◌≡◌, ◌≢◌, map, IsTrue, Err};
+ghost use Rattle.sqlite.specs.State.{HasCleanDisk, Survives};
+ghost use Rattle.sqlite.specs.Held.{state};
+ghost use Rattle.sqlite_keyed.specs.Lists.{sort_by};
+ghost use Rattle.registry_rows.specs.Rows.{IsVendorSpan, span_row, by_beginning};
+ghost use Rattle.registry_rows.specs.Steps.{Answers, Decodes};
+
+use crate::columns::{span_at, vid_at};
+use crate::decode::{FromRow, all_from};
+use registry_schema::{TableFault, fault_of};
+use sqlite::{Alter, Row, Transaction};
+use std::alloc::Global;
+use usbnum_core::{Span, Vid};
+
+fn span_from(row: &Row) -> Result<Span, TableFault>
+    ensures { (s : _) → IsVendorSpan s → row.now ≡ span_row s → Decodes result s.1 }
+{
+    span_at(row, 1)
+}
+
+impl FromRow for (Vid, Span) {
+    ghost use Rattle.registry_rows.specs.Rows.{IsVendorSpan, span_row};
+
+    ghost is_valid = { IsVendorSpan };
+
+    ghost columns = { span_row };
+
+    fn from_row(_alloc: Global, row: &Row) -> Result<(Vid, Span), TableFault> {
+        Ok((vid_at(row, 0)?, span_from(row)?))
+    }
+}
+
+fn all_rows<S: Alter>(tx: &mut Transaction<'_, S>) -> Result<Vec<Row>, TableFault>
+    ensures same_reference { tx.new.conn.ghost_name ≡ tx.old.conn.ghost_name }
+    ensures rows { HasCleanDisk (state S.Store tx.new.conn.now) → IsTrue (state S.Store tx.old.conn.now).in_transaction
+        → Answers (state S.Store tx.old.conn.now) (state S.Store tx.new.conn.now) result (λ t rows. rows.items ≡ map span_row (sort_by by_beginning t.spans)) }
+    ensures fault { result ≢ Err TableFault.Foreign }
+    ensures survives { Survives (state S.Store tx.old.conn.now) (state S.Store tx.new.conn.now) (λ _. ⊥) }
+{
+    let ran = tx.query_all(
+        "SELECT vid, lo, hi FROM spans3 ORDER BY vid, lo, rowid",
+        &[],
+    );
+    match ran {
+        Ok(rows) => Ok(rows),
+        Err(error) => Err(fault_of(error)),
+    }
+}
+
+/// All of them, as maximal spans, by vendor and then ascending.
+pub fn list_spans<S: Alter>(
+    alloc: Global,
+    tx: &mut Transaction<'_, S>,
+) -> Result<Vec<(Vid, Span)>, TableFault>
+    ensures same_reference { tx.new.conn.ghost_name ≡ tx.old.conn.ghost_name }
+    ensures listed { HasCleanDisk (state S.Store tx.new.conn.now) → IsTrue (state S.Store tx.old.conn.now).in_transaction
+        → Answers (state S.Store tx.old.conn.now) (state S.Store tx.new.conn.now) result (λ t all. all.items ≡ sort_by by_beginning t.spans) }
+    ensures survives { Survives (state S.Store tx.old.conn.now) (state S.Store tx.new.conn.now) (λ _. ⊥) }
+{
+    let rows = all_rows(tx)?;
+    all_from(alloc, &rows)
+}
