@@ -1,0 +1,162 @@
+-- How a transaction's calls go on from one another.
+use Rattle.std.proofs.Common.{◌≡◌, ◌≤◌, ◌⊎◌, inl, inr, ℕ, IsTrue, true, false, refl, sym, ap, subst, ◌∙◌, arith, List, Result, Ok, Err, OnOk}
+use Rattle.sqlite.specs.Tree.{Trees}
+use Rattle.sqlite.specs.Store.{Ghosts}
+use Rattle.sqlite.specs.State.{State, HasCleanDisk, Survives, Shows, IsUnchanged, IsRolledBack}
+use Rattle.sqlite.specs.Held.{Held, state}
+use Rattle.sqlite.proofs.StateLemmas.{survives_then, survives_weaker}
+use Rattle.sqlite.proofs.Callers.{survives_begin}
+use Rattle.registry_rules.specs.declared.model.Totals.{Totals}
+use Rattle.registry_rules.specs.declared.model.Request.{Request}
+use Rattle.registry_rules.specs.declared.model.Deed.{Deed}
+use Rattle.registry_rules.specs.declared.model.Reply.{Reply}
+use Rattle.registry_rules.specs.declared.model.Reply.TheVariants.{Done}
+use Rattle.registry_rules.specs.declared.model.Verdict.{Verdict}
+use Rattle.registry_rules.specs.declared.model.Verdict.TheVariants.{New}
+use Rattle.registry_rules.specs.declared.change.Change.{Change}
+use Rattle.registry_rules.specs.History.{History, Legal, AreTotalsOf, LeadsTo, verdict, with_deed, with_verdict, reply_of, text_of, after_one, answer_one}
+use Rattle.registry_rules.proofs.Laws.{legal_after, new_deed}
+use Rattle.registry_tables.specs.Rows.{Rows, RowsUnkept, newest, IsKeptAs}
+use Rattle.registry_store.specs.Promise.{Counts, IsAt, Leaves}
+use Rattle.registry_store.specs.Attempt.{CommitsOne, Wrote}
+
+-- the history with a new deed is legal
+pub legal_with : (h : History) (r : Request) (d : Deed) → Legal h → verdict h r ≡ New d → Legal (with_deed h d)
+legal_with h r d legal new = subst (λ v. Legal (with_verdict h v)) new (legal_after h r legal)
+
+abbrev Goes : State → State → Type 0
+Goes old new = Shows old new new.now old.committed true
+
+-- two writes, one after the other
+module _ (old mid new : State) (before after : Totals) (r : Request) (d : Deed) (changes : List Change) (reply : List ℕ) (said : reply ≡ text_of d)
+    (lead : (h : History) (x : Request) → Legal h → verdict h x ≡ New d → LeadsTo changes h (with_deed h d))
+    (carry : (h : History) (x : Request) → Legal h → AreTotalsOf h before → verdict h x ≡ New d → AreTotalsOf (with_deed h d) after)
+    (first : Goes old mid) (rows : (h more : History) → Legal h → Legal more → Rows newest old.now.trees h → LeadsTo changes h more → RowsUnkept mid.now.trees h more) where
+
+  wrote_both : Goes mid new
+      → ((h : History) (x : Deed) → Legal (with_deed h x) → RowsUnkept mid.now.trees h (with_deed h x) → IsKeptAs x r reply → Rows newest new.now.trees (with_deed h x))
+      → Wrote old new before after r d
+  wrote_both second kept = record {
+    shown = record { was_open = first.was_open; is_open = second.is_open; now_is = refl; committed_is = second.committed_is ∙ first.committed_is; mode = second.mode };
+    made = λ h counts is rows_of.
+        let legal = legal_with h r d counts.legal is in
+        let of = new_deed h r d is in
+        kept h d legal (rows h (with_deed h d) counts.legal legal rows_of (lead h r counts.legal is)) (record { caller = of.caller; key = of.key; order = of.order; said = said });
+    carried = λ h counts is. carry h r counts.legal counts.totals_are is;
+  }
+
+  pub wrote : {T E : Type 0} (result : Result T E) → OnOk result (Goes mid new)
+      → OnOk result ((h : History) (x : Deed) → Legal (with_deed h x) → RowsUnkept mid.now.trees h (with_deed h x) → IsKeptAs x r reply → Rows newest new.now.trees (with_deed h x))
+      → OnOk result (Wrote old new before after r d)
+  wrote (Ok x) second kept = wrote_both second kept
+  wrote (Err e) second kept = second
+
+pub quiet_then : (a b c : State) → Survives a b (λ _. ⊥) → Survives b c (λ _. ⊥) → Survives a c (λ _. ⊥)
+quiet_then a b c p q = survives_then a b c _ _ (λ _. ⊥) (λ _ db none. none) (λ _ db none. none) p q
+
+-- the calls so far committed nothing, and the last one commits what P says
+pub quiet_to : (a b c : State) (P R : Trees → Type 0) → (HasCleanDisk c → (db : Trees) → P db → R db) → Survives a b (λ _. ⊥) → Survives b c P → Survives a c R
+quiet_to a b c P R give p q = survives_then a b c _ _ R (λ _ db none. absurd none) give p q
+
+pub quiet : (a c : State) (R : Trees → Type 0) → Survives a c (λ _. ⊥) → Survives a c R
+quiet a c R p = survives_weaker a c _ R (λ _ db none. absurd none) p
+
+module _ {S : Type 0} (g : Ghosts S) (old begun mid : Held S) (is : begun ≡ record old { in_transaction = true }) (before : Totals) (r : Request) (v : Verdict)
+    (judged : HasCleanDisk (state g mid) → IsTrue (state g begun).in_transaction → IsUnchanged (state g begun) (state g mid))
+    (found : HasCleanDisk (state g mid) → IsTrue (state g begun).in_transaction → (h : History) → Counts before h → Rows newest (state g begun).now.trees h → v ≡ verdict h r)
+    (first : Survives (state g begun) (state g mid) (λ _. ⊥)) where
+
+  inside : IsTrue (state g begun).in_transaction
+  inside = subst (λ b. IsTrue (state g b).in_transaction) (sym is) refl
+
+  -- as the transaction began the connection showed what it did before
+  from_old : (P : State → Type 0) → P (state g (record old { in_transaction = true })) → P (state g begun)
+  from_old P = subst (λ b. P (state g b)) (sym is)
+
+  module _ (last : Held S) (after : Totals) (d : Deed) (new : v ≡ New d)
+      (wrote : HasCleanDisk (state g last) → IsTrue (state g mid).in_transaction → Wrote (state g mid) (state g last) before after r d)
+      (second : Survives (state g mid) (state g last) (λ _. ⊥)) where
+
+    wrote_at : HasCleanDisk (state g last) → Wrote (state g mid) (state g last) before after r d
+    wrote_at clean = let early : HasCleanDisk (state g mid) = omega (arith, second.clean) in wrote clean ((judged early inside).0.mode ∙ inside)
+
+    says_new : HasCleanDisk (state g last) → (h : History) → Counts before h → Rows newest (state g begun).now.trees h → verdict h r ≡ New d
+    says_new clean h counts it = let early : HasCleanDisk (state g mid) = omega (arith, second.clean) in sym (found early inside h counts it) ∙ new
+
+    pub commits_one : HasCleanDisk (state g last) → CommitsOne (state g old) before r (state g last).now.trees
+    commits_one clean =
+        let early : HasCleanDisk (state g mid) = omega (arith, second.clean) in
+        let same = (judged early inside).0 in
+        let made = (wrote_at clean).made in
+        subst (λ b. CommitsOne (state g b) before r (state g last).now.trees) is
+        (same.was_open, λ h counts it. let says = says_new clean h counts it in
+          subst (λ x. Rows newest (state g last).now.trees (with_verdict h x)) (sym says) (made h counts says (subst (λ db. Rows newest db.trees h) (sym same.now_is) it)))
+
+    module _ (end : Held S) (third : Survives (state g last) (state g end) (λ db. db ≡ (state g last).now.trees)) where
+      -- over the whole call a crash leaves what it left before, or what the request commits
+      pub one_at_most : Survives (state g old) (state g end) (CommitsOne (state g old) before r)
+      one_at_most =
+          let inner = quiet_then (state g begun) (state g mid) (state g last) first second in
+          let outer = survives_begin g old (state g last) _ (subst (λ b. Survives (state g b) (state g last) (λ _. ⊥)) is inner) in
+          quiet_to (state g old) (state g last) (state g end) _ (CommitsOne (state g old) before r)
+          (λ clean db it. let early : HasCleanDisk (state g last) = omega (arith, third.clean) in subst (CommitsOne (state g old) before r) (sym it) (commits_one early)) outer third
+
+      -- the commit went well
+      pub answered : (settled : (s : S) (db : Trees) → IsTrue (g.view s).is_open → g.recovers s db → db ≡ (g.view s).committed)
+          → (HasCleanDisk (state g end) → Shows (state g last) (state g end) (state g last).now (state g last).now false)
+          → (reply : List ℕ) → reply ≡ text_of d
+          → HasCleanDisk (state g end) → (h : History) → Counts before h → IsAt newest (state g old) h
+          → (Done reply ≡ answer_one h r) × Counts after (after_one h r) × IsAt newest (state g end) (after_one h r)
+      answered settled went reply said clean h counts at =
+          let late : HasCleanDisk (state g last) = omega (arith, third.clean) in
+          let mids : HasCleanDisk (state g mid) = omega (arith, second.clean) in
+          let start : HasCleanDisk (state g begun) = omega (arith, first.clean) in
+          let start_old : HasCleanDisk (state g old) = subst (λ b. HasCleanDisk (state g b)) is start in
+          let one = commits_one late in
+          let shown = at.shown start_old one.0 in
+          let held : Rows newest (state g old).now.trees h = subst (λ db. Rows newest db.trees h) (sym shown.0) shown.1 in
+          let shows = went clean in
+          let begun_held : Rows newest (state g begun).now.trees h = from_old (λ s. Rows newest s.now.trees h) held in
+          let says : verdict h r ≡ New d = says_new late h counts begun_held in
+          let kept : Rows newest (state g end).committed.trees (after_one h r) = subst (λ db. Rows newest db.trees (after_one h r)) (sym shows.committed_is) (one.1 h counts held) in
+          (
+            ap Done said ∙ ap reply_of (sym says),
+            record {
+              legal = legal_after h r counts.legal;
+              totals_are = subst (λ x. AreTotalsOf (with_verdict h x) after) (sym says) ((wrote_at late).carried h counts says);
+            },
+            record {
+              shown = λ _ _. (shows.now_is ∙ sym shows.committed_is, kept);
+              left = λ _ db may. (after_one h r, refl, subst (λ x. Rows newest x (after_one h r)) (sym (settled end.store db shows.is_open may)) kept);
+            },
+          )
+
+  module _ (end : Held S) (ends : Survives (state g mid) (state g end) (λ _. ⊥)) where
+    -- nothing was committed
+    pub none_at_all : Survives (state g old) (state g end) (λ _. ⊥)
+    none_at_all = survives_begin g old (state g end) _ (subst (λ b. Survives (state g b) (state g end) (λ _. ⊥)) is (quiet_then (state g begun) (state g mid) (state g end) first ends))
+
+    -- the transaction was rolled back, after a verdict that changes nothing
+    pub as_before : (HasCleanDisk (state g end) → IsRolledBack (state g mid) (state g end)) → (reply : Reply) → reply_of v ≡ reply → ((h : History) → with_verdict h v ≡ h)
+        → HasCleanDisk (state g end) → (h : History) → Counts before h → IsAt newest (state g old) h
+        → (reply ≡ answer_one h r) × Counts before (after_one h r) × IsAt newest (state g end) (after_one h r)
+    as_before back reply is_reply same_history clean h counts at =
+        let mids : HasCleanDisk (state g mid) = omega (arith, ends.clean) in
+        let start : HasCleanDisk (state g begun) = omega (arith, first.clean) in
+        let start_old : HasCleanDisk (state g old) = subst (λ b. HasCleanDisk (state g b)) is start in
+        let same = (judged mids inside).0 in
+        let was_open : IsTrue (state g old).is_open = subst (λ b. IsTrue (state g b).is_open) is same.was_open in
+        let shown = at.shown start_old was_open in
+        let held : Rows newest (state g old).now.trees h = subst (λ db. Rows newest db.trees h) (sym shown.0) shown.1 in
+        let said = found mids inside h counts (from_old (λ s. Rows newest s.now.trees h) held) in
+        let history : after_one h r ≡ h = ap (with_verdict h) (sym said) ∙ same_history h in
+        let undone = back clean in
+        let committed : (state g mid).committed ≡ (state g old).committed = subst (λ b. (state g mid).committed ≡ (state g b).committed) is same.committed_is in
+        (
+          sym is_reply ∙ ap reply_of said,
+          subst (Counts before) (sym history) counts,
+          subst (IsAt newest (state g end)) (sym history) (record {
+            shown = λ _ still. let it = undone.undone still in (it.0 ∙ sym it.1, subst (λ db. Rows newest db.trees h) (sym (it.1 ∙ committed)) shown.1);
+            left = λ _ db may. at.left start_old db (elim (none_at_all.crash clean db may) [ inl old_may ↦ old_may | inr none ↦ absurd none ]);
+          }),
+        )

@@ -1,0 +1,3 @@
+pub mod Promise
+pub mod Attempt
+pub mod Run
