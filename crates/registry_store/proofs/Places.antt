@@ -3,10 +3,11 @@ use Rattle.std.proofs.Common.{◌≡◌, ◌<◌, ◌≤◌, ◌+◌, ◌-◌, �
 use Rattle.std.proofs.lemmas.List.{take-append-drop, take_all}
 use Rattle.std.proofs.Math.Seq.{take-add}
 use Rattle.sqlite.specs.Store.{Ghosts}
-use Rattle.registry_rules.specs.declared.model.Request.{Request}
-use Rattle.registry_rules.specs.declared.model.Reply.{Reply}
-use Rattle.registry_rules.specs.History.{History, after, answers, after_one, answer_one}
-use Rattle.registry_rules.proofs.Laws.{repeats}
+use Rattle.registry_rules.specs.declared.order.Request.{Request}
+use Rattle.registry_rules.specs.declared.verdict.Reply.{Reply}
+use Rattle.registry_rules.specs.History.{History}
+use Rattle.registry_rules.specs.Run.{after, answers, after_one, answer_one}
+use Rattle.registry_store.proofs.Laws.{repeats}
 use Rattle.registry_tables.specs.Rows.{newest}
 use Rattle.registry_store.specs.declared.fault.Fault.{Fault}
 use Rattle.registry_store.specs.declared.registry.Registry.{Registry}

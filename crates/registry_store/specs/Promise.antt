@@ -6,8 +6,10 @@ use Rattle.sqlite.specs.Disk.{MoreFaults}
 use Rattle.sqlite.specs.Store.{Ghosts}
 use Rattle.sqlite.specs.State.{State, HasCleanDisk}
 use Rattle.sqlite.specs.Held.{Held, state}
-use Rattle.registry_rules.specs.declared.model.Totals.{Totals}
-use Rattle.registry_rules.specs.History.{History, Legal, AreTotalsOf}
+use Rattle.registry_rules.specs.declared.totals.Totals.{Totals}
+use Rattle.registry_rules.specs.History.{History}
+use Rattle.registry_rules.specs.Run.{Legal}
+use Rattle.registry_rules.specs.TotalsOf.{AreTotalsOf}
 use Rattle.registry_tables.specs.Rows.{Rows, newest}
 use Rattle.registry_store.specs.declared.registry.Registry.{Registry}
 
@@ -19,6 +21,10 @@ Leaves v s These = (db : Trees) → s.may_leave db → (h : History) × These h 
 pub record IsAt (v : ℕ) (s : State) (h : History) : Type 0 where
   pub shown : HasCleanDisk s → IsTrue s.is_open → (s.now ≡ s.committed) × Rows v s.committed.trees h
   pub left : HasCleanDisk s → Leaves v s (λ x. x ≡ h)
+
+-- The connection is open and at rest, and shows the rows of the history, as one does that was just opened.
+abbrev pub IsFreshAt : ℕ → State → History → Type 0
+IsFreshAt v s h = HasCleanDisk s → IsTrue s.is_open × (s.now ≡ s.committed) × Rows v s.committed.trees h
 
 -- the history is legal, and these are its totals
 pub record Counts (totals : Totals) (h : History) : Type 0 where

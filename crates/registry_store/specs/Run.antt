@@ -1,9 +1,10 @@
 -- What a run of requests leaves.
 use Rattle.std.specs.Prelude.{◌≡◌, ◌⊎◌, ◌<◌, ◌+◌, ℕ, true, List, length, take, drop, Option, Some, None}
 use Rattle.sqlite.specs.Store.{Ghosts}
-use Rattle.registry_rules.specs.declared.model.Request.{Request}
-use Rattle.registry_rules.specs.declared.model.Reply.{Reply}
-use Rattle.registry_rules.specs.History.{History, after, answers}
+use Rattle.registry_rules.specs.declared.order.Request.{Request}
+use Rattle.registry_rules.specs.declared.verdict.Reply.{Reply}
+use Rattle.registry_rules.specs.History.{History}
+use Rattle.registry_rules.specs.Run.{after, answers}
 use Rattle.registry_tables.specs.Rows.{newest}
 use Rattle.registry_store.specs.declared.fault.Fault.{Fault}
 use Rattle.registry_store.specs.declared.fault.Fault.TheVariants.{Store, NoMemory}

@@ -3,13 +3,15 @@
 ghost use Rattle.std.specs.Prelude.{◌≡◌, ◌≢◌, true, false, IsTrue, IfOk, OnOk, OnErr, Err};
 ghost use Rattle.sqlite.specs.State.{HasCleanDisk, Survives, Shows, IsUnchanged};
 ghost use Rattle.sqlite.specs.Held.{state};
-ghost use Rattle.registry_rules.specs.History.{History, verdict, text_of, after_one, answer_one};
-ghost use Rattle.registry_tables.specs.Rows.{Rows, newest};
+ghost use Rattle.registry_rules.specs.History.{History};
+ghost use Rattle.registry_rules.specs.Verdict.{verdict};
+ghost use Rattle.registry_rules.specs.Reply.{act_text};
+ghost use Rattle.registry_rules.specs.Run.{after_one, answer_one};
+ghost use Rattle.registry_tables.specs.Rows.{HoldsRows, newest};
 ghost use Rattle.registry_store.specs.Promise.{Counts, IsAt};
 ghost use Rattle.registry_store.specs.Attempt.{CommitsOne, Wrote};
 
-use registry_rules::model::{Deed, Reply, Request, Totals, Verdict, changes, judge, reply_text};
-use registry_rules::text::Text;
+use registry_rules::{Deed, Reply, Request, Text, Totals, Verdict, changes, judge, reply_text};
 use registry_tables::calls::{facts_for, keep_reply, store};
 use registry_tables::fault::TableFault;
 use sqlite::{Alter, Connection, Error, ErrorCode, Transaction};
@@ -26,9 +28,9 @@ fn judged<S: Alter>(
     ensures ok { HasCleanDisk (state S.Store tx.new.conn.now) → IsTrue (state S.Store tx.old.conn.now).in_transaction
         → OnOk result (IsUnchanged (state S.Store tx.old.conn.now) (state S.Store tx.new.conn.now)) }
     ensures verdict { HasCleanDisk (state S.Store tx.new.conn.now) → IsTrue (state S.Store tx.old.conn.now).in_transaction
-        → IfOk result (λ found. (h : History) → Counts totals.now h → Rows newest (state S.Store tx.old.conn.now).now.trees h → found ≡ verdict h request.now) }
+        → IfOk result (λ found. (h : History) → Counts totals.now h → HoldsRows newest (state S.Store tx.old.conn.now).now h → found ≡ verdict h request.now) }
     ensures foreign { HasCleanDisk (state S.Store tx.new.conn.now) → IsTrue (state S.Store tx.old.conn.now).in_transaction → result ≡ Err TableFault.Foreign
-        → IsTrue (state S.Store tx.old.conn.now).is_open × ((h : History) → Counts totals.now h → ¬ Rows newest (state S.Store tx.old.conn.now).now.trees h) }
+        → IsTrue (state S.Store tx.old.conn.now).is_open × ((h : History) → Counts totals.now h → ¬ HoldsRows newest (state S.Store tx.old.conn.now).now h) }
     ensures survives { Survives (state S.Store tx.old.conn.now) (state S.Store tx.new.conn.now) (λ _. ⊥) }
 {
     let facts = facts_for(alloc, tx, totals, request)?;
@@ -44,7 +46,7 @@ fn write<S: Alter>(
     deed: &Deed,
     reply: &Text,
 ) -> Result<(), TableFault>
-    requires { reply.now ≡ text_of deed.now }
+    requires { reply.now ≡ act_text deed.now.act }
     ensures same_reference { tx.new.conn.ghost_name ≡ tx.old.conn.ghost_name }
     ensures ok { HasCleanDisk (state S.Store tx.new.conn.now) → IsTrue (state S.Store tx.old.conn.now).in_transaction
         → OnOk result (Wrote (state S.Store tx.old.conn.now) (state S.Store tx.new.conn.now) totals.old totals.new request.now deed.now) }
@@ -85,6 +87,7 @@ pub(crate) fn attempt<S: Alter>(
     ensures foreign { HasCleanDisk (state S.Store conn.new) → result ≡ Err TableFault.Foreign → (h : History) → Counts totals.old h → IsAt newest (state S.Store conn.old) h → ⊥ }
     ensures survives { Survives (state S.Store conn.old) (state S.Store conn.new) (CommitsOne (state S.Store conn.old) totals.old request.now) }
 {
+    let _schema = conn.schema();
     let mut tx = conn.transaction();
     let verdict = judged(alloc, &mut tx, totals, request)?;
     match verdict {

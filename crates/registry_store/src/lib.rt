@@ -4,6 +4,7 @@
 mod attempt;
 pub mod fault;
 pub mod registry;
+pub mod reopen;
 
 pub use fault::Fault;
 pub use registry::Registry;

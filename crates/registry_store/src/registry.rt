@@ -4,9 +4,11 @@ ghost use Rattle.std.specs.Prelude.{◌≡◌, false};
 
 use crate::attempt::attempt;
 use crate::fault::{Fault, fault_of};
-use registry_rules::model::{Founding, Reply, Request, Totals};
+use registry_rules::{Founding, Reply, Request, Totals};
+use registry_tables::calls::{create, has_meta, totals};
 use sqlite::{Alter, Connection};
 use std::alloc::Global;
+use usbnum_core::NoMemory;
 
 /// The replies of a run, and the fault that ended it before the last request.
 #[derive(Drop)]
@@ -25,16 +27,92 @@ pub struct Registry<S: Alter> {
 }
 
 impl<S: Alter> Registry<S> {
-    ghost use Rattle.std.specs.Prelude.{◌≡◌, ◌⊎◌, ◌≤◌, [], length, vec_capacity, true, false, IfOk, IfErr, OnOk, OnErr, Err, Some, None, List};
-    ghost use Rattle.sqlite.specs.State.{HasCleanDisk};
-    ghost use Rattle.registry_rules.specs.History.{History, Legal, HasOneOrganisation, founding_now, after, after_one, answer_one};
-    ghost use Rattle.registry_tables.specs.Rows.{newest};
-    ghost use Rattle.registry_store.specs.Promise.{Leaves, Stands, Endures, is_spent, state_of, connection_of};
+    ghost use Rattle.std.specs.Prelude.{◌≡◌, ◌≢◌, MatchResult, IsTrue, ◌⊎◌, ◌≤◌, [], length, vec_capacity, true, false, IfOk, IfErr, OnOk, OnErr, Err, Some, None, List};
+    ghost use Rattle.sqlite.specs.State.{HasCleanDisk, Survives};
+    ghost use Rattle.sqlite.specs.Held.{state};
+    ghost use Rattle.registry_rules.specs.FactsOf.{IsFoundingOf};
+    ghost use Rattle.registry_rules.specs.History.{History, founded};
+    ghost use Rattle.registry_rules.specs.Run.{Legal, after, after_one, answer_one};
+    ghost use Rattle.registry_tables.specs.Rows.{Rows, newest, HasMeta};
+    ghost use Rattle.registry_store.specs.Promise.{Leaves, IsAt, IsFreshAt, Stands, Endures, is_spent, state_of, connection_of};
     ghost use Rattle.registry_store.specs.Run.{EndsRun, EndsPart, HasAnswered};
+
+    /// Founds a registry: makes its tables, in one transaction.
+    ///
+    /// `Fault::Taken` says that there is a table `meta`, and then nothing is changed. Within a transaction the fault is `Fault::Store`, and nothing is changed.
+    /// After any other fault the files are opened anew.
+    pub fn found(
+        alloc: Global,
+        mut conn: Connection<S>,
+        founding: &Founding,
+    ) -> Result<Registry<S>, (Fault, Connection<S>)>
+        ensures stands { IfOk result (λ it. HasCleanDisk (state_of it) → Stands it (founded founding.now)) }
+        ensures fresh { IfOk result (λ it. ¬ HasMeta (state S.Store conn).now) }
+        ensures taken { IfErr result (λ e. e.0 ≡ Fault.Taken → (e.1 ≡ conn) × HasMeta (state S.Store conn).now) }
+        ensures busy { IsTrue conn.in_transaction → IfErr result (λ e. (e.0 ≡ Fault.Store) × (e.1 ≡ conn)) }
+        ensures kind { IfErr result (λ e. (e.0 ≢ Fault.Spent) × (e.0 ≢ Fault.Foreign)) }
+
+        // What it makes is all or nothing, also at a crash.
+        ensures survives { MatchResult result
+            (λ it. Survives (state S.Store conn) (state_of it) (λ db. (¬ HasMeta (state S.Store conn).now) × Rows newest db (founded founding.now)))
+            (λ e. Survives (state S.Store conn) (state S.Store e.1) (λ db. (¬ HasMeta (state S.Store conn).now) × Rows newest db (founded founding.now))) }
+    {
+        if !conn.is_autocommit() {
+            return Err((Fault::Store, conn));
+        }
+        if has_meta(&conn) {
+            return Err((Fault::Taken, conn));
+        }
+        let totals = match Totals::founded(alloc, founding) {
+            Ok(totals) => totals,
+            Err(NoMemory) => return Err((Fault::NoMemory, conn)),
+        };
+        match create(&mut conn, founding) {
+            Ok(()) => Ok(Registry {
+                alloc,
+                conn,
+                totals,
+                spent: false,
+            }),
+            Err(fault) => Err((fault_of(fault), conn)),
+        }
+    }
+
+    /// Opens the registry that the store of a connection holds.
+    ///
+    /// Within a transaction the fault is `Fault::Store`, and nothing is changed. After any other `Fault::Store` or `Fault::NoMemory` the files are opened anew.
+    pub fn open(
+        alloc: Global,
+        mut conn: Connection<S>,
+    ) -> Result<Registry<S>, (Fault, Connection<S>)>
+        ensures stands { (h : History) → Legal h → IsAt newest (state S.Store conn) h → IfOk result (λ it. HasCleanDisk (state_of it) → Stands it h) }
+        ensures fresh { (h : History) → Legal h → IsFreshAt newest (state S.Store conn) h → IfOk result (λ it. HasCleanDisk (state_of it) → Stands it h) }
+        ensures foreign { IfErr result (λ e. HasCleanDisk (state S.Store e.1) → e.0 ≡ Fault.Foreign → (h : History) → Legal h → ¬ Rows newest (state S.Store conn).now.trees h) }
+        ensures busy { IsTrue conn.in_transaction → IfErr result (λ e. (e.0 ≡ Fault.Store) × (e.1 ≡ conn)) }
+        ensures kind { IfErr result (λ e. (e.0 ≢ Fault.Spent) × (e.0 ≢ Fault.Taken)) }
+
+        // It commits nothing.
+        ensures survives { MatchResult result
+            (λ it. Survives (state S.Store conn) (state_of it) (λ _. ⊥))
+            (λ e. Survives (state S.Store conn) (state S.Store e.1) (λ _. ⊥)) }
+    {
+        if !conn.is_autocommit() {
+            return Err((Fault::Store, conn));
+        }
+        match totals(alloc, &mut conn) {
+            Ok(totals) => Ok(Registry {
+                alloc,
+                conn,
+                totals,
+                spent: false,
+            }),
+            Err(fault) => Err((fault_of(fault), conn)),
+        }
+    }
 
     /// What the registry was founded with, and the licences of now.
     pub fn founding(&self) -> &Founding
-        ensures { (h : History) → Stands self.now h → result.now ≡ founding_now h }
+        ensures { (h : History) → Stands self.now h → IsFoundingOf h result.now }
     {
         self.totals.founding()
     }

@@ -1,6 +1,7 @@
 use Rattle.std.proofs.Common.{◌≡◌, ◌≤◌, length, take, vec_len, vec_capacity}
 use Rattle.sqlite.specs.State.{HasCleanDisk}
-use Rattle.registry_rules.specs.History.{History, after, answers}
+use Rattle.registry_rules.specs.History.{History}
+use Rattle.registry_rules.specs.Run.{after, answers}
 use Rattle.registry_store.specs.Promise.{Stands, Endures, state_of}
 use Rattle.registry_store.proofs.registry.Registry.run.Given as goal
 
