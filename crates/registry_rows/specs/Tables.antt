@@ -1,0 +1,64 @@
+-- The tables of a store as lists of values.
+use Rattle.std.specs.Prelude.{◌≡◌, ℕ, List, []}
+use Rattle.sqlite.specs.Effect.{Database}
+use Rattle.sqlite_trees.specs.Tree.{Trees}
+use Rattle.sqlite_catalog.specs.Listing.{IsSound}
+use Rattle.usbnum_core.specs.Text.{IsSlug, IsTitle}
+use Rattle.usbnum_core.specs.declared.number.Number.{Number}
+use Rattle.usbnum_core.specs.declared.number.Span.{Span}
+use Rattle.registry_rules.specs.declared.record.Org.{Org}
+use Rattle.registry_rules.specs.declared.record.Entry.{Entry}
+use Rattle.registry_rules.specs.declared.record.Petition.{Petition}
+use Rattle.registry_rules.specs.declared.record.Vendor.{Vendor}
+use Rattle.table_laws.specs.Making.{HasTables}
+use Rattle.table_laws.specs.Stored.{Stores, StoresUnnumbered}
+use Rattle.registry_schema.specs.Texts.{texts_3}
+use Rattle.registry_schema.specs.Schema.{schema_3}
+use Rattle.registry_rows.specs.declared.kept.KeptRow.{KeptRow}
+use Rattle.registry_rows.specs.declared.meta.Meta.{Meta}
+use Rattle.registry_rows.specs.Rows.{meta_key, meta_row, IsMeta, name_row, fixed_key, fixed_row, IsSpan, org_row, IsOrg, kept_row, IsKept, vendor_key, vendor_row, IsVendor, span_row, IsVendorSpan, entry_row, IsEntry, petition_key, petition_row, IsPetition}
+
+-- what stands in the tables: in the order of their keys where a key is the rowid, else in the order in which it came
+pub record Tables : Type 0 where
+  pub metas : List Meta
+  pub curators : List (List ℕ)
+  pub licences : List (List ℕ)
+  pub fixed : List Span
+  pub orgs : List Org
+  pub kept : List KeptRow
+  pub vendors : List Vendor
+  pub spans : List (ℕ × Span)
+  pub entries : List (Number × Entry)
+  pub petitions : List (ℕ × Petition)
+
+-- the rows of each table are those of its values, and the tables of the older schemas that others replace are empty
+pub record AreRows (db : Trees) (t : Tables) : Type 0 where
+  pub metas : Stores IsMeta meta_key meta_row (db 0) t.metas
+  pub curators : StoresUnnumbered IsSlug name_row (db 1) t.curators
+  pub licences : StoresUnnumbered IsTitle name_row (db 3) t.licences
+  pub fixed : Stores IsSpan fixed_key fixed_row (db 5) t.fixed
+  pub orgs : StoresUnnumbered IsOrg org_row (db 6) t.orgs
+  pub no_petitions : db 8 ≡ []
+  pub no_entries : db 9 ≡ []
+  pub no_reserved : db 10 ≡ []
+  pub kept : StoresUnnumbered IsKept kept_row (db 11) t.kept
+  pub no_spans : db 13 ≡ []
+  pub vendors : Stores IsVendor vendor_key vendor_row (db 14) t.vendors
+  pub spans : StoresUnnumbered IsVendorSpan span_row (db 15) t.spans
+  pub entries : StoresUnnumbered IsEntry entry_row (db 17) t.entries
+  pub petitions : Stores IsPetition petition_key petition_row (db 19) t.petitions
+
+-- the trees have the tables of the third schema and nothing else, and these rows
+pub record HasRows (db : Trees) (t : Tables) : Type 0 where
+  pub has : HasTables texts_3 db
+  pub rows : AreRows db t
+
+-- the same of a database, whose schema is known
+pub record Holds (db : Database) (t : Tables) : Type 0 where
+  pub schema : db.schema ≡ schema_3
+  pub sound : IsSound schema_3 db.trees
+  pub rows : AreRows db.trees t
+
+-- no row in any table
+abbrev pub no_rows : Tables
+no_rows = record { metas = []; curators = []; licences = []; fixed = []; orgs = []; kept = []; vendors = []; spans = []; entries = []; petitions = [] }

@@ -1,0 +1,76 @@
+-- What the texts of the tables mean.
+use Rattle.std.proofs.Common.{◌≡◌, refl}
+use Rattle.sqlite.specs.Listing.{understood}
+use Rattle.sqlite_tied.specs.Compute.{everything}
+use Rattle.table_laws.specs.Making.{no_schema, schema_by}
+use Rattle.table_laws.proofs.MakeLemmas.{Makes}
+use Rattle.registry_schema.specs.Texts.{meta_text, curators_text, licences_text, fixed_text, orgs_text, petitions_text, entries_text, reserved_text, kept_text, spans_text, vendors_text, spans3_text, entries3_text, petitions3_text, texts_1, texts_2, texts_3}
+use Rattle.registry_schema.specs.Schema.{meta, curators, licences, fixed, orgs, petitions, entries, reserved, kept, spans, vendors, spans3, entries3, petitions3, past_meta, past_curators, past_licences, past_fixed, past_orgs, past_petitions, past_entries, past_reserved, schema_1, schema_2, past_vendors, past_spans3, past_entries3, schema_3}
+
+pub makes_meta : Makes no_schema meta_text meta
+unfolding understood everything
+makes_meta = record { command = refl; whole = refl; plain = (refl, refl); defined = refl; uncounted = refl }
+
+pub makes_curators : Makes past_meta curators_text curators
+unfolding understood everything
+makes_curators = record { command = refl; whole = refl; plain = (refl, refl); defined = refl; uncounted = refl }
+
+pub makes_licences : Makes past_curators licences_text licences
+unfolding understood everything
+makes_licences = record { command = refl; whole = refl; plain = (refl, refl); defined = refl; uncounted = refl }
+
+pub makes_fixed : Makes past_licences fixed_text fixed
+unfolding understood everything
+makes_fixed = record { command = refl; whole = refl; plain = (refl, refl); defined = refl; uncounted = refl }
+
+pub makes_orgs : Makes past_fixed orgs_text orgs
+unfolding understood everything
+makes_orgs = record { command = refl; whole = refl; plain = (refl, refl); defined = refl; uncounted = refl }
+
+pub makes_petitions : Makes past_orgs petitions_text petitions
+unfolding understood everything
+makes_petitions = record { command = refl; whole = refl; plain = (refl, refl); defined = refl; uncounted = refl }
+
+pub makes_entries : Makes past_petitions entries_text entries
+unfolding understood everything
+makes_entries = record { command = refl; whole = refl; plain = (refl, refl); defined = refl; uncounted = refl }
+
+pub makes_reserved : Makes past_entries reserved_text reserved
+unfolding understood everything
+makes_reserved = record { command = refl; whole = refl; plain = (refl, refl); defined = refl; uncounted = refl }
+
+pub makes_kept : Makes past_reserved kept_text kept
+unfolding understood everything
+makes_kept = record { command = refl; whole = refl; plain = (refl, refl); defined = refl; uncounted = refl }
+
+pub makes_spans : Makes schema_1 spans_text spans
+unfolding understood everything
+makes_spans = record { command = refl; whole = refl; plain = (refl, refl); defined = refl; uncounted = refl }
+
+pub makes_vendors : Makes schema_2 vendors_text vendors
+unfolding understood everything
+makes_vendors = record { command = refl; whole = refl; plain = (refl, refl); defined = refl; uncounted = refl }
+
+pub makes_spans3 : Makes past_vendors spans3_text spans3
+unfolding understood everything
+makes_spans3 = record { command = refl; whole = refl; plain = (refl, refl); defined = refl; uncounted = refl }
+
+pub makes_entries3 : Makes past_spans3 entries3_text entries3
+unfolding understood everything
+makes_entries3 = record { command = refl; whole = refl; plain = (refl, refl); defined = refl; uncounted = refl }
+
+pub makes_petitions3 : Makes past_entries3 petitions3_text petitions3
+unfolding understood everything
+makes_petitions3 = record { command = refl; whole = refl; plain = (refl, refl); defined = refl; uncounted = refl }
+
+pub schema_1_is : schema_by texts_1 ≡ schema_1
+unfolding everything
+schema_1_is = refl
+
+pub schema_2_is : schema_by texts_2 ≡ schema_2
+unfolding everything
+schema_2_is = refl
+
+pub schema_3_is : schema_by texts_3 ≡ schema_3
+unfolding everything
+schema_3_is = refl

@@ -1,0 +1,12 @@
+use Rattle.sqlite.specs.Held.{state}
+use Rattle.table_laws.specs.Making.{no_schema}
+use Rattle.registry_schema.specs.Schema.{meta}
+use Rattle.registry_schema.specs.Texts.{meta_text}
+use Rattle.registry_schema.proofs.TextLemmas.{makes_meta}
+use Rattle.table_laws.proofs.MakeLemmas.{adds_blank}
+use Rattle.registry_schema.proofs.first.create_meta.Goals as goal
+
+pub returns-in-Ok-clause-made : goal.returns-in-Ok-clause-made
+returns-in-Ok-clause-made g c clean inside =
+    let ran = c.in-Ok.ensures.runs clean inside in
+    (ran.1, adds_blank (state g.S.Store c.args.tx.now.conn.now) (state g.S.Store c.execute-ran.new.self.conn.now) no_schema meta_text meta makes_meta c.in-Ok.field-0 ran.0)

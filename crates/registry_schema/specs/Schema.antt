@@ -1,0 +1,106 @@
+-- The tables that the texts define, and the schemas that they make. Each CREATE TABLE takes the next tree, and the
+-- index of its key the one after it.
+use Rattle.std.specs.Prelude.{[], ◌∷◌, codes}
+use Rattle.sqlite_schema.specs.declared.schema.Table.{Table}
+use Rattle.sqlite_schema.specs.declared.schema.Schema.{Schema}
+use Rattle.sqlite_catalog.specs.Change.{created}
+use Rattle.table_laws.specs.Shape.{numbered_table, keyed_table, number, number_or_null, text, text_or_null, blob}
+use Rattle.table_laws.specs.Making.{no_schema}
+
+abbrev pub meta : Table
+meta = numbered_table 0 (codes "meta") (number_or_null (codes "id") ∷ number (codes "version") ∷ number (codes "vendor") ∷ text (codes "name") ∷ [])
+
+abbrev pub curators : Table
+curators = keyed_table 1 (codes "curators") (1 ∷ []) (text (codes "name") ∷ [])
+
+abbrev pub licences : Table
+licences = keyed_table 3 (codes "licences") (1 ∷ []) (text (codes "name") ∷ [])
+
+abbrev pub fixed : Table
+fixed = numbered_table 5 (codes "fixed") (number_or_null (codes "lo") ∷ number (codes "hi") ∷ [])
+
+abbrev pub orgs : Table
+orgs = keyed_table 6 (codes "orgs") (1 ∷ []) (text (codes "slug") ∷ text (codes "title") ∷ text (codes "site") ∷ text (codes "keeper") ∷ [])
+
+abbrev pub petitions : Table
+petitions = numbered_table 8 (codes "petitions") (number_or_null (codes "id") ∷ text (codes "org") ∷ number_or_null (codes "want") ∷ text (codes "title") ∷ text (codes "licence") ∷ text (codes "site") ∷ text (codes "source") ∷ number (codes "state") ∷ number_or_null (codes "pid") ∷ [])
+
+abbrev pub entries : Table
+entries = numbered_table 9 (codes "entries") (number_or_null (codes "pid") ∷ text (codes "org") ∷ number (codes "held") ∷ text (codes "title") ∷ text_or_null (codes "licence") ∷ text_or_null (codes "site") ∷ text_or_null (codes "source") ∷ [])
+
+abbrev pub reserved : Table
+reserved = numbered_table 10 (codes "reserved") (number_or_null (codes "pid") ∷ [])
+
+abbrev pub kept : Table
+kept = keyed_table 11 (codes "kept") (1 ∷ 2 ∷ []) (text (codes "caller") ∷ text (codes "request_key") ∷ blob (codes "request") ∷ text (codes "reply") ∷ [])
+
+abbrev pub spans : Table
+spans = numbered_table 13 (codes "spans") (number_or_null (codes "lo") ∷ number (codes "hi") ∷ [])
+
+abbrev pub vendors : Table
+vendors = numbered_table 14 (codes "vendors") (number_or_null (codes "vid") ∷ text (codes "name") ∷ [])
+
+abbrev pub spans3 : Table
+spans3 = keyed_table 15 (codes "spans3") (1 ∷ 2 ∷ []) (number (codes "vid") ∷ number (codes "lo") ∷ number (codes "hi") ∷ [])
+
+abbrev pub entries3 : Table
+entries3 = keyed_table 17 (codes "entries3") (1 ∷ 2 ∷ []) (number (codes "vid") ∷ number (codes "pid") ∷ text (codes "org") ∷ number (codes "held") ∷ text (codes "title") ∷ text_or_null (codes "licence") ∷ text_or_null (codes "site") ∷ text_or_null (codes "source") ∷ [])
+
+abbrev pub petitions3 : Table
+petitions3 = numbered_table 19 (codes "petitions3") (number_or_null (codes "id") ∷ number (codes "vid") ∷ text (codes "org") ∷ number_or_null (codes "want") ∷ text (codes "title") ∷ text (codes "licence") ∷ text (codes "site") ∷ text (codes "source") ∷ number (codes "state") ∷ number_or_null (codes "pid") ∷ [])
+
+-- the schema up to this table
+abbrev pub past_meta : Schema
+past_meta = created no_schema meta
+
+-- the schema up to this table
+abbrev pub past_curators : Schema
+past_curators = created past_meta curators
+
+-- the schema up to this table
+abbrev pub past_licences : Schema
+past_licences = created past_curators licences
+
+-- the schema up to this table
+abbrev pub past_fixed : Schema
+past_fixed = created past_licences fixed
+
+-- the schema up to this table
+abbrev pub past_orgs : Schema
+past_orgs = created past_fixed orgs
+
+-- the schema up to this table
+abbrev pub past_petitions : Schema
+past_petitions = created past_orgs petitions
+
+-- the schema up to this table
+abbrev pub past_entries : Schema
+past_entries = created past_petitions entries
+
+-- the schema up to this table
+abbrev pub past_reserved : Schema
+past_reserved = created past_entries reserved
+
+-- the first schema
+abbrev pub schema_1 : Schema
+schema_1 = created past_reserved kept
+
+-- the second
+abbrev pub schema_2 : Schema
+schema_2 = created schema_1 spans
+
+-- the schema up to this table
+abbrev pub past_vendors : Schema
+past_vendors = created schema_2 vendors
+
+-- the schema up to this table
+abbrev pub past_spans3 : Schema
+past_spans3 = created past_vendors spans3
+
+-- the schema up to this table
+abbrev pub past_entries3 : Schema
+past_entries3 = created past_spans3 entries3
+
+-- the third and newest
+abbrev pub schema_3 : Schema
+schema_3 = created past_entries3 petitions3

@@ -1,0 +1,12 @@
+//! The tables of a registry's store: their texts, the schemas that these make, and how they are made.
+#![tactic(auto)]
+
+pub use create::create_tables;
+pub use fault::{TableFault, fault_of};
+pub use version::{has_meta, is_empty, version_of};
+
+mod create;
+mod fault;
+mod first;
+mod later;
+mod version;

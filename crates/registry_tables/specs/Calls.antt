@@ -1,0 +1,38 @@
+-- What the calls on the tables do.
+use Rattle.std.specs.Prelude.{◌≡◌, false, IsTrue, Result, Err}
+use Rattle.sqlite.specs.State.{State}
+use Rattle.sqlite.specs.Effect.{Database}
+use Rattle.registry_schema.specs.Meta.{has_meta_table}
+use Rattle.registry_schema.specs.declared.fault.TableFault.{TableFault}
+use Rattle.registry_schema.specs.declared.fault.TableFault.TheVariants.{Foreign}
+use Rattle.registry_rules.specs.History.{History}
+use Rattle.registry_rules.specs.Reply.{act_text}
+use Rattle.registry_rules.specs.Run.{Legal}
+use Rattle.registry_rules.specs.declared.deed.Deed.{Deed}
+use Rattle.registry_rules.specs.declared.order.Request.{Request}
+use Rattle.std.specs.Prelude.{List, ℕ}
+use Rattle.registry_tables.specs.Rows.{newest, Rows}
+
+-- no table of the database is called meta
+abbrev pub HasNoMeta : Database → Type 0
+HasNoMeta db = has_meta_table db.schema ≡ false
+
+-- the deed is the request's, and this is its reply
+pub record IsKeptAs (deed : Deed) (request : Request) (reply : List ℕ) : Type 0 where
+  pub caller : deed.caller ≡ request.caller
+  pub key : deed.key ≡ request.key
+  pub order : deed.order ≡ request.order
+  pub said : reply ≡ act_text deed.act
+
+module _ (old new : State) where
+  -- the connection was open, and the list is that of each history whose rows it had
+  abbrev pub Lists : {A : Type 0} → (History → A → Type 0) → A → Type 0
+  Lists Is list = IsTrue old.is_open × ((h : History) → Legal h → Rows newest old.now.trees h → Is h list)
+
+  -- while it is open the connection shows what was committed before
+  abbrev pub KeepsAll : Type 0
+  KeepsAll = IsTrue new.is_open → (new.now ≡ old.committed) × (new.committed ≡ old.committed)
+
+  -- Foreign comes only of an open connection with the rows of no history
+  abbrev pub IsForeign : {A : Type 0} → Result A TableFault → Type 0
+  IsForeign result = result ≡ Err Foreign → IsTrue old.is_open × ((h : History) → Legal h → ¬ Rows newest old.now.trees h)

@@ -1,0 +1,100 @@
+-- A store has the rows of a history.
+use Rattle.std.specs.Prelude.{◌≡◌, ◌≢◌, ℕ, ◌+◌, ◌<◌, ◌⊎◌, Bool, false, List, [], ◌∷◌, ◌&&◌, nat_eq, find}
+use Rattle.std.specs.Option.{option_map}
+use Rattle.std.specs.List.{list_any}
+use Rattle.std.specs.Str.{bytes_eq}
+use Rattle.sqlite.specs.Effect.{Database}
+use Rattle.sqlite_trees.specs.Tree.{Trees, IsAscending}
+use Rattle.usbnum_core.specs.Spans.{span_has}
+use Rattle.usbnum_core.specs.declared.number.Number.{Number}
+use Rattle.usbnum_core.specs.declared.number.Span.{Span}
+use Rattle.registry_rules.specs.History.{History}
+use Rattle.registry_rules.specs.Query.{org_of, petition_of, vendor_of, is_ordered, is_licence}
+use Rattle.registry_rules.specs.Rows.{entry_of}
+use Rattle.registry_rules.specs.Verdict.{kept_under}
+use Rattle.registry_rules.specs.declared.record.Org.{Org}
+use Rattle.registry_rules.specs.declared.record.Entry.{Entry}
+use Rattle.registry_rules.specs.declared.record.Petition.{Petition}
+use Rattle.registry_rules.specs.declared.record.Vendor.{Vendor}
+use Rattle.registry_rows.specs.declared.kept.KeptRow.{KeptRow}
+use Rattle.registry_rows.specs.declared.meta.Meta.{Meta}
+use Rattle.registry_rows.specs.Rows.{is_named, is_called, is_kept_under, is_of, is_numbered}
+use Rattle.registry_rows.specs.Tables.{Tables, HasRows, Holds}
+
+-- the newest schema
+abbrev pub newest : ℕ
+newest = 3
+
+-- no two of the values are the same by the test
+abbrev pub NoTwo : {X : Type 0} → (X → X → Bool) → List X → Type 0
+NoTwo same = IsAscending (λ a b. same a b ≡ false)
+
+-- the vendor's span has the number
+abbrev pub vendor_span_has : Number → ℕ × Span → Bool
+vendor_span_has n s = nat_eq s.0 n.vid && span_has s.1 n.pid
+
+-- there is a number between the two spans, or they are of two vendors
+abbrev pub AreApart : ℕ × Span → ℕ × Span → Type 0
+AreApart a b = (a.0 ≢ b.0) ⊎ ((a.1.last + 1 < b.1.first) ⊎ (b.1.last + 1 < a.1.first))
+
+-- what is found under each key is what the history says, and no key has two rows
+module _ (h : History) where
+  pub record AreCurators (names : List (List ℕ)) : Type 0 where
+    pub each : (name : List ℕ) → list_any (bytes_eq name) names ≡ list_any (bytes_eq name) h.founding.curators
+    pub once : NoTwo is_named names
+
+  pub record AreLicences (names : List (List ℕ)) : Type 0 where
+    pub each : (name : List ℕ) → list_any (bytes_eq name) names ≡ is_licence h name
+    pub once : NoTwo is_named names
+
+  pub record AreOrgs (orgs : List Org) : Type 0 where
+    pub each : (slug : List ℕ) → find (is_called slug) orgs ≡ org_of h slug
+    pub once : NoTwo (λ a b. is_called b.slug a) orgs
+
+  -- the spans are maximal ones of the numbers that an order reserved
+  pub record AreSpans (spans : List (ℕ × Span)) : Type 0 where
+    pub each : (n : Number) → list_any (vendor_span_has n) spans ≡ is_ordered h n
+    pub apart : IsAscending AreApart spans
+
+  pub record AreEntries (entries : List (Number × Entry)) : Type 0 where
+    pub each : (n : Number) → find (is_of n) entries ≡ option_map (λ entry. (n, entry)) (entry_of h n)
+    pub once : NoTwo (λ a b. is_of b.0 a) entries
+
+  abbrev pub ArePetitions : List (ℕ × Petition) → Type 0
+  ArePetitions petitions = (i : ℕ) → find (is_numbered i) petitions ≡ option_map (λ petition. (i, petition)) (petition_of h i)
+
+  abbrev pub AreVendors : List Vendor → Type 0
+  AreVendors vendors = (vid : ℕ) → find (λ vendor. nat_eq vendor.vid vid) vendors ≡ vendor_of h vid
+
+  pub record AreKeptReplies (rows : List KeptRow) : Type 0 where
+    pub each : (caller key : List ℕ) → find (is_kept_under caller key) rows ≡ option_map (λ kept. record { caller = caller; key = key; kept = kept }) (kept_under h caller key)
+    pub once : NoTwo (λ a b. is_kept_under b.caller b.key a) rows
+
+-- the one row that says what the store is
+abbrev pub meta_of : History → Meta
+meta_of h = record { version = newest; vendor = h.founding.vendor; name = h.founding.name }
+
+-- all tables but the kept replies have the rows of the history
+pub record AreRecords (h : History) (t : Tables) : Type 0 where
+  pub metas : t.metas ≡ meta_of h ∷ []
+  pub curators : AreCurators h t.curators
+  pub licences : AreLicences h t.licences
+  pub fixed : t.fixed ≡ h.founding.fixed
+  pub orgs : AreOrgs h t.orgs
+  pub vendors : AreVendors h t.vendors
+  pub spans : AreSpans h t.spans
+  pub entries : AreEntries h t.entries
+  pub petitions : ArePetitions h t.petitions
+
+-- The trees have the tables of the schema of this number and nothing else, and in them the rows of the history and no
+-- others. An older number is that of a store that is still to be migrated.
+unfoldable pub Rows : ℕ → Trees → History → Type 0
+Rows version db h = (version ≡ newest) × (t : Tables) × HasRows db t × AreRecords h t × AreKeptReplies h t.kept
+
+-- the same of a database, whose schema is known
+unfoldable pub HoldsRows : ℕ → Database → History → Type 0
+HoldsRows version db h = (version ≡ newest) × (t : Tables) × Holds db t × AreRecords h t × AreKeptReplies h t.kept
+
+-- in the middle of a request: the kept replies are still those of the first history, all else is that of the second
+unfoldable pub HoldsUnkept : Database → History → History → Type 0
+HoldsUnkept db h after = (t : Tables) × Holds db t × AreRecords after t × AreKeptReplies h t.kept

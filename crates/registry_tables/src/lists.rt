@@ -1,0 +1,61 @@
+//! The lists of all that is kept of a history.
+
+ghost use Rattle.std.specs.Prelude.{◌≡◌, false, IfOk};
+ghost use Rattle.sqlite.specs.State.{HasCleanDisk, Survives};
+ghost use Rattle.sqlite.specs.Held.{state};
+ghost use Rattle.registry_tables.specs.Calls.{Lists, KeepsAll, IsForeign};
+ghost use Rattle.registry_tables.specs.Lists.{IsOrgList, IsPetitionList, IsNumberList};
+
+use crate::TableFault;
+use registry_rules::{Entry, Org, Petition};
+use sqlite::{Alter, Connection};
+use std::alloc::Global;
+use usbnum_core::Number;
+
+/// All organisations, by slug. Nothing is written.
+pub fn list_orgs<S: Alter>(_alloc: Global, conn: &mut Connection<S>) -> Result<Vec<Org>, TableFault>
+    requires { conn.old.in_transaction ≡ false }
+    ensures idle { conn.new.in_transaction ≡ false }
+    ensures answer { HasCleanDisk (state S.Store conn.new) → IfOk result (λ list. Lists (state S.Store conn.old) (state S.Store conn.new) IsOrgList list.items) }
+    ensures same { HasCleanDisk (state S.Store conn.new) → KeepsAll (state S.Store conn.old) (state S.Store conn.new) }
+    ensures foreign { HasCleanDisk (state S.Store conn.new) → IsForeign (state S.Store conn.old) (state S.Store conn.new) result }
+    ensures survives { Survives (state S.Store conn.old) (state S.Store conn.new) (λ _. ⊥) }
+{
+    let tx = conn.transaction();
+    tx.rollback();
+    Err(TableFault::NoMemory)
+}
+
+/// All petitions, by number. Nothing is written.
+pub fn list_petitions<S: Alter>(
+    _alloc: Global,
+    conn: &mut Connection<S>,
+) -> Result<Vec<(u32, Petition)>, TableFault>
+    requires { conn.old.in_transaction ≡ false }
+    ensures idle { conn.new.in_transaction ≡ false }
+    ensures answer { HasCleanDisk (state S.Store conn.new) → IfOk result (λ list. Lists (state S.Store conn.old) (state S.Store conn.new) IsPetitionList list.items) }
+    ensures same { HasCleanDisk (state S.Store conn.new) → KeepsAll (state S.Store conn.old) (state S.Store conn.new) }
+    ensures foreign { HasCleanDisk (state S.Store conn.new) → IsForeign (state S.Store conn.old) (state S.Store conn.new) result }
+    ensures survives { Survives (state S.Store conn.old) (state S.Store conn.new) (λ _. ⊥) }
+{
+    let tx = conn.transaction();
+    tx.rollback();
+    Err(TableFault::NoMemory)
+}
+
+/// All numbers that have an owner, by vendor and then by product. Nothing is written.
+pub fn list_numbers<S: Alter>(
+    _alloc: Global,
+    conn: &mut Connection<S>,
+) -> Result<Vec<(Number, Entry)>, TableFault>
+    requires { conn.old.in_transaction ≡ false }
+    ensures idle { conn.new.in_transaction ≡ false }
+    ensures answer { HasCleanDisk (state S.Store conn.new) → IfOk result (λ list. Lists (state S.Store conn.old) (state S.Store conn.new) IsNumberList list.items) }
+    ensures same { HasCleanDisk (state S.Store conn.new) → KeepsAll (state S.Store conn.old) (state S.Store conn.new) }
+    ensures foreign { HasCleanDisk (state S.Store conn.new) → IsForeign (state S.Store conn.old) (state S.Store conn.new) result }
+    ensures survives { Survives (state S.Store conn.old) (state S.Store conn.new) (λ _. ⊥) }
+{
+    let tx = conn.transaction();
+    tx.rollback();
+    Err(TableFault::NoMemory)
+}

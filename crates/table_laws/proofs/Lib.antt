@@ -1,0 +1,15 @@
+pub mod PartLemmas
+pub mod SetLemmas
+pub mod WriteLemmas
+pub mod KeyedLemmas
+pub mod NumberedLemmas
+pub mod ReadLemmas
+pub mod DeleteLemmas
+pub mod UnnumberedLemmas
+pub mod SortedLemmas
+pub mod LastLemmas
+pub mod FoundLemmas
+pub mod InsideLemmas
+pub mod CatalogLemmas
+pub mod MakeLemmas
+pub mod StatementLemmas

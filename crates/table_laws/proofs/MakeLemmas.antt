@@ -1,0 +1,62 @@
+-- CREATE TABLE adds its table.
+use Rattle.std.proofs.Common.{◌≡◌, ℕ, false, List, [], None, Ok, Result, sym, ap, subst, ◌∙◌}
+use Rattle.sqlite_trees.proofs.ListLemmas.{all_both, all-append}
+use Rattle.sqlite_schema.specs.declared.schema.Table.{Table}
+use Rattle.sqlite_schema.specs.declared.schema.Schema.{Schema}
+use Rattle.sqlite_schema.specs.declared.command.Command.TheVariants.{CreateTable}
+use Rattle.sqlite_resolve.specs.declared.error.CompileError.{CompileError}
+use Rattle.sqlite_resolve.specs.Compile.{table_defined_by}
+use Rattle.sqlite_catalog.specs.Listing.{IsSound}
+use Rattle.sqlite_catalog.specs.Change.{created, next_tree, KeepsRows}
+use Rattle.sqlite.specs.Effect.{Database}
+use Rattle.sqlite.specs.Does.{Tally, lacks_sequence}
+use Rattle.sqlite.specs.State.{State, Executes, Writes}
+use Rattle.sqlite.specs.Listing.{understood}
+use Rattle.sqlite.proofs.Callers.{IsPlain, command_of, statement_of, runs_as}
+use Rattle.table_laws.specs.Making.{IsBlank, HasMade, Adds}
+use Rattle.table_laws.proofs.InsideLemmas.{goes_then}
+use Rattle.table_laws.proofs.PartLemmas.{same_ok, went}
+
+-- under the schema the text is one CREATE TABLE, of this table
+pub record Makes (schema : Schema) (sql : List ℕ) (table : Table) : Type 0 where
+  pub command : command_of (understood schema sql) ≡ CreateTable
+  pub whole : statement_of sql (understood schema sql) ≡ sql
+  pub plain : IsPlain (understood schema sql)
+  pub defined : table_defined_by sql ≡ Ok (record table { tree = 0 })
+  pub uncounted : lacks_sequence (created schema (record table { tree = 0 })) ≡ false
+
+pub creates : (old new : State) (schema : Schema) → old.now.schema ≡ schema → (sql : List ℕ) (table : Table) → Makes schema sql table → (count : ℕ) → Executes sql [] old new (Ok count)
+    → HasMade schema table old.now new.now
+creates old new schema has sql table makes count h =
+    let w = subst (λ t. Writes old new None CreateTable t [] count) makes.whole (runs_as sql [] old new schema has CreateTable makes.command makes.plain count h) in
+    let all = went w.changed in
+    let first = went all.1 in
+    let made = first.1 in
+    let both : ◌≡◌ {A = Result Table CompileError} (Ok made.table) (Ok (record table { tree = 0 })) = sym made.defined ∙ makes.defined in
+    let is : first.0.schema ≡ created schema table = made.is ∙ ap (λ s. created s made.table) has ∙ ap (created schema) (same_ok both) in
+    let plain : lacks_sequence first.0.schema ≡ false = ap lacks_sequence is ∙ makes.uncounted in
+    let now : new.now ≡ first.0 = ap (λ (p : Tally × Database). p.1) (same_ok all.2) ∙ same_ok (rw plain at first.2) in
+    let same : new.now.schema ≡ created schema table = ap (λ (d : Database). d.schema) now ∙ is in
+    record {
+      is = same;
+      sound = subst (λ s. IsSound s new.now.trees) same w.sound;
+      empty = ap (λ (d : Database). d.trees (next_tree schema)) now ∙ subst (λ s. first.0.trees (next_tree s) ≡ []) has made.empty;
+      others = subst (λ (d : Database). KeepsRows schema.tables old.now.trees d.trees) (sym now) (subst (λ (s : Schema). KeepsRows s.tables old.now.trees first.0.trees) has made.others);
+    }
+
+-- where no table had a row, none has
+pub adds_blank : (old new : State) (schema : Schema) (sql : List ℕ) (table : Table) → Makes schema sql table → (count : ℕ) → Executes sql [] old new (Ok count) → IsBlank schema old.now
+    → IsBlank (created schema table) new.now
+adds_blank old new schema sql table makes count h blank =
+    let made = creates old new schema blank.is sql table makes count h in
+    record {
+      is = made.is;
+      sound = made.sound;
+      none = all-append (λ (t : Table). new.now.trees t.tree ≡ []) schema.tables _
+          (all_both (λ (t : Table). new.now.trees t.tree ≡ old.now.trees t.tree) (λ (t : Table). old.now.trees t.tree ≡ []) (λ (t : Table). new.now.trees t.tree ≡ []) (λ t a b. a ∙ b) schema.tables made.others blank.none)
+          (made.empty, tt);
+    }
+
+-- one step of making the tables and then another
+pub adds_then : (before mid after : Schema) (a b c : State) → Adds before mid a b → Adds mid after b c → Adds before after a c
+adds_then before mid after a b c p q = (goes_then a b c p.0 q.0, λ blank. q.1 (p.1 blank))

@@ -1,0 +1,135 @@
+-- From the text of a statement to what it does to the values of its table.
+use Rattle.std.proofs.Common.{◌≡◌, ℕ, ℤ, ◌/◌, length, pos, negsuc, Bool, false, List, [], ◌∷◌, ◌++◌, slice_get, Some, None, Ok, sym, ap, subst, ◌∙◌}
+use Rattle.std.specs.List.{list_any, list_all}
+use Rattle.sqlite.specs.declared.types.Value.TheVariants.{Null, Int}
+use Rattle.sqlite.specs.Order.{Row}
+use Rattle.sqlite.specs.Tree.{Trees, rowid}
+use Rattle.sqlite.specs.Term.{Term, lit, holds}
+use Rattle.sqlite.specs.Schema.{Schema}
+use Rattle.sqlite.specs.Table.{Table}
+use Rattle.sqlite.specs.Source.TheVariants.{Values}
+use Rattle.sqlite.specs.Command.TheVariants.{InsertOr, Select, Delete}
+use Rattle.sqlite.specs.Query.{Query, inner, end, IsAnswer}
+use Rattle.sqlite.specs.Program.{overlay}
+use Rattle.sqlite.specs.Cast.{cast_row}
+use Rattle.sqlite.specs.Edit.{with_rowid, put_all, without_all, next_rowid}
+use Rattle.sqlite.specs.Rowids.TheVariants.{Chosen}
+use Rattle.sqlite.specs.Rows.{mended}
+use Rattle.sqlite.specs.Effect.{value_rows}
+use Rattle.sqlite.specs.Listing.{understood, reads_listing}
+use Rattle.sqlite.specs.State.{State, Executes, Shown, IsUnchanged}
+use Rattle.sqlite.proofs.Callers.{IsPlain, command_of, runs_as, reads_as}
+use Rattle.sqlite_schema.specs.declared.command.Conflict.TheVariants.{Replace}
+use Rattle.sqlite_schema.specs.declared.schema.Column.{Column}
+use Rattle.sqlite_rules.specs.Calls.{ids_of}
+use Rattle.sqlite_rules.specs.Keys.{AreConflicts, shares}
+use Rattle.sqlite_value.specs.declared.keys.Key.{Key}
+use Rattle.sqlite_keyed.specs.Lists.{delete_where}
+use Rattle.sqlite_keyed.specs.Keyed.{insert_by}
+use Rattle.table_laws.specs.Shape.{numbered_table, keyed_table}
+use Rattle.table_laws.specs.Stored.{Stores, StoresUnnumbered}
+use Rattle.table_laws.proofs.SetLemmas.{IsUntied, Sets}
+use Rattle.table_laws.proofs.WriteLemmas.{replaces, deletes}
+use Rattle.table_laws.proofs.NumberedLemmas.{replaces_numbered}
+use Rattle.table_laws.proofs.UnnumberedLemmas.{numbered_row, replaces_unnumbered, deletes_unnumbered}
+use Rattle.table_laws.proofs.DeleteLemmas.{ids_query}
+use Rattle.table_laws.proofs.InsideLemmas.{query_keeps}
+
+-- under the schema the text is one INSERT OR REPLACE of these terms into the table at this place
+pub record IsPut (schema : Schema) (at : ℕ) (sql : List ℕ) (terms : List Term) (width : ℕ) : Type 0 where
+  pub is : command_of (understood schema sql) ≡ InsertOr at Replace (Values terms width) []
+  pub plain : IsPlain (understood schema sql)
+
+-- under the schema the text is one DELETE from the table at this place WHERE these terms
+pub record IsDelete (schema : Schema) (at tree : ℕ) (sql : List ℕ) (terms : List Term) : Type 0 where
+  pub is : command_of (understood schema sql) ≡ Delete at (record { lets = []; body = ids_query tree terms })
+  pub plain : IsPlain (understood schema sql)
+
+-- under the schema the text is this query
+pub record IsSelect (schema : Schema) (sql : List ℕ) (q : Query) (names : List (List ℕ)) : Type 0 where
+  pub is : command_of (understood schema sql) ≡ Select (record { lets = []; body = q }) names
+  pub plain : IsPlain (understood schema sql)
+  pub own : reads_listing schema sql ≡ false
+
+-- SELECT columns FROM a table WHERE terms ORDER BY keys LIMIT limit
+abbrev pub table_query : ℕ → List Term → List Term → List (Term × Key) → ℤ → Query
+table_query tree terms columns order limit = record {
+  from = inner tree end;
+  filter = terms;
+  group = None;
+  project = columns;
+  distinct = false;
+  collations = [];
+  order = order;
+  limit = lit (Int limit);
+  offset = lit (Int (pos 0));
+}
+
+-- no LIMIT
+abbrev pub no_limit : ℤ
+no_limit = negsuc 0
+
+-- a query changes nothing, and what it shows is an answer
+pub answers : (schema : Schema) (sql : List ℕ) (q : Query) (names : List (List ℕ)) → IsSelect schema sql q names → (params : Row) (old new : State) → old.now.schema ≡ schema → (rows : List Row)
+    → Shown sql params old new rows → IsUnchanged old new × IsAnswer q (overlay old.now.trees []) params rows
+answers schema sql q names text params old new has rows h = (
+  query_keeps old new sql params rows (subst (λ s. IsPlain (understood s sql)) (sym has) text.plain) h,
+  (reads_as sql params old new schema has _ text.is text.plain text.own rows h).answer Null,
+)
+
+module _ (schema : Schema) (untied : IsUntied schema) (at tree : ℕ) (name : List ℕ) (columns : List Column) {X : Type 0} (IsValid : X → Type 0) where
+  -- a table whose key is its rowid
+  module _ (is : slice_get schema.tables at ≡ Some (numbered_table tree name columns)) (key : X → ℤ) (row : X → Row) (keyed : (x : X) → rowid (row x) ≡ Int (key x)) where
+    abbrev numbered : Table
+    numbered = numbered_table tree name columns
+
+    pub puts_numbered : (sql : List ℕ) (terms : List Term) (width : ℕ) → IsPut schema at sql terms width
+        → ((new old : Row) → list_any (shares None numbered new old) schema.indexes ≡ false)
+        → (params : Row) (x : X) → value_rows params width (length terms / width) terms ≡ row x ∷ []
+        → ((rows : List Row) → with_rowid Chosen rows (cast_row numbered (mended Replace numbered (row x))) ≡ row x) → cast_row numbered (row x) ≡ row x
+        → (old new : State) → old.now.schema ≡ schema → (xs : List X) → Stores IsValid key row (old.now.trees tree) xs → IsValid x → (count : ℕ) → Executes sql params old new (Ok count)
+        → (rows : List Row) × Sets schema tree old.now new.now rows × Stores IsValid key row rows (insert_by key xs x)
+    puts_numbered sql terms width text free params x given made cast old new has xs stored valid count h =
+        let w = runs_as sql params old new schema has _ text.is text.plain count h in
+        let rows = old.now.trees tree in
+        let done = replaces schema untied at tree name columns (Some 0) (0 ∷ []) [] is old new has _ params count terms width (row x) given w in
+        let one = made rows in
+        let after = put_all (without_all rows (ids_of done.0)) (cast_row numbered (with_rowid Chosen rows (cast_row numbered (mended Replace numbered (row x)))) ∷ []) in
+        let now = replaces_numbered IsValid key row keyed schema.indexes numbered rows xs x done.0 free stored valid (subst (λ r. AreConflicts None schema.indexes numbered rows r done.0) one done.1) in
+        (after, done.2, subst (λ r. Stores IsValid key row (put_all (without_all rows (ids_of done.0)) (r ∷ [])) (insert_by key xs x)) (sym (ap (cast_row numbered) one ∙ cast)) now)
+
+  -- a table with another key
+  module _ (primary : List ℕ) (is : slice_get schema.tables at ≡ Some (keyed_table tree name primary columns)) (row : X → Row) where
+    abbrev keyed_by : Table
+    keyed_by = keyed_table tree name primary columns
+
+    pub puts_unnumbered : (sql : List ℕ) (terms : List Term) (width : ℕ) → IsPut schema at sql terms width
+        → (same : X → X → Bool) → ((new old : ℤ × X) → list_any (shares None keyed_by (numbered_row IsValid row new) (numbered_row IsValid row old)) schema.indexes ≡ same old.1 new.1)
+        → (params : Row) (x : X) → value_rows params width (length terms / width) terms ≡ (Null ∷ row x) ∷ []
+        → ((rows : List Row) → with_rowid Chosen rows (cast_row keyed_by (mended Replace keyed_by (Null ∷ row x))) ≡ Int (next_rowid rows) ∷ row x)
+        → ((id : ℤ) → cast_row keyed_by (Int id ∷ row x) ≡ Int id ∷ row x)
+        → (old new : State) → old.now.schema ≡ schema → (xs : List X) → StoresUnnumbered IsValid row (old.now.trees tree) xs → IsValid x → (count : ℕ) → Executes sql params old new (Ok count)
+        → (rows : List Row) × Sets schema tree old.now new.now rows × StoresUnnumbered IsValid row rows (delete_where (λ y. same y x) xs ++ x ∷ [])
+    puts_unnumbered sql terms width text same shared params x given made cast old new has xs stored valid count h =
+        let w = runs_as sql params old new schema has _ text.is text.plain count h in
+        let rows = old.now.trees tree in
+        let done = replaces schema untied at tree name columns None primary (primary ∷ []) is old new has _ params count terms width (Null ∷ row x) given w in
+        let one = made rows in
+        let after = put_all (without_all rows (ids_of done.0)) (cast_row keyed_by (with_rowid Chosen rows (cast_row keyed_by (mended Replace keyed_by (Null ∷ row x)))) ∷ []) in
+        let now = replaces_unnumbered IsValid row schema.indexes keyed_by same shared rows xs x done.0 stored valid (subst (λ r. AreConflicts None schema.indexes keyed_by rows r done.0) one done.1) in (
+          after,
+          done.2,
+          subst (λ r. StoresUnnumbered IsValid row (put_all (without_all rows (ids_of done.0)) (r ∷ [])) (delete_where (λ y. same y x) xs ++ x ∷ [])) (sym (ap (cast_row keyed_by) one ∙ cast (next_rowid rows))) now,
+        )
+
+    pub removes_unnumbered : ((db : Trees) → overlay db [] tree ≡ db tree) → (sql : List ℕ) (terms : List Term) → IsDelete schema at tree sql terms → (params : Row) (p : X → Bool)
+        → ((id : ℤ) (x : X) → list_all (holds (params ∷ (Int id ∷ row x) ∷ [])) terms ≡ p x)
+        → (old new : State) → old.now.schema ≡ schema → (xs : List X) → StoresUnnumbered IsValid row (old.now.trees tree) xs → (count : ℕ) → Executes sql params old new (Ok count)
+        → (rows : List Row) × Sets schema tree old.now new.now rows × StoresUnnumbered IsValid row rows (delete_where p xs)
+    removes_unnumbered same_tree sql terms text params p tests old new has xs stored count h =
+        let w = runs_as sql params old new schema has _ text.is text.plain count h in
+        let done = deletes schema untied at tree name columns None primary (primary ∷ []) is old new has _ params count _ w in
+        let same = same_tree old.now.trees in
+        let held = subst (λ rows. StoresUnnumbered IsValid row rows xs) (sym same) stored in
+        let left = deletes_unnumbered IsValid row (overlay old.now.trees []) tree xs held terms params p tests done.0 (done.1.answer Null) in
+        (without_all (old.now.trees tree) (ids_of done.0), done.2, subst (λ rows. StoresUnnumbered IsValid row (without_all rows (ids_of done.0)) (delete_where p xs)) same left)

@@ -1,0 +1,4 @@
+pub mod Shape
+pub mod Stored
+pub mod Inside
+pub mod Making

@@ -1,0 +1,47 @@
+-- The tables that CREATE TABLE texts make.
+use Rattle.std.specs.Prelude.{◌≡◌, ℕ, List, [], fold, Result, Ok, Err}
+use Rattle.std.specs.List.{AllByRecursion}
+use Rattle.sqlite_schema.specs.declared.schema.Table.{Table}
+use Rattle.sqlite_schema.specs.declared.schema.Schema.{Schema}
+use Rattle.sqlite_resolve.specs.declared.error.CompileError.{CompileError}
+use Rattle.sqlite_resolve.specs.Compile.{table_defined_by}
+use Rattle.sqlite_catalog.specs.Change.{created, next_tree, KeepsRows}
+use Rattle.sqlite_catalog.specs.Listing.{IsSound}
+use Rattle.sqlite_trees.specs.Tree.{Trees}
+use Rattle.sqlite.specs.Effect.{Database}
+use Rattle.sqlite.specs.State.{State}
+use Rattle.table_laws.specs.Inside.{GoesOn}
+
+-- the schema of an empty database
+abbrev pub no_schema : Schema
+no_schema = record { tables = []; indexes = []; views = [] }
+
+abbrev pub with_made : Schema → Result Table CompileError → Schema
+with_made schema (Ok table) = created schema table
+with_made schema (Err e) = schema
+
+-- the schema that CREATE TABLE by these texts makes of an empty database, one after the other
+abbrev pub schema_by : List (List ℕ) → Schema
+schema_by = fold (λ schema text. with_made schema (table_defined_by text)) no_schema
+
+-- The trees list the tables that these texts make one after the other, with the indexes of their keys, and nothing
+-- else, and their rows obey them.
+abbrev pub HasTables : List (List ℕ) → Trees → Type 0
+HasTables texts db = IsSound (schema_by texts) db
+
+-- the database has the tables of the schema, and no row in them
+pub record IsBlank (schema : Schema) (db : Database) : Type 0 where
+  pub is : db.schema ≡ schema
+  pub sound : IsSound schema db.trees
+  pub none : AllByRecursion (λ (t : Table). db.trees t.tree ≡ []) schema.tables
+
+-- the transaction goes on, and a database with the empty tables of the first schema has those of the second
+abbrev pub Adds : Schema → Schema → State → State → Type 0
+Adds before after old new = GoesOn old new × (IsBlank before old.now → IsBlank after new.now)
+
+-- the table is there beside those of the schema, which keep their rows, and is empty
+pub record HasMade (schema : Schema) (table : Table) (old new : Database) : Type 0 where
+  pub is : new.schema ≡ created schema table
+  pub sound : IsSound (created schema table) new.trees
+  pub empty : new.trees (next_tree schema) ≡ []
+  pub others : KeepsRows schema.tables old.trees new.trees
