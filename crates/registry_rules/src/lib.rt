@@ -28,6 +28,7 @@ mod facts;
 mod founding;
 mod item;
 mod judging;
+pub mod laws;
 mod lists;
 mod name;
 mod order;

@@ -1,5 +1,5 @@
 -- Product and vendor numbers, and their four digits.
-use Rattle.std.specs.Prelude.{ℕ, ◌+◌, ◌-◌, ◌*◌, ◌/◌, ◌%◌, ◌≤◌, List, [], ◌∷◌, Option, Some, None, option_and_then, nat_lt, nat_le, nat_eq, ◌&&◌, if◌then◌else◌}
+use Rattle.std.specs.Prelude.{ℕ, ◌+◌, ◌-◌, ◌*◌, ◌/◌, ◌%◌, ◌≤◌, List, [], ◌∷◌, ◌++◌, codes, Option, Some, None, option_and_then, nat_lt, nat_le, nat_eq, ◌&&◌, if◌then◌else◌}
 
 -- a number from 1 to 65,535
 pub record IsNumber (n : ℕ) : Type 0 where
@@ -14,6 +14,7 @@ hex_value byte =
     else if nat_le 65 byte && nat_le byte 70 then Some (byte - 55)
     else None
 
+-- the second step at the value of the first, if there is one
 infixl 10 ◌>>=◌
 abbrev pub ◌>>=◌ : {A B : Type 0} → Option A → (A → Option B) → Option B
 o >>= f = option_and_then f o
@@ -34,9 +35,14 @@ number_of text = do
   code ← code_of text
   if nat_eq code 0 then None else Some code
 
+-- 0 to 9, and then a to f
 abbrev pub lower_hex_digit : ℕ → ℕ
 lower_hex_digit value = if nat_lt value 10 then 48 + value else 87 + value
 
 -- the four lower-case hexadecimal digits of a number
 abbrev pub digits_of : ℕ → List ℕ
 digits_of n = lower_hex_digit (n / 4096) ∷ lower_hex_digit (n / 256 % 16) ∷ lower_hex_digit (n / 16 % 16) ∷ lower_hex_digit (n % 16) ∷ []
+
+-- two numbers' digits with a dash between them
+abbrev pub range_text : ℕ → ℕ → List ℕ
+range_text first last = digits_of first ++ codes "-" ++ digits_of last

@@ -1,18 +1,24 @@
-//! The values of the registry: numbers, spans and texts.
+//! The values of a registry of USB product numbers: numbers, spans of numbers, sets of them, and the texts that name things.
+//!
+//! No call here ends the process or waits, and each that may allocate says so by [`NoMemory`].
 #![tactic(auto)]
 
 pub use error::NoMemory;
-pub use key::Key;
-pub use link::Link;
+pub use key::{Key, KeyRule};
+pub use link::{Link, LinkRule};
 pub use number::{Number, Pid, Span, Vid, parse_code, parse_pid, parse_vid};
-pub use slug::Slug;
+pub use slug::{Slug, SlugRule};
 pub use spans::Spans;
-pub use title::Title;
+pub use text::{Text, TextRule};
+pub use title::{Title, TitleRule};
 
 mod error;
 mod key;
 mod link;
 mod number;
+
 mod slug;
 mod spans;
+mod text;
 mod title;
+

@@ -1,26 +1,11 @@
-ghost use Rattle.std.specs.Prelude.{◌≡◌, ◌+◌, ◌*◌, ◌/◌, ◌%◌, ◌<◌, ◌≤◌, ◌↔◌, ℕ, [], ◌∷◌, IfSome, IsSome};
+ghost use Rattle.std.specs.Prelude.{◌≡◌, ◌+◌, ◌-◌, ◌*◌, ◌/◌, ◌%◌, ◌<◌, ◌≤◌, ◌↔◌, ℕ, [], ◌∷◌, Some, All, IfSome, IsSome};
 ghost use Rattle.std.specs.Option.{SomeIff};
-ghost use Rattle.usbnum_core.specs.Number.{IsNumber, hex_value, code_of, number_of, lower_hex_digit, digits_of};
+ghost use Rattle.usbnum_core.specs.Number.{IsNumber, hex_value, code_of, number_of, lower_hex_digit, digits_of, range_text};
 
+use std::fmt;
 use std::marker::Model;
 
-/// A product number, from 1 to 65,535.
-#[derive(Clone, Copy, Debug, PartialEq, Eq, PartialOrd, Ord, Hash)]
-pub struct Pid {
-    number: u16,
-}
-
-impl Model for Pid {
-    ghost Value = { ℕ };
-
-    ghost view = { λ a. a.number };
-
-    ghost invariant = { λ a. IsNumber a.number };
-
-    ghost inverse = { λ n. record { number = n } };
-}
-
-/// A vendor number, from 1 to 65,535.
+/// The number of a vendor, from 1 to 65,535.
 #[derive(Clone, Copy, Debug, PartialEq, Eq, PartialOrd, Ord, Hash)]
 pub struct Vid {
     number: u16,
@@ -36,15 +21,30 @@ impl Model for Vid {
     ghost inverse = { λ n. record { number = n } };
 }
 
-/// What a device says of itself: its maker's vendor number and the product number under it.
-/// Numbers are in order by vendor, then by product.
+/// The number of a product among its vendor's, from 1 to 65,535.
+#[derive(Clone, Copy, Debug, PartialEq, Eq, PartialOrd, Ord, Hash)]
+pub struct Pid {
+    number: u16,
+}
+
+impl Model for Pid {
+    ghost Value = { ℕ };
+
+    ghost view = { λ a. a.number };
+
+    ghost invariant = { λ a. IsNumber a.number };
+
+    ghost inverse = { λ n. record { number = n } };
+}
+
+/// The pair of numbers that a device says of itself. Pairs are in order by vendor, then by product.
 #[derive(Clone, Copy, Debug, PartialEq, Eq, PartialOrd, Ord, Hash)]
 pub struct Number {
     pub vid: Vid,
     pub pid: Pid,
 }
 
-/// The product numbers from the first to the last.
+/// All product numbers from the first to the last.
 #[derive(Clone, Copy, Debug, PartialEq, Eq)]
 pub struct Span {
     first: Pid,
@@ -64,7 +64,7 @@ fn hex_digit(byte: u8) -> Option<u8>
     }
 }
 
-/// The number that exactly four hexadecimal digits, of either case, stand for.
+/// The number that exactly four hexadecimal digits of either case stand for; None for any other text.
 pub fn parse_code(text: &[u8]) -> Option<u16>
     ensures { result ≡ code_of text.now }
 {
@@ -78,14 +78,14 @@ pub fn parse_code(text: &[u8]) -> Option<u16>
     Some(first * 4096 + second * 256 + third * 16 + fourth)
 }
 
-/// The same as a product number, which 0000 is not.
+/// The product number that exactly four hexadecimal digits of either case stand for; None for `0000` and any other text.
 pub fn parse_pid(text: &[u8]) -> Option<Pid>
     ensures { result ≡ number_of text.now }
 {
     Pid::new(parse_code(text)?)
 }
 
-/// The same as a vendor number.
+/// The vendor number that exactly four hexadecimal digits of either case stand for; None for `0000` and any other text.
 pub fn parse_vid(text: &[u8]) -> Option<Vid>
     ensures { result ≡ number_of text.now }
 {
@@ -106,6 +106,7 @@ fn lower_digit(value: u16) -> u8
 
 fn four_digits(number: u16) -> [u8; 4]
     ensures digits { result ≡ digits_of number }
+    ensures ascii { All (λ digit. digit < 128) result }
     ensures reads_back { IsNumber number → number_of result ≡ Some number }
 {
     [
@@ -116,17 +117,25 @@ fn four_digits(number: u16) -> [u8; 4]
     ]
 }
 
-impl Pid {
-    pub fn new(number: u16) -> Option<Pid>
+fn ascii_text(bytes: &[u8]) -> &str
+    requires { All (λ byte. byte < 128) bytes.now }
+    ensures { result.now ≡ bytes.now }
+{
+    match std::str::from_utf8(bytes) {
+        Ok(text) => text,
+        Err(_) => unreachable!(),
+    }
+}
+
+impl Vid {
+    /// The number as a vendor number; None for 0.
+    pub fn new(number: u16) -> Option<Vid>
         ensures { SomeIff result (IsNumber number) number }
     {
-        if number == 0 {
-            None
-        } else {
-            Some(Pid { number })
-        }
+        if number == 0 { None } else { Some(Vid { number }) }
     }
 
+    /// The number, from 1 to 65,535.
     pub fn get(&self) -> u16
         ensures number { result ≡ self.now }
         ensures valid { IsNumber result }
@@ -134,7 +143,41 @@ impl Pid {
         self.number
     }
 
-    /// Four lower-case hexadecimal digits.
+    /// Four lower-case hexadecimal digits, which `parse_vid` reads back.
+    pub fn digits(&self) -> [u8; 4]
+        ensures digits { result ≡ digits_of self.now }
+        ensures reads_back { number_of result ≡ Some self.now }
+    {
+        four_digits(self.number)
+    }
+}
+
+/// Four lower-case hexadecimal digits: `1209`.
+impl fmt::Display for Vid {
+    ghost output = { λ number. Some (digits_of number) };
+
+    fn fmt<W: fmt::Write>(&self, f: &mut fmt::Formatter<W>) -> fmt::Result {
+        f.write_str(ascii_text(&four_digits(self.number)))
+    }
+}
+
+impl Pid {
+    /// The number as a product number; None for 0.
+    pub fn new(number: u16) -> Option<Pid>
+        ensures { SomeIff result (IsNumber number) number }
+    {
+        if number == 0 { None } else { Some(Pid { number }) }
+    }
+
+    /// The number, from 1 to 65,535.
+    pub fn get(&self) -> u16
+        ensures number { result ≡ self.now }
+        ensures valid { IsNumber result }
+    {
+        self.number
+    }
+
+    /// Four lower-case hexadecimal digits, which `parse_pid` reads back.
     pub fn digits(&self) -> [u8; 4]
         ensures digits { result ≡ digits_of self.now }
         ensures reads_back { number_of result ≡ Some self.now }
@@ -147,9 +190,7 @@ impl Pid {
         requires { 1 < self }
         ensures { result + 1 ≡ self }
     {
-        Pid {
-            number: self.number - 1,
-        }
+        Pid { number: self.number - 1 }
     }
 
     // The number after this one.
@@ -157,41 +198,21 @@ impl Pid {
         requires { self < 65535 }
         ensures { result ≡ self + 1 }
     {
-        Pid {
-            number: self.number + 1,
-        }
+        Pid { number: self.number + 1 }
     }
 }
 
-impl Vid {
-    pub fn new(number: u16) -> Option<Vid>
-        ensures { SomeIff result (IsNumber number) number }
-    {
-        if number == 0 {
-            None
-        } else {
-            Some(Vid { number })
-        }
-    }
+/// Four lower-case hexadecimal digits: `00ff`.
+impl fmt::Display for Pid {
+    ghost output = { λ number. Some (digits_of number) };
 
-    pub fn get(&self) -> u16
-        ensures number { result ≡ self.now }
-        ensures valid { IsNumber result }
-    {
-        self.number
-    }
-
-    /// Four lower-case hexadecimal digits.
-    pub fn digits(&self) -> [u8; 4]
-        ensures digits { result ≡ digits_of self.now }
-        ensures reads_back { number_of result ≡ Some self.now }
-    {
-        four_digits(self.number)
+    fn fmt<W: fmt::Write>(&self, f: &mut fmt::Formatter<W>) -> fmt::Result {
+        f.write_str(ascii_text(&four_digits(self.number)))
     }
 }
 
 impl Span {
-    /// The span, or None where the last is below the first.
+    /// The span from the first to the last; None where the last is below the first.
     pub fn new(first: Pid, last: Pid) -> Option<Span>
         ensures valid { IsSome result ↔ (first ≤ last) }
         ensures ends { IfSome result (λ span. (span.first ≡ first) × (span.last ≡ last)) }
@@ -212,15 +233,27 @@ impl Span {
         Span { first, last }
     }
 
+    /// The least number of the span.
     pub fn first(&self) -> Pid
         ensures { result ≡ self.now.first }
     {
         self.first
     }
 
+    /// The greatest number of the span, which is not below the first.
     pub fn last(&self) -> Pid
-        ensures { result ≡ self.now.last }
+        ensures last { result ≡ self.now.last }
+        ensures ordered { self.now.first ≤ result }
     {
         self.last
+    }
+}
+
+/// The digits of both ends: `2000-20ff`.
+impl fmt::Display for Span {
+    ghost output = { λ span. Some (range_text span.first span.last) };
+
+    fn fmt<W: fmt::Write>(&self, f: &mut fmt::Formatter<W>) -> fmt::Result {
+        write!(f, "{}-{}", self.first, self.last)
     }
 }

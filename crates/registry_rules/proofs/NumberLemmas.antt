@@ -1,0 +1,262 @@
+-- What a legal history says of a number: who owns it, whether it is held, and whether it is reserved.
+use Rattle.std.proofs.Common.{◌≡◌, ℕ, List, [], ◌∷◌, Option, Some, None, Bool, true, false, refl, ap, sym, ◌∙◌, subst, inl, inr, ⊎_elim, ◌⊎◌}
+use Rattle.std.specs.Prelude.{nat_eq, is_some, is_none, unwrap_or, ◌&&◌, ◌||◌}
+use Rattle.std.specs.Option.{option_map, option_or}
+use Rattle.std.specs.List.{AllByRecursion, Contains}
+use Rattle.std.proofs.lemmas.Bool.{and_parts, eqb-true, cases_Bool, or_from}
+use Rattle.std.proofs.lemmas.List.Elements.{All-from_recursion, All-contains}
+use Rattle.usbnum_core.specs.declared.number.Number.{Number}
+use Rattle.usbnum_core.specs.Spans.{span_has}
+use Rattle.registry_rules.specs.Number.{number, is_number}
+use Rattle.registry_rules.specs.History.{History, first_of, last_of, sooner}
+use Rattle.registry_rules.specs.Query.{given, item_of, receiver, holds, reserves, owner_of, is_held, is_fixed, is_reserved}
+use Rattle.registry_rules.specs.Run.{Legal}
+use Rattle.registry_rules.specs.Verdict.{standing_at}
+use Rattle.registry_rules.proofs.RunLemmas.{legal_before}
+use Rattle.registry_rules.proofs.RowsLemmas.{OwnerFits}
+use Rattle.registry_rules.proofs.ImportLemmas.{IsFreshItem, item_is}
+use Rattle.registry_rules.proofs.FollowLemmas.{Follows, legal_follows}
+use Rattle.registry_rules.specs.declared.deed.Deed.{Deed}
+use Rattle.registry_rules.specs.declared.deed.Act.{Act}
+use Rattle.registry_rules.specs.declared.deed.Act.TheVariants.{Enrolled, OrgAmended, Asked, Granted, Declined, Withdrawn, CardAmended, Returned, Reserved, Released, Imported, VendorAdded, LicenceAdded}
+use Rattle.registry_rules.specs.declared.founding.Founding.{Founding}
+use Rattle.registry_rules.specs.declared.item.Item.{Item}
+
+-- The tests.
+
+-- two numbers that the test takes for one are one
+pub same_number : (a b : Number) → is_number a b ≡ true → a ≡ b
+same_number a b e =
+    let both = and_parts (nat_eq a.vid b.vid) (nat_eq a.pid b.pid) e in
+    ap (λ vid. number vid a.pid) (eqb-true a.vid b.vid both.0) ∙ ap (number b.vid) (eqb-true a.pid b.pid both.1)
+
+given_is : {A : Type 0} (b : Bool) (x y : A) → given b x ≡ Some y → (b ≡ true) × (x ≡ y)
+given_is true x y e = (refl, cc)
+given_is false x y e = absurd cc
+
+given_none : {A : Type 0} (b : Bool) (x : A) → given b x ≡ None → b ≡ false
+given_none true x e = absurd cc
+given_none false x e = refl
+
+some_not : {A : Type 0} (found : Option A) → is_some found ≡ false → found ≡ None
+some_not None e = refl
+some_not (Some x) e = absurd cc
+
+-- One organisation.
+
+-- the number has no owner, or this one
+abbrev Allows : Option (List ℕ) → List ℕ → Type 0
+Allows None org = Unit {0}
+Allows (Some owner) org = owner ≡ org
+
+allows_fitting : (owner : Option (List ℕ)) (held : Bool) (org : List ℕ) → OwnerFits owner held org → Allows owner org
+allows_fitting None held org fits = tt
+allows_fitting (Some owner) held org fits = fits.0
+
+allows_none : (owner : Option (List ℕ)) (org : List ℕ) → owner ≡ None → Allows owner org
+allows_none None org e = tt
+allows_none (Some owner) org e = absurd cc
+
+item_found : (found : Option Item) (org to : List ℕ) → option_map (λ item. org) found ≡ Some to → (item : Item) × (found ≡ Some item)
+item_found None org to e = absurd cc
+item_found (Some item) org to e = (item, refl)
+
+-- a fresh item's number has no owner, and is not reserved
+fresh_number : (h : History) (vid : ℕ) (fresh : List Item) (n : Number) (item : Item) → AllByRecursion (IsFreshItem (standing_at h vid)) fresh → item_of vid fresh n ≡ Some item →
+    (owner_of h n ≡ None) × (is_reserved h n ≡ false)
+fresh_number h vid fresh n item each e =
+    let is = item_is (IsFreshItem (standing_at h vid)) vid fresh n item each e in
+    let same : number vid item.code ≡ n = ap (λ v. number v item.code) is.0 ∙ ap (number n.vid) is.1 in (
+      some_not (owner_of h n) (subst (λ (m : Number). is_some (owner_of h m) ≡ false) same is.2.unowned),
+      subst (λ (m : Number). is_reserved h m ≡ false) same is.2.unreserved,
+    )
+
+-- an act that follows gives a number to the organisation that owns it, if there is one
+receiver_allowed : (h : History) (caller : List ℕ) (act : Act) (n : Number) (org : List ℕ) → Follows h caller act → receiver n act ≡ Some org → Allows (owner_of h n) org
+receiver_allowed h caller (Granted id petition name) n org can e =
+    let is = given_is (is_number n (number petition.vid name.pid)) petition.org org e in
+    let same : n ≡ number petition.vid name.pid = same_number n (number petition.vid name.pid) is.0 in
+    subst (λ (o : List ℕ). Allows (owner_of h n) o) is.1
+    (subst (λ (m : Number). Allows (owner_of h m) petition.org) (sym same)
+    (allows_fitting (owner_of h (number petition.vid name.pid)) (is_held h (number petition.vid name.pid)) petition.org can.fits.owner))
+receiver_allowed h caller (Imported vid to fresh tally) n org can e =
+    let found = item_found (item_of vid fresh n) to org e in
+    allows_none (owner_of h n) org (fresh_number h vid fresh n found.0 can.each found.1).0
+receiver_allowed h caller (Enrolled o) n org can e = absurd cc
+receiver_allowed h caller (OrgAmended o) n org can e = absurd cc
+receiver_allowed h caller (Asked id petition) n org can e = absurd cc
+receiver_allowed h caller (Declined id petition) n org can e = absurd cc
+receiver_allowed h caller (Withdrawn id petition) n org can e = absurd cc
+receiver_allowed h caller (CardAmended vid name card) n org can e = absurd cc
+receiver_allowed h caller (Returned vid name) n org can e = absurd cc
+receiver_allowed h caller (Reserved vid name) n org can e = absurd cc
+receiver_allowed h caller (Released vid name) n org can e = absurd cc
+receiver_allowed h caller (VendorAdded vid name) n org can e = absurd cc
+receiver_allowed h caller (LicenceAdded licence) n org can e = absurd cc
+
+owner_now : (owner given : Option (List ℕ)) (org : List ℕ) → Allows owner org → given ≡ Some org → sooner owner given ≡ Some org
+owner_now None None org fits e = e
+owner_now None (Some x) org fits e = e
+owner_now (Some owner) None org fits e = absurd cc
+owner_now (Some owner) (Some x) org fits e = ap Some fits
+
+owner_still : (owner given : Option (List ℕ)) (org : List ℕ) → owner ≡ Some org → sooner owner given ≡ Some org
+owner_still owner None org e = e
+owner_still owner (Some x) org e = rw e refl
+
+weaker : {A : Type 0} (P Q : A → Type 0) → ((x : A) → P x → Q x) → (xs : List A) → AllByRecursion P xs → AllByRecursion Q xs
+weaker P Q f [] each = tt
+weaker P Q f (x ∷ xs) each = (f x each.0, weaker P Q f xs each.1)
+
+abbrev Names : Number → List Deed → Deed → Type 0
+Names n deeds deed = (org : List ℕ) → receiver n deed.act ≡ Some org → first_of (λ deed. receiver n deed.act) deeds ≡ Some org
+
+each_names : (founding : Founding) (n : Number) (deeds : List Deed) → Legal (record { founding = founding; deeds = deeds }) → AllByRecursion (Names n deeds) deeds
+each_names founding n [] legal = tt
+each_names founding n (deed ∷ earlier) legal =
+    let h : History = record { founding = founding; deeds = earlier } in (
+      (λ org e. owner_now (owner_of h n) (receiver n deed.act) org (receiver_allowed h deed.caller deed.act n org (legal_follows founding deed earlier legal) e) e),
+      weaker (Names n earlier) (Names n (deed ∷ earlier)) (λ other named org e. owner_still (owner_of h n) (receiver n deed.act) org (named org e)) earlier
+          (each_names founding n earlier (legal_before founding deed earlier legal)),
+    )
+
+-- whoever a deed of a legal history gives a number to owns it
+pub one_organisation : (h : History) → Legal h → (n : Number) (deed : Deed) (org : List ℕ) → Contains h.deeds deed → receiver n deed.act ≡ Some org → owner_of h n ≡ Some org
+one_organisation h legal n deed org among e =
+    All-contains (Names n h.deeds) h.deeds deed (All-from_recursion (Names n h.deeds) h.deeds (each_names h.founding n h.deeds legal)) among org e
+
+-- An unowned number is not held.
+
+unmapped : {A B : Type 0} (f : A → B) (found : Option A) → option_map f found ≡ None → found ≡ None
+unmapped f None e = refl
+unmapped f (Some x) e = absurd cc
+
+neither : (owner given : Option (List ℕ)) → sooner owner given ≡ None → (owner ≡ None) × (given ≡ None)
+neither owner None e = (e, refl)
+neither owner (Some x) e = absurd cc
+
+-- whether the number is held, by the deeds so far and by the next one
+abbrev held_by : Option Bool → Option Bool → Bool
+held_by next so_far = unwrap_or (option_or next so_far) false
+
+unheld_before : (next so_far : Option Bool) → next ≡ None → unwrap_or so_far false ≡ false → held_by next so_far ≡ false
+unheld_before next so_far none e = rw none e
+
+unheld_if : (b : Bool) (so_far : Option Bool) → unwrap_or so_far false ≡ false → held_by (given b false) so_far ≡ false
+unheld_if true so_far e = refl
+unheld_if false so_far e = e
+
+unheld_now : (n : Number) (act : Act) (so_far : Option Bool) → receiver n act ≡ None → unwrap_or so_far false ≡ false → held_by (holds n act) so_far ≡ false
+unheld_now n (Granted id petition name) so_far r e =
+    unheld_before (given (is_number n (number petition.vid name.pid)) true) so_far
+    (ap (λ b. given b true) (given_none (is_number n (number petition.vid name.pid)) petition.org r)) e
+unheld_now n (Imported vid to fresh tally) so_far r e =
+    unheld_before (option_map (λ item. true) (item_of vid fresh n)) so_far (ap (option_map (λ item. true)) (unmapped (λ item. to) (item_of vid fresh n) r)) e
+unheld_now n (Returned vid name) so_far r e = unheld_if (is_number n (number vid name.pid)) so_far e
+unheld_now n (Enrolled o) so_far r e = e
+unheld_now n (OrgAmended o) so_far r e = e
+unheld_now n (Asked id petition) so_far r e = e
+unheld_now n (Declined id petition) so_far r e = e
+unheld_now n (Withdrawn id petition) so_far r e = e
+unheld_now n (CardAmended vid name card) so_far r e = e
+unheld_now n (Reserved vid name) so_far r e = e
+unheld_now n (Released vid name) so_far r e = e
+unheld_now n (VendorAdded vid name) so_far r e = e
+unheld_now n (LicenceAdded licence) so_far r e = e
+
+unheld_in : (n : Number) (deeds : List Deed) → first_of (λ deed. receiver n deed.act) deeds ≡ None → unwrap_or (last_of (λ deed. holds n deed.act) deeds) false ≡ false
+unheld_in n [] e = refl
+unheld_in n (deed ∷ earlier) e =
+    let both = neither (first_of (λ deed. receiver n deed.act) earlier) (receiver n deed.act) e in
+    unheld_now n deed.act (last_of (λ deed. holds n deed.act) earlier) both.1 (unheld_in n earlier both.0)
+
+pub unheld : (h : History) (n : Number) → owner_of h n ≡ None → is_held h n ≡ false
+unheld h n e = unheld_in n h.deeds e
+
+-- An owned number is not reserved.
+
+-- the number has no owner, or isn't reserved
+abbrev pub OwnedOrReserved : Option (List ℕ) → Bool → Type 0
+OwnedOrReserved owner reserved = (owner ≡ None) ⊎ (reserved ≡ false)
+
+-- whether the number is reserved, where the next deed says so of it
+abbrev reserved_by : Bool → Option Bool → Option Bool → Bool
+reserved_by fixed next so_far = fixed || unwrap_or (option_or next so_far) false
+
+-- a number that is given was neither owned by another nor reserved
+unreserved_receiver : (h : History) (caller : List ℕ) (act : Act) (n : Number) (org : List ℕ) → Follows h caller act → receiver n act ≡ Some org → is_reserved h n ≡ false
+unreserved_receiver h caller (Granted id petition name) n org can e =
+    let is = given_is (is_number n (number petition.vid name.pid)) petition.org org e in
+    subst (λ (m : Number). is_reserved h m ≡ false) (sym (same_number n (number petition.vid name.pid) is.0)) can.fits.unreserved
+unreserved_receiver h caller (Imported vid to fresh tally) n org can e =
+    let found = item_found (item_of vid fresh n) to org e in
+    (fresh_number h vid fresh n found.0 can.each found.1).1
+unreserved_receiver h caller (Enrolled o) n org can e = absurd cc
+unreserved_receiver h caller (OrgAmended o) n org can e = absurd cc
+unreserved_receiver h caller (Asked id petition) n org can e = absurd cc
+unreserved_receiver h caller (Declined id petition) n org can e = absurd cc
+unreserved_receiver h caller (Withdrawn id petition) n org can e = absurd cc
+unreserved_receiver h caller (CardAmended vid name card) n org can e = absurd cc
+unreserved_receiver h caller (Returned vid name) n org can e = absurd cc
+unreserved_receiver h caller (Reserved vid name) n org can e = absurd cc
+unreserved_receiver h caller (Released vid name) n org can e = absurd cc
+unreserved_receiver h caller (VendorAdded vid name) n org can e = absurd cc
+unreserved_receiver h caller (LicenceAdded licence) n org can e = absurd cc
+
+given_apart : (owner given : Option (List ℕ)) (reserved : Bool) → OwnedOrReserved owner reserved → ((org : List ℕ) → given ≡ Some org → reserved ≡ false) → OwnedOrReserved (sooner owner given) reserved
+given_apart owner None reserved apart new = apart
+given_apart owner (Some org) reserved apart new = inr (new org refl)
+
+span_cases : (vid : ℕ) (n : Number) (has : Bool) (P : Bool → Type 0) → ((vid ≡ n.vid) → has ≡ true → P true) → P false → P (nat_eq vid n.vid && has)
+span_cases vid n has P within outside = ⊎_elim
+    (λ (z : (nat_eq vid n.vid && has) ≡ true).
+    let both = and_parts (nat_eq vid n.vid) has z in subst P (sym z) (within (eqb-true vid n.vid both.0) both.1))
+    (λ (z : (nat_eq vid n.vid && has) ≡ false). subst P (sym z) outside)
+    (cases_Bool (nat_eq vid n.vid && has))
+
+apart_now : (h : History) (caller : List ℕ) (act : Act) (n : Number) → Follows h caller act → OwnedOrReserved (owner_of h n) (is_reserved h n) →
+    OwnedOrReserved (sooner (owner_of h n) (receiver n act)) (reserved_by (is_fixed h n) (reserves n act) (last_of (λ deed. reserves n deed.act) h.deeds))
+apart_now h caller (Reserved vid name) n can apart =
+    span_cases vid n (span_has name.span n.pid) (λ b. OwnedOrReserved (owner_of h n) (reserved_by (is_fixed h n) (given b true) (last_of (λ deed. reserves n deed.act) h.deeds)))
+    (λ same has. inl (some_not (owner_of h n) (subst (λ v. is_some (owner_of h (number v n.pid)) ≡ false) same (can.unowned n.pid has))))
+    apart
+apart_now h caller (Released vid name) n can apart =
+    span_cases vid n (span_has name.span n.pid) (λ b. OwnedOrReserved (owner_of h n) (reserved_by (is_fixed h n) (given b false) (last_of (λ deed. reserves n deed.act) h.deeds)))
+    (λ same has. inr (or_from (is_fixed h n) false (subst (λ v. is_fixed h (number v n.pid) ≡ false) same (can.unfixed n.pid has)) refl))
+    apart
+apart_now h caller (Granted id petition name) n can apart = given_apart (owner_of h n) (receiver n (Granted id petition name)) (is_reserved h n) apart (λ org e. unreserved_receiver h caller (Granted id petition name) n org can e)
+apart_now h caller (Imported vid to fresh tally) n can apart = given_apart (owner_of h n) (receiver n (Imported vid to fresh tally)) (is_reserved h n) apart (λ org e. unreserved_receiver h caller (Imported vid to fresh tally) n org can e)
+apart_now h caller (Enrolled o) n can apart = given_apart (owner_of h n) (receiver n (Enrolled o)) (is_reserved h n) apart (λ org e. unreserved_receiver h caller (Enrolled o) n org can e)
+apart_now h caller (OrgAmended o) n can apart = given_apart (owner_of h n) (receiver n (OrgAmended o)) (is_reserved h n) apart (λ org e. unreserved_receiver h caller (OrgAmended o) n org can e)
+apart_now h caller (Asked id petition) n can apart = given_apart (owner_of h n) (receiver n (Asked id petition)) (is_reserved h n) apart (λ org e. unreserved_receiver h caller (Asked id petition) n org can e)
+apart_now h caller (Declined id petition) n can apart = given_apart (owner_of h n) (receiver n (Declined id petition)) (is_reserved h n) apart (λ org e. unreserved_receiver h caller (Declined id petition) n org can e)
+apart_now h caller (Withdrawn id petition) n can apart = given_apart (owner_of h n) (receiver n (Withdrawn id petition)) (is_reserved h n) apart (λ org e. unreserved_receiver h caller (Withdrawn id petition) n org can e)
+apart_now h caller (CardAmended vid name card) n can apart = given_apart (owner_of h n) (receiver n (CardAmended vid name card)) (is_reserved h n) apart (λ org e. unreserved_receiver h caller (CardAmended vid name card) n org can e)
+apart_now h caller (Returned vid name) n can apart = given_apart (owner_of h n) (receiver n (Returned vid name)) (is_reserved h n) apart (λ org e. unreserved_receiver h caller (Returned vid name) n org can e)
+apart_now h caller (VendorAdded vid name) n can apart = given_apart (owner_of h n) (receiver n (VendorAdded vid name)) (is_reserved h n) apart (λ org e. unreserved_receiver h caller (VendorAdded vid name) n org can e)
+apart_now h caller (LicenceAdded licence) n can apart = given_apart (owner_of h n) (receiver n (LicenceAdded licence)) (is_reserved h n) apart (λ org e. unreserved_receiver h caller (LicenceAdded licence) n org can e)
+
+apart_in : (founding : Founding) (n : Number) (deeds : List Deed) → Legal (record { founding = founding; deeds = deeds }) →
+    OwnedOrReserved (owner_of (record { founding = founding; deeds = deeds }) n) (is_reserved (record { founding = founding; deeds = deeds }) n)
+apart_in founding n [] legal = inl refl
+apart_in founding n (deed ∷ earlier) legal =
+    apart_now (record { founding = founding; deeds = earlier }) deed.caller deed.act n (legal_follows founding deed earlier legal)
+    (apart_in founding n earlier (legal_before founding deed earlier legal))
+
+-- in a legal history no number is both owned and reserved
+pub owned_or_reserved : (h : History) → Legal h → (n : Number) → OwnedOrReserved (owner_of h n) (is_reserved h n)
+owned_or_reserved h legal n = apart_in h.founding n h.deeds legal
+
+not_both : (owner : Option (List ℕ)) (reserved : Bool) → OwnedOrReserved owner reserved → (is_some owner && reserved) ≡ false
+not_both None reserved apart = refl
+not_both (Some org) reserved apart = ⊎_elim (λ (z : Some org ≡ None). absurd cc) (λ (z : reserved ≡ false). z) apart
+
+not_held : (owner : Option (List ℕ)) (held : Bool) → (owner ≡ None → held ≡ false) → (held && is_none owner) ≡ false
+not_held None held unheld = rw (unheld refl) refl
+not_held (Some org) true unheld = refl
+not_held (Some org) false unheld = refl
+
+pub owned_and_reserved : (h : History) (n : Number) → Legal h →
+    ((is_some (owner_of h n) && is_reserved h n) ≡ false) × ((is_held h n && is_none (owner_of h n)) ≡ false)
+owned_and_reserved h n legal =
+    (not_both (owner_of h n) (is_reserved h n) (owned_or_reserved h legal n), not_held (owner_of h n) (is_held h n) (unheld h n))
