@@ -1,4 +1,3 @@
-pub mod Laws
 pub mod Opening
 pub mod Steps
 pub mod Runs

@@ -7,7 +7,7 @@ use Rattle.registry_rules.specs.declared.order.Request.{Request}
 use Rattle.registry_rules.specs.declared.verdict.Reply.{Reply}
 use Rattle.registry_rules.specs.History.{History}
 use Rattle.registry_rules.specs.Run.{after, answers, after_one, answer_one}
-use Rattle.registry_store.proofs.Laws.{repeats}
+use Rattle.registry_rules.proofs.RunLemmas.{repeats}
 use Rattle.registry_tables.specs.Rows.{newest}
 use Rattle.registry_store.specs.declared.fault.Fault.{Fault}
 use Rattle.registry_store.specs.declared.registry.Registry.{Registry}
@@ -37,9 +37,9 @@ place_again h r rs zero x (inl e) = inr e
 place_again h r rs zero x (inr e) = inr (e ∙ after_again h r [])
 place_again h r rs (suc n) x (inl e) = inl (e ∙ after_again h r (take n rs))
 place_again h r rs (suc n) x (inr e) = inr (
-  subst (λ k. x ≡ after h (take k (r ∷ rs))) (sym (add-one (suc n)))
-  (subst (λ k. x ≡ after (after_one h r) (take k (r ∷ rs))) (add-one (suc n)) e ∙ after_again h r (take (suc n) rs))
-)
+    subst (λ k. x ≡ after h (take k (r ∷ rs))) (sym (add-one (suc n)))
+    (subst (λ k. x ≡ after (after_one h r) (take k (r ∷ rs))) (add-one (suc n)) e ∙ after_again h r (take (suc n) rs))
+    )
 
 front_again : (h : History) (r : Request) (rs : List Request) (n : ℕ) → answers (after_one h r) (take n (r ∷ rs)) ≡ answers h (take n (r ∷ rs))
 front_again h r rs zero = refl

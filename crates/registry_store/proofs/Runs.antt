@@ -27,6 +27,13 @@ module _ (v : ℕ) (s : State) where
   pub leaves_weaker : (A B : History → Type 0) → ((x : History) → A x → B x) → Leaves v s A → Leaves v s B
   leaves_weaker A B give left db may = let it = left db may in (it.0, give it.0 it.1, it.2)
 
-  pub leaves_place : (h : History) (rs : List Request) (i : ℕ) (d : Request) → i < length rs
-      → Leaves v s (λ x. (x ≡ after h (take i rs)) ⊎ (x ≡ after_one (after h (take i rs)) (get_or rs i d))) → Leaves v s (IsPlace h rs i)
-  leaves_place h rs i d low = leaves_weaker _ (IsPlace h rs i) (λ x. elim [ inl e ↦ inl e | inr e ↦ inr (e ∙ sym (after_more h rs i d low)) ])
+-- the same at the element that a loop reads
+pub after_item : (h : History) (xs : List Request) (i : ℕ) (x : Request) → i < length xs → x ≡ get_or xs i x → after h (take (i + 1) xs) ≡ after_one (after h (take i xs)) x
+after_item h xs i x low is = after_more h xs i x low ∙ ap (after_one (after h (take i xs))) (sym is)
+
+pub answers_item : (h : History) (xs : List Request) (i : ℕ) (x : Request) → i < length xs → x ≡ get_or xs i x → answers h (take (i + 1) xs) ≡ answers h (take i xs) ++ answer_one (after h (take i xs)) x ∷ []
+answers_item h xs i x low is = answers_more h xs i x low ∙ ap (λ (y : Request). answers h (take i xs) ++ answer_one (after h (take i xs)) y ∷ []) (sym is)
+
+pub place_item : (v : ℕ) (s : State) (h : History) (rs : List Request) (i : ℕ) (x : Request) → i < length rs → x ≡ get_or rs i x
+    → Leaves v s (λ y. (y ≡ after h (take i rs)) ⊎ (y ≡ after_one (after h (take i rs)) x)) → Leaves v s (IsPlace h rs i)
+place_item v s h rs i x low is = leaves_weaker v s _ (IsPlace h rs i) (λ y. elim [ inl e ↦ inl e | inr e ↦ inr (e ∙ sym (after_item h rs i x low is)) ])

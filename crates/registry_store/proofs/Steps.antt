@@ -20,16 +20,13 @@ use Rattle.registry_rules.specs.TotalsOf.{AreTotalsOf}
 use Rattle.registry_rules.specs.Rows.{LeadsTo}
 use Rattle.registry_rules.specs.Verdict.{verdict}
 use Rattle.registry_rules.specs.Reply.{act_text}
-use Rattle.registry_store.proofs.Laws.{legal_after, new_deed}
-use Rattle.registry_tables.specs.Rows.{Rows, HoldsRows, HoldsUnkept, newest, IsKeptAs}
+use Rattle.registry_rules.proofs.RunLemmas.{legal_new, legal_after_one, new_is_of}
+use Rattle.registry_tables.specs.Rows.{Rows, HoldsRows, HoldsUnkept, newest}
+use Rattle.registry_tables.specs.Calls.{IsKeptAs}
 use Rattle.registry_tables.proofs.RowsLemmas.{enters, goes_out}
 use Rattle.registry_store.specs.Promise.{Counts, IsAt, Leaves}
 use Rattle.registry_store.specs.Attempt.{CommitsOne, Wrote}
 use Rattle.registry_store.proofs.Opening.{rows_now}
-
--- the history with a new deed is legal
-pub legal_with : (h : History) (r : Request) (d : Deed) → Legal h → verdict h r ≡ New d → Legal (with_deed h d)
-legal_with h r d legal new = subst (λ v. Legal (after_verdict h v)) new (legal_after h r legal)
 
 abbrev Goes : State → State → Type 0
 Goes old new = Shows old new new.now old.committed true
@@ -38,22 +35,22 @@ Goes old new = Shows old new new.now old.committed true
 module _ (old mid new : State) (before after : Totals) (r : Request) (d : Deed) (changes : List Change) (reply : List ℕ) (said : reply ≡ act_text d.act)
     (lead : (h : History) (x : Request) → Legal h → verdict h x ≡ New d → LeadsTo changes h (with_deed h d))
     (carry : (h : History) (x : Request) → Legal h → AreTotalsOf h before → verdict h x ≡ New d → AreTotalsOf (with_deed h d) after)
-    (first : Goes old mid) (rows : (h more : History) → Legal h → Legal more → HoldsRows newest old.now h → LeadsTo changes h more → HoldsUnkept mid.now h more) where
-
+    (first : Goes old mid) (rows : (h more : History) → Legal h → Legal more → more.founding ≡ h.founding → HoldsRows newest old.now h → LeadsTo changes h more → HoldsUnkept mid.now h more) where
   wrote_both : Goes mid new
-      → ((h : History) (x : Deed) → Legal (with_deed h x) → HoldsUnkept mid.now h (with_deed h x) → IsKeptAs x r reply → HoldsRows newest new.now (with_deed h x))
+      → ((h : History) (x : Deed) → Legal (with_deed h x) → IsKeptAs x r reply → HoldsUnkept mid.now h (with_deed h x) → HoldsRows newest new.now (with_deed h x))
       → Wrote old new before after r d
   wrote_both second kept = record {
     shown = record { was_open = first.was_open; is_open = second.is_open; now_is = refl; committed_is = second.committed_is ∙ first.committed_is; mode = second.mode };
     made = λ h counts is rows_of.
-        let legal = legal_with h r d counts.legal is in
-        let of = new_deed h r d is in
-        kept h d legal (rows h (with_deed h d) counts.legal legal rows_of (lead h r counts.legal is)) (record { caller = of.caller; key = of.key; order = of.order; said = said });
+        let legal = legal_new h r d counts.legal is in
+        let of = new_is_of h r d is in
+        let same : IsKeptAs d r reply = record { caller = ap (λ (x : Request). x.caller) of; key = ap (λ (x : Request). x.key) of; order = ap (λ (x : Request). x.order) of; said = said } in
+        kept h d legal same (rows h (with_deed h d) counts.legal legal refl rows_of (lead h r counts.legal is));
     carried = λ h counts is. carry h r counts.legal counts.totals_are is;
   }
 
   pub wrote : {T E : Type 0} (result : Result T E) → OnOk result (Goes mid new)
-      → OnOk result ((h : History) (x : Deed) → Legal (with_deed h x) → HoldsUnkept mid.now h (with_deed h x) → IsKeptAs x r reply → HoldsRows newest new.now (with_deed h x))
+      → OnOk result ((h : History) (x : Deed) → Legal (with_deed h x) → IsKeptAs x r reply → HoldsUnkept mid.now h (with_deed h x) → HoldsRows newest new.now (with_deed h x))
       → OnOk result (Wrote old new before after r d)
   wrote (Ok x) second kept = wrote_both second kept
   wrote (Err e) second kept = second
@@ -85,7 +82,6 @@ module _ {S : Type 0} (g : Ghosts S) (old begun mid : Held S) (is : begun ≡ re
     (judged : HasCleanDisk (state g mid) → IsTrue (state g begun).in_transaction → IsUnchanged (state g begun) (state g mid))
     (found : HasCleanDisk (state g mid) → IsTrue (state g begun).in_transaction → (h : History) → Counts before h → HoldsRows newest (state g begun).now h → v ≡ verdict h r)
     (first : Survives (state g begun) (state g mid) (λ _. ⊥)) where
-
   inside : IsTrue (state g begun).in_transaction
   inside = subst (λ b. IsTrue (state g b).in_transaction) (sym is) refl
 
@@ -99,7 +95,6 @@ module _ {S : Type 0} (g : Ghosts S) (old begun mid : Held S) (is : begun ≡ re
   module _ (last : Held S) (after : Totals) (d : Deed) (new : v ≡ New d)
       (wrote : HasCleanDisk (state g last) → IsTrue (state g mid).in_transaction → Wrote (state g mid) (state g last) before after r d)
       (second : Survives (state g mid) (state g last) (λ _. ⊥)) where
-
     wrote_at : HasCleanDisk (state g last) → Wrote (state g mid) (state g last) before after r d
     wrote_at clean = let early : HasCleanDisk (state g mid) = omega (arith, second.clean) in wrote clean ((judged early inside).0.mode ∙ inside)
 
@@ -112,13 +107,16 @@ module _ {S : Type 0} (g : Ghosts S) (old begun mid : Held S) (is : begun ≡ re
         subst (λ b. IsTrue (state g b).is_open) is (judged early inside).0.was_open
 
     pub commits_one : HasCleanDisk (state g last) → CommitsOne (state g old) before r (state g last).now.trees
-    commits_one clean = (was_open clean, λ h counts rows.
-        let early : HasCleanDisk (state g mid) = omega (arith, second.clean) in
-        let same = (judged early inside).0 in
-        let it = holds h (was_open clean) rows in
-        let says = says_new clean h counts it in
-        let made = (wrote_at clean).made h counts says (subst (λ db. HoldsRows newest db h) (sym same.now_is) it) in
-        subst (λ x. Rows newest (state g last).now.trees (after_verdict h x)) (sym says) (goes_out (state g last).now (with_deed h d) made))
+    commits_one clean = (
+      was_open clean,
+      λ h counts rows.
+          let early : HasCleanDisk (state g mid) = omega (arith, second.clean) in
+          let same = (judged early inside).0 in
+          let it = holds h (was_open clean) rows in
+          let says = says_new clean h counts it in
+          let made = (wrote_at clean).made h counts says (subst (λ db. HoldsRows newest db h) (sym same.now_is) it) in
+          subst (λ x. Rows newest (state g last).now.trees (after_verdict h x)) (sym says) (goes_out (state g last).now (with_deed h d) made),
+    )
 
     module _ (end : Held S) (third : Survives (state g last) (state g end) (λ db. db ≡ (state g last).now.trees)) where
       -- over the whole call a crash leaves what it left before, or what the request commits
@@ -146,11 +144,10 @@ module _ {S : Type 0} (g : Ghosts S) (old begun mid : Held S) (is : begun ≡ re
           let shows = went clean in
           let begun_held = holds h one.0 held in
           let says : verdict h r ≡ New d = says_new late h counts begun_held in
-          let kept : Rows newest (state g end).committed.trees (after_one h r) = subst (λ db. Rows newest db.trees (after_one h r)) (sym shows.committed_is) (one.1 h counts held) in
-          (
+          let kept : Rows newest (state g end).committed.trees (after_one h r) = subst (λ db. Rows newest db.trees (after_one h r)) (sym shows.committed_is) (one.1 h counts held) in (
             ap Done said ∙ ap reply_of (sym says),
             record {
-              legal = legal_after h r counts.legal;
+              legal = legal_after_one h r counts.legal;
               totals_are = subst (λ x. AreTotalsOf (after_verdict h x) after) (sym says) ((wrote_at late).carried h counts says);
             },
             record {
@@ -179,8 +176,7 @@ module _ {S : Type 0} (g : Ghosts S) (old begun mid : Held S) (is : begun ≡ re
         let said = found mids inside h counts (holds h open_before held) in
         let history : after_one h r ≡ h = ap (after_verdict h) (sym said) ∙ same_history h in
         let undone = back clean in
-        let committed : (state g mid).committed ≡ (state g old).committed = subst (λ b. (state g mid).committed ≡ (state g b).committed) is same.committed_is in
-        (
+        let committed : (state g mid).committed ≡ (state g old).committed = subst (λ b. (state g mid).committed ≡ (state g b).committed) is same.committed_is in (
           sym is_reply ∙ ap reply_of said,
           subst (Counts before) (sym history) counts,
           subst (IsAt newest (state g end)) (sym history) (record {

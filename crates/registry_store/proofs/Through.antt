@@ -6,17 +6,12 @@ use Rattle.sqlite.specs.Store.{Ghosts}
 use Rattle.registry_rules.specs.declared.order.Request.{Request}
 use Rattle.registry_rules.specs.declared.verdict.Reply.{Reply}
 use Rattle.registry_rules.specs.History.{History}
-use Rattle.registry_rules.specs.Run.{Legal, after, answers, after_one}
+use Rattle.registry_rules.specs.Run.{after, answers}
 use Rattle.registry_store.specs.declared.fault.Fault.{Fault}
 use Rattle.registry_store.specs.declared.registry.Registry.{Registry}
 use Rattle.registry_store.specs.Promise.{Stands}
 use Rattle.registry_store.specs.Run.{HasAnswered, IsDone, IsStopped}
 use Rattle.registry_store.specs.Reopen.{IsEither}
-use Rattle.registry_store.proofs.Laws.{legal_after}
-
-pub legal_all : (rs : List Request) (h : History) → Legal h → Legal (after h rs)
-legal_all [] h legal = legal
-legal_all (r ∷ rs) h legal = legal_all rs (after_one h r) (legal_after h r legal)
 
 module _ {S : Type 0} {g : Ghosts S} (h : History) (rs : List Request) (old more : List Reply) (front : old ≡ take (length old) (answers h rs)) where
   -- the last run came to the end

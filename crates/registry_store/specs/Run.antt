@@ -1,6 +1,10 @@
 -- What a run of requests leaves.
 use Rattle.std.specs.Prelude.{◌≡◌, ◌⊎◌, ◌<◌, ◌+◌, ℕ, true, List, length, take, drop, Option, Some, None}
+use Rattle.std.specs.List.{Contains}
 use Rattle.sqlite.specs.Store.{Ghosts}
+use Rattle.usbnum_core.specs.declared.number.Number.{Number}
+use Rattle.registry_rules.specs.Query.{receiver, owner_of}
+use Rattle.registry_rules.specs.declared.deed.Deed.{Deed}
 use Rattle.registry_rules.specs.declared.order.Request.{Request}
 use Rattle.registry_rules.specs.declared.verdict.Reply.{Reply}
 use Rattle.registry_rules.specs.History.{History}
@@ -14,6 +18,10 @@ use Rattle.registry_store.specs.Promise.{is_spent, state_of, Leaves, Stands}
 -- the history after the first n requests, or after one more
 abbrev pub IsPlace : History → List Request → ℕ → History → Type 0
 IsPlace h rs n x = (x ≡ after h (take n rs)) ⊎ (x ≡ after h (take (n + 1) rs))
+
+-- all grants and imports of a number name one organisation, its owner
+abbrev pub NameOneOrganisation : History → Type 0
+NameOneOrganisation h = (n : Number) (deed : Deed) (org : List ℕ) → Contains h.deeds deed → receiver n deed.act ≡ Some org → owner_of h n ≡ Some org
 
 module _ {S : Type 0} {g : Ghosts S} where
   -- the first n requests are answered, and perhaps the next one is acted on

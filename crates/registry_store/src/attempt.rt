@@ -12,10 +12,10 @@ ghost use Rattle.registry_store.specs.Promise.{Counts, IsAt};
 ghost use Rattle.registry_store.specs.Attempt.{CommitsOne, Wrote};
 
 use registry_rules::{Deed, Reply, Request, Text, Totals, Verdict, changes, judge, reply_text};
-use registry_tables::calls::{facts_for, keep_reply, store};
-use registry_tables::fault::TableFault;
+use registry_tables::{TableFault, facts_for, keep_reply, store};
 use sqlite::{Alter, Connection, Error, ErrorCode, Transaction};
 use std::alloc::Global;
+use usbnum_core::NoMemory;
 
 /// The verdict on a request, by the rows that it concerns.
 fn judged<S: Alter>(
@@ -34,7 +34,10 @@ fn judged<S: Alter>(
     ensures survives { Survives (state S.Store tx.old.conn.now) (state S.Store tx.new.conn.now) (λ _. ⊥) }
 {
     let facts = facts_for(alloc, tx, totals, request)?;
-    Ok(judge(alloc, &facts, request)?)
+    match judge(alloc, &facts, request) {
+        Ok(verdict) => Ok(verdict),
+        Err(NoMemory) => Err(TableFault::NoMemory),
+    }
 }
 
 /// The rows of a deed and its reply, in the transaction, and the totals with it. What wants memory of its own comes before the first write.
@@ -53,10 +56,14 @@ fn write<S: Alter>(
     ensures kind { result ≢ Err TableFault.Foreign }
     ensures survives { Survives (state S.Store tx.old.conn.now) (state S.Store tx.new.conn.now) (λ _. ⊥) }
 {
-    let changes = changes(alloc, deed)?;
-    totals.carry(deed)?;
+    let Ok(changes) = changes(alloc, deed) else {
+        return Err(TableFault::NoMemory);
+    };
+    let Ok(()) = totals.carry(deed) else {
+        return Err(TableFault::NoMemory);
+    };
     store(tx, changes.as_slice())?;
-    keep_reply(tx, request, reply)
+    keep_reply(alloc, tx, request, reply)
 }
 
 /// Commits what the transaction wrote.
@@ -94,7 +101,9 @@ pub(crate) fn attempt<S: Alter>(
         Verdict::Kept(text) => Ok(Reply::Done(text)),
         Verdict::Refused(refusal) => Ok(Reply::Refused(refusal)),
         Verdict::New(deed) => {
-            let reply = reply_text(alloc, &deed)?;
+            let Ok(reply) = reply_text(alloc, &deed) else {
+                return Err(TableFault::NoMemory);
+            };
             write(alloc, &mut tx, totals, request, &deed, &reply)?;
             finish(tx)?;
             Ok(Reply::Done(reply))

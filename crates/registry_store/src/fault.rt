@@ -2,7 +2,7 @@
 
 ghost use Rattle.std.specs.Prelude.{◌≡◌, ◌≢◌};
 
-use registry_tables::fault::TableFault;
+use registry_tables::TableFault;
 
 /// Why a call of a registry gives up.
 #[derive(Clone, Copy, Debug, Drop, PartialEq, Eq)]

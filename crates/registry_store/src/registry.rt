@@ -5,7 +5,7 @@ ghost use Rattle.std.specs.Prelude.{◌≡◌, false};
 use crate::attempt::attempt;
 use crate::fault::{Fault, fault_of};
 use registry_rules::{Founding, Reply, Request, Totals};
-use registry_tables::calls::{create, has_meta, totals};
+use registry_tables::{create, has_meta, totals};
 use sqlite::{Alter, Connection};
 use std::alloc::Global;
 use usbnum_core::NoMemory;
@@ -31,11 +31,19 @@ impl<S: Alter> Registry<S> {
     ghost use Rattle.sqlite.specs.State.{HasCleanDisk, Survives};
     ghost use Rattle.sqlite.specs.Held.{state};
     ghost use Rattle.registry_rules.specs.FactsOf.{IsFoundingOf};
-    ghost use Rattle.registry_rules.specs.History.{History, founded};
+    ghost use Rattle.registry_rules.specs.History.{History, founded, with_deed};
+    ghost use Rattle.registry_rules.specs.Reply.{act_text};
+    ghost use Rattle.registry_rules.specs.Verdict.{verdict};
+    ghost use Rattle.registry_rules.specs.declared.deed.Deed.{Deed};
+    ghost use Rattle.registry_rules.specs.declared.order.Request.{Request};
+    ghost use Rattle.registry_rules.specs.declared.verdict.Verdict.TheVariants as found;
+    ghost use Rattle.registry_rules.specs.declared.verdict.Reply.TheVariants as answer;
     ghost use Rattle.registry_rules.specs.Run.{Legal, after, after_one, answer_one};
-    ghost use Rattle.registry_tables.specs.Rows.{Rows, newest, HasMeta};
+    ghost use Rattle.registry_tables.specs.Rows.{Rows, newest};
+    ghost use Rattle.registry_tables.specs.Calls.{HasNoMeta};
+    ghost use Rattle.registry_schema.specs.Meta.{has_meta_table};
     ghost use Rattle.registry_store.specs.Promise.{Leaves, IsAt, IsFreshAt, Stands, Endures, is_spent, state_of, connection_of};
-    ghost use Rattle.registry_store.specs.Run.{EndsRun, EndsPart, HasAnswered};
+    ghost use Rattle.registry_store.specs.Run.{EndsRun, EndsPart, HasAnswered, NameOneOrganisation};
 
     /// Founds a registry: makes its tables, in one transaction.
     ///
@@ -47,15 +55,15 @@ impl<S: Alter> Registry<S> {
         founding: &Founding,
     ) -> Result<Registry<S>, (Fault, Connection<S>)>
         ensures stands { IfOk result (λ it. HasCleanDisk (state_of it) → Stands it (founded founding.now)) }
-        ensures fresh { IfOk result (λ it. ¬ HasMeta (state S.Store conn).now) }
-        ensures taken { IfErr result (λ e. e.0 ≡ Fault.Taken → (e.1 ≡ conn) × HasMeta (state S.Store conn).now) }
+        ensures fresh { IfOk result (λ it. HasNoMeta (state S.Store conn).now) }
+        ensures taken { IfErr result (λ e. e.0 ≡ Fault.Taken → (e.1 ≡ conn) × (has_meta_table (state S.Store conn).now.schema ≡ true)) }
         ensures busy { IsTrue conn.in_transaction → IfErr result (λ e. (e.0 ≡ Fault.Store) × (e.1 ≡ conn)) }
         ensures kind { IfErr result (λ e. (e.0 ≢ Fault.Spent) × (e.0 ≢ Fault.Foreign)) }
 
         // What it makes is all or nothing, also at a crash.
         ensures survives { MatchResult result
-            (λ it. Survives (state S.Store conn) (state_of it) (λ db. (¬ HasMeta (state S.Store conn).now) × Rows newest db (founded founding.now)))
-            (λ e. Survives (state S.Store conn) (state S.Store e.1) (λ db. (¬ HasMeta (state S.Store conn).now) × Rows newest db (founded founding.now))) }
+            (λ it. Survives (state S.Store conn) (state_of it) (λ db. HasNoMeta (state S.Store conn).now × Rows newest db (founded founding.now)))
+            (λ e. Survives (state S.Store conn) (state S.Store e.1) (λ db. HasNoMeta (state S.Store conn).now × Rows newest db (founded founding.now))) }
     {
         if !conn.is_autocommit() {
             return Err((Fault::Store, conn));
@@ -142,6 +150,11 @@ impl<S: Alter> Registry<S> {
         ensures answered { (h : History) → Stands self.old h → HasCleanDisk (state_of self.new)
             → IfOk result (λ reply. (reply ≡ answer_one h request.now) × Stands self.new (after_one h request.now)) }
 
+        // A repeat of an accepted request, whatever came between, has its first reply and adds no deed.
+        ensures repeated { (h : History) (deed : Deed) (between : List Request) → verdict h request.now ≡ found.New deed
+            → Stands self.old (after (with_deed h deed) between) → HasCleanDisk (state_of self.new)
+            → IfOk result (λ reply. (reply ≡ answer.Done (act_text deed.act)) × Stands self.new (after (with_deed h deed) between)) }
+
         // A fault of the store may come after the commit. Then the request is acted on, and its repeat has its reply.
         ensures crash { (h : History) → Stands self.old h → HasCleanDisk (state_of self.new)
             → Leaves newest (state_of self.new) (λ x. (x ≡ h) ⊎ (x ≡ after_one h request.now)) }
@@ -192,6 +205,7 @@ impl<S: Alter> Registry<S> {
         ensures when_spent { is_spent self.old ≡ true → (result.fault ≡ Some Fault.Spent) × (result.replies.items ≡ []) × (self.new ≡ self.old) }
         ensures run { (h : History) → HasAnswered self.old h requests.now answered → HasCleanDisk (state_of self.new)
             → EndsRun self.new h requests.now answered result.replies.items result.fault }
+        ensures holders { (h : History) → Legal h → NameOneOrganisation (after h requests.now) }
         ensures nothing_left { answered ≡ length requests.now → is_spent self.old ≡ false → (result.fault ≡ None) × (self.new ≡ self.old) }
         ensures endures { Endures (state_of self.old) (state_of self.new) }
     {

@@ -3,7 +3,7 @@ use Rattle.sqlite.specs.State.{HasCleanDisk, Survives, IsRolledBack}
 use Rattle.sqlite.specs.Held.{state}
 use Rattle.registry_rules.specs.Run.{after_one, after_verdict, reply_of}
 use Rattle.registry_tables.specs.Rows.{newest}
-use Rattle.registry_tables.specs.declared.fault.TableFault.TheVariants.{Foreign}
+use Rattle.registry_schema.specs.declared.fault.TableFault.TheVariants.{Foreign}
 use Rattle.registry_store.specs.Promise.{Counts, IsAt}
 use Rattle.registry_store.specs.Attempt.{CommitsOne}
 use Rattle.registry_store.proofs.Steps.{answered, one_at_most, as_before, never_foreign}
@@ -18,7 +18,7 @@ returns-in_ok-finish-in-New-clause-answered g c clean h counts at =
     let it = answered g.S.Store c.args.conn.now c.transaction-tx.result.conn.now c.judged.new.tx.conn.now c.transaction-tx.ensures.begun c.schema-schema.ensures.live c.args.totals.now r c.in_ok-verdict.verdict
     c.in_ok-verdict.ensures.ok c.in_ok-verdict.ensures.verdict c.judged.ensures.survives c.write.new.tx.conn.now c.write.new.totals c.in-New.deed c.in-New.is
     c.in_ok-write-in-New.ensures.ok c.write.ensures.survives end c.finish.ensures.survives g.met.S.Store.settled c.in_ok-finish-in-New.ensures.ok
-    c.in_ok-reply-in-New.reply c.in_ok-reply-in-New.ensures late h counts at in
+    c.in-Ok.reply c.in-Ok.ensures late h counts at in
     (it.0, it.1, subst (λ x. IsAt newest (state g.S.Store x) (after_one h r)) same it.2)
 
 pub returns-in_ok-finish-in-New-clause-survives : goal.returns-in_ok-finish-in-New-clause-survives

@@ -4,7 +4,8 @@ use Rattle.sqlite.specs.State.{HasCleanDisk}
 use Rattle.registry_rules.specs.Run.{after, answers}
 use Rattle.registry_store.specs.Promise.{Stands, state_of}
 use Rattle.registry_store.specs.Run.{EndsRun, HasAnswered, IsDone, IsStopped}
-use Rattle.registry_store.proofs.Through.{ended, goes_on, legal_all}
+use Rattle.registry_rules.proofs.RunLemmas.{legal_after}
+use Rattle.registry_store.proofs.Through.{ended, goes_on}
 use Rattle.registry_store.proofs.reopen.run_through.Goals as goal
 
 pub returns-in-None : goal.returns-in-None
@@ -46,6 +47,6 @@ stops-preserved g c h stands clean =
     (c.run_from-more.ensures.run h (subst (HasAnswered c.stops.registry h rs) (sym count) inv.0) mid) in
     let stopped : IsStopped last h rs (length old) more c.in-Some.field-0 = rw c.in-Some.is at end in
     let place = length old + length more in
-    ∥∥₁_map (c.in-Some-crash_and_open.ensures.stands (after h (take place rs)) (after h (take (place + 1) rs)) (legal_all (take place rs) h legal) (legal_all (take (place + 1) rs) h legal) (λ _. stopped.leaves) clean)
+    ∥∥₁_map (c.in-Some-crash_and_open.ensures.stands (after h (take place rs)) (after h (take (place + 1) rs)) (legal_after h (take place rs) legal) (legal_after h (take (place + 1) rs) legal) (λ _. stopped.leaves) clean)
     (λ it. subst (λ y. HasAnswered now h rs (length y) × (y ≡ take (length y) (answers h rs))) (sym pushed)
     (goes_on h rs old more inv.1 last _ stopped now it.0 it.1 it.2)))

@@ -4,7 +4,7 @@ use Rattle.registry_rules.specs.Run.{after, answers}
 use Rattle.registry_tables.specs.Rows.{newest}
 use Rattle.registry_store.specs.Promise.{Stands, Leaves, state_of}
 use Rattle.registry_store.specs.Run.{IsPlace}
-use Rattle.registry_store.proofs.Runs.{after_more, answers_more, leaves_place}
+use Rattle.registry_store.proofs.Runs.{after_item, answers_item, place_item}
 use Rattle.registry_store.proofs.registry.Registry.run.Goals as goal
 
 pub returns-in-Err-clause-run : goal.returns-in-Err-clause-run
@@ -19,7 +19,7 @@ returns-in-Err-clause-run g c h stands clean =
       within = subst (λ n. n < length rs) (sym count) low;
       front = so_far.0 ∙ ap (λ n. answers h (take n rs)) (sym count);
       leaves = subst (λ n. Leaves newest (state_of c.act.new.self) (IsPlace h rs n)) (sym count)
-          (leaves_place newest (state_of c.act.new.self) h rs loop.request-index _ low (c.act.ensures.crash _ so_far.1 clean));
+          (place_item newest (state_of c.act.new.self) h rs loop.request-index _ low c.request-item.is (c.act.ensures.crash _ so_far.1 clean));
       kind = c.in-Err.ensures.kind _ so_far.1 clean;
       ends = c.in-Err.ensures.ends;
     }
@@ -37,10 +37,9 @@ loop-request-preserved g c =
           let one = c.in-Ok.ensures.answered _ so_far.1 clean in
           let pushed : c.push.new.self.items ≡ loop.replies.items ++ c.in-Ok.reply ∷ [] = search rules in
           let rs = c.args.requests.now in
-          let i = loop.request-index in
-          (
-            pushed ∙ ap (λ xs. xs ++ c.in-Ok.reply ∷ []) so_far.0 ∙ ap (λ x. answers h (take i rs) ++ x ∷ []) one.0 ∙ sym (answers_more h rs i _ low),
-            subst (Stands c.act.new.self) (sym (after_more h rs i _ low)) one.1,
+          let i = loop.request-index in (
+            pushed ∙ ap (λ xs. xs ++ c.in-Ok.reply ∷ []) so_far.0 ∙ ap (λ x. answers h (take i rs) ++ x ∷ []) one.0 ∙ sym (answers_item h rs i _ low c.request-item.is),
+            subst (Stands c.act.new.self) (sym (after_item h rs i _ low c.request-item.is)) one.1,
           );
       still = λ none. absurd (omega arith);
       endures = search rules;

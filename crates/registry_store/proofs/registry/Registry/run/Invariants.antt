@@ -12,5 +12,5 @@ invariant-loop-request g l = record {
   run : (h : History) → Stands l.initial.self h → HasCleanDisk (state_of l.self)
       → (l.replies.items ≡ answers h (take l.request-index l.requests)) × Stands l.self (after h (take l.request-index l.requests));
   still : l.request-index ≡ 0 → l.self ≡ l.initial.self;
-  endures : Endures (state_of l.initial.self) (state_of l.self)
+  endures : Endures (state_of l.initial.self) (state_of l.self);
 }
