@@ -1,0 +1,54 @@
+-- What a connection shows after a registry was opened or founded on it.
+use Rattle.std.proofs.Common.{◌≡◌, ◌≤◌, ◌⊎◌, inl, inr, IsTrue, false, refl, sym, subst, ◌∙◌, arith}
+use Rattle.sqlite.specs.Tree.{Trees}
+use Rattle.sqlite.specs.Store.{Ghosts}
+use Rattle.sqlite.specs.State.{State, HasCleanDisk, Survives}
+use Rattle.sqlite.specs.Held.{Held, state}
+use Rattle.registry_rules.specs.History.{History}
+use Rattle.registry_tables.specs.Rows.{Rows, newest}
+use Rattle.registry_tables.specs.Calls.{KeepsAll}
+use Rattle.registry_rules.specs.Run.{Legal}
+use Rattle.registry_rules.specs.TotalsOf.{AreTotalsOf}
+use Rattle.registry_store.specs.declared.registry.Registry.{Registry}
+use Rattle.registry_store.specs.Promise.{IsAt, IsFreshAt, Stands, is_spent, state_of}
+use Rattle.registry_store.specs.Reopen.{IsEither}
+
+-- whatever was read in a transaction that was rolled back, the connection is where it was
+pub still_at : (old new : State) (h : History) → IsAt newest old h → IsTrue old.is_open → KeepsAll old new → Survives old new (λ _. ⊥) → HasCleanDisk new → IsAt newest new h
+still_at old new h at was_open back survives clean =
+    let early : HasCleanDisk old = omega (arith, survives.clean) in
+    record {
+      shown = λ _ is_open.
+          let rows = (at.shown early was_open).1 in
+          let undone = back is_open in
+          (undone.0 ∙ sym undone.1, subst (λ db. Rows newest db.trees h) (sym undone.1) rows);
+      left = λ _ db may. at.left early db (elim (survives.crash clean db may) [ inl before ↦ before | inr none ↦ absurd none ]);
+    }
+
+-- what an open connection shows at rest is what a crash leaves
+pub at_rest : {S : Type 0} (g : Ghosts S) (it : Held S) (h : History)
+    → ((s : S) (db : Trees) → IsTrue (g.view s).is_open → g.recovers s db → db ≡ (g.view s).committed)
+    → IsFreshAt newest (state g it) h → IsAt newest (state g it) h
+at_rest g it h settled fresh = record {
+  shown = λ clean _. let found = fresh clean in (found.1, found.2);
+  left = λ clean db may. let found = fresh clean in (h, refl, subst (λ x. Rows newest x h) (sym (settled it.store db found.0 may)) found.2);
+}
+
+-- the rows that it shows now
+pub rows_now : (s : State) (h : History) → IsAt newest s h → HasCleanDisk s → IsTrue s.is_open → Rows newest s.now.trees h
+rows_now s h at clean is_open = let shown = at.shown clean is_open in subst (λ db. Rows newest db.trees h) (sym shown.0) shown.1
+
+pub either_legal : (h next x : History) → Legal h → Legal next → IsEither h next x → Legal x
+either_legal h next x legal legal_next (inl e) = subst Legal (sym e) legal
+either_legal h next x legal legal_next (inr e) = subst Legal (sym e) legal_next
+
+-- a disk that is clean after a call was clean before it
+pub earlier : (old new : State) (P : Trees → Type 0) → Survives old new P → HasCleanDisk new → HasCleanDisk old
+earlier old new P survives clean = omega (arith, survives.clean)
+
+-- a registry over a connection that shows the rows at rest
+pub stands_fresh : {S : Type 0} (g : Ghosts S) (it : Registry S g) (h : History)
+    → ((s : S) (db : Trees) → IsTrue (g.view s).is_open → g.recovers s db → db ≡ (g.view s).committed)
+    → is_spent it ≡ false → Legal h → AreTotalsOf h it.totals → IsFreshAt newest (state_of it) h → Stands it h
+stands_fresh g it h settled unspent legal totals fresh =
+    record { unspent = unspent; counts = record { legal = legal; totals_are = totals }; at = at_rest g it.conn h settled fresh }

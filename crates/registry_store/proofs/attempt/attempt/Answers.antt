@@ -1,0 +1,69 @@
+use Rattle.std.proofs.Common.{◌≡◌, Err, rules, refl, sym, ap, subst, ◌∙◌, arith}
+use Rattle.sqlite.specs.State.{HasCleanDisk, Survives, IsRolledBack}
+use Rattle.sqlite.specs.Held.{state}
+use Rattle.registry_rules.specs.Run.{after_one, after_verdict, reply_of}
+use Rattle.registry_tables.specs.Rows.{newest}
+use Rattle.registry_schema.specs.declared.fault.TableFault.TheVariants.{Foreign}
+use Rattle.registry_store.specs.Promise.{Counts, IsAt}
+use Rattle.registry_store.specs.Attempt.{CommitsOne}
+use Rattle.registry_store.proofs.Steps.{answered, one_at_most, as_before, never_foreign}
+use Rattle.registry_store.proofs.attempt.attempt.Goals as goal
+
+pub returns-in_ok-finish-in-New-clause-answered : goal.returns-in_ok-finish-in-New-clause-answered
+returns-in_ok-finish-in-New-clause-answered g c clean h counts at =
+    let r = c.args.request.now in
+    let end = c.finish.new.tx.0 in
+    let same : end ≡ c.conn-in-New-1.given.0 = search rules in
+    let late : HasCleanDisk (state g.S.Store end) = search rules in
+    let it = answered g.S.Store c.args.conn.now c.transaction-tx.result.conn.now c.judged.new.tx.conn.now c.transaction-tx.ensures.begun c.schema-schema.ensures.live c.args.totals.now r c.in_ok-verdict.verdict
+    c.in_ok-verdict.ensures.ok c.in_ok-verdict.ensures.verdict c.judged.ensures.survives c.write.new.tx.conn.now c.write.new.totals c.in-New.deed c.in-New.is
+    c.in_ok-write-in-New.ensures.ok c.write.ensures.survives end c.finish.ensures.survives g.met.S.Store.settled c.in_ok-finish-in-New.ensures.ok
+    c.in-Ok.reply c.in-Ok.ensures late h counts at in
+    (it.0, it.1, subst (λ x. IsAt newest (state g.S.Store x) (after_one h r)) same it.2)
+
+pub returns-in_ok-finish-in-New-clause-survives : goal.returns-in_ok-finish-in-New-clause-survives
+returns-in_ok-finish-in-New-clause-survives g c =
+    let old = c.args.conn.now in
+    let r = c.args.request.now in
+    let whole = one_at_most g.S.Store old c.transaction-tx.result.conn.now c.judged.new.tx.conn.now c.transaction-tx.ensures.begun c.schema-schema.ensures.live c.args.totals.now r c.in_ok-verdict.verdict
+    c.in_ok-verdict.ensures.ok c.in_ok-verdict.ensures.verdict c.judged.ensures.survives c.write.new.tx.conn.now c.write.new.totals c.in-New.deed c.in-New.is
+    c.in_ok-write-in-New.ensures.ok c.write.ensures.survives c.finish.new.tx.0 c.finish.ensures.survives in
+    let same : c.finish.new.tx.0 ≡ c.conn-in-New-1.given.0 = search rules in
+    subst (λ x. Survives (state g.S.Store old) (state g.S.Store x) (CommitsOne (state g.S.Store old) c.args.totals.now r)) same whole
+
+pub returns-in_err-finish-in-New-clause-survives : goal.returns-in_err-finish-in-New-clause-survives
+returns-in_err-finish-in-New-clause-survives g c =
+    let old = c.args.conn.now in
+    let r = c.args.request.now in
+    let whole = one_at_most g.S.Store old c.transaction-tx.result.conn.now c.judged.new.tx.conn.now c.transaction-tx.ensures.begun c.schema-schema.ensures.live c.args.totals.now r c.in_ok-verdict.verdict
+    c.in_ok-verdict.ensures.ok c.in_ok-verdict.ensures.verdict c.judged.ensures.survives c.write.new.tx.conn.now c.write.new.totals c.in-New.deed c.in-New.is
+    c.in_ok-write-in-New.ensures.ok c.write.ensures.survives c.finish.new.tx.0 c.finish.ensures.survives in
+    let same : c.finish.new.tx.0 ≡ c.conn-in-New-1.given.0 = search rules in
+    subst (λ x. Survives (state g.S.Store old) (state g.S.Store x) (CommitsOne (state g.S.Store old) c.args.totals.now r)) same whole
+
+pub returns-in-Refused-clause-answered : goal.returns-in-Refused-clause-answered
+returns-in-Refused-clause-answered g c clean h counts at =
+    let mid = c.judged.new.tx.conn.now in
+    let end = c.conn-in-Refused-1.given.0 in
+    let ends : Survives (state g.S.Store mid) (state g.S.Store end) (λ _. ⊥) = search rules in
+    let back : HasCleanDisk (state g.S.Store end) → IsRolledBack (state g.S.Store mid) (state g.S.Store end) = search rules in
+    as_before g.S.Store c.args.conn.now c.transaction-tx.result.conn.now mid c.transaction-tx.ensures.begun c.schema-schema.ensures.live c.args.totals.now c.args.request.now c.in_ok-verdict.verdict
+    c.in_ok-verdict.ensures.ok c.in_ok-verdict.ensures.verdict c.judged.ensures.survives end ends back _ (ap reply_of c.in-Refused.is) (λ x. ap (after_verdict x) c.in-Refused.is) clean h counts at
+
+pub returns-in-Kept-clause-answered : goal.returns-in-Kept-clause-answered
+returns-in-Kept-clause-answered g c clean h counts at =
+    let mid = c.judged.new.tx.conn.now in
+    let end = c.conn-in-Kept-1.given.0 in
+    let ends : Survives (state g.S.Store mid) (state g.S.Store end) (λ _. ⊥) = search rules in
+    let back : HasCleanDisk (state g.S.Store end) → IsRolledBack (state g.S.Store mid) (state g.S.Store end) = search rules in
+    as_before g.S.Store c.args.conn.now c.transaction-tx.result.conn.now mid c.transaction-tx.ensures.begun c.schema-schema.ensures.live c.args.totals.now c.args.request.now c.in_ok-verdict.verdict
+    c.in_ok-verdict.ensures.ok c.in_ok-verdict.ensures.verdict c.judged.ensures.survives end ends back _ (ap reply_of c.in-Kept.is) (λ x. ap (after_verdict x) c.in-Kept.is) clean h counts at
+
+pub returns-in_err-verdict-clause-foreign : goal.returns-in_err-verdict-clause-foreign
+returns-in_err-verdict-clause-foreign g c clean foreign h counts at =
+    let mid = c.judged.new.tx.conn.now in
+    let end = c.conn-1.given.0 in
+    let ends : Survives (state g.S.Store mid) (state g.S.Store end) (λ _. ⊥) = search rules in
+    let was : c.judged.result ≡ Err Foreign = search rules in
+    never_foreign g.S.Store c.args.conn.now c.transaction-tx.result.conn.now mid end c.transaction-tx.ensures.begun c.schema-schema.ensures.live c.args.totals.now
+    (λ mids inside. c.judged.ensures.foreign mids inside was) c.judged.ensures.survives ends clean h counts at

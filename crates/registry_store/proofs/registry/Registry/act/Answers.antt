@@ -1,0 +1,10 @@
+use Rattle.std.proofs.Common.{refl, subst, ◌∙◌}
+use Rattle.registry_rules.proofs.RunLemmas.{kept_for_good}
+use Rattle.registry_store.specs.Promise.{Stands}
+use Rattle.registry_store.proofs.registry.Registry.act.Goals as goal
+
+pub returns-in-Ok-clause-repeated : goal.returns-in-Ok-clause-repeated
+returns-in-Ok-clause-repeated g c h deed between new stands clean =
+    let law = kept_for_good h c.args.request.now deed between new in
+    let it = c.in-Ok.ensures.answered clean _ stands.counts stands.at in
+    (it.0 ∙ law.1, subst (Stands _) law.0 (record { unspent = stands.unspent; counts = it.1; at = it.2 }))

@@ -1,0 +1,4 @@
+pub mod Promise
+pub mod Attempt
+pub mod Run
+pub mod Reopen

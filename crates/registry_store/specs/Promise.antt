@@ -1,0 +1,57 @@
+-- What a registry promises of its store.
+use Rattle.std.specs.Prelude.{◌≡◌, ◌≤◌, ◌⊎◌, ℕ, Bool, false, IsTrue}
+use Rattle.sqlite.specs.Tree.{Trees}
+use Rattle.sqlite.specs.View.{doubt}
+use Rattle.sqlite.specs.Disk.{MoreFaults}
+use Rattle.sqlite.specs.Store.{Ghosts}
+use Rattle.sqlite.specs.State.{State, HasCleanDisk}
+use Rattle.sqlite.specs.Held.{Held, state}
+use Rattle.registry_rules.specs.declared.totals.Totals.{Totals}
+use Rattle.registry_rules.specs.History.{History}
+use Rattle.registry_rules.specs.Run.{Legal}
+use Rattle.registry_rules.specs.TotalsOf.{AreTotalsOf}
+use Rattle.registry_tables.specs.Rows.{Rows, newest}
+use Rattle.registry_store.specs.declared.registry.Registry.{Registry}
+
+-- each database that a crash may now leave has the rows, in this schema, of one of these histories
+abbrev pub Leaves : ℕ → State → (History → Type 0) → Type 0
+Leaves v s These = (db : Trees) → s.may_leave db → (h : History) × These h × Rows v db h
+
+-- While it is open the connection shows the rows of the history, and a crash leaves those alone.
+pub record IsAt (v : ℕ) (s : State) (h : History) : Type 0 where
+  pub shown : HasCleanDisk s → IsTrue s.is_open → (s.now ≡ s.committed) × Rows v s.committed.trees h
+  pub left : HasCleanDisk s → Leaves v s (λ x. x ≡ h)
+
+-- The connection is open and at rest, and shows the rows of the history, as one does that was just opened.
+abbrev pub IsFreshAt : ℕ → State → History → Type 0
+IsFreshAt v s h = HasCleanDisk s → IsTrue s.is_open × (s.now ≡ s.committed) × Rows v s.committed.trees h
+
+-- the history is legal, and these are its totals
+pub record Counts (totals : Totals) (h : History) : Type 0 where
+  pub legal : Legal h
+  pub totals_are : AreTotalsOf h totals
+
+-- whatever a call commits: no doubt and no fault is forgotten, and only a fault shuts the connection
+pub record Endures (old new : State) : Type 0 where
+  pub clean : doubt old.is_clean ≤ doubt new.is_clean
+  pub shield : old.IsShielded → new.IsShielded
+  pub counts : old.faults ≤ new.faults
+  pub closes : HasCleanDisk new → IsTrue old.is_open → IsTrue new.is_open ⊎ MoreFaults old.faults new.faults
+
+module _ {S : Type 0} {g : Ghosts S} where
+  abbrev pub connection_of : Registry S g → Held S
+  connection_of it = it.conn
+
+  -- what the connection of a registry shows
+  abbrev pub state_of : Registry S g → State
+  state_of it = state g it.conn
+
+  -- a fault of an earlier call
+  abbrev pub is_spent : Registry S g → Bool
+  is_spent it = it.spent
+
+  -- a registry that is not spent is at this history: its totals, its tables, and what a crash may leave
+  pub record Stands (it : Registry S g) (h : History) : Type 0 where
+    pub unspent : is_spent it ≡ false
+    pub counts : Counts it.totals h
+    pub at : IsAt newest (state_of it) h

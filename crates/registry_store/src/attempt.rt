@@ -1,0 +1,112 @@
+//! One request in one transaction.
+
+ghost use Rattle.std.specs.Prelude.{◌≡◌, ◌≢◌, true, false, IsTrue, IfOk, OnOk, OnErr, Err};
+ghost use Rattle.sqlite.specs.State.{HasCleanDisk, Survives, Shows, IsUnchanged};
+ghost use Rattle.sqlite.specs.Held.{state};
+ghost use Rattle.registry_rules.specs.History.{History};
+ghost use Rattle.registry_rules.specs.Verdict.{verdict};
+ghost use Rattle.registry_rules.specs.Reply.{act_text};
+ghost use Rattle.registry_rules.specs.Run.{after_one, answer_one};
+ghost use Rattle.registry_tables.specs.Rows.{HoldsRows, newest};
+ghost use Rattle.registry_store.specs.Promise.{Counts, IsAt};
+ghost use Rattle.registry_store.specs.Attempt.{CommitsOne, Wrote};
+
+use registry_rules::{Deed, Reply, Request, Text, Totals, Verdict, changes, judge, reply_text};
+use registry_tables::{TableFault, facts_for, keep_reply, store};
+use sqlite::{Alter, Connection, Error, ErrorCode, Transaction};
+use std::alloc::Global;
+use usbnum_core::NoMemory;
+
+/// The verdict on a request, by the rows that it concerns.
+fn judged<S: Alter>(
+    alloc: Global,
+    tx: &mut Transaction<'_, S>,
+    totals: &Totals,
+    request: &Request,
+) -> Result<Verdict, TableFault>
+    ensures same_reference { tx.new.conn.ghost_name ≡ tx.old.conn.ghost_name }
+    ensures ok { HasCleanDisk (state S.Store tx.new.conn.now) → IsTrue (state S.Store tx.old.conn.now).in_transaction
+        → OnOk result (IsUnchanged (state S.Store tx.old.conn.now) (state S.Store tx.new.conn.now)) }
+    ensures verdict { HasCleanDisk (state S.Store tx.new.conn.now) → IsTrue (state S.Store tx.old.conn.now).in_transaction
+        → IfOk result (λ found. (h : History) → Counts totals.now h → HoldsRows newest (state S.Store tx.old.conn.now).now h → found ≡ verdict h request.now) }
+    ensures foreign { HasCleanDisk (state S.Store tx.new.conn.now) → IsTrue (state S.Store tx.old.conn.now).in_transaction → result ≡ Err TableFault.Foreign
+        → IsTrue (state S.Store tx.old.conn.now).is_open × ((h : History) → Counts totals.now h → ¬ HoldsRows newest (state S.Store tx.old.conn.now).now h) }
+    ensures survives { Survives (state S.Store tx.old.conn.now) (state S.Store tx.new.conn.now) (λ _. ⊥) }
+{
+    let facts = facts_for(alloc, tx, totals, request)?;
+    match judge(alloc, &facts, request) {
+        Ok(verdict) => Ok(verdict),
+        Err(NoMemory) => Err(TableFault::NoMemory),
+    }
+}
+
+/// The rows of a deed and its reply, in the transaction, and the totals with it. What wants memory of its own comes before the first write.
+fn write<S: Alter>(
+    alloc: Global,
+    tx: &mut Transaction<'_, S>,
+    totals: &mut Totals,
+    request: &Request,
+    deed: &Deed,
+    reply: &Text,
+) -> Result<(), TableFault>
+    requires { reply.now ≡ act_text deed.now.act }
+    ensures same_reference { tx.new.conn.ghost_name ≡ tx.old.conn.ghost_name }
+    ensures ok { HasCleanDisk (state S.Store tx.new.conn.now) → IsTrue (state S.Store tx.old.conn.now).in_transaction
+        → OnOk result (Wrote (state S.Store tx.old.conn.now) (state S.Store tx.new.conn.now) totals.old totals.new request.now deed.now) }
+    ensures kind { result ≢ Err TableFault.Foreign }
+    ensures survives { Survives (state S.Store tx.old.conn.now) (state S.Store tx.new.conn.now) (λ _. ⊥) }
+{
+    let Ok(changes) = changes(alloc, deed) else {
+        return Err(TableFault::NoMemory);
+    };
+    let Ok(()) = totals.carry(deed) else {
+        return Err(TableFault::NoMemory);
+    };
+    store(tx, changes.as_slice())?;
+    keep_reply(alloc, tx, request, reply)
+}
+
+/// Commits what the transaction wrote.
+fn finish<S: Alter>(tx: Transaction<'_, S>) -> Result<(), TableFault>
+    ensures ended { tx.exit.0.now.in_transaction ≡ false }
+    ensures ok { HasCleanDisk (state S.Store tx.exit.0.now) → OnOk result (Shows (state S.Store tx.entry.conn.now) (state S.Store tx.exit.0.now) (state S.Store tx.entry.conn.now).now (state S.Store tx.entry.conn.now).now false) }
+    ensures kind { result ≢ Err TableFault.Foreign }
+    ensures survives { Survives (state S.Store tx.entry.conn.now) (state S.Store tx.exit.0.now) (λ db. db ≡ (state S.Store tx.entry.conn.now).now.trees) }
+{
+    match tx.commit() {
+        Ok(()) => Ok(()),
+        Err(Error::SqliteFailure(ErrorCode::OutOfMemory)) => Err(TableFault::NoMemory),
+        Err(_) => Err(TableFault::Store),
+    }
+}
+
+/// One request in one transaction, with one commit where it is accepted and new, and no write where it isn't.
+pub(crate) fn attempt<S: Alter>(
+    alloc: Global,
+    conn: &mut Connection<S>,
+    totals: &mut Totals,
+    request: &Request,
+) -> Result<Reply, TableFault>
+    requires { conn.old.in_transaction ≡ false }
+    ensures idle { conn.new.in_transaction ≡ false }
+    ensures answered { HasCleanDisk (state S.Store conn.new) → IfOk result (λ reply. (h : History) → Counts totals.old h → IsAt newest (state S.Store conn.old) h
+        → (reply ≡ answer_one h request.now) × Counts totals.new (after_one h request.now) × IsAt newest (state S.Store conn.new) (after_one h request.now)) }
+    ensures foreign { HasCleanDisk (state S.Store conn.new) → result ≡ Err TableFault.Foreign → (h : History) → Counts totals.old h → IsAt newest (state S.Store conn.old) h → ⊥ }
+    ensures survives { Survives (state S.Store conn.old) (state S.Store conn.new) (CommitsOne (state S.Store conn.old) totals.old request.now) }
+{
+    let _schema = conn.schema();
+    let mut tx = conn.transaction();
+    let verdict = judged(alloc, &mut tx, totals, request)?;
+    match verdict {
+        Verdict::Kept(text) => Ok(Reply::Done(text)),
+        Verdict::Refused(refusal) => Ok(Reply::Refused(refusal)),
+        Verdict::New(deed) => {
+            let Ok(reply) = reply_text(alloc, &deed) else {
+                return Err(TableFault::NoMemory);
+            };
+            write(alloc, &mut tx, totals, request, &deed, &reply)?;
+            finish(tx)?;
+            Ok(Reply::Done(reply))
+        }
+    }
+}

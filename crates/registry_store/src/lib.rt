@@ -1,0 +1,10 @@
+//! The registry over a store: what it acknowledged is never lost, doubled or torn.
+#![tactic(auto)]
+
+mod attempt;
+pub mod fault;
+pub mod registry;
+pub mod reopen;
+
+pub use fault::Fault;
+pub use registry::Registry;
