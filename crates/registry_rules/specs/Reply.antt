@@ -1,0 +1,102 @@
+-- What is answered to an accepted request, and what a refusal shows.
+use Rattle.std.specs.Prelude.{ℕ, List, [], ◌++◌, codes, Option, Some, None}
+use Rattle.std.specs.Fmt.{decimal}
+use Rattle.usbnum_core.specs.Number.{digits_of}
+use Rattle.registry_rules.specs.declared.deed.Act.{Act}
+use Rattle.registry_rules.specs.declared.deed.Act.TheVariants.{Enrolled, OrgAmended, Asked, Granted, Declined, Withdrawn, CardAmended, Returned, Reserved, Released, Imported, VendorAdded, LicenceAdded}
+use Rattle.registry_rules.specs.declared.item.Tally.{Tally}
+use Rattle.registry_rules.specs.declared.name.NumberName.{NumberName}
+use Rattle.registry_rules.specs.declared.name.SpanName.{SpanName}
+use Rattle.registry_rules.specs.declared.refusal.Refusal.{Refusal}
+use Rattle.registry_rules.specs.declared.refusal.Refusal.TheVariants.{KeyReused, NotCurator, NotKeeper, NoOrg, OrgTaken, NoPetition, PetitionClosed, NumberReserved, NumberOwned, NumberHeld, NumberNotHeld, NoneFree, LicenceUnknown, TooManyOpen, RangeOwned, RangeFixed, RangeNotReserved, Full, ImportTooLong, VendorTaken, NoVendor, LicenceTaken}
+
+-- a vendor before its number: four digits and a colon, or nothing
+abbrev pub vendor_text : Option ℕ → List ℕ
+vendor_text None = []
+vendor_text (Some vid) = digits_of vid ++ codes ":"
+
+-- 0011, or cafe:0011
+abbrev pub number_text : NumberName → List ℕ
+number_text name = vendor_text name.vendor ++ digits_of name.pid
+
+-- 2000-20ff, or cafe:2000-20ff
+abbrev pub span_text : SpanName → List ℕ
+span_text name = vendor_text name.vendor ++ digits_of name.span.first ++ codes "-" ++ digits_of name.span.last
+
+-- fresh 1, owned 0, reserved 0, doubled 0, untitled 0, zero 0
+abbrev pub tally_text : Tally → List ℕ
+tally_text tally =
+    codes "fresh " ++ decimal tally.fresh ++ codes ", owned " ++ decimal tally.owned ++ codes ", reserved " ++ decimal tally.reserved
+    ++ codes ", doubled " ++ decimal tally.doubled ++ codes ", untitled " ++ decimal tally.untitled ++ codes ", zero " ++ decimal tally.zero
+
+-- the reply that is kept for good
+abbrev pub act_text : Act → List ℕ
+act_text (Enrolled org) = codes "enrolled " ++ org.slug
+act_text (OrgAmended org) = codes "amended organisation " ++ org.slug
+act_text (Asked id petition) = codes "petition " ++ decimal id
+act_text (Granted id petition name) = codes "granted " ++ number_text name ++ codes " to " ++ petition.org ++ codes " by petition " ++ decimal id
+act_text (Declined id petition) = codes "declined petition " ++ decimal id
+act_text (Withdrawn id petition) = codes "withdrawn petition " ++ decimal id
+act_text (CardAmended vid name card) = codes "amended " ++ number_text name
+act_text (Returned vid name) = codes "returned " ++ number_text name
+act_text (Reserved vid name) = codes "reserved " ++ span_text name
+act_text (Released vid name) = codes "released " ++ span_text name
+act_text (Imported vid org fresh tally) = codes "imported " ++ tally_text tally
+act_text (VendorAdded vendor name) = codes "added vendor " ++ digits_of vendor
+act_text (LicenceAdded licence) = codes "added licence " ++ licence
+
+-- the number of a refusal
+abbrev pub refusal_number : Refusal → ℕ
+refusal_number KeyReused = 1
+refusal_number NotCurator = 2
+refusal_number NotKeeper = 3
+refusal_number NoOrg = 4
+refusal_number OrgTaken = 5
+refusal_number NoPetition = 6
+refusal_number PetitionClosed = 7
+refusal_number NumberReserved = 8
+refusal_number (NumberOwned owner) = 9
+refusal_number NumberHeld = 10
+refusal_number NumberNotHeld = 11
+refusal_number NoneFree = 12
+refusal_number LicenceUnknown = 13
+refusal_number TooManyOpen = 14
+refusal_number (RangeOwned name) = 15
+refusal_number RangeFixed = 16
+refusal_number RangeNotReserved = 17
+refusal_number Full = 18
+refusal_number ImportTooLong = 19
+refusal_number VendorTaken = 33
+refusal_number NoVendor = 34
+refusal_number LicenceTaken = 35
+
+-- and its name
+abbrev pub refusal_name : Refusal → List ℕ
+refusal_name KeyReused = codes "KeyReused"
+refusal_name NotCurator = codes "NotCurator"
+refusal_name NotKeeper = codes "NotKeeper"
+refusal_name NoOrg = codes "NoOrg"
+refusal_name OrgTaken = codes "OrgTaken"
+refusal_name NoPetition = codes "NoPetition"
+refusal_name PetitionClosed = codes "PetitionClosed"
+refusal_name NumberReserved = codes "NumberReserved"
+refusal_name (NumberOwned owner) = codes "NumberOwned"
+refusal_name NumberHeld = codes "NumberHeld"
+refusal_name NumberNotHeld = codes "NumberNotHeld"
+refusal_name NoneFree = codes "NoneFree"
+refusal_name LicenceUnknown = codes "LicenceUnknown"
+refusal_name TooManyOpen = codes "TooManyOpen"
+refusal_name (RangeOwned name) = codes "RangeOwned"
+refusal_name RangeFixed = codes "RangeFixed"
+refusal_name RangeNotReserved = codes "RangeNotReserved"
+refusal_name Full = codes "Full"
+refusal_name ImportTooLong = codes "ImportTooLong"
+refusal_name VendorTaken = codes "VendorTaken"
+refusal_name NoVendor = codes "NoVendor"
+refusal_name LicenceTaken = codes "LicenceTaken"
+
+-- the owner that stands in the way, or the least owned number of the span
+abbrev pub refusal_detail : Refusal → Option (List ℕ)
+refusal_detail (NumberOwned owner) = Some owner
+refusal_detail (RangeOwned name) = Some (number_text name)
+refusal_detail _ = None

@@ -1,0 +1,39 @@
+use crate::{Card, Entry, Org, Petition};
+use usbnum_core::{Number, Span, Title, Vid};
+
+/// One change of what is kept of a history. A record is put in the place of an older one, where there
+/// is one.
+#[derive(Debug)]
+pub enum Change {
+    PutOrg(Org),
+    PutPetition { id: u32, petition: Petition },
+    PutEntry { number: Number, entry: Entry },
+    SetHeld { number: Number, held: bool },
+    SetCard { number: Number, card: Card },
+    /// The numbers of the span join those that an order reserved.
+    ReserveSpan { vid: Vid, span: Span },
+    /// The numbers of the span leave those that an order reserved.
+    ReleaseSpan { vid: Vid, span: Span },
+    PutVendor { vid: Vid, name: Title },
+    PutLicence(Title),
+}
+
+// By hand, so that a drop is one step wherever a change goes out of scope.
+impl Drop for Change {
+    fn drop(self) {
+        match self {
+            Change::PutOrg(_) => {}
+            Change::PutPetition { id: _, petition: _ } => {}
+            Change::PutEntry {
+                number: _,
+                entry: _,
+            } => {}
+            Change::SetHeld { number: _, held: _ } => {}
+            Change::SetCard { number: _, card: _ } => {}
+            Change::ReserveSpan { vid: _, span: _ } => {}
+            Change::ReleaseSpan { vid: _, span: _ } => {}
+            Change::PutVendor { vid: _, name: _ } => {}
+            Change::PutLicence(_) => {}
+        }
+    }
+}

@@ -1,0 +1,112 @@
+use crate::{Card, Items, NumberName, Order, Org, Petition, SpanName, Tally};
+use usbnum_core::{Key, Slug, Title, Vid};
+
+/// What an accepted request did. `vid` is the number's vendor, also where its name leaves it out.
+#[derive(Debug)]
+pub enum Act {
+    /// An organisation was enrolled.
+    Enrolled(Org),
+    /// An organisation has this title and site now.
+    OrgAmended(Org),
+    /// The petition of this number was asked.
+    Asked {
+        id: u32,
+        petition: Petition,
+    },
+    /// The petition, as it was while open, was granted the number of its vendor.
+    Granted {
+        id: u32,
+        petition: Petition,
+        name: NumberName,
+    },
+    /// The petition, as it was while open, was declined.
+    Declined {
+        id: u32,
+        petition: Petition,
+    },
+    /// The petition, as it was while open, was withdrawn.
+    Withdrawn {
+        id: u32,
+        petition: Petition,
+    },
+    /// A held number has this card now.
+    CardAmended {
+        vid: Vid,
+        name: NumberName,
+        card: Card,
+    },
+    /// A held number was given back.
+    Returned {
+        vid: Vid,
+        name: NumberName,
+    },
+    /// The numbers of a span were reserved.
+    Reserved {
+        vid: Vid,
+        name: SpanName,
+    },
+    /// The numbers of a span were released.
+    Released {
+        vid: Vid,
+        name: SpanName,
+    },
+    /// The fresh items of an import became held numbers of the organisation.
+    Imported {
+        vid: Vid,
+        org: Slug,
+        fresh: Items,
+        tally: Tally,
+    },
+    /// A vendor was added.
+    VendorAdded {
+        vendor: Vid,
+        name: Title,
+    },
+    /// A licence was added.
+    LicenceAdded {
+        licence: Title,
+    },
+}
+
+/// One accepted request, and what it did.
+#[derive(Debug, Drop)]
+pub struct Deed {
+    pub caller: Slug,
+    pub key: Key,
+    pub order: Order,
+    pub act: Act,
+}
+
+// By hand, so that a drop is one step wherever an act goes out of scope.
+impl Drop for Act {
+    fn drop(self) {
+        match self {
+            Act::Enrolled(_) => {}
+            Act::OrgAmended(_) => {}
+            Act::Asked { id: _, petition: _ } => {}
+            Act::Granted {
+                id: _,
+                petition: _,
+                name: _,
+            } => {}
+            Act::Declined { id: _, petition: _ } => {}
+            Act::Withdrawn { id: _, petition: _ } => {}
+            Act::CardAmended {
+                vid: _,
+                name: _,
+                card: _,
+            } => {}
+            Act::Returned { vid: _, name: _ } => {}
+            Act::Reserved { vid: _, name: _ } => {}
+            Act::Released { vid: _, name: _ } => {}
+            Act::Imported {
+                vid: _,
+                org: _,
+                fresh: _,
+                tally: _,
+            } => {}
+            Act::VendorAdded { vendor: _, name: _ } => {}
+            Act::LicenceAdded { licence: _ } => {}
+        }
+    }
+}

@@ -1,0 +1,78 @@
+ghost use Rattle.std.specs.Prelude.{◌≡◌, find};
+ghost use Rattle.std.specs.Option.{option_copied};
+ghost use Rattle.registry_rules.specs.Number.{is_number};
+
+use crate::{Founding, Holding, Org, Petition, Spelling, Text, Vendors};
+use std::marker::Model;
+use usbnum_core::{Number, Pid, Spans};
+
+/// The owned ones of some numbers.
+#[derive(Debug, Drop)]
+pub struct Holdings {
+    items: Vec<Holding>,
+}
+
+impl Model for Holdings {
+    ghost use Rattle.std.specs.Prelude.{List};
+    ghost use Rattle.registry_rules.specs.declared.record.Holding.{Holding};
+
+    ghost Value = { List Holding };
+
+    ghost view = { λ a. a.items.items };
+}
+
+impl Holdings {
+    pub fn new(items: Vec<Holding>) -> Holdings
+        ensures { result ≡ items.items }
+    {
+        Holdings { items }
+    }
+
+    pub fn as_slice(&self) -> &[Holding]
+        ensures { result.now ≡ self.now }
+    {
+        &self.items
+    }
+
+    /// What there is of the number.
+    pub fn of(&self, number: Number) -> Option<&Holding>
+        ensures { option_copied result ≡ find (λ holding. is_number number holding.number) self.now }
+    {
+        self.items.iter().find(|holding| holding.number == number)
+    }
+}
+
+/// What is kept of the accepted request of a caller and key: its order's spelling and its reply.
+#[derive(Clone, Debug, Drop)]
+pub struct Kept {
+    pub order: Spelling,
+    pub reply: Text,
+}
+
+/// What has to be known of a history to judge a request. The vendor concerned is the one that the
+/// order means, for an order on a petition the petition's.
+#[derive(Debug, Drop)]
+pub struct Facts<'a> {
+    /// The founding, with the licences that are allowed now.
+    pub founding: &'a Founding,
+    /// All vendors, the founding one included.
+    pub vendors: &'a Vendors,
+    /// What is kept under the request's caller and key.
+    pub kept: Option<Kept>,
+    /// The organisation concerned: the one named, the petition's, or the number's owner.
+    pub org: Option<Org>,
+    /// How many organisations there are.
+    pub orgs: u32,
+    /// How many petitions of the organisation concerned are open.
+    pub open_count: u32,
+    /// The petition named.
+    pub petition: Option<Petition>,
+    /// How many petitions there are.
+    pub petitions: u32,
+    /// The owned ones of the numbers that the order names or resolves to.
+    pub holdings: Holdings,
+    /// The reserved numbers of the vendor concerned, those of the founding included.
+    pub reserved: &'a Spans,
+    /// The least free number of the vendor concerned.
+    pub least: Option<Pid>,
+}

@@ -1,0 +1,6 @@
+use Rattle.std.proofs.Common.{◌≡◌}
+use Rattle.toml.proofs.Views.{table_get}
+use Rattle.registry_wire.proofs.founding.value_at.Goals as goal
+
+pub returns : goal.returns
+returns c = rw (← c.name.ensures) (table_get c.get.result c.name.result.now c.args.table.now.entries c.get.ensures.value)

@@ -1,0 +1,99 @@
+-- What a founding file says, by the TOML that its bytes are.
+use Rattle.std.specs.Prelude.{ℕ, ◌&&◌, ◌==◌, nat_le, List, [], ◌∷◌, length, Option, Some, None, option_and_then, option_map, Result, Ok, if◌then◌else◌}
+use Rattle.std.specs.Str.{is_utf8}
+use Rattle.toml.specs.Data.{Data, Items, no_items, item, Members, get_member, as_str, as_array}
+use Rattle.toml.specs.Parse.{parse_document}
+use Rattle.usbnum_core.specs.Number.{number_of}
+use Rattle.usbnum_core.specs.declared.number.Span.{Span}
+use Rattle.registry_wire.specs.declared.refusal.WireRefusal.{WireRefusal}
+use Rattle.registry_wire.specs.declared.refusal.WireRefusal.TheVariants.{BadFounding}
+use Rattle.registry_wire.specs.declared.refusal.FoundingFault.{FoundingFault}
+use Rattle.registry_wire.specs.declared.refusal.FoundingFault.TheVariants.{Toml, Vendor, Name, Curators, Licences, Fixed}
+use Rattle.registry_wire.specs.Gives.{◌>>=◌, present}
+use Rattle.registry_wire.specs.Fields.{fault_name}
+use Rattle.registry_wire.specs.Kinds.{slug_of, title_of}
+use Rattle.registry_wire.specs.Spans.{span_of}
+
+-- what the file lists, as it stands there
+pub record Listed : Type 0 where
+  pub vendor : ℕ
+  pub name : List ℕ
+  pub curators : List (List ℕ)
+  pub licences : List (List ℕ)
+  pub fixed : List Span
+
+-- ---- one value
+
+abbrev pub number_from : Data → Option ℕ
+number_from found = option_and_then number_of (as_str found)
+
+abbrev pub slug_from : Data → Option (List ℕ)
+slug_from found = option_and_then slug_of (as_str found)
+
+abbrev pub title_from : Data → Option (List ℕ)
+title_from found = option_and_then title_of (as_str found)
+
+-- the span that goes on with nothing, or with a hyphen and its last number
+abbrev pub span_after : ℕ → List ℕ → Option Span
+span_after first [] = span_of first first
+span_after first (byte ∷ last) = if byte == 45 then option_and_then (span_of first) (number_of last) else None
+
+-- the span that a text spells: the four digits of its first number, and then those of its last one after a hyphen, or nothing
+unfoldable pub span_spelled : List ℕ → Option Span
+span_spelled (a ∷ b ∷ c ∷ d ∷ rest) = option_and_then (λ first. span_after first rest) (number_of (a ∷ b ∷ c ∷ d ∷ []))
+span_spelled _ = None
+
+abbrev pub span_from : Data → Option Span
+span_from found = option_and_then span_spelled (as_str found)
+
+-- ---- the values of the file
+
+-- the value at a key
+abbrev pub value_in : FoundingFault → Members → Option Data
+value_in key table = get_member (fault_name key) table
+
+unfoldable pub one_in : {A : Type 0} → (Data → Option A) → FoundingFault → Members → Result A WireRefusal
+one_in kind key table = present (BadFounding key) (option_and_then kind (value_in key table))
+
+-- the items of an array, where all are of the kind
+unfoldable pub all_of : {A : Type 0} → (Data → Option A) → Items → Option (List A)
+all_of kind no_items = Some []
+all_of kind (item first others) = option_and_then (λ x. option_map (λ xs. x ∷ xs) (all_of kind others)) (kind first)
+
+-- at least one item, and at most so many
+abbrev pub counted : {A : Type 0} → ℕ → List A → Option (List A)
+counted most items = if nat_le 1 (length items) && nat_le (length items) most then Some items else None
+
+-- an array of one to so many items of the kind
+unfoldable pub some_in : {A : Type 0} → (Data → Option A) → ℕ → FoundingFault → Members → Result (List A) WireRefusal
+some_in kind most key table = present (BadFounding key) (option_and_then (counted most) (option_and_then (all_of kind) (option_and_then as_array (value_in key table))))
+
+abbrev pub spans_if_given : Option Data → Option (List Span)
+spans_if_given None = Some []
+spans_if_given (Some found) = option_and_then (all_of span_from) (as_array found)
+
+-- the fixed spans; where the key is absent there are none
+unfoldable pub fixed_in : Members → Result (List Span) WireRefusal
+fixed_in table = present (BadFounding Fixed) (spans_if_given (value_in Fixed table))
+
+-- the values, in the order in which they are looked at
+unfoldable pub listed_in : Members → Result Listed WireRefusal
+listed_in table = do
+  vendor ← one_in number_from Vendor table
+  name ← one_in title_from Name table
+  curators ← some_in slug_from 64 Curators table
+  licences ← some_in title_from 1024 Licences table
+  fixed ← fixed_in table
+  Ok (record { vendor = vendor; name = name; curators = curators; licences = licences; fixed = fixed })
+
+-- ---- whole files
+
+-- the table that the bytes are in TOML
+unfoldable pub table_of : List ℕ → Result Members WireRefusal
+table_of bytes = present (BadFounding Toml) (if is_utf8 bytes then parse_document bytes else None)
+
+-- what the bytes list, or the first fault that they have
+unfoldable pub founding_listed : List ℕ → Result Listed WireRefusal
+founding_listed bytes = do
+  table ← table_of bytes
+  listed_in table

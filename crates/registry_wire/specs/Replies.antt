@@ -1,0 +1,43 @@
+-- Replies and refusals as JSON.
+use Rattle.std.specs.Prelude.{ℕ, List, codes, Option, Some, None}
+use Rattle.serde_json.specs.Data.{Data, string, number, unsigned, object, Members, member, no_members}
+use Rattle.registry_rules.specs.declared.verdict.Reply.{Reply}
+use Rattle.registry_rules.specs.declared.verdict.Reply.TheVariants.{Done, Refused}
+use Rattle.registry_rules.specs.Reply.{refusal_number, refusal_name, refusal_detail}
+use Rattle.registry_wire.specs.declared.refusal.WireRefusal.{WireRefusal}
+use Rattle.registry_wire.specs.declared.refusal.WireRefusal.TheVariants.{BadJson, BadField, BadFounding}
+use Rattle.registry_wire.specs.Fields as fields
+
+-- the number of a refusal
+abbrev pub number_of : WireRefusal → ℕ
+number_of BadJson = 27
+number_of (BadField field) = 28
+number_of (BadFounding fault) = 32
+
+-- and its name
+abbrev pub name_of : WireRefusal → List ℕ
+name_of BadJson = codes "BadJson"
+name_of (BadField field) = codes "BadField"
+name_of (BadFounding fault) = codes "BadFounding"
+
+-- the name of the bad field, or of the bad key of a founding file
+abbrev pub detail_of : WireRefusal → Option (List ℕ)
+detail_of BadJson = None
+detail_of (BadField field) = Some (fields.name_of field)
+detail_of (BadFounding fault) = Some (fields.fault_name fault)
+
+abbrev pub with_detail : Option (List ℕ) → Members → Members
+with_detail None others = others
+with_detail (Some detail) others = member (codes "detail") (string detail) others
+
+-- {"name":NAME,"refused":NUMBER}, or {"detail":DETAIL,"name":NAME,"refused":NUMBER}
+abbrev pub refused_data : ℕ → List ℕ → Option (List ℕ) → Data
+refused_data refused name detail = object (with_detail detail (member (codes "name") (string name) (member (codes "refused") (number (unsigned refused)) no_members)))
+
+abbrev pub refusal_data : WireRefusal → Data
+refusal_data refusal = refused_data (number_of refusal) (name_of refusal) (detail_of refusal)
+
+-- {"done":TEXT}, or the refusal
+abbrev pub reply_data : Reply → Data
+reply_data (Done text) = object (member (codes "done") (string text) no_members)
+reply_data (Refused refusal) = refused_data (refusal_number refusal) (refusal_name refusal) (refusal_detail refusal)

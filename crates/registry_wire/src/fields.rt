@@ -1,0 +1,183 @@
+ghost use Rattle.std.specs.Prelude.{◌≡◌, option_copied, option_map, option_and_then};
+ghost use Rattle.usbnum_core.specs.Number.{number_of};
+ghost use Rattle.serde_json.specs.View.{view};
+ghost use Rattle.serde_json.specs.Find.{as_str};
+ghost use Rattle.registry_wire.specs.Gives.{Gives};
+ghost use Rattle.registry_wire.specs.Reading.{wanted, text_in, given_in, slug_in, key_in, title_in, link_in, number_in, optional_number_in, petition_of, whole_in, petition_in, span_in, kind_in};
+
+use crate::kind::{Kind, kind_of};
+use crate::link::link_of;
+use crate::span::span_of;
+use crate::stop::{Stop, present};
+use crate::text::{key_of, slug_of, title_of};
+use crate::{Field, WireRefusal};
+use serde_json::Value;
+use std::alloc::Global;
+use usbnum_core::{Key, Link, Pid, Slug, Span, Title, Vid, parse_pid, parse_vid};
+
+// The value of a field, or that the field is bad.
+fn wanted<T>(field: Field, found: Option<T>) -> Result<T, Stop>
+    ensures { Gives result (wanted field found) }
+{
+    present(WireRefusal::BadField(field), found)
+}
+
+// The text at a field.
+fn text_at(value: &Value, field: Field) -> Option<&str>
+    ensures { option_copied result ≡ text_in field (view value.now) }
+{
+    match value.get(field.name()) {
+        Some(found) => found.as_str(),
+        None => None,
+    }
+}
+
+#[tactic(auto, unfolding(crate::specs::Reading::slug_in))]
+pub(crate) fn slug_at(alloc: Global, value: &Value, field: Field) -> Result<Slug, Stop>
+    ensures { Gives result (slug_in field (view value.now)) }
+{
+    let Some(text) = text_at(value, field) else {
+        return wanted(field, None);
+    };
+    wanted(field, slug_of(alloc, text)?)
+}
+
+#[tactic(auto, unfolding(crate::specs::Reading::key_in))]
+pub(crate) fn key_at(alloc: Global, value: &Value, field: Field) -> Result<Key, Stop>
+    ensures { Gives result (key_in field (view value.now)) }
+{
+    let Some(text) = text_at(value, field) else {
+        return wanted(field, None);
+    };
+    wanted(field, key_of(alloc, text)?)
+}
+
+#[tactic(auto, unfolding(crate::specs::Reading::title_in))]
+pub(crate) fn title_at(alloc: Global, value: &Value, field: Field) -> Result<Title, Stop>
+    ensures { Gives result (title_in field (view value.now)) }
+{
+    let Some(text) = text_at(value, field) else {
+        return wanted(field, None);
+    };
+    wanted(field, title_of(alloc, text)?)
+}
+
+#[tactic(auto, unfolding(crate::specs::Reading::link_in))]
+pub(crate) fn link_at(alloc: Global, value: &Value, field: Field) -> Result<Link, Stop>
+    ensures { Gives result (link_in field (view value.now)) }
+{
+    let Some(text) = text_at(value, field) else {
+        return wanted(field, None);
+    };
+    wanted(field, link_of(alloc, text)?)
+}
+
+#[tactic(auto, unfolding(crate::specs::Reading::kind_in))]
+pub(crate) fn kind_at(value: &Value) -> Result<Kind, Stop>
+    ensures { Gives result (kind_in (view value.now)) }
+{
+    let Some(text) = text_at(value, Field::Order) else {
+        return wanted(Field::Order, None);
+    };
+    wanted(Field::Order, kind_of(text))
+}
+
+#[tactic(auto, unfolding(crate::specs::Reading::number_in))]
+pub(crate) fn pid_at(value: &Value, field: Field) -> Result<Pid, Stop>
+    ensures { Gives result (number_in field (view value.now)) }
+{
+    let Some(text) = text_at(value, field) else {
+        return wanted(field, None);
+    };
+    wanted(field, parse_pid(text.as_bytes()))
+}
+
+#[tactic(auto, unfolding(crate::specs::Reading::number_in))]
+pub(crate) fn vid_at(value: &Value, field: Field) -> Result<Vid, Stop>
+    ensures { Gives result (number_in field (view value.now)) }
+{
+    let Some(text) = text_at(value, field) else {
+        return wanted(field, None);
+    };
+    wanted(field, parse_vid(text.as_bytes()))
+}
+
+// The value of a field that may be absent or null.
+fn given_at(value: &Value, field: Field) -> Option<&Value>
+    ensures { option_map (λ found. view found.now) result ≡ given_in field (view value.now) }
+{
+    let found = value.get(field.name())?;
+    if found.is_null() { None } else { Some(found) }
+}
+
+fn pid_of(value: &Value) -> Option<Pid>
+    ensures { result ≡ option_and_then number_of (as_str (view value.now)) }
+{
+    parse_pid(value.as_str()?.as_bytes())
+}
+
+fn vid_of(value: &Value) -> Option<Vid>
+    ensures { result ≡ option_and_then number_of (as_str (view value.now)) }
+{
+    parse_vid(value.as_str()?.as_bytes())
+}
+
+#[tactic(auto, unfolding(crate::specs::Reading::optional_number_in))]
+pub(crate) fn optional_pid_at(value: &Value, field: Field) -> Result<Option<Pid>, Stop>
+    ensures { Gives result (optional_number_in field (view value.now)) }
+{
+    match given_at(value, field) {
+        Some(found) => Ok(Some(wanted(field, pid_of(found))?)),
+        None => Ok(None),
+    }
+}
+
+#[tactic(auto, unfolding(crate::specs::Reading::optional_number_in))]
+pub(crate) fn optional_vid_at(value: &Value, field: Field) -> Result<Option<Vid>, Stop>
+    ensures { Gives result (optional_number_in field (view value.now)) }
+{
+    match given_at(value, field) {
+        Some(found) => Ok(Some(wanted(field, vid_of(found))?)),
+        None => Ok(None),
+    }
+}
+
+// The number of a petition, which is at least 1 and has at most 32 bits.
+fn petition_of(number: u64) -> Option<u32>
+    ensures { result ≡ petition_of number }
+{
+    if 1 <= number && number <= 4_294_967_295 {
+        Some(number as u32)
+    } else {
+        None
+    }
+}
+
+// A whole number at a field.
+fn whole_at(value: &Value, field: Field) -> Option<u64>
+    ensures { result ≡ whole_in field (view value.now) }
+{
+    match value.get(field.name()) {
+        Some(found) => found.as_u64(),
+        None => None,
+    }
+}
+
+#[tactic(auto, unfolding(crate::specs::Reading::petition_in))]
+pub(crate) fn petition_at(value: &Value) -> Result<u32, Stop>
+    ensures { Gives result (petition_in (view value.now)) }
+{
+    match whole_at(value, Field::Petition) {
+        Some(number) => wanted(Field::Petition, petition_of(number)),
+        None => wanted(Field::Petition, None),
+    }
+}
+
+#[tactic(auto, unfolding(crate::specs::Reading::span_in))]
+pub(crate) fn span_at(value: &Value) -> Result<Span, Stop>
+    ensures { Gives result (span_in (view value.now)) }
+{
+    let first = pid_at(value, Field::First)?;
+    let last = pid_at(value, Field::Last)?;
+    wanted(Field::Last, span_of(first, last))
+}

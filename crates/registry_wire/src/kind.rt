@@ -1,0 +1,40 @@
+ghost use Rattle.std.specs.Prelude.{◌≡◌};
+ghost use Rattle.registry_wire.specs.Fields.{kind_of};
+
+// What an order in JSON is called by its field `order`.
+#[derive(Clone, Copy, Debug, PartialEq, Eq)]
+pub(crate) enum Kind {
+    Enrol,
+    AmendOrg,
+    Ask,
+    Grant,
+    Decline,
+    Withdraw,
+    Amend,
+    Return,
+    Reserve,
+    Release,
+    AddVendor,
+    AddLicence,
+}
+
+// The kind of order that a name stands for.
+pub(crate) fn kind_of(name: &str) -> Option<Kind>
+    ensures { result ≡ kind_of name.now }
+{
+    match name {
+        "enrol" => Some(Kind::Enrol),
+        "amend-org" => Some(Kind::AmendOrg),
+        "ask" => Some(Kind::Ask),
+        "grant" => Some(Kind::Grant),
+        "decline" => Some(Kind::Decline),
+        "withdraw" => Some(Kind::Withdraw),
+        "amend" => Some(Kind::Amend),
+        "return" => Some(Kind::Return),
+        "reserve" => Some(Kind::Reserve),
+        "release" => Some(Kind::Release),
+        "add-vendor" => Some(Kind::AddVendor),
+        "add-licence" => Some(Kind::AddLicence),
+        _ => None,
+    }
+}

@@ -1,0 +1,38 @@
+ghost use Rattle.std.specs.Prelude.{◌≡◌, ◌||◌, IfOk, bytes_eq, codes};
+ghost use Rattle.registry_wire.specs.Kinds.{link_of, web_address};
+
+use std::alloc::Global;
+use url::{ParseError, Url};
+use usbnum_core::{Link, NoMemory};
+
+fn is_web(scheme: &str) -> bool
+    ensures { result ≡ (bytes_eq scheme.now (codes "http") || bytes_eq scheme.now (codes "https")) }
+{
+    scheme == "http" || scheme == "https"
+}
+
+// The link that a URL of the web is.
+#[tactic(auto, unfolding(crate::specs::Kinds::web_address))]
+fn web_address(alloc: Global, url: &Url) -> Result<Option<Link>, NoMemory>
+    ensures { IfOk result (λ found. found ≡ web_address url.now) }
+{
+    if !is_web(url.scheme()) {
+        return Ok(None);
+    }
+    Link::new(alloc, url.as_str().as_bytes())
+}
+
+// The link that a text is.
+#[tactic(auto, unfolding(crate::specs::Kinds::link_of))]
+pub(crate) fn link_of(alloc: Global, text: &str) -> Result<Option<Link>, NoMemory>
+    ensures { IfOk result (λ found. found ≡ link_of text.now) }
+{
+    if text.len() > 4096 {
+        return Ok(None);
+    }
+    match Url::parse(alloc, text) {
+        Ok(url) => web_address(alloc, &url),
+        Err(ParseError::OutOfMemory | ParseError::Overflow) => Err(NoMemory),
+        Err(_) => Ok(None),
+    }
+}

@@ -1,0 +1,83 @@
+ghost use Rattle.std.specs.Prelude.{◌≡◌, IfOk};
+ghost use Rattle.serde_json.specs.View.{view};
+ghost use Rattle.registry_wire.specs.Gives.{Gives, GivesSeen};
+ghost use Rattle.registry_wire.specs.Reading.{object_of, body_reading, line_reading};
+
+use crate::fields::{key_at, slug_at};
+use crate::orders::order_at;
+use crate::stop::Stop;
+use crate::{Field, WireRefusal};
+use registry_rules::Request;
+use serde_json::Value;
+use std::alloc::Global;
+use usbnum_core::{Key, NoMemory, Slug};
+
+// The JSON object that the bytes are.
+#[tactic(auto, unfolding(crate::specs::Reading::object_of))]
+fn object_of(alloc: Global, bytes: &[u8]) -> Result<Value, Stop>
+    ensures { GivesSeen view result (object_of bytes.now) }
+{
+    match Value::from_slice(alloc, bytes) {
+        Ok(value) => {
+            if value.is_object() {
+                Ok(value)
+            } else {
+                Err(Stop::Refused(WireRefusal::BadJson))
+            }
+        }
+        Err(error) => {
+            if error.is_memory() {
+                Err(Stop::OutOfMemory)
+            } else {
+                Err(Stop::Refused(WireRefusal::BadJson))
+            }
+        }
+    }
+}
+
+#[tactic(auto, unfolding(crate::specs::Reading::line_reading))]
+fn read_line(alloc: Global, bytes: &[u8]) -> Result<Request, Stop>
+    ensures { Gives result (line_reading bytes.now) }
+{
+    let value = object_of(alloc, bytes)?;
+    let caller = slug_at(alloc, &value, Field::Caller)?;
+    let key = key_at(alloc, &value, Field::Key)?;
+    let order = order_at(alloc, &value)?;
+    Ok(Request { caller, key, order })
+}
+
+#[tactic(auto, unfolding(crate::specs::Reading::body_reading))]
+fn read_body(alloc: Global, caller: Slug, key: Key, bytes: &[u8]) -> Result<Request, Stop>
+    ensures { Gives result (body_reading caller key bytes.now) }
+{
+    let value = object_of(alloc, bytes)?;
+    let order = order_at(alloc, &value)?;
+    Ok(Request { caller, key, order })
+}
+
+/// The request that a line of JSON is, with its caller and key as fields, or why it is none.
+pub fn line_request(alloc: Global, line: &[u8]) -> Result<Result<Request, WireRefusal>, NoMemory>
+    ensures { IfOk result (λ read. read ≡ line_reading line.now) }
+{
+    match read_line(alloc, line) {
+        Ok(request) => Ok(Ok(request)),
+        Err(Stop::Refused(refusal)) => Ok(Err(refusal)),
+        Err(Stop::OutOfMemory) => Err(NoMemory),
+    }
+}
+
+/// The request of a caller, under a key, whose order is a body of JSON, or why it is none.
+pub fn request_from_json(
+    alloc: Global,
+    caller: Slug,
+    key: Key,
+    body: &[u8],
+) -> Result<Result<Request, WireRefusal>, NoMemory>
+    ensures { IfOk result (λ read. read ≡ body_reading caller key body.now) }
+{
+    match read_body(alloc, caller, key, body) {
+        Ok(request) => Ok(Ok(request)),
+        Err(Stop::Refused(refusal)) => Ok(Err(refusal)),
+        Err(Stop::OutOfMemory) => Err(NoMemory),
+    }
+}

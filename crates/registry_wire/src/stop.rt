@@ -1,0 +1,33 @@
+ghost use Rattle.std.specs.Prelude.{◌≡◌};
+ghost use Rattle.registry_wire.specs.Gives.{Gives, present};
+
+use crate::WireRefusal;
+use usbnum_core::NoMemory;
+
+// Why nothing was read.
+#[derive(Clone, Copy, Debug, PartialEq, Eq)]
+pub(crate) enum Stop {
+    Refused(WireRefusal),
+    OutOfMemory,
+}
+
+impl From<NoMemory> for Stop {
+    ghost use Rattle.std.specs.Prelude.{◌≡◌};
+    ghost use Rattle.registry_wire.specs.declared.stop.Stop.TheVariants.{OutOfMemory};
+
+    ghost from_gives = { λ _ stop. stop ≡ OutOfMemory };
+
+    fn from(_error: NoMemory) -> Stop {
+        Stop::OutOfMemory
+    }
+}
+
+// The value, or the refusal where there is none.
+pub(crate) fn present<T>(refusal: WireRefusal, found: Option<T>) -> Result<T, Stop>
+    ensures { Gives result (present refusal found) }
+{
+    match found {
+        Some(value) => Ok(value),
+        None => Err(Stop::Refused(refusal)),
+    }
+}

@@ -1,0 +1,100 @@
+ghost use Rattle.std.specs.Prelude.{◌≡◌, IfOk, option_map};
+ghost use Rattle.toml.specs.View.{view, items_view};
+ghost use Rattle.registry_wire.specs.Founding.{number_from, slug_from, title_from, span_from, span_after, span_spelled, all_of};
+
+use crate::span::span_of;
+use crate::text::{slug_of, title_of};
+use std::alloc::Global;
+use toml::Value;
+use usbnum_core::{NoMemory, Pid, Slug, Span, Title, Vid, parse_pid, parse_vid};
+
+// What is read from one value of TOML.
+pub(crate) trait FromToml: Drop {
+    ghost use Rattle.std.specs.Prelude.{Option};
+    ghost use Rattle.toml.specs.Data.{Data};
+
+    ghost kind: { Data → Option Self };
+
+    fn read(alloc: Global, value: &Value) -> Result<Option<Self>, NoMemory>
+        ensures { IfOk result (λ found. found ≡ kind (view value.now)) };
+}
+
+impl FromToml for Vid {
+    ghost kind = { number_from };
+
+    fn read(_alloc: Global, value: &Value) -> Result<Option<Vid>, NoMemory> {
+        match value.as_str() {
+            Some(text) => Ok(parse_vid(text.as_bytes())),
+            None => Ok(None),
+        }
+    }
+}
+
+impl FromToml for Slug {
+    ghost kind = { slug_from };
+
+    fn read(alloc: Global, value: &Value) -> Result<Option<Slug>, NoMemory> {
+        match value.as_str() {
+            Some(text) => slug_of(alloc, text),
+            None => Ok(None),
+        }
+    }
+}
+
+impl FromToml for Title {
+    ghost kind = { title_from };
+
+    fn read(alloc: Global, value: &Value) -> Result<Option<Title>, NoMemory> {
+        match value.as_str() {
+            Some(text) => title_of(alloc, text),
+            None => Ok(None),
+        }
+    }
+}
+
+// The span that begins with a number and goes on with nothing, or with a hyphen and its last number.
+fn span_after(first: Pid, rest: &[u8]) -> Option<Span>
+    ensures { result ≡ span_after first rest.now }
+{
+    match rest {
+        [] => span_of(first, first),
+        [b'-', last @ ..] => span_of(first, parse_pid(last)?),
+        _ => None,
+    }
+}
+
+// The span that a text spells: one number, or the first and the last with a hyphen between them.
+#[tactic(auto, unfolding(crate::specs::Founding::span_spelled))]
+fn span_spelled(text: &[u8]) -> Option<Span>
+    ensures { result ≡ span_spelled text.now }
+{
+    let [a, b, c, d, rest @ ..] = text else {
+        return None;
+    };
+    span_after(parse_pid(&[*a, *b, *c, *d])?, rest)
+}
+
+impl FromToml for Span {
+    ghost kind = { span_from };
+
+    fn read(_alloc: Global, value: &Value) -> Result<Option<Span>, NoMemory> {
+        match value.as_str() {
+            Some(text) => Ok(span_spelled(text.as_bytes())),
+            None => Ok(None),
+        }
+    }
+}
+
+// The values of an array, where all are of the kind.
+pub(crate) fn all_of<T: FromToml>(alloc: Global, values: &[Value]) -> Result<Option<Vec<T>>, NoMemory>
+    ensures { IfOk result (λ found. option_map (λ list. list.items) found ≡ all_of T.kind (items_view values.now)) }
+{
+    let mut list = Vec::new(alloc);
+    for value in values {
+        match T::read(alloc, value)? {
+            Some(read) => list.push(read)?,
+            None => return Ok(None),
+        }
+    }
+    Ok(Some(list))
+}

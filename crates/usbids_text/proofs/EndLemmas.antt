@@ -1,0 +1,96 @@
+-- What is taken in turn, and what is put in turn.
+use Rattle.std.proofs.Common.{◌≡◌, ℕ, ◌-◌, ◌^◌, ◌≤◌, List, [], ◌++◌, length, take, drop, arith, Option, Some, None, inl, inr, refl, sym, ap, subst, ◌∙◌, append_assoc}
+use Rattle.std.specs.Prelude.{nat_lt, Result, Ok, Err}
+use Rattle.std.proofs.lemmas.Bool.{cases_Bool, ltb-false, ltb-true}
+use Rattle.std.specs.Io.KnownBytes.{Appends, Consumes, IsAtEnd, Keeps}
+use Rattle.std.proofs.lemmas.List.{append-nil, take_all, take-append-drop, length-drop}
+use Rattle.usbids_text.specs.Ends.{AppendsBeginning, HasFailed, MayGive, Writes, one_more}
+
+pub Appends-nil : (o : Option (List ℕ)) → Appends o o []
+Appends-nil None = tt
+Appends-nil (Some xs) = sym (append-nil xs)
+
+pub Appends-keeps : (o n : Option (List ℕ)) → Keeps o n → Appends o n []
+Appends-keeps None n h = tt
+Appends-keeps (Some xs) None h = absurd h
+Appends-keeps (Some xs) (Some ys) h = h ∙ sym (append-nil xs)
+
+pub Appends-then : (a b c : Option (List ℕ)) (x y : List ℕ) → Appends a b x → Appends b c y → Appends a c (x ++ y)
+Appends-then None b c x y p q = tt
+Appends-then (Some xs) None c x y p q = absurd p
+Appends-then (Some xs) (Some ys) None x y p q = absurd q
+Appends-then (Some xs) (Some ys) (Some zs) x y p q = q ∙ (ap (λ (t : List ℕ). t ++ y) p ∙ append_assoc xs x y)
+
+-- a beginning of what comes second is, with all of the first, a beginning of both
+pub AppendsBeginning-then : (a b c : Option (List ℕ)) (x y : List ℕ) → Appends a b x → AppendsBeginning b c y → AppendsBeginning a c (x ++ y)
+AppendsBeginning-then a b c x y p q = record {
+  front = x ++ q.front;
+  rest = q.rest;
+  whole = ap (λ (t : List ℕ). x ++ t) q.whole ∙ sym (append_assoc x q.front q.rest);
+  appended = Appends-then a b c x q.front p q.appended;
+}
+
+-- a beginning of what comes first is a beginning of both
+pub AppendsBeginning-more : (a b : Option (List ℕ)) (x y : List ℕ) → AppendsBeginning a b x → AppendsBeginning a b (x ++ y)
+AppendsBeginning-more a b x y p = record {
+  front = p.front;
+  rest = p.rest ++ y;
+  whole = ap (λ (t : List ℕ). t ++ y) p.whole ∙ append_assoc p.front p.rest y;
+  appended = p.appended;
+}
+
+-- after a write that did not fail, the next write's answer is that of both
+pub Writes-then : {A E : Type 0} (r : Result A E) (a b c : Option (List ℕ)) (f g h : ℕ) (x y : List ℕ) → Appends a b x → g ≡ f → Writes b c g h r y → Writes a c f h r (x ++ y)
+Writes-then (Ok done) a b c f g h x y p same w = (Appends-then a b c x y p w.0, w.1 ∙ same)
+Writes-then (Err e) a b c f g h x y p same w = (AppendsBeginning-then a b c x y p w.0, rw (← same) w.1)
+
+-- one more failure is one that is seen
+pub HasFailed-more : (f h : ℕ) → h ≡ one_more f → HasFailed f h
+HasFailed-more f h e = elim (cases_Bool (nat_lt f h)) [
+  | inl less ↦ inl (ltb-true f h less)
+  | inr more ↦ let below = ltb-false f h more in inr (omega arith)
+]
+
+-- a write that stops after some of the bytes
+pub put-fails : (a b c : Option (List ℕ)) (f g h : ℕ) (i : ℕ) (bytes : List ℕ) → Appends a b (take i bytes) → Keeps b c → g ≡ f → h ≡ one_more g → AppendsBeginning a c bytes × HasFailed f h
+put-fails a b c f g h i bytes p keeps same more = (
+  record {
+    front = take i bytes ++ [];
+    rest = drop i bytes;
+    whole = sym (ap (λ (t : List ℕ). t ++ drop i bytes) (append-nil (take i bytes)) ∙ take-append-drop i bytes);
+    appended = Appends-then a b c (take i bytes) [] p (Appends-keeps b c keeps);
+  },
+  HasFailed-more f h (more ∙ ap one_more same),
+)
+
+-- to take none of some bytes keeps what there is
+pub Keeps-none : (b c : Option (List ℕ)) (n : ℕ) (bytes : List ℕ) → n ≡ 0 → Appends b c (take n bytes) → Keeps b c
+Keeps-none None c n bytes e p = tt
+Keeps-none (Some xs) None n bytes e p = absurd p
+Keeps-none (Some xs) (Some ys) n bytes e p = p ∙ (ap (λ (k : ℕ). xs ++ take k bytes) e ∙ append-nil xs)
+
+-- a slice up to the end is what is left
+pub suffix : (i : ℕ) (bytes : List ℕ) → take (length bytes - i) (drop i bytes) ≡ drop i bytes
+suffix i bytes = take_all (length bytes - i) (drop i bytes) (omega (arith, length-drop i bytes))
+
+pub Consumes-none : (o : Option (List ℕ)) → Consumes o o []
+Consumes-none None = tt
+Consumes-none (Some xs) = refl
+
+pub Consumes-then : (a b c : Option (List ℕ)) (x y : List ℕ) → Consumes a b x → Consumes b c y → Consumes a c (x ++ y)
+Consumes-then None b c x y p q = tt
+Consumes-then (Some xs) None c x y p q = absurd p
+Consumes-then (Some xs) (Some ys) None x y p q = absurd q
+Consumes-then (Some xs) (Some ys) (Some zs) x y p q = p ∙ ap (λ (t : List ℕ). x ++ t) q ∙ sym (append_assoc x y zs)
+
+-- all that a source would give begins with what it gave
+pub all_of : (a b : Option (List ℕ)) (x : List ℕ) → Consumes a b x → (more : List ℕ) × MayGive a (x ++ more)
+all_of None b x p = ([], tt)
+all_of (Some xs) None x p = absurd p
+all_of (Some xs) (Some ys) x p = (ys, sym p)
+
+-- at its end it has given all
+pub all_at_end : (a b : Option (List ℕ)) (x : List ℕ) → Consumes a b x → IsAtEnd b → MayGive a x
+all_at_end None b x p e = tt
+all_at_end (Some xs) None x p e = absurd p
+all_at_end (Some xs) (Some ys) x p e = sym (append-nil x) ∙ ap (λ (t : List ℕ). x ++ t) (sym e) ∙ sym p

@@ -1,0 +1,13 @@
+pub mod EndLemmas
+pub mod WordLemmas
+pub mod EntryLemmas
+pub mod ClassLemmas
+pub mod DocumentLemmas
+pub mod InnerLemmas
+pub mod CutLemmas
+pub mod FeedLemmas
+pub mod PieceLemmas
+pub mod RunLemmas
+pub mod UniqueLemmas
+pub mod FinishLemmas
+pub mod SeenLemmas

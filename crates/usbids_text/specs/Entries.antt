@@ -1,0 +1,92 @@
+-- The entries of a list: what one line holds, and the tree of them.
+use Rattle.std.specs.Prelude.{ℕ, ◌==◌, ◌&&◌, ◌||◌, not, List, [], ◌∷◌, ◌++◌, Bool, true, false, Option, Some, None, IsTrue}
+use Rattle.std.specs.List.{list_all}
+use Rattle.usbids_text.specs.Words.{is_tag, is_code, is_name}
+use Rattle.usbids_text.specs.declared.kind.Kind.{Kind}
+use Rattle.usbids_text.specs.declared.kind.Kind.TheVariants.{Vendor, Tagged}
+use Rattle.usbids_text.specs.declared.kind.Depth.{Depth}
+use Rattle.usbids_text.specs.declared.kind.Depth.TheVariants.{Zero, One, Two}
+
+-- an entry line: its depth, the number and count of its digits, and its name
+pub record Row : Type 0 where
+  pub depth : Depth
+  pub code : ℕ
+  pub digits : ℕ
+  pub name : List ℕ
+
+-- an entry of depth two
+pub record LeafEntry : Type 0 where
+  pub code : ℕ
+  pub digits : ℕ
+  pub name : List ℕ
+
+-- an entry of depth one, with those below it
+pub record MidEntry : Type 0 where
+  pub code : ℕ
+  pub digits : ℕ
+  pub name : List ℕ
+  pub leaves : List LeafEntry
+
+-- an entry of depth zero, with those below it
+pub record TopEntry : Type 0 where
+  pub kind : Kind
+  pub code : ℕ
+  pub digits : ℕ
+  pub name : List ℕ
+  pub mids : List MidEntry
+
+abbrev pub leaf_row : LeafEntry → Row
+leaf_row l = record { depth = Two; code = l.code; digits = l.digits; name = l.name }
+
+abbrev pub mid_row : MidEntry → Row
+mid_row m = record { depth = One; code = m.code; digits = m.digits; name = m.name }
+
+abbrev pub top_row : TopEntry → Row
+top_row t = record { depth = Zero t.kind; code = t.code; digits = t.digits; name = t.name }
+
+-- the entries in order: each top before its mids, each mid before its leaves
+unfoldable pub leaves_rows : List LeafEntry → List Row
+leaves_rows [] = []
+leaves_rows (l ∷ leaves) = leaf_row l ∷ leaves_rows leaves
+
+unfoldable pub mids_rows : List MidEntry → List Row
+mids_rows [] = []
+mids_rows (m ∷ mids) = mid_row m ∷ (leaves_rows m.leaves ++ mids_rows mids)
+
+unfoldable pub tops_rows : List TopEntry → List Row
+tops_rows [] = []
+tops_rows (t ∷ tops) = top_row t ∷ (mids_rows t.mids ++ tops_rows tops)
+
+-- a document is the list of its tops
+abbrev pub preorder : List TopEntry → List Row
+preorder doc = tops_rows doc
+
+abbrev pub is_vendor : Kind → Bool
+is_vendor Vendor = true
+is_vendor (Tagged tag) = false
+
+-- a vendor, and an entry right below one, has four digits
+abbrev pub has_room : Kind → ℕ → Bool
+has_room kind digits = not (is_vendor kind) || digits == 4
+
+abbrev pub is_depth : Depth → ℕ → Bool
+is_depth (Zero Vendor) digits = digits == 4
+is_depth (Zero (Tagged tag)) digits = is_tag tag
+is_depth One digits = true
+is_depth Two digits = true
+
+-- the code fits its digits, four of them for a vendor; the name is a name, the tag a tag
+unfoldable pub is_row : Row → Bool
+is_row row = is_code row.code row.digits && is_name row.name && is_depth row.depth row.digits
+
+abbrev pub has_four : MidEntry → Bool
+has_four m = m.digits == 4
+
+-- under a vendor each mid has four digits
+abbrev pub is_sound_top : TopEntry → Bool
+is_sound_top t = not (is_vendor t.kind) || list_all has_four t.mids
+
+-- what every document keeps to
+pub record IsSound (doc : List TopEntry) : Type 0 where
+  pub fours : IsTrue (list_all is_sound_top doc)
+  pub each : IsTrue (list_all is_row (preorder doc))

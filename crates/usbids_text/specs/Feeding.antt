@@ -1,0 +1,77 @@
+-- A text that comes in pieces.
+use Rattle.std.specs.Prelude.{◌⊎◌, ◌≡◌, ℕ, ◌+◌, ◌==◌, nat_lt, List, [], ◌∷◌, ◌++◌, length, true, false, Option, Some, None, is_some, Result, Ok, Err, if◌then◌else◌}
+use Rattle.usbids_text.specs.declared.line.Why.{Why}
+use Rattle.usbids_text.specs.declared.line.Why.TheVariants.{LineTooLong}
+use Rattle.usbids_text.specs.declared.fault.ReadFault.{ReadFault}
+use Rattle.usbids_text.specs.declared.fault.ReadFault.TheVariants.{Line, NoMemory}
+use Rattle.usbids_text.specs.Entries.{Row}
+use Rattle.usbids_text.specs.Lines.{class_of}
+use Rattle.usbids_text.specs.Documents.{next}
+use Rattle.usbids_text.specs.Opens.{Open, none_open, put, misplaced_in}
+
+-- what the whole lines so far give: the number of the next line, the document, and the first fault
+pub record Held : Type 0 where
+  pub line : ℕ
+  pub built : Open
+  pub fault : Option ReadFault
+
+abbrev pub refused : Held → Why → Held
+refused h why = record h { fault = Some (Line (record { line = h.line; why = why })) }
+
+abbrev pub with_fault : Held → Row → Option Why → Held
+with_fault h row None = record h { line = next h.line; built = put h.built row }
+with_fault h row (Some why) = refused h why
+
+abbrev pub with_class : Held → Result (Option Row) Why → Held
+with_class h (Ok None) = record h { line = next h.line }
+with_class h (Ok (Some row)) = with_fault h row (misplaced_in h.built row)
+with_class h (Err why) = refused h why
+
+-- after one more line
+unfoldable pub line_done : Held → List ℕ → Held
+line_done h line = with_class h (class_of line)
+
+-- what the bytes so far give: those of the line that is not whole yet, and what the lines before it give
+pub record Fed : Type 0 where
+  pub pending : List ℕ
+  pub held : Held
+
+abbrev pub longer : Fed → ℕ → Fed
+longer s b = if nat_lt (length s.pending) 65536 then record s { pending = s.pending ++ b ∷ [] }
+    else record { pending = []; held = refused s.held LineTooLong }
+
+-- after one more byte; a line that is too long is faulty before its end
+unfoldable pub took : Fed → ℕ → Fed
+took s b = if is_some s.held.fault then s
+    else (if b == 10 then record { pending = []; held = line_done s.held s.pending } else longer s b)
+
+-- after these bytes
+unfoldable pub fed : Fed → List ℕ → Fed
+fed s [] = s
+fed s (b ∷ bytes) = fed (took s b) bytes
+
+-- after one more line; the first fault stays
+abbrev pub step : Held → List ℕ → Held
+step h line = if is_some h.fault then h else line_done h line
+
+-- after the rest of a line, and its line feed
+unfoldable pub ended : Fed → List ℕ → Fed
+ended s part = if is_some s.held.fault then s else record { pending = []; held = line_done s.held (s.pending ++ part) }
+
+-- after bytes with no line feed
+unfoldable pub kept : Fed → List ℕ → Fed
+kept s [] = s
+kept s (b ∷ bytes) = if is_some s.held.fault then s
+    else (if nat_lt 65536 (length s.pending + length (b ∷ bytes)) then record { pending = []; held = refused s.held LineTooLong } else record s { pending = s.pending ++ b ∷ bytes })
+
+abbrev pub with_last : Held → List ℕ → Held
+with_last h [] = h
+with_last h (b ∷ bytes) = step h (b ∷ bytes)
+
+-- at the text's end the bytes that are left are a line
+unfoldable pub finished : Fed → Held
+finished s = with_last s.held s.pending
+
+-- before any bytes
+abbrev pub start : Fed
+start = record { pending = []; held = record { line = 1; built = none_open []; fault = None } }

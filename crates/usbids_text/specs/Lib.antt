@@ -1,0 +1,15 @@
+pub mod Ends
+pub mod Streams
+pub mod Words
+pub mod Entries
+pub mod Lines
+pub mod Cut
+pub mod Documents
+pub mod Opens
+pub mod Building
+pub mod Feeding
+pub mod Outcome
+pub mod Reading
+pub mod Held
+pub mod Readers
+pub mod Finding

@@ -1,0 +1,18 @@
+-- What a reader holds, and the bytes that it was fed.
+use Rattle.std.specs.Prelude.{◌⊎◌, ◌≡◌, ℕ, List, Option, Some}
+use Rattle.usbids_text.specs.declared.fault.ReadFault.{ReadFault}
+use Rattle.usbids_text.specs.declared.fault.ReadFault.TheVariants.{NoMemory}
+use Rattle.usbids_text.specs.declared.reader.Reader.{Reader}
+use Rattle.usbids_text.specs.Held.{held_of}
+use Rattle.usbids_text.specs.Feeding.{Fed, fed, start}
+
+abbrev pub state_of : Reader → Fed
+state_of r = record { pending = r.pending.items; held = held_of r.taken }
+
+-- the fault that the reader answers for good
+abbrev pub fault_of : Reader → Option ReadFault
+fault_of r = r.taken.fault
+
+-- the reader was fed these bytes in all, or has run out of memory, for good
+abbrev pub Stands : Reader → List ℕ → Type 0
+Stands r text = (fault_of r ≡ Some NoMemory) ⊎ (state_of r ≡ fed start text)

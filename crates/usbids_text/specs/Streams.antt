@@ -1,0 +1,20 @@
+-- What a source over a reader and a sink over a writer hold.
+use Rattle.std.specs.Prelude.{ℕ}
+use Rattle.usbids_text.specs.declared.streams.Inlet.{Inlet}
+use Rattle.usbids_text.specs.declared.streams.Outlet.{Outlet}
+
+-- the reader that a source reads from
+abbrev pub reader_of : {R : Type 0} → Inlet R → R
+reader_of s = s.reader
+
+-- how often that source failed
+abbrev pub inlet_failures : {R : Type 0} → Inlet R → ℕ
+inlet_failures s = s.failures
+
+-- the writer that a sink writes to
+abbrev pub writer_of : {W : Type 0} → Outlet W → W
+writer_of s = s.writer
+
+-- how often that sink failed
+abbrev pub outlet_failures : {W : Type 0} → Outlet W → ℕ
+outlet_failures s = s.failures

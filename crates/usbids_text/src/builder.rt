@@ -1,0 +1,159 @@
+//! A document that is built entry by entry.
+ghost use Rattle.std.specs.Prelude.{◌≡◌, [], OnOk, IfOk, IsTrue, Option, Some, None};
+ghost use Rattle.usbids_text.specs.Words.{is_code};
+ghost use Rattle.usbids_text.specs.Entries.{is_depth, is_row};
+ghost use Rattle.usbids_text.specs.Lines.{row_of};
+ghost use Rattle.usbids_text.specs.Opens.{none_open, whole_top, whole, put_top, put_mid, put_leaf, put, misplaced_in, fits_in, has_room_in};
+ghost use Rattle.usbids_text.specs.declared.kind.Depth.TheVariants.{Zero};
+
+use crate::document::{Document, Leaf, Mid, Name, Top};
+use crate::kind::{Depth, Kind};
+use crate::line::{Entry, Why};
+use std::alloc::Global;
+use usbnum_core::NoMemory;
+
+/// The tops that are closed, the open top and the open mid. Entries that follow one another are
+/// put below the open ones, and each is closed when the next of its depth comes.
+#[derive(Drop)]
+pub struct Builder {
+    pub alloc: Global,
+    pub tops: Document,
+    pub top: Option<Top>,
+    pub mid: Option<Mid>,
+    ghost fits: { IsTrue (fits_in top mid) },
+}
+
+impl Builder {
+    ghost use Rattle.usbids_text.specs.Building.{open_of};
+
+    pub fn new(alloc: Global) -> Builder
+        ensures { open_of result ≡ none_open [] }
+    {
+        Builder {
+            alloc,
+            tops: Document::new(alloc),
+            top: None,
+            mid: None,
+        }
+    }
+
+    // The open top with the open mid in it; neither is open then.
+    fn close_mid(&mut self) -> Result<Option<Top>, NoMemory>
+        ensures given { IfOk result (λ top. top ≡ whole_top self.old.top self.old.mid) }
+        ensures left { IfOk result (λ _. open_of self.new ≡ none_open self.old.tops) }
+    {
+        let top = self.top.take();
+        let mid = self.mid.take();
+        match top {
+            None => Ok(None),
+            Some(mut top) => match mid {
+                None => Ok(Some(top)),
+                Some(mid) => {
+                    top.push(mid)?;
+                    Ok(Some(top))
+                }
+            },
+        }
+    }
+
+    fn close_top(&mut self) -> Result<(), NoMemory>
+        ensures { OnOk result (open_of self.new ≡ none_open (whole (open_of self.old))) }
+    {
+        match self.close_mid()? {
+            Some(top) => self.tops.push(top),
+            None => Ok(()),
+        }
+    }
+
+    fn put_top(&mut self, kind: Kind, code: u16, digits: u8, name: Name) -> Result<(), NoMemory>
+        requires code { IsTrue (is_code code digits) }
+        requires kind { IsTrue (is_depth (Zero kind) digits) }
+        ensures { OnOk result (open_of self.new ≡ put_top (open_of self.old) kind code digits name) }
+    {
+        self.close_top()?;
+        self.top = Some(Top::new(self.alloc, kind, code, digits, name));
+        Ok(())
+    }
+
+    fn put_mid(&mut self, code: u16, digits: u8, name: Name) -> Result<(), NoMemory>
+        requires code { IsTrue (is_code code digits) }
+        requires room { IsTrue (has_room_in self.old.top digits) }
+        ensures { OnOk result (open_of self.new ≡ put_mid (open_of self.old) code digits name) }
+    {
+        self.top = self.close_mid()?;
+        self.mid = Some(Mid::new(self.alloc, code, digits, name));
+        Ok(())
+    }
+
+    fn put_leaf(&mut self, code: u16, digits: u8, name: Name) -> Result<(), NoMemory>
+        requires { IsTrue (is_code code digits) }
+        ensures { OnOk result (open_of self.new ≡ put_leaf (open_of self.old) code digits name) }
+    {
+        let mid = self.mid.take();
+        match mid {
+            Some(mut mid) => {
+                mid.push(Leaf::new(code, digits, name))?;
+                self.mid = Some(mid);
+                Ok(())
+            }
+            None => Ok(()),
+        }
+    }
+
+    /// Puts an entry at its place.
+    #[tactic(auto, unfolding(crate::specs::Opens::put))]
+    pub fn put(&mut self, entry: Entry<'_>) -> Result<(), NoMemory>
+        requires row { IsTrue (is_row (row_of entry)) }
+        requires place { misplaced_in (open_of self.old) (row_of entry) ≡ None }
+        ensures { OnOk result (open_of self.new ≡ put (open_of self.old) (row_of entry.entry)) }
+    {
+        let Entry {
+            depth,
+            code,
+            digits,
+            name,
+        } = entry;
+        let name = Name::of(self.alloc, name)?;
+        match depth {
+            Depth::Zero(kind) => self.put_top(kind, code, digits, name),
+            Depth::One => self.put_mid(code, digits, name),
+            Depth::Two => self.put_leaf(code, digits, name),
+        }
+    }
+
+    /// What is wrong with the place of an entry.
+    #[tactic(auto, unfolding(crate::specs::Opens::misplaced_in))]
+    pub fn misplaced(&self, entry: &Entry<'_>) -> Option<Why>
+        ensures { result ≡ misplaced_in (open_of self.now) (row_of entry.now) }
+    {
+        match &entry.depth {
+            Depth::Zero(_) => None,
+            Depth::One => match &self.top {
+                None => Some(Why::NoParent),
+                Some(top) => match top.kind() {
+                    Kind::Vendor => if entry.digits == 4 {
+                        None
+                    } else {
+                        Some(Why::BadCode)
+                    },
+                    Kind::Tagged(_) => None,
+                },
+            },
+            Depth::Two => match &self.top {
+                None => Some(Why::NoParent),
+                Some(_) => match &self.mid {
+                    None => Some(Why::NoParent),
+                    Some(_) => None,
+                },
+            },
+        }
+    }
+
+    /// The document of all entries.
+    pub fn finish(mut self) -> Result<Document, NoMemory>
+        ensures { IfOk result (λ doc. doc ≡ whole (open_of self)) }
+    {
+        self.close_top()?;
+        Ok(self.tops)
+    }
+}

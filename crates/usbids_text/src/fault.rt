@@ -1,0 +1,35 @@
+//! Why a text is not read.
+use crate::line::Why;
+use std::error::Error;
+use std::fmt;
+
+/// The first line that is faulty, counted from 1 (2^64 - 1 stands for any later line too), and why.
+#[derive(Clone, Copy, Debug, PartialEq, Eq)]
+pub struct LineFault {
+    pub line: u64,
+    pub why: Why,
+}
+
+/// Why a text is not read: a faulty line, or want of memory.
+#[derive(Clone, Copy, Debug, PartialEq, Eq)]
+pub enum ReadFault {
+    Line(LineFault),
+    NoMemory,
+}
+
+impl fmt::Display for LineFault {
+    fn fmt<W: fmt::Write>(&self, f: &mut fmt::Formatter<W>) -> fmt::Result {
+        write!(f, "line {}: {}", self.line, self.why)
+    }
+}
+
+impl fmt::Display for ReadFault {
+    fn fmt<W: fmt::Write>(&self, f: &mut fmt::Formatter<W>) -> fmt::Result {
+        match self {
+            ReadFault::Line(fault) => write!(f, "{fault}"),
+            ReadFault::NoMemory => f.write_str("out of memory"),
+        }
+    }
+}
+
+impl Error for ReadFault {}

@@ -1,0 +1,31 @@
+//! The list of USB numbers, `usb.ids`: read in pieces, written in one way, looked up.
+#![tactic(auto)]
+
+mod builder;
+mod document;
+mod ends;
+mod fault;
+mod kind;
+mod laws;
+mod line;
+mod look_up;
+mod pieces;
+mod reader;
+mod streams;
+mod tag;
+mod taken;
+mod words;
+
+pub use document::{Document, Leaf, Mid, Name, Top};
+pub use ends::{Broken, Sink, Source, put_all};
+pub use fault::{LineFault, ReadFault};
+pub use kind::Kind;
+pub use laws::{never_both, one_document, one_fault};
+pub use line::Why;
+pub use look_up::find;
+pub use reader::{Reader, read_all};
+pub use streams::{Inlet, Outlet};
+pub use tag::Tag;
+
+#[cfg(test)]
+mod tests;

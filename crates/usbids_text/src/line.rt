@@ -1,0 +1,131 @@
+//! What a line is: an entry, no entry, or faulty.
+ghost use Rattle.std.specs.Prelude.{◌≡◌, ◌≤◌, ℕ, MatchResult, Ok, Err, Option, length};
+ghost use Rattle.usbids_text.specs.Lines.{rows, short_enough, below, tagged, top, after_tab, by_tabs, is_comment, class_of, row_of};
+
+use crate::kind::{Depth, Kind};
+use crate::tag::Tag;
+use crate::words::{after_word, code_in, is_four, past_separators, trimmed, word};
+use std::fmt;
+
+/// What is wrong with a line.
+#[derive(Clone, Copy, Debug, PartialEq, Eq)]
+pub enum Why {
+    /// No tab is first, and the first word is neither four hexadecimal digits nor a tag.
+    BadTop = 1,
+    /// Where a code of one to four hexadecimal digits is due there is none, or one under a vendor
+    /// has other than four digits.
+    BadCode = 2,
+    /// The entry has no entry above it.
+    NoParent = 3,
+    /// The line has more than 65,536 bytes, or its name more than 65,000.
+    LineTooLong = 4,
+}
+
+impl fmt::Display for Why {
+    fn fmt<W: fmt::Write>(&self, f: &mut fmt::Formatter<W>) -> fmt::Result {
+        f.write_str(match self {
+            Why::BadTop => "BadTop",
+            Why::BadCode => "BadCode",
+            Why::NoParent => "NoParent",
+            Why::LineTooLong => "LineTooLong",
+        })
+    }
+}
+
+/// An entry, with its name where it lies in the line.
+#[derive(Drop)]
+pub struct Entry<'a> {
+    pub depth: Depth,
+    pub code: u16,
+    pub digits: u8,
+    pub name: &'a [u8],
+}
+
+fn short_enough(entry: Entry<'_>) -> Result<Option<Entry<'_>>, Why>
+    ensures { MatchResult result (λ o. short_enough (row_of entry.entry) ≡ Ok (rows o)) (λ e. short_enough (row_of entry.entry) ≡ Err e) }
+{
+    if entry.name.len() > 65000 {
+        return Err(Why::LineTooLong);
+    }
+    Ok(Some(entry))
+}
+
+#[tactic(auto, unfolding(crate::specs::Lines::below))]
+fn below(depth: Depth, bytes: &[u8]) -> Result<Option<Entry<'_>>, Why>
+    ensures { MatchResult result (λ o. below depth bytes.now ≡ Ok (rows o)) (λ e. below depth bytes.now ≡ Err e) }
+{
+    let digits = word(bytes);
+    match code_in(digits) {
+        Some(code) => short_enough(Entry {
+            depth,
+            code,
+            digits: digits.len() as u8,
+            name: after_word(bytes),
+        }),
+        None => Err(Why::BadCode),
+    }
+}
+
+#[tactic(auto, unfolding(crate::specs::Lines::tagged))]
+fn tagged(bytes: &[u8]) -> Result<Option<Entry<'_>>, Why>
+    ensures { MatchResult result (λ o. tagged bytes.now ≡ Ok (rows o)) (λ e. tagged bytes.now ≡ Err e) }
+{
+    match Tag::new(word(bytes)) {
+        Some(tag) => below(Depth::Zero(Kind::Tagged(tag)), after_word(bytes)),
+        None => Err(Why::BadTop),
+    }
+}
+
+#[tactic(auto, unfolding(crate::specs::Lines::top))]
+fn top(bytes: &[u8]) -> Result<Option<Entry<'_>>, Why>
+    ensures { MatchResult result (λ o. top bytes.now ≡ Ok (rows o)) (λ e. top bytes.now ≡ Err e) }
+{
+    if is_four(word(bytes)) {
+        below(Depth::Zero(Kind::Vendor), bytes)
+    } else {
+        tagged(bytes)
+    }
+}
+
+fn after_tab(bytes: &[u8]) -> Result<Option<Entry<'_>>, Why>
+    ensures { MatchResult result (λ o. after_tab bytes.now ≡ Ok (rows o)) (λ e. after_tab bytes.now ≡ Err e) }
+{
+    match bytes {
+        [b'\t', rest @ ..] => below(Depth::Two, rest),
+        _ => below(Depth::One, bytes),
+    }
+}
+
+fn by_tabs(bytes: &[u8]) -> Result<Option<Entry<'_>>, Why>
+    ensures { MatchResult result (λ o. by_tabs bytes.now ≡ Ok (rows o)) (λ e. by_tabs bytes.now ≡ Err e) }
+{
+    match bytes {
+        [] => Ok(None),
+        [b'\t', rest @ ..] => after_tab(rest),
+        _ => top(bytes),
+    }
+}
+
+fn is_comment(bytes: &[u8]) -> bool
+    ensures { result ≡ is_comment bytes.now }
+{
+    match bytes {
+        [] => true,
+        [b, ..] => *b == b'#',
+    }
+}
+
+/// What a line without its line feed is.
+#[tactic(auto, unfolding(crate::specs::Lines::class_of))]
+pub fn class_of(line: &[u8]) -> Result<Option<Entry<'_>>, Why>
+    ensures { MatchResult result (λ o. class_of line.now ≡ Ok (rows o)) (λ e. class_of line.now ≡ Err e) }
+{
+    if line.len() > 65536 {
+        return Err(Why::LineTooLong);
+    }
+    let text = trimmed(line);
+    if is_comment(past_separators(text)) {
+        return Ok(None);
+    }
+    by_tabs(text)
+}

@@ -1,0 +1,38 @@
+//! Where a piece of a text is cut into lines.
+ghost use Rattle.std.specs.Prelude.{◌≡◌, ◌+◌, ◌<◌, ◌==◌, length, take, drop, position, IfSome, IfNone, IsTrue};
+ghost use Rattle.std.specs.List.{list_all};
+ghost use Rattle.usbids_text.specs.Words.{is_inner};
+
+fn first_feed(bytes: &[u8]) -> Option<usize>
+    ensures value { result ≡ position (λ b. b == 10) bytes.now }
+    ensures within { IfSome result (λ i. i < length bytes.now) }
+{
+    bytes.iter().position(|b| *b == b'\n')
+}
+
+/// Where the first line feed is.
+pub fn line_feed(bytes: &[u8]) -> Option<usize>
+    ensures value { result ≡ position (λ b. b == 10) bytes.now }
+    ensures within { IfSome result (λ i. i < length bytes.now) }
+    ensures inner { IfSome result (λ i. IsTrue (list_all is_inner (take i bytes.now))) }
+    ensures none { IfNone result (IsTrue (list_all is_inner bytes.now)) }
+{
+    first_feed(bytes)
+}
+
+/// The bytes after that place.
+pub fn past(bytes: &[u8], i: usize) -> &[u8]
+    requires { i < length bytes.now }
+    ensures value { result.now ≡ drop (i + 1) bytes.now }
+    ensures shorter { length result.now < length bytes.now }
+{
+    &bytes[i + 1..]
+}
+
+/// The bytes before that place.
+pub fn front(bytes: &[u8], i: usize) -> &[u8]
+    requires { i < length bytes.now }
+    ensures { result.now ≡ take i bytes.now }
+{
+    &bytes[..i]
+}

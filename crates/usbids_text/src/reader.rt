@@ -1,0 +1,184 @@
+//! A text that is read in pieces.
+ghost use Rattle.std.specs.Prelude.{◌≡◌, ◌⊎◌, ◌+◌, ◌<◌, ◌==◌, ℕ, List, [], ◌++◌, length, take, drop, position, Some, None, true, is_some, OnOk, IfNone, IfSome, IsTrue};
+ghost use Rattle.std.specs.List.{list_all};
+ghost use Rattle.usbids_text.specs.Words.{is_inner};
+ghost use Rattle.usbids_text.specs.Feeding.{step, ended, kept, fed, finished};
+ghost use Rattle.usbids_text.specs.Reading.{Answers, AnswersSoFar, SeenFault, HasFault, answer_of};
+ghost use Rattle.usbids_text.specs.declared.line.Why.{Why};
+ghost use Rattle.usbids_text.specs.declared.fault.ReadFault.{ReadFault};
+
+use crate::builder::Builder;
+use crate::document::Document;
+use crate::fault::ReadFault;
+use crate::line::Why;
+use crate::pieces::{front, line_feed, past};
+use crate::taken::Taken;
+use std::alloc::Global;
+use usbnum_core::NoMemory;
+
+/// A reader that is fed a text in pieces. It does not matter where the text is cut.
+#[derive(Drop)]
+pub struct Reader {
+    pending: Vec<u8>,
+    taken: Taken,
+    ghost inner: { IsTrue (list_all is_inner pending.items) },
+}
+
+impl Reader {
+    ghost use Rattle.usbids_text.specs.Held.{held_of};
+    ghost use Rattle.usbids_text.specs.Readers.{state_of, fault_of, Stands};
+
+    // Ends the line that is pending, with these bytes.
+    fn end_pending(&mut self, part: &[u8]) -> Result<(), NoMemory>
+        requires { IsTrue (list_all is_inner part.now) }
+        ensures { OnOk result (state_of self.new ≡ record { pending = []; held = step (state_of self.old).held ((state_of self.old).pending ++ part.now) }) }
+    {
+        self.pending.extend_from_slice(part)?;
+        self.taken.take_line(&self.pending)?;
+        self.pending.clear();
+        Ok(())
+    }
+
+    // Ends a line, with these bytes after those that are pending. A line that lies in one piece is
+    // read there.
+    #[tactic(auto, unfolding(crate::specs::Feeding::ended))]
+    fn end_line(&mut self, part: &[u8]) -> Result<(), NoMemory>
+        requires { IsTrue (list_all is_inner part.now) }
+        ensures { OnOk result (state_of self.new ≡ ended (state_of self.old) part.now) }
+    {
+        if self.taken.fault.is_some() {
+            return Ok(());
+        }
+        if self.pending.is_empty() {
+            return self.taken.take_line(part);
+        }
+        self.end_pending(part)
+    }
+
+    // Keeps the beginning of a line, unless that is too long already.
+    #[tactic(auto, unfolding(crate::specs::Feeding::kept))]
+    fn keep(&mut self, part: &[u8]) -> Result<(), NoMemory>
+        requires { IsTrue (list_all is_inner part.now) }
+        ensures { OnOk result (state_of self.new ≡ kept (state_of self.old) part.now) }
+    {
+        match part {
+            [] => Ok(()),
+            _ => {
+                if self.taken.fault.is_some() {
+                    return Ok(());
+                }
+                if part.len() > 65536 || self.pending.len() > 65536 - part.len() {
+                    self.pending.clear();
+                    self.taken.refuse(Why::LineTooLong);
+                    return Ok(());
+                }
+                self.pending.extend_from_slice(part)?;
+                Ok(())
+            }
+        }
+    }
+
+    fn feed_bytes(&mut self, piece: &[u8]) -> Result<(), NoMemory>
+        ensures { OnOk result (state_of self.new ≡ fed (state_of self.old) piece.now) }
+    {
+        let mut rest = piece;
+        while let Some(i) = line_feed(rest) {
+            self.end_line(front(rest, i))?;
+            rest = past(rest, i);
+        }
+        self.keep(rest)
+    }
+
+    fn take_piece(&mut self, piece: &[u8])
+        ensures { (fault_of self.new ≡ Some ReadFault.NoMemory) ⊎ (state_of self.new ≡ fed (state_of self.old) piece.now) }
+    {
+        if self.feed_bytes(piece).is_err() {
+            self.taken.fault = Some(ReadFault::NoMemory);
+        }
+    }
+
+    fn answer(&self) -> Result<(), ReadFault>
+        ensures { result ≡ answer_of (fault_of self.now) }
+    {
+        match self.taken.fault {
+            Some(fault) => Err(fault),
+            None => Ok(()),
+        }
+    }
+
+    #[tactic(auto, unfolding(crate::specs::Feeding::finished))]
+    fn take_rest(&mut self) -> Result<(), NoMemory>
+        ensures { OnOk result (held_of self.new.taken ≡ finished (state_of self.old)) }
+    {
+        if self.pending.is_empty() {
+            return Ok(());
+        }
+        self.taken.take_line(&self.pending)
+    }
+
+    /// A reader that was fed nothing yet.
+    pub fn new(alloc: Global) -> Reader
+        ensures stands { Stands result [] }
+        ensures clear { fault_of result ≡ None }
+    {
+        Reader {
+            pending: Vec::new(alloc),
+            taken: Taken {
+                line: 1,
+                builder: Builder::new(alloc),
+                fault: None,
+            },
+        }
+    }
+
+    /// Takes the next piece of the text.
+    ///
+    /// # Errors
+    ///
+    /// The first faulty line of all bytes so far, once its line feed has come or it has passed
+    /// 65,536 bytes, or want of memory. The reader answers that fault for good, from `finish` too.
+    pub fn feed(&mut self, piece: &[u8]) -> Result<(), ReadFault>
+        ensures stands { (t : List ℕ) → Stands self.old t → Stands self.new (t ++ piece.now) }
+        ensures answer { result ≡ answer_of (fault_of self.new) }
+        ensures faulty { (t : List ℕ) → Stands self.old t → AnswersSoFar (t ++ piece.now) (fault_of self.new) }
+        ensures seen { (t : List ℕ) (n : ℕ) (why : Why) → Stands self.old t → SeenFault (t ++ piece.now) n why → HasFault (fault_of self.new) n why }
+        ensures sticks { is_some (fault_of self.old) ≡ true → self.new ≡ self.old }
+    {
+        if let Some(fault) = self.taken.fault {
+            return Err(fault);
+        }
+        self.take_piece(piece);
+        self.answer()
+    }
+
+    /// The document that all bytes spell, the last line without its line feed too.
+    ///
+    /// # Errors
+    ///
+    /// The first faulty line, or want of memory.
+    pub fn finish(mut self) -> Result<Document, ReadFault>
+        ensures answers { (t : List ℕ) → Stands self t → Answers t result }
+        ensures sticks { (f : ReadFault) → fault_of self ≡ Some f → result ≡ Err f }
+    {
+        if let Some(fault) = self.taken.fault {
+            return Err(fault);
+        }
+        match self.take_rest() {
+            Err(NoMemory) => Err(ReadFault::NoMemory),
+            Ok(()) => self.taken.finish(),
+        }
+    }
+}
+
+/// The document that a whole text spells.
+///
+/// # Errors
+///
+/// The first faulty line, or want of memory.
+pub fn read_all(alloc: Global, bytes: &[u8]) -> Result<Document, ReadFault>
+    ensures { Answers bytes.now result }
+{
+    let mut reader = Reader::new(alloc);
+    let _ = reader.feed(bytes);
+    reader.finish()
+}

@@ -1,0 +1,68 @@
+//! The tag of a top that is no vendor.
+ghost use Rattle.std.specs.Prelude.{◌≡◌, ◌≤◌, length, Some, None, IsTrue, if◌then◌else◌};
+ghost use Rattle.std.specs.List.{list_all};
+ghost use Rattle.usbids_text.specs.Words.{is_upper, is_tag};
+
+use crate::words::is_four;
+use std::marker::Model;
+
+/// One to eight letters A to Z that are not four hexadecimal digits.
+#[derive(Debug, Drop)]
+pub struct Tag {
+    text: [u8; 8],
+    len: usize,
+}
+
+impl Model for Tag {
+    ghost use Rattle.std.specs.Prelude.{List, ℕ, ◌≤◌, take, IsTrue};
+    ghost use Rattle.usbids_text.specs.Words.{is_tag};
+
+    ghost Value = { List ℕ };
+
+    ghost view = { λ a. take a.len a.text };
+
+    ghost invariant = { λ a. (a.len ≤ 8) × IsTrue (is_tag (take a.len a.text)) };
+}
+
+fn is_upper(b: u8) -> bool
+    ensures { result ≡ is_upper b }
+{
+    b'A' <= b && b <= b'Z'
+}
+
+fn all_upper(bytes: &[u8]) -> bool
+    ensures { result ≡ list_all is_upper bytes.now }
+{
+    bytes.iter().all(|b| is_upper(*b))
+}
+
+#[tactic(auto, unfolding(crate::specs::Words::is_tag))]
+fn is_tag(bytes: &[u8]) -> bool
+    ensures value { result ≡ is_tag bytes.now }
+    ensures short { IsTrue result → length bytes.now ≤ 8 }
+{
+    !bytes.is_empty() && bytes.len() <= 8 && all_upper(bytes) && !is_four(bytes)
+}
+
+impl Tag {
+    /// The bytes as a tag, or None where they are none.
+    pub fn new(bytes: &[u8]) -> Option<Tag>
+        ensures { result ≡ (if is_tag bytes.now then Some bytes.now else None) }
+    {
+        if !is_tag(bytes) {
+            return None;
+        }
+        let mut text = [0u8; 8];
+        let len = bytes.len();
+        text[..len].copy_from_slice(bytes);
+        Some(Tag { text, len })
+    }
+
+    /// The letters of the tag.
+    pub fn as_bytes(&self) -> &[u8]
+        ensures value { result.now ≡ self.now }
+        ensures valid { IsTrue (is_tag result.now) }
+    {
+        &self.text[..self.len]
+    }
+}

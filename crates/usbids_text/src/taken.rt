@@ -1,0 +1,90 @@
+//! What the whole lines of a text gave.
+ghost use Rattle.std.specs.Prelude.{◌≡◌, ◌⊎◌, None, Some, OnOk, IfOk, IfErr, IsTrue};
+ghost use Rattle.std.specs.List.{list_all};
+ghost use Rattle.usbids_text.specs.Words.{is_inner};
+ghost use Rattle.usbids_text.specs.Documents.{next};
+ghost use Rattle.usbids_text.specs.Opens.{whole};
+ghost use Rattle.usbids_text.specs.Building.{open_of};
+ghost use Rattle.usbids_text.specs.Feeding.{refused, line_done, step};
+
+use crate::builder::Builder;
+use crate::document::Document;
+use crate::fault::{LineFault, ReadFault};
+use crate::line::{Why, class_of};
+use usbnum_core::NoMemory;
+
+/// The number of the next line, the document so far, and the first fault.
+#[derive(Drop)]
+pub struct Taken {
+    pub line: u64,
+    pub builder: Builder,
+    pub fault: Option<ReadFault>,
+}
+
+fn next(n: u64) -> u64
+    ensures { result ≡ next n }
+{
+    n.saturating_add(1)
+}
+
+impl Taken {
+    ghost use Rattle.usbids_text.specs.Held.{held_of};
+
+    pub fn refuse(&mut self, why: Why)
+        ensures { held_of self.new ≡ refused (held_of self.old) why }
+    {
+        self.fault = Some(ReadFault::Line(LineFault {
+            line: self.line,
+            why,
+        }));
+    }
+
+    #[tactic(auto, unfolding(crate::specs::Feeding::line_done))]
+    fn take_first(&mut self, line: &[u8]) -> Result<(), NoMemory>
+        requires { IsTrue (list_all is_inner line.now) }
+        ensures { OnOk result (held_of self.new ≡ line_done (held_of self.old) line.now) }
+    {
+        match class_of(line) {
+            Ok(None) => self.line = next(self.line),
+            Ok(Some(entry)) => match self.builder.misplaced(&entry) {
+                None => {
+                    self.builder.put(entry)?;
+                    self.line = next(self.line);
+                }
+                Some(why) => self.refuse(why),
+            },
+            Err(why) => self.refuse(why),
+        }
+        Ok(())
+    }
+
+    /// Takes a whole line, unless an earlier one was faulty.
+    pub fn take_line(&mut self, line: &[u8]) -> Result<(), NoMemory>
+        requires { IsTrue (list_all is_inner line.now) }
+        ensures { OnOk result (held_of self.new ≡ step (held_of self.old) line.now) }
+    {
+        if self.fault.is_some() {
+            return Ok(());
+        }
+        self.take_first(line)
+    }
+
+    /// The document of the lines, or the first fault.
+    pub fn finish(self) -> Result<Document, ReadFault>
+        ensures ok { IfOk result (λ doc. (self.fault ≡ None) × (doc ≡ whole (open_of self.builder))) }
+        ensures err { IfErr result (λ e. (e ≡ ReadFault.NoMemory) ⊎ (self.fault ≡ Some e)) }
+    {
+        let Taken {
+            line: _,
+            builder,
+            fault,
+        } = self;
+        match fault {
+            Some(fault) => Err(fault),
+            None => match builder.finish() {
+                Ok(document) => Ok(document),
+                Err(NoMemory) => Err(ReadFault::NoMemory),
+            },
+        }
+    }
+}

@@ -1,0 +1,18 @@
+-- The beginnings rise, so a search by halves finds where they pass the number.
+use Rattle.std.proofs.Common.{leb, rules}
+use Rattle.std.proofs.lemmas.Bool.{leb-true, leb-false}
+use Rattle.std.proofs.lemmas.List.Sorted.{IsPartitionPoint-from_clause, IsPartitionedBy-leb}
+use Rattle.usbnum_core.proofs.Spread.{rising_first}
+use Rattle.usbnum_core.proofs.spans.begun_by.Goals as goal
+
+pub returns-clause-before : goal.returns-clause-before
+returns-clause-before c =
+    let parted = IsPartitionedBy-leb (λ p. p.first) _ c.args.number (rising_first _ _ c.requires) in
+    let point = IsPartitionPoint-from_clause (λ p. leb p.first c.args.number) _ _ c.partition_point.ensures.partitioned parted (λ a r q k. search rules) in
+    λ k d from lt. leb-true _ _ (point.0 k d from lt)
+
+pub returns-clause-after : goal.returns-clause-after
+returns-clause-after c =
+    let parted = IsPartitionedBy-leb (λ p. p.first) _ c.args.number (rising_first _ _ c.requires) in
+    let point = IsPartitionPoint-from_clause (λ p. leb p.first c.args.number) _ _ c.partition_point.ensures.partitioned parted (λ a r q k. search rules) in
+    λ k d from lt. leb-false _ _ (point.1 k d from lt)

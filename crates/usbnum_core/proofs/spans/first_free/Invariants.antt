@@ -1,0 +1,10 @@
+-- What lies below the free number is taken, and what was passed lies below it.
+use Rattle.std.proofs.Common.{◌+◌, ◌-◌, length}
+use Rattle.usbnum_core.specs.Spans.{IsPassed}
+use Rattle.usbnum_core.proofs.spans.first_free.Given as goal
+
+abbrev pub invariant-loop-part : goal.invariant-loop-part
+invariant-loop-part l = IsPassed l.parts l.numbers l.part l.place l.free
+
+abbrev pub decreases-loop-part : goal.decreases-loop-part
+decreases-loop-part l = (length l.parts - l.part) + (length l.numbers - l.place)
