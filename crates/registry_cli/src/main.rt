@@ -2,11 +2,15 @@
 #![tactic(auto)]
 
 mod command;
+mod input;
+mod lines;
 mod program;
 #[cfg(test)]
 mod tests;
 
 pub use command::{Command, Usage, command_of};
+pub use input::{InputFault, read_all};
+pub use lines::{BadLine, requests_in};
 use std::io;
 use std::process::ExitCode;
 
