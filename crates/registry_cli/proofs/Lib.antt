@@ -1,0 +1,4 @@
+pub mod CommandLemmas
+pub mod NumberLemmas
+pub mod Vectors
+pub mod LineLemmas

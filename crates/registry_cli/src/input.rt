@@ -1,0 +1,59 @@
+//! All that comes from a source.
+
+ghost use Rattle.std.specs.Prelude.{Err, ◌≡◌, ◌≤◌, ◌<◌, ◌⊎◌, ◌++◌, ℕ, List, length, IfOk, IfErr};
+ghost use Rattle.std.specs.Io.KnownBytes.{Consumes, IsAtEnd};
+ghost use Rattle.usbids_text.specs.Ends.{HasFailed, MayGive};
+
+use std::alloc::Global;
+use usbids_text::{Broken, Source};
+
+/// How many bytes an input may have.
+const MOST: usize = 4_294_967_295;
+
+/// Why an input could not be read.
+#[derive(Clone, Copy, Debug, PartialEq, Eq)]
+pub enum InputFault {
+    /// It failed, or it has more than 4,294,967,295 bytes.
+    File,
+    /// There is no memory for it.
+    NoMemory,
+}
+
+/// The next bytes of the source behind those that came before, and how many they are: none at the
+/// end alone.
+fn take_more<R: Source>(source: &mut R, bytes: &mut Vec<u8>) -> Result<usize, InputFault>
+    ensures ok { IfOk result (λ n. (more : List ℕ) × (bytes.new.items ≡ bytes.old.items ++ more) × (length more ≡ n)
+        × Consumes (R.remaining source.old) (R.remaining source.new) more × (n ≡ 0 → IsAtEnd (R.remaining source.new))
+        × (R.failures source.new ≡ R.failures source.old)) }
+    ensures file { result ≡ Err InputFault.File → HasFailed (R.failures source.old) (R.failures source.new) }
+{
+    let mut chunk = [0u8; 8192];
+    match source.take(&mut chunk) {
+        Ok(count) => match bytes.extend_from_slice(&chunk[..count]) {
+            Ok(()) => Ok(count),
+            Err(_) => Err(InputFault::NoMemory),
+        },
+        Err(Broken) => Err(InputFault::File),
+    }
+}
+
+/// All bytes of the source, at most 4,294,967,295. `File` comes only where the source failed during
+/// this call or has more than that.
+pub fn read_all<R: Source>(alloc: Global, source: &mut R) -> Result<Vec<u8>, InputFault>
+    ensures ok { IfOk result (λ v. MayGive (R.remaining source.old) v.items × (length v.items ≤ 4294967295)) }
+    ensures err { IfErr result (λ fault. (b : List ℕ) × MayGive (R.remaining source.old) b
+        × (fault ≡ InputFault.File → HasFailed (R.failures source.old) (R.failures source.new) ⊎ (4294967295 < length b))) }
+{
+    let mut bytes = Vec::new(alloc);
+    while bytes.len() <= MOST {
+        match take_more(source, &mut bytes) {
+            Ok(count) => {
+                if count == 0 {
+                    return Ok(bytes);
+                }
+            }
+            Err(fault) => return Err(fault),
+        }
+    }
+    Err(InputFault::File)
+}

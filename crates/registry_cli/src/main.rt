@@ -1,0 +1,88 @@
+//! `usbreg`, a registry of shared USB product numbers.
+#![tactic(auto)]
+
+mod command;
+mod input;
+mod lines;
+mod program;
+#[cfg(test)]
+mod tests;
+
+pub use command::{Command, Usage, command_of};
+pub use input::{InputFault, read_all};
+pub use lines::{BadLine, requests_in};
+use std::io;
+use std::process::ExitCode;
+
+fn main(rt: HostRuntime) -> ExitCode {
+    ExitCode::from(run(&rt))
+}
+
+/// Reads the words, does what they ask for, and answers the status.
+fn run(rt: &HostRuntime) -> u8 {
+    let words = match words(rt) {
+        Ok(words) => words,
+        Err(error) if error.kind() == io::ErrorKind::InvalidData => {
+            let _ = rt.eprintln("error: invalid UTF-8 was detected in one or more arguments");
+            return 2;
+        }
+        Err(_) => {
+            let _ = rt.eprintln("fault: memory");
+            return 1;
+        }
+    };
+    match command_of(rt.alloc(), words.as_slice()) {
+        Ok(command) => perform(rt, command),
+        Err(usage) => explain(rt, &usage),
+    }
+}
+
+fn words(rt: &HostRuntime) -> io::Result<Vec<String>> {
+    Ok(std::env::args(rt)?.collect(rt.alloc())?)
+}
+
+/// Does what the command asks for, and answers the status.
+fn perform(rt: &HostRuntime, command: Command<&str>) -> u8 {
+    match command {
+        Command::Trial => not_yet(rt, "trial"),
+        Command::Found { .. } => not_yet(rt, "found"),
+        Command::Apply { .. } => not_yet(rt, "apply"),
+        Command::Import { .. } => not_yet(rt, "import"),
+        Command::Serve { .. } => not_yet(rt, "serve"),
+        Command::Export { .. } => not_yet(rt, "export"),
+        Command::Report { .. } => not_yet(rt, "report"),
+        Command::Lookup { .. } => not_yet(rt, "lookup"),
+    }
+}
+
+/// Says that a command has still to come, and answers the status.
+fn not_yet(rt: &HostRuntime, name: &str) -> u8 {
+    let _ = eprintln!(rt; "usbreg {name}: not in this version");
+    2
+}
+
+/// Shows why there is no command, or the help or the version that was asked for, and answers the
+/// status.
+fn explain(rt: &HostRuntime, usage: &Usage) -> u8 {
+    match usage {
+        Usage::Refused(error) => {
+            let shown = error.print(rt).is_ok();
+            if error.use_stderr() {
+                2
+            } else if shown {
+                0
+            } else {
+                let _ = rt.eprintln("fault: file");
+                1
+            }
+        }
+        Usage::Missing => {
+            let _ = rt.eprintln("error: a word is missing: see usbreg --help");
+            2
+        }
+        Usage::NoMemory => {
+            let _ = rt.eprintln("fault: memory");
+            1
+        }
+    }
+}

@@ -1,0 +1,4 @@
+//! What no clause says.
+
+mod lines;
+mod words;
