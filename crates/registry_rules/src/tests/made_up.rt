@@ -116,11 +116,12 @@ fn rule_line(alloc: Global, dice: &mut Dice, who: &str) -> Result<String, Fail> 
     }
 }
 
-fn line(alloc: Global, dice: &mut Dice) -> Result<String, Fail> {
+/// A line of one of the first so many kinds; there are 12.
+fn line(alloc: Global, dice: &mut Dice, kinds: usize) -> Result<String, Fail> {
     let caller = dice.pick(&CALLERS);
     let key = dice.roll() % 400;
     let who = format!(in alloc; "{caller}/k{key}")?;
-    match dice.roll() % 12 {
+    match dice.roll().checked_rem(kinds).unwrap_or(0) {
         0 | 1 => org_line(alloc, dice, &who),
         2..=4 => ask_line(alloc, dice, &who),
         5..=7 => petition_line(alloc, dice, &who),
@@ -135,7 +136,7 @@ fn line(alloc: Global, dice: &mut Dice) -> Result<String, Fail> {
 fn run(desk: &mut Desk, dice: &mut Dice, count: u32) -> Result<Vec<(String, String)>, Fail> {
     let mut accepted = Vec::new(desk.alloc);
     for _ in 0..count {
-        let line = line(desk.alloc, dice)?;
+        let line = line(desk.alloc, dice, 12)?;
         let before = desk.deeds.len();
         let answer = desk.answer(&line)?;
         if desk.deeds.len() > before {
@@ -201,7 +202,7 @@ fn carries_the_totals_on(rt: HostRuntime) -> Result<(), Fail> {
     let mut desk = Desk::new(alloc, founding);
     let mut dice = Dice { state: 11 };
     for round in 0..2_000 {
-        let line = line(alloc, &mut dice)?;
+        let line = line(alloc, &mut dice, 10)?;
         let request = request(alloc, &line)?;
         let verdict = verdict_by(&desk, &totals, &request)?;
         let by_totals = desk.text(&verdict)?;
