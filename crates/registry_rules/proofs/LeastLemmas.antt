@@ -33,7 +33,7 @@ some_from test n zero least above below passes fails = absurd (omega (arith, abo
 some_from test n (suc left) least above below passes fails = ⊎_elim
     (λ (is : n ≡ least). at_once test n left least is passes)
     (λ (more : suc n ≤ least). later test n left (Some least) (fails n (omega arith) (omega (arith, more)))
-        (some_from test (suc n) left least more (omega (arith, below)) passes (λ k from to. fails k (omega (arith, from)) to)))
+    (some_from test (suc n) left least more (omega (arith, below)) passes (λ k from to. fails k (omega (arith, from)) to)))
     (here_or_later n least (nat_eq n least) refl above)
 
 or_false : (b : Bool) → (b || false) ≡ b
@@ -50,12 +50,12 @@ pub least_is : (h : History) (vid : ℕ) (spans : List Span) (found : Option ℕ
     → found ≡ least_from (λ pid. is_free h (number vid pid)) 1 65535
 least_is h vid spans None same all =
     sym (none_from (λ pid. is_free h (number vid pid)) 1 65535 (λ k above below.
-      let has : spans_have spans k ≡ true = sym (or_false (spans_have spans k)) ∙ all k above (omega (arith, below)) in
-      free_by (owner_of h (number vid k)) (is_reserved h (number vid k)) (spans_have spans k) (same k) ∙ ap not has))
+    let has : spans_have spans k ≡ true = sym (or_false (spans_have spans k)) ∙ all k above (omega (arith, below)) in
+    free_by (owner_of h (number vid k)) (is_reserved h (number vid k)) (spans_have spans k) (same k) ∙ ap not has))
 least_is h vid spans (Some pid) same least =
     sym (some_from (λ pid. is_free h (number vid pid)) 1 65535 pid least.above (let within = least.within in omega (arith, within))
-      (let lacks : spans_have spans pid ≡ false = sym (or_false (spans_have spans pid)) ∙ least.outside in
-        free_by (owner_of h (number vid pid)) (is_reserved h (number vid pid)) (spans_have spans pid) (same pid) ∙ ap not lacks)
-      (λ k above below.
-        let has : spans_have spans k ≡ true = sym (or_false (spans_have spans k)) ∙ least.least_of_all k above below in
-        free_by (owner_of h (number vid k)) (is_reserved h (number vid k)) (spans_have spans k) (same k) ∙ ap not has))
+    (let lacks : spans_have spans pid ≡ false = sym (or_false (spans_have spans pid)) ∙ least.outside in
+    free_by (owner_of h (number vid pid)) (is_reserved h (number vid pid)) (spans_have spans pid) (same pid) ∙ ap not lacks)
+    (λ k above below.
+    let has : spans_have spans k ≡ true = sym (or_false (spans_have spans k)) ∙ least.least_of_all k above below in
+    free_by (owner_of h (number vid k)) (is_reserved h (number vid k)) (spans_have spans k) (same k) ∙ ap not has))

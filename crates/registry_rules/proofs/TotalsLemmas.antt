@@ -190,22 +190,46 @@ org_amended_same : (h : History) (caller key : List ℕ) (order : Order) (org : 
     → IsSummary (with_deed h (the_deed caller key order (OrgAmended org))) new
 org_amended_same h caller key order org old new is s =
     let deed = the_deed caller key order (OrgAmended org) in
-    subst (λ t. IsSummary (with_deed h deed) t) (sym is) (record { founding = keeps_founding h deed old.founding refl s.founding; vendors = keeps_vendors h deed old.vendors refl s.vendors;
-      orgs = s.orgs; petitions = s.petitions; still_open = s.still_open; taken = s.taken; reserved = s.reserved; nothing = s.nothing })
+    subst (λ t. IsSummary (with_deed h deed) t) (sym is) (record {
+      founding = keeps_founding h deed old.founding refl s.founding;
+      vendors = keeps_vendors h deed old.vendors refl s.vendors;
+      orgs = s.orgs;
+      petitions = s.petitions;
+      still_open = s.still_open;
+      taken = s.taken;
+      reserved = s.reserved;
+      nothing = s.nothing;
+    })
 
 card_amended_same : (h : History) (caller key : List ℕ) (order : Order) (vid : ℕ) (name : NumberName) (card : Card) (old new : Totals) → new ≡ old → IsSummary h old
     → IsSummary (with_deed h (the_deed caller key order (CardAmended vid name card))) new
 card_amended_same h caller key order vid name card old new is s =
     let deed = the_deed caller key order (CardAmended vid name card) in
-    subst (λ t. IsSummary (with_deed h deed) t) (sym is) (record { founding = keeps_founding h deed old.founding refl s.founding; vendors = keeps_vendors h deed old.vendors refl s.vendors;
-      orgs = s.orgs; petitions = s.petitions; still_open = s.still_open; taken = s.taken; reserved = s.reserved; nothing = s.nothing })
+    subst (λ t. IsSummary (with_deed h deed) t) (sym is) (record {
+      founding = keeps_founding h deed old.founding refl s.founding;
+      vendors = keeps_vendors h deed old.vendors refl s.vendors;
+      orgs = s.orgs;
+      petitions = s.petitions;
+      still_open = s.still_open;
+      taken = s.taken;
+      reserved = s.reserved;
+      nothing = s.nothing;
+    })
 
 returned_same : (h : History) (caller key : List ℕ) (order : Order) (vid : ℕ) (name : NumberName) (old new : Totals) → new ≡ old → IsSummary h old
     → IsSummary (with_deed h (the_deed caller key order (Returned vid name))) new
 returned_same h caller key order vid name old new is s =
     let deed = the_deed caller key order (Returned vid name) in
-    subst (λ t. IsSummary (with_deed h deed) t) (sym is) (record { founding = keeps_founding h deed old.founding refl s.founding; vendors = keeps_vendors h deed old.vendors refl s.vendors;
-      orgs = s.orgs; petitions = s.petitions; still_open = s.still_open; taken = s.taken; reserved = s.reserved; nothing = s.nothing })
+    subst (λ t. IsSummary (with_deed h deed) t) (sym is) (record {
+      founding = keeps_founding h deed old.founding refl s.founding;
+      vendors = keeps_vendors h deed old.vendors refl s.vendors;
+      orgs = s.orgs;
+      petitions = s.petitions;
+      still_open = s.still_open;
+      taken = s.taken;
+      reserved = s.reserved;
+      nothing = s.nothing;
+    })
 
 and_true : (b : Bool) → (b && true) ≡ b
 and_true true = refl
@@ -278,10 +302,10 @@ released_less : (h : History) (caller key : List ℕ) (order : Order) (vid : ℕ
 released_less h caller key order vid name old new legal can is s =
     let deed = the_deed caller key order (Released vid name) in
     let unfixed : (n : Number) → (nat_eq vid n.vid && span_has name.span n.pid) ≡ true → is_fixed h n ≡ false
-        = λ n e. let at = in_span vid name.span n e in subst (λ m. is_fixed h m ≡ false) at.0 (can.unfixed n.pid at.1) in
+    = λ n e. let at = in_span vid name.span n e in subst (λ m. is_fixed h m ≡ false) at.0 (can.unfixed n.pid at.1) in
     let unowned : (n : Number) → (nat_eq vid n.vid && span_has name.span n.pid) ≡ true → is_some (owner_of h n) ≡ false
-        = λ n e. let at = in_span vid name.span n e in
-            unowned_by (owner_of h n) (is_reserved h n) (owned_or_reserved h legal n) (subst (λ m. is_reserved h m ≡ true) at.0 (can.reserved n.pid at.1)) in
+    = λ n e. let at = in_span vid name.span n e in
+    unowned_by (owner_of h n) (is_reserved h n) (owned_or_reserved h legal n) (subst (λ m. is_reserved h m ≡ true) at.0 (can.reserved n.pid at.1)) in
     subst (λ t. IsSummary (with_deed h deed) t) (sym is.same) (record {
       founding = keeps_founding h deed old.founding refl s.founding;
       vendors = keeps_vendors h deed old.vendors refl s.vendors;

@@ -22,7 +22,6 @@ pub use totals::Totals;
 pub use vendors::Vendors;
 pub use verdict::{Reply, Verdict};
 
-mod asking;
 mod carrying;
 mod change;
 mod changing;

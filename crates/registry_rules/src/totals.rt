@@ -1,8 +1,7 @@
 ghost use Rattle.std.specs.Prelude.{◌≡◌, length, IfOk, OnOk, ◌&&◌, nat_eq, true, ℕ};
 ghost use Rattle.usbnum_core.specs.Spans.{spans_have};
 ghost use Rattle.registry_rules.specs.Sets.{numbers_at};
-ghost use Rattle.std.specs.Option.{option_copied};
-ghost use Rattle.registry_rules.specs.FactsOf.{IsFoundingOf, AreVendorsOf, AreFactsOf, petition_named, open_concerned, org_concerned, concerns, holding_in, holding_of};
+ghost use Rattle.registry_rules.specs.FactsOf.{IsFoundingOf, AreVendorsOf, AreFactsOf, petition_named, org_concerned, concerns, holding_in, holding_of};
 ghost use Rattle.registry_rules.specs.Number.{number};
 ghost use Rattle.registry_rules.specs.History.{History, founded, with_deed};
 ghost use Rattle.registry_rules.specs.Query.{enrolled, asked, open_count, is_reserved, least};
@@ -13,10 +12,10 @@ ghost use Rattle.registry_rules.specs.declared.order.Request.{Request};
 ghost use Rattle.usbnum_core.specs.declared.number.Number.{Number};
 
 use crate::carrying::carry_act;
-use crate::concern::{org_concerned, vid_concerned};
+use crate::concern::{org_concerned as slug_concerned, vid_concerned};
 use crate::counting::{numbers_of, open_of};
 use crate::{
-    Deed, Entry, Facts, Founding, Holdings, Kept, Order, Org, Petition, Request, Vendors, Verdict,
+    Deed, Entry, Facts, Founding, Holdings, Kept, Org, Petition, Request, Vendors, Verdict,
 };
 use std::alloc::Global;
 use std::collections::BTreeMap;
@@ -142,33 +141,33 @@ impl Totals {
         numbers_of(&self.taken, &self.nothing, vid).least_outside(&[])
     }
 
-    /// How many petitions of the organisation that the order concerns are open.
-    #[tactic(auto, unfolding(crate::specs::FactsOf::open_concerned))]
-    fn open_concerned(&self, order: &Order, petition: Option<&Petition>, holdings: &Holdings) -> u32
-        ensures { (h : History) → AreTotalsOf h self.now → option_copied petition.entry ≡ petition_named h order.now →
-            ((n : Number) → concerns h order.now n ≡ true → holding_in holdings.now n ≡ holding_of h n) → result ≡ open_concerned h order.now }
-    {
-        match org_concerned(order, self.founding.vendor, petition, holdings) {
-            Some(org) => self.open_count(org),
-            None => 0,
-        }
-    }
-
-    /// The facts for a request: the totals, and what was looked up of the history.
-    pub fn facts(
-        &self,
+    /// The facts for a request: the totals, and what was looked up of the history: what is kept under
+    /// the request's caller and key, the petition that it names, the organisation that it concerns, and
+    /// the holdings of the numbers that it concerns.
+    #[tactic(auto, unfolding(crate::specs::TotalsOf::AreTotalsOf, crate::specs::FactsOf::open_concerned))]
+    pub fn facts<'a>(
+        &'a self,
         request: &Request,
         kept: Option<Kept>,
         petition: Option<Petition>,
         org: Option<Org>,
         holdings: Holdings,
-    ) -> Facts<'_>
+    ) -> Facts<'a>
         ensures { (h : History) → AreTotalsOf h self.now → kept ≡ kept_under h request.now.caller request.now.key → petition ≡ petition_named h request.now.order →
             org ≡ org_concerned h request.now.order → ((n : Number) → concerns h request.now.order n ≡ true → holding_in holdings n ≡ holding_of h n) →
             AreFactsOf h request.now result }
     {
-        let vid = vid_concerned(&request.order, self.founding.vendor, petition.as_ref());
-        let open_count = self.open_concerned(&request.order, petition.as_ref(), &holdings);
+        let founding = self.founding.vendor;
+        let vid = vid_concerned(&request.order, founding, petition.as_ref());
+        let open_count = match slug_concerned(
+            &request.order,
+            founding,
+            petition.as_ref(),
+            &holdings,
+        ) {
+            Some(slug) => self.open_count(slug),
+            None => 0,
+        };
         Facts {
             founding: &self.founding,
             vendors: &self.vendors,

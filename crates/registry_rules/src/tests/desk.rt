@@ -290,7 +290,7 @@ impl Desk {
         }
     }
 
-    fn kept_of(&self, request: &Request) -> Result<Option<Kept>, Fail> {
+    pub fn kept_of(&self, request: &Request) -> Result<Option<Kept>, Fail> {
         let Some(deed) = kept(&self.deeds, &request.caller, &request.key) else {
             return Ok(None);
         };
@@ -349,17 +349,26 @@ impl Desk {
         }
     }
 
-    /// Acts on the line's request, and gives the reply's text, or number, name and detail of the refusal.
-    pub fn answer(&mut self, line: &str) -> Result<String, Fail> {
-        let request = request(self.alloc, line)?;
-        match self.verdict(&request)? {
+    /// The reply's text, or number, name and detail of the refusal.
+    pub fn text(&self, verdict: &Verdict) -> Result<String, Fail> {
+        match verdict {
             Verdict::Kept(text) => Ok(String::from_str(self.alloc, text.as_str())?),
-            Verdict::Refused(refusal) => self.refusal_text(&refusal),
+            Verdict::Refused(refusal) => self.refusal_text(refusal),
             Verdict::New(deed) => {
-                let text = reply_text(self.alloc, &deed)?;
-                self.deeds.insert(0, deed)?;
+                let text = reply_text(self.alloc, deed)?;
                 Ok(String::from_str(self.alloc, text.as_str())?)
             }
         }
+    }
+
+    /// Acts on the line's request, and gives the answer's text.
+    pub fn answer(&mut self, line: &str) -> Result<String, Fail> {
+        let request = request(self.alloc, line)?;
+        let verdict = self.verdict(&request)?;
+        let text = self.text(&verdict)?;
+        if let Verdict::New(deed) = verdict {
+            self.deeds.insert(0, deed)?;
+        }
+        Ok(text)
     }
 }

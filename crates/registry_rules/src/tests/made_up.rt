@@ -1,8 +1,10 @@
 //! Made-up requests over all orders, from a fixed seed: few callers, organisations, numbers and keys, so
 //! that they clash and repeat.
 use super::desk::Desk;
-use super::words::founding;
+use super::words::{founding, request, slug, vid};
+use crate::{Request, Totals, Verdict, judge};
 use std::alloc::Global;
+use std::process::Abort;
 use std::test::Fail;
 
 struct Dice {
@@ -114,11 +116,12 @@ fn rule_line(alloc: Global, dice: &mut Dice, who: &str) -> Result<String, Fail> 
     }
 }
 
-fn line(alloc: Global, dice: &mut Dice) -> Result<String, Fail> {
+/// A line of one of the first so many kinds; there are 12.
+fn line(alloc: Global, dice: &mut Dice, kinds: usize) -> Result<String, Fail> {
     let caller = dice.pick(&CALLERS);
     let key = dice.roll() % 400;
     let who = format!(in alloc; "{caller}/k{key}")?;
-    match dice.roll() % 12 {
+    match dice.roll().checked_rem(kinds).unwrap_or(0) {
         0 | 1 => org_line(alloc, dice, &who),
         2..=4 => ask_line(alloc, dice, &who),
         5..=7 => petition_line(alloc, dice, &who),
@@ -133,7 +136,7 @@ fn line(alloc: Global, dice: &mut Dice) -> Result<String, Fail> {
 fn run(desk: &mut Desk, dice: &mut Dice, count: u32) -> Result<Vec<(String, String)>, Fail> {
     let mut accepted = Vec::new(desk.alloc);
     for _ in 0..count {
-        let line = line(desk.alloc, dice)?;
+        let line = line(desk.alloc, dice, 12)?;
         let before = desk.deeds.len();
         let answer = desk.answer(&line)?;
         if desk.deeds.len() > before {
@@ -157,4 +160,63 @@ fn answers_alike_when_asked_again(rt: HostRuntime) -> Result<(), Fail> {
     }
     assert_eq!(rt; desk.deeds.len(), count);
     Ok(())
+}
+
+/// What becomes of the request by the facts of the totals.
+fn verdict_by(desk: &Desk, totals: &Totals, request: &Request) -> Result<Verdict, Fail> {
+    let order = &request.order;
+    let petition = desk.petition_of(order)?;
+    let vid = desk.vendor_of(order, &petition);
+    let least = totals.least(vid);
+    let org = match desk.slug_of(order, &petition, vid)? {
+        Some(slug) => desk.org(&slug)?,
+        None => None,
+    };
+    let holdings = desk.holdings(order, &petition, vid, least)?;
+    let kept = desk.kept_of(request)?;
+    let facts = totals.facts(request, kept, petition, org, holdings);
+    Ok(judge(desk.alloc, &facts, request)?)
+}
+
+/// The totals are those that walks over the deeds find.
+fn compare(rt: &impl Abort, desk: &Desk, totals: &Totals) -> Result<(), Fail> {
+    assert_eq!(rt; totals.orgs(), desk.orgs());
+    assert_eq!(rt; totals.petitions(), desk.petitions());
+    for name in ORGS {
+        let org = slug(desk.alloc, name)?;
+        assert_eq!(rt; totals.open_count(&org), desk.open_count(&org)?);
+    }
+    for name in ["1209", "cafe", "beef"] {
+        let vid = vid(name)?;
+        assert!(rt; totals.reserved(vid).is_same(&desk.reserved(vid)?));
+        assert_eq!(rt; totals.least(vid), desk.least(vid)?);
+    }
+    Ok(())
+}
+
+#[test]
+fn carries_the_totals_on(rt: HostRuntime) -> Result<(), Fail> {
+    let alloc = rt.alloc();
+    let founding = founding(alloc, "0010")?;
+    let mut totals = Totals::founded(alloc, &founding)?;
+    let mut desk = Desk::new(alloc, founding);
+    let mut dice = Dice { state: 11 };
+    for round in 0..2_000 {
+        let line = line(alloc, &mut dice, 10)?;
+        let request = request(alloc, &line)?;
+        let verdict = verdict_by(&desk, &totals, &request)?;
+        let by_totals = desk.text(&verdict)?;
+        let before = desk.deeds.len();
+        let answer = desk.answer(&line)?;
+        assert_eq!(rt; by_totals.as_str(), answer.as_str(), "to {line}");
+        if desk.deeds.len() > before
+            && let Some(deed) = desk.deeds.first()
+        {
+            totals.carry(deed)?;
+        }
+        if round % 50 == 0 {
+            compare(&rt, &desk, &totals)?;
+        }
+    }
+    compare(&rt, &desk, &totals)
 }

@@ -1,6 +1,7 @@
 //! The worked examples.
 use super::desk::Desk;
 use super::words::founding;
+use std::alloc::Global;
 use std::process::Abort;
 use std::test::Fail;
 
@@ -270,4 +271,46 @@ fn says_who_may_do_what(rt: HostRuntime) -> Result<(), Fail> {
             ("ann/x16 withdraw 3", "7 PetitionClosed"),
         ],
     )
+}
+
+#[test]
+fn has_at_most_16_open_petitions(rt: HostRuntime) -> Result<(), Fail> {
+    let alloc = rt.alloc();
+    let mut desk = desk(&rt)?;
+    run(&rt, &mut desk, &[("ann/k enrol acme", "enrolled acme")])?;
+    for count in 1..=16u32 {
+        let line = format!(in alloc; "ann/a{count} ask acme - Lamp MIT")?;
+        let want = format!(in alloc; "petition {count}")?;
+        run(&rt, &mut desk, &[(line.as_str(), want.as_str())])?;
+    }
+    run(
+        &rt,
+        &mut desk,
+        &[
+            ("ann/b ask acme - Lamp MIT", "14 TooManyOpen"),
+            ("cora/c decline 7", "declined petition 7"),
+            ("ann/b ask acme - Lamp MIT", "petition 17"),
+        ],
+    )
+}
+
+/// An import of so many items of code 0.
+fn import_of_zeros(alloc: Global, count: u32) -> Result<String, Fail> {
+    let mut line = String::from_str(alloc, "cora/i import acme -")?;
+    for _ in 0..count {
+        line.push_str(" 0000=Zero")?;
+    }
+    Ok(line)
+}
+
+#[test]
+fn takes_imports_of_8192_items(rt: HostRuntime) -> Result<(), Fail> {
+    let alloc = rt.alloc();
+    let mut desk = desk(&rt)?;
+    run(&rt, &mut desk, &[("ann/k enrol acme", "enrolled acme")])?;
+    let longer = import_of_zeros(alloc, 8193)?;
+    run(&rt, &mut desk, &[(longer.as_str(), "19 ImportTooLong")])?;
+    let long = import_of_zeros(alloc, 8192)?;
+    let want = "imported fresh 0, owned 0, reserved 0, doubled 0, untitled 0, zero 8192";
+    run(&rt, &mut desk, &[(long.as_str(), want)])
 }
