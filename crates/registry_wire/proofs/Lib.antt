@@ -1,3 +1,4 @@
 pub mod Items
 pub mod SpanLemmas
+pub mod StampLemmas
 pub mod Trees

@@ -8,3 +8,4 @@ pub mod Listing
 pub mod Reading
 pub mod Replies
 pub mod Spans
+pub mod Stamps

@@ -10,9 +10,9 @@ ghost use Rattle.registry_wire.specs.Listing.{seen};
 use crate::stop::{Stop, present};
 use crate::toml_value::{FromToml, all_of};
 use crate::{FoundingFault, WireRefusal};
+use registry_rules::{Curators, Founding, Licences};
 use std::alloc::Global;
 use toml::{Table, Value};
-use registry_rules::{Curators, Founding, Licences};
 use usbnum_core::{NoMemory, Slug, Span, Spans, Title, Vid};
 
 // What a founding file lists, as it stands there.

@@ -7,6 +7,7 @@ pub use import::import_request;
 pub use refusal::{FoundingFault, WireRefusal};
 pub use reply::{refusal_json, reply_json};
 pub use request::{line_request, request_from_json};
+pub use stamp::stamp_from_text;
 
 mod field;
 mod fields;
@@ -19,6 +20,7 @@ mod refusal;
 mod reply;
 mod request;
 mod span;
+mod stamp;
 mod stop;
 #[cfg(test)]
 mod tests;
