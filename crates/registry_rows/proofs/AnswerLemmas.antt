@@ -1,5 +1,5 @@
 -- From the rows that a call read to the values that they stand for.
-use Rattle.std.proofs.Common.{◌≡◌, ◌≢◌, Bool, true, false, cond, List, [], ◌∷◌, map, filter, slice_get, Option, Result, Ok, Err, inl, MatchResult, Ordering, is_gt}
+use Rattle.std.proofs.Common.{◌≡◌, ◌≢◌, Bool, true, false, cond, List, [], ◌∷◌, map, filter, slice_get, Option, Result, Ok, Err, inl, MatchResult, OnOk, Ordering, is_gt}
 use Rattle.sqlite_keyed.specs.Lists.{insert_sorted, sort_by}
 use Rattle.sqlite_keyed.proofs.ListLemmas.{all-filter}
 use Rattle.std.specs.List.{AllByRecursion}
@@ -8,7 +8,7 @@ use Rattle.sqlite.specs.State.{State, IsUnchanged}
 use Rattle.table_laws.specs.Inside.{GoesOn}
 use Rattle.registry_schema.specs.declared.fault.TableFault.{TableFault}
 use Rattle.registry_schema.specs.declared.fault.TableFault.TheVariants.{Foreign}
-use Rattle.registry_rows.specs.Steps.{Decodes, Answers}
+use Rattle.registry_rows.specs.Steps.{Decodes, Answers, Changes}
 use Rattle.registry_rows.specs.Tables.{Tables, Holds}
 
 module _ {X : Type 0} (IsValid : X → Type 0) (show : X → Row) (pick : Tables → List X) (old new : State) (rows : List Row)
@@ -45,3 +45,14 @@ module _ {X : Type 0} (IsValid : X → Type 0) where
   pub valid_sorted : (cmp : X → X → Ordering) (values : List X) → AllByRecursion IsValid values → AllByRecursion IsValid (sort_by cmp values)
   valid_sorted cmp [] all = tt
   valid_sorted cmp (x ∷ xs) all = inserted cmp x (sort_by cmp xs) all.0 (valid_sorted cmp xs all.1)
+
+-- ---- a change that was made
+
+pub change_made : {A : Type 0} (old new : State) (result : Result A TableFault) (after : Tables → Tables) → Changes old new result after
+    → OnOk result (GoesOn old new × ((t : Tables) → Holds old.now t → Holds new.now (after t)))
+change_made old new (Ok a) after h = h
+change_made old new (Err e) after h = tt
+
+pub on_ok : {A E : Type 0} (result : Result A E) (P Q : Type 0) → (P → Q) → OnOk result P → OnOk result Q
+on_ok (Ok a) P Q then h = then h
+on_ok (Err e) P Q then h = tt

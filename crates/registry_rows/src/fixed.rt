@@ -31,6 +31,7 @@ pub fn put_fixed<S: Alter>(tx: &mut Transaction<'_, S>, span: Span) -> Result<()
     ensures same_reference { tx.new.conn.ghost_name ≡ tx.old.conn.ghost_name }
     ensures put { HasCleanDisk (state S.Store tx.new.conn.now) → IsTrue (state S.Store tx.old.conn.now).in_transaction
         → Changes (state S.Store tx.old.conn.now) (state S.Store tx.new.conn.now) result (λ t. record t { fixed = insert_by fixed_key t.fixed span }) }
+    ensures fault { result ≢ Err TableFault.Foreign }
     ensures survives { Survives (state S.Store tx.old.conn.now) (state S.Store tx.new.conn.now) (λ _. ⊥) }
 {
     let ran = tx.execute(

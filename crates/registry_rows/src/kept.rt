@@ -53,6 +53,7 @@ pub fn put_kept<S: Alter>(
     ensures same_reference { tx.new.conn.ghost_name ≡ tx.old.conn.ghost_name }
     ensures put { HasCleanDisk (state S.Store tx.new.conn.now) → IsTrue (state S.Store tx.old.conn.now).in_transaction
         → Changes (state S.Store tx.old.conn.now) (state S.Store tx.new.conn.now) result (λ t. record t { kept = delete_where (λ other. is_kept_under caller.now key.now other) t.kept ++ record { caller = caller.now; key = key.now; kept = record { order = order.now; reply = reply.now } } ∷ [] }) }
+    ensures fault { result ≢ Err TableFault.Foreign }
     ensures survives { Survives (state S.Store tx.old.conn.now) (state S.Store tx.new.conn.now) (λ _. ⊥) }
 {
     let ran = tx.execute(

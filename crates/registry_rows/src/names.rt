@@ -45,6 +45,7 @@ pub fn put_curator<S: Alter>(tx: &mut Transaction<'_, S>, name: &Slug) -> Result
     ensures same_reference { tx.new.conn.ghost_name ≡ tx.old.conn.ghost_name }
     ensures put { HasCleanDisk (state S.Store tx.new.conn.now) → IsTrue (state S.Store tx.old.conn.now).in_transaction
         → Changes (state S.Store tx.old.conn.now) (state S.Store tx.new.conn.now) result (λ t. record t { curators = delete_where (λ other. is_named other name.now) t.curators ++ name.now ∷ [] }) }
+    ensures fault { result ≢ Err TableFault.Foreign }
     ensures survives { Survives (state S.Store tx.old.conn.now) (state S.Store tx.new.conn.now) (λ _. ⊥) }
 {
     let ran = tx.execute(
@@ -90,6 +91,7 @@ pub fn put_licence<S: Alter>(tx: &mut Transaction<'_, S>, name: &Title) -> Resul
     ensures same_reference { tx.new.conn.ghost_name ≡ tx.old.conn.ghost_name }
     ensures put { HasCleanDisk (state S.Store tx.new.conn.now) → IsTrue (state S.Store tx.old.conn.now).in_transaction
         → Changes (state S.Store tx.old.conn.now) (state S.Store tx.new.conn.now) result (λ t. record t { licences = delete_where (λ other. is_named other name.now) t.licences ++ name.now ∷ [] }) }
+    ensures fault { result ≢ Err TableFault.Foreign }
     ensures survives { Survives (state S.Store tx.old.conn.now) (state S.Store tx.new.conn.now) (λ _. ⊥) }
 {
     let ran = tx.execute(

@@ -1,1 +1,4 @@
 pub mod RowsLemmas
+pub mod UnderLemmas
+pub mod ViewLemmas
+pub mod KeptLemmas

@@ -11,26 +11,30 @@ ghost use Rattle.registry_tables.specs.Rows.{newest, HoldsRows, HoldsUnkept};
 ghost use Rattle.registry_tables.specs.Calls.{IsKeptAs};
 
 use crate::TableFault;
-use registry_rules::{Request, Text};
+use registry_rows::put_kept;
+use registry_rules::{Request, Text, request_bytes};
 use sqlite::{Alter, Transaction};
 use std::alloc::Global;
 
 /// Keeps the order's spelling and the reply under the request's caller and key. With what `store` did before, the
 /// rows are then those of the history with the deed.
 pub fn keep_reply<S: Alter>(
-    _alloc: Global,
-    _tx: &mut Transaction<'_, S>,
-    _request: &Request,
-    _reply: &Text,
+    alloc: Global,
+    tx: &mut Transaction<'_, S>,
+    request: &Request,
+    reply: &Text,
 ) -> Result<(), TableFault>
-    ensures same_reference { _tx.new.conn.ghost_name ≡ _tx.old.conn.ghost_name }
-    ensures goes_on { HasCleanDisk (state S.Store _tx.new.conn.now) → IsTrue (state S.Store _tx.old.conn.now).in_transaction
-        → OnOk result (GoesOn (state S.Store _tx.old.conn.now) (state S.Store _tx.new.conn.now)) }
-    ensures rows { HasCleanDisk (state S.Store _tx.new.conn.now) → IsTrue (state S.Store _tx.old.conn.now).in_transaction
-        → OnOk result ((h : History) (deed : Deed) → Legal (with_deed h deed) → IsKeptAs deed _request.now _reply.now
-        → HoldsUnkept (state S.Store _tx.old.conn.now).now h (with_deed h deed) → HoldsRows newest (state S.Store _tx.new.conn.now).now (with_deed h deed)) }
+    ensures same_reference { tx.new.conn.ghost_name ≡ tx.old.conn.ghost_name }
+    ensures goes_on { HasCleanDisk (state S.Store tx.new.conn.now) → IsTrue (state S.Store tx.old.conn.now).in_transaction
+        → OnOk result (GoesOn (state S.Store tx.old.conn.now) (state S.Store tx.new.conn.now)) }
+    ensures rows { HasCleanDisk (state S.Store tx.new.conn.now) → IsTrue (state S.Store tx.old.conn.now).in_transaction
+        → OnOk result ((h : History) (deed : Deed) → Legal (with_deed h deed) → IsKeptAs deed request.now reply.now
+        → HoldsUnkept (state S.Store tx.old.conn.now).now h (with_deed h deed) → HoldsRows newest (state S.Store tx.new.conn.now).now (with_deed h deed)) }
     ensures kind { result ≢ Err TableFault.Foreign }
-    ensures survives { Survives (state S.Store _tx.old.conn.now) (state S.Store _tx.new.conn.now) (λ _. ⊥) }
+    ensures survives { Survives (state S.Store tx.old.conn.now) (state S.Store tx.new.conn.now) (λ _. ⊥) }
 {
-    Err(TableFault::NoMemory)
+    match request_bytes(alloc, request) {
+        Ok(order) => put_kept(tx, &request.caller, &request.key, &order, reply),
+        Err(_) => Err(TableFault::NoMemory),
+    }
 }

@@ -1,0 +1,92 @@
+-- With the kept reply the rows are those of the history with the deed.
+use Rattle.std.proofs.Common.{◌≡◌, ℕ, Bool, true, false, cond, ◌&&◌, if◌then◌else◌, List, [], ◌∷◌, ◌++◌, find, Option, Some, None, Result, Ok, Err, refl, sym, ap, ◌∙◌}
+use Rattle.std.specs.Option.{option_map}
+use Rattle.std.specs.Str.{bytes_eq}
+use Rattle.std.proofs.lemmas.Bool.{and_parts}
+use Rattle.sqlite.specs.State.{State}
+use Rattle.sqlite_keyed.specs.Lists.{delete_where}
+use Rattle.table_laws.specs.Inside.{GoesOn}
+use Rattle.table_laws.proofs.FoundLemmas.{apart_put}
+use Rattle.registry_schema.specs.declared.fault.TableFault.{TableFault}
+use Rattle.registry_rules.specs.History.{History, with_deed, sooner}
+use Rattle.registry_rules.specs.Query.{kept, given}
+use Rattle.registry_rules.specs.Run.{Legal}
+use Rattle.registry_rules.specs.Spelling.{spelling_of}
+use Rattle.registry_rules.specs.Verdict.{kept_of, kept_under, verdict, verdict_by}
+use Rattle.registry_rules.specs.declared.deed.Act.{Act}
+use Rattle.registry_rules.specs.declared.deed.Deed.{Deed}
+use Rattle.registry_rules.specs.declared.facts.Kept.{Kept}
+use Rattle.registry_rules.specs.declared.order.Request.{Request}
+use Rattle.registry_rules.specs.declared.refusal.Refusal.{Refusal}
+use Rattle.registry_rules.specs.declared.refusal.Refusal.TheVariants.{KeyReused}
+use Rattle.registry_rules.specs.declared.verdict.Verdict.{Verdict}
+use Rattle.registry_rules.specs.declared.verdict.Verdict.TheVariants.{Kept as IsKept, Refused, New}
+use Rattle.registry_rows.specs.declared.kept.KeptRow.{KeptRow}
+use Rattle.registry_rows.specs.Rows.{is_kept_under}
+use Rattle.registry_rows.specs.Steps.{Changes}
+use Rattle.registry_rows.specs.Tables.{Tables, Holds}
+use Rattle.registry_tables.specs.Rows.{newest, AreRecords, AreKeptReplies, HoldsRows, HoldsUnkept}
+use Rattle.registry_tables.specs.Calls.{IsKeptAs}
+use Rattle.registry_tables.proofs.ViewLemmas.{same_bytes, kept_put}
+
+never_new : (b : Bool) (text : List ℕ) (refusal : Refusal) (deed : Deed) → cond b (IsKept text) (Refused refusal) ≡ New deed → ⊥
+never_new true text refusal deed e = absurd cc
+never_new false text refusal deed e = absurd cc
+
+-- what is new was not kept before
+new_unkept : (k : Option Kept) (request : Request) (result : Result Act Refusal) (deed : Deed) → verdict_by k request result ≡ New deed → k ≡ None
+new_unkept None request result deed is = refl
+new_unkept (Some other) request result deed is = absurd (never_new (bytes_eq other.order (spelling_of request.order)) other.reply KeyReused deed is)
+
+nothing_kept : (o : Option Deed) → option_map kept_of o ≡ None → o ≡ None
+nothing_kept None is = refl
+nothing_kept (Some deed) is = absurd cc
+
+unkept : (h : History) (deed : Deed) → Legal (with_deed h deed) → kept h deed.caller deed.key ≡ None
+unfolding Legal verdict
+unkept h deed legal = nothing_kept (kept h deed.caller deed.key) (new_unkept (kept_under h deed.caller deed.key) _ _ deed legal.1)
+
+one_step : (b : Bool) (earlier : Option Deed) (deed : Deed) (x : KeptRow) (row : Kept → KeptRow) → (b ≡ true → earlier ≡ None) → (b ≡ true → x ≡ row (kept_of deed))
+    → cond b (Some x) (option_map row (option_map kept_of earlier)) ≡ option_map row (option_map kept_of (sooner earlier (given b deed)))
+one_step true earlier deed x row none is = rw (none refl) (ap Some (is refl))
+one_step false earlier deed x row none is = refl
+
+module _ (h : History) (deed : Deed) (legal : Legal (with_deed h deed)) (request : Request) (reply : List ℕ) (keeps : IsKeptAs deed request reply) (order : List ℕ) (spelled : order ≡ spelling_of request.order) where
+  abbrev row : KeptRow
+  row = record { caller = request.caller; key = request.key; kept = record { order = order; reply = reply } }
+
+  abbrev under : List ℕ → List ℕ → Kept → KeptRow
+  under caller key what = record { caller = caller; key = key; kept = what }
+
+  row_is : (caller key : List ℕ) → request.caller ≡ caller → request.key ≡ key → row ≡ under caller key (kept_of deed)
+  row_is caller key a b =
+      let kept_is : ◌≡◌ {A = Kept} (record { order = order; reply = reply }) (kept_of deed) =
+          ap (λ o. record { order = o; reply = reply }) (spelled ∙ ap spelling_of (sym keeps.order)) ∙ ap (λ r. record { order = spelling_of deed.order; reply = r }) keeps.said in
+      ap (λ (k : Kept). under request.caller request.key k) kept_is ∙ ap (λ c. under c request.key (kept_of deed)) a ∙ ap (λ k. under caller k (kept_of deed)) b
+
+  kept_after : (rows : List KeptRow) → AreKeptReplies h rows → AreKeptReplies (with_deed h deed) (delete_where (λ other. is_kept_under request.caller request.key other) rows ++ row ∷ [])
+  kept_after rows was = record {
+    each = λ caller key.
+        let b = bytes_eq request.caller caller && bytes_eq request.key key in
+        let both = λ (yes : b ≡ true). and_parts (bytes_eq request.caller caller) (bytes_eq request.key key) yes in
+        let none : b ≡ true → kept h caller key ≡ None = λ yes.
+            (let a = keeps.caller ∙ same_bytes request.caller caller (both yes).0 in let k = keeps.key ∙ same_bytes request.key key (both yes).1 in
+            rw (sym a, sym k) (unkept h deed legal)) in
+        let test : (bytes_eq deed.caller caller && bytes_eq deed.key key) ≡ b = rw (keeps.caller, keeps.key) refl in
+        kept_put row rows caller key ∙ ap (λ o. cond b (Some row) o) (was.each caller key)
+        ∙ one_step b (kept h caller key) deed row (under caller key) none (λ yes. row_is caller key (same_bytes request.caller caller (both yes).0) (same_bytes request.key key (both yes).1))
+        ∙ ap (λ t. option_map (under caller key) (option_map kept_of (sooner (kept h caller key) (given t deed)))) (sym test);
+    once = apart_put (λ a b. is_kept_under b.caller b.key a) row rows was.once;
+  }
+
+  pub kept_now : (old new : State) → ((t : Tables) → Holds old.now t → Holds new.now (record t { kept = delete_where (λ other. is_kept_under request.caller request.key other) t.kept ++ row ∷ [] }))
+      → HoldsUnkept old.now h (with_deed h deed) → HoldsRows newest new.now (with_deed h deed)
+  unfolding HoldsUnkept HoldsRows
+  kept_now old new after had =
+      let records = had.2 in (
+        refl,
+        record had.0 { kept = delete_where (λ other. is_kept_under request.caller request.key other) had.0.kept ++ row ∷ [] },
+        after had.0 had.1,
+        record { metas = records.metas; curators = records.curators; licences = records.licences; fixed = records.fixed; orgs = records.orgs; vendors = records.vendors; spans = records.spans; entries = records.entries; petitions = records.petitions },
+        kept_after had.0.kept had.3,
+      )
