@@ -1,5 +1,5 @@
 -- From a run of the unanswered requests to the whole list.
-use Rattle.std.proofs.Common.{◌≡◌, ◌<◌, ◌≤◌, ◌+◌, ◌-◌, ◌⊎◌, inl, inr, ℕ, zero, suc, List, [], ◌∷◌, ◌++◌, length, take, drop, get_or, Option, Some, None, refl, sym, ap, subst, ◌∙◌, arith, add-one, length-drop, drop-cons}
+use Rattle.std.proofs.Common.{◌≡◌, ◌<◌, ◌+◌, ◌-◌, inl, inr, ℕ, zero, suc, List, [], ◌∷◌, length, take, drop, get_or, Option, Some, None, refl, sym, ap, subst, ◌∙◌, arith, add-one, length-drop, drop-cons}
 use Rattle.std.proofs.lemmas.List.{take-append-drop, take_all}
 use Rattle.std.proofs.Math.Seq.{take-add}
 use Rattle.sqlite.specs.Store.{Ghosts}
@@ -11,9 +11,9 @@ use Rattle.registry_rules.proofs.RunLemmas.{repeats}
 use Rattle.registry_tables.specs.Rows.{newest}
 use Rattle.registry_store.specs.declared.fault.Fault.{Fault}
 use Rattle.registry_store.specs.declared.registry.Registry.{Registry}
-use Rattle.registry_store.specs.Promise.{Leaves, Stands, state_of}
-use Rattle.registry_store.specs.Run.{IsPlace, IsPart, IsDone, IsStopped, EndsPart, EndsRun, HasAnswered}
-use Rattle.registry_store.proofs.Runs.{after-append, answers-append, after_more, leaves_weaker}
+use Rattle.registry_store.specs.Promise.{Stands, state_of}
+use Rattle.registry_store.specs.Run.{IsPlace, EndsPart, EndsRun}
+use Rattle.registry_store.proofs.Runs.{after-append, after_more, leaves_weaker}
 
 pub drop-answers : (n : ℕ) (h : History) (rs : List Request) → drop n (answers h rs) ≡ answers (after h (take n rs)) (drop n rs)
 drop-answers zero h rs = refl

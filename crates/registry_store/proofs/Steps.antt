@@ -1,5 +1,5 @@
 -- How a transaction's calls go on from one another.
-use Rattle.std.proofs.Common.{◌≡◌, ◌≤◌, ◌⊎◌, inl, inr, ℕ, IsTrue, true, false, refl, sym, ap, subst, ◌∙◌, arith, List, Result, Ok, Err, OnOk}
+use Rattle.std.proofs.Common.{◌≡◌, inl, inr, ℕ, IsTrue, true, false, refl, sym, ap, subst, ◌∙◌, arith, List, Result, Ok, Err, OnOk}
 use Rattle.sqlite.specs.Tree.{Trees}
 use Rattle.sqlite.specs.Store.{Ghosts}
 use Rattle.sqlite.specs.State.{State, HasCleanDisk, Survives, Shows, IsLive, IsUnchanged, IsRolledBack}
@@ -24,7 +24,7 @@ use Rattle.registry_rules.proofs.RunLemmas.{legal_new, legal_after_one, new_is_o
 use Rattle.registry_tables.specs.Rows.{Rows, HoldsRows, HoldsUnkept, newest}
 use Rattle.registry_tables.specs.Calls.{IsKeptAs}
 use Rattle.registry_tables.proofs.RowsLemmas.{enters, goes_out}
-use Rattle.registry_store.specs.Promise.{Counts, IsAt, Leaves}
+use Rattle.registry_store.specs.Promise.{Counts, IsAt}
 use Rattle.registry_store.specs.Attempt.{CommitsOne, Wrote}
 use Rattle.registry_store.proofs.Opening.{rows_now}
 

@@ -1,5 +1,5 @@
 -- One request in one transaction.
-use Rattle.std.specs.Prelude.{◌≡◌, List, ℕ, true, IsTrue}
+use Rattle.std.specs.Prelude.{◌≡◌, true, IsTrue}
 use Rattle.sqlite.specs.Tree.{Trees}
 use Rattle.sqlite.specs.State.{State, Shows}
 use Rattle.registry_rules.specs.declared.totals.Totals.{Totals}

@@ -7,4 +7,5 @@ pub mod registry;
 pub mod reopen;
 
 pub use fault::Fault;
-pub use registry::Registry;
+pub use registry::{Registry, RunEnd};
+pub use reopen::{crash_and_open, open_files, run_through, stop, take_up};

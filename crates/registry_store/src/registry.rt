@@ -27,7 +27,7 @@ pub struct Registry<S: Alter> {
 }
 
 impl<S: Alter> Registry<S> {
-    ghost use Rattle.std.specs.Prelude.{◌≡◌, ◌≢◌, MatchResult, IsTrue, ◌⊎◌, ◌≤◌, [], length, vec_capacity, true, false, IfOk, IfErr, OnOk, OnErr, Err, Some, None, List};
+    ghost use Rattle.std.specs.Prelude.{◌≡◌, ◌≢◌, MatchResult, IsTrue, ◌⊎◌, ◌≤◌, [], length, vec_capacity, true, false, IfOk, IfErr, IsErrAnd, OnOk, OnErr, Err, Some, None, List};
     ghost use Rattle.sqlite.specs.State.{HasCleanDisk, Survives};
     ghost use Rattle.sqlite.specs.Held.{state};
     ghost use Rattle.registry_rules.specs.FactsOf.{IsFoundingOf};
@@ -57,7 +57,7 @@ impl<S: Alter> Registry<S> {
         ensures stands { IfOk result (λ it. HasCleanDisk (state_of it) → Stands it (founded founding.now)) }
         ensures fresh { IfOk result (λ it. HasNoMeta (state S.Store conn).now) }
         ensures taken { IfErr result (λ e. e.0 ≡ Fault.Taken → (e.1 ≡ conn) × (has_meta_table (state S.Store conn).now.schema ≡ true)) }
-        ensures busy { IsTrue conn.in_transaction → IfErr result (λ e. (e.0 ≡ Fault.Store) × (e.1 ≡ conn)) }
+        ensures busy { IsTrue conn.in_transaction → IsErrAnd result (λ e. (e.0 ≡ Fault.Store) × (e.1 ≡ conn)) }
         ensures kind { IfErr result (λ e. (e.0 ≢ Fault.Spent) × (e.0 ≢ Fault.Foreign)) }
 
         // What it makes is all or nothing, also at a crash.
@@ -96,7 +96,7 @@ impl<S: Alter> Registry<S> {
         ensures stands { (h : History) → Legal h → IsAt newest (state S.Store conn) h → IfOk result (λ it. HasCleanDisk (state_of it) → Stands it h) }
         ensures fresh { (h : History) → Legal h → IsFreshAt newest (state S.Store conn) h → IfOk result (λ it. HasCleanDisk (state_of it) → Stands it h) }
         ensures foreign { IfErr result (λ e. HasCleanDisk (state S.Store e.1) → e.0 ≡ Fault.Foreign → (h : History) → Legal h → ¬ Rows newest (state S.Store conn).now.trees h) }
-        ensures busy { IsTrue conn.in_transaction → IfErr result (λ e. (e.0 ≡ Fault.Store) × (e.1 ≡ conn)) }
+        ensures busy { IsTrue conn.in_transaction → IsErrAnd result (λ e. (e.0 ≡ Fault.Store) × (e.1 ≡ conn)) }
         ensures kind { IfErr result (λ e. (e.0 ≢ Fault.Spent) × (e.0 ≢ Fault.Taken)) }
 
         // It commits nothing.

@@ -1,10 +1,10 @@
-use Rattle.std.proofs.Common.{◌≡◌, Err, rules, refl, sym, ap, subst, ◌∙◌, arith}
+use Rattle.std.proofs.Common.{◌≡◌, Err, rules, ap, subst}
 use Rattle.sqlite.specs.State.{HasCleanDisk, Survives, IsRolledBack}
 use Rattle.sqlite.specs.Held.{state}
 use Rattle.registry_rules.specs.Run.{after_one, after_verdict, reply_of}
 use Rattle.registry_tables.specs.Rows.{newest}
 use Rattle.registry_schema.specs.declared.fault.TableFault.TheVariants.{Foreign}
-use Rattle.registry_store.specs.Promise.{Counts, IsAt}
+use Rattle.registry_store.specs.Promise.{IsAt}
 use Rattle.registry_store.specs.Attempt.{CommitsOne}
 use Rattle.registry_store.proofs.Steps.{answered, one_at_most, as_before, never_foreign}
 use Rattle.registry_store.proofs.attempt.attempt.Goals as goal

@@ -1,6 +1,4 @@
-use Rattle.std.proofs.Common.{◌≡◌, rules, sym, subst, arith}
-use Rattle.sqlite.specs.State.{HasCleanDisk}
-use Rattle.sqlite.specs.Held.{state}
+use Rattle.std.proofs.Common.{◌≡◌, rules, subst}
 use Rattle.registry_rules.specs.Rows.{LeadsTo}
 use Rattle.registry_rules.specs.History.{with_deed}
 use Rattle.registry_store.proofs.Opening.{earlier}

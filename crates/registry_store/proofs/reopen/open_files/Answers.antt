@@ -1,7 +1,5 @@
-use Rattle.std.proofs.Common.{refl, subst}
 use Rattle.std.proofs.lemmas.Option.{IfSome_then}
-use Rattle.sqlite.specs.State.{HasCleanDisk}
-use Rattle.sqlite.specs.Files.{image_of, file_state}
+use Rattle.sqlite.specs.Files.{image_of}
 use Rattle.registry_store.proofs.reopen.open_files.Goals as goal
 
 pub returns-in-Ok-clause-stands : goal.returns-in-Ok-clause-stands

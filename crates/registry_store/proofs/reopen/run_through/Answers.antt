@@ -1,9 +1,9 @@
-use Rattle.std.proofs.Common.{◌≡◌, ℕ, inl, ◌∙◌, refl, sym, ap, subst, rules, arith, length, ◌+◌, ◌++◌, take, [], List}
+use Rattle.std.proofs.Common.{◌≡◌, inl, ◌∙◌, refl, sym, subst, rules, arith, length, ◌+◌, ◌++◌, take, []}
 use Rattle.std.proofs.Math.Logic.{∥∥₁_map, ∥∥₁_elim}
 use Rattle.sqlite.specs.State.{HasCleanDisk}
 use Rattle.registry_rules.specs.Run.{after, answers}
-use Rattle.registry_store.specs.Promise.{Stands, state_of}
-use Rattle.registry_store.specs.Run.{EndsRun, HasAnswered, IsDone, IsStopped}
+use Rattle.registry_store.specs.Promise.{state_of}
+use Rattle.registry_store.specs.Run.{EndsRun, HasAnswered, IsStopped}
 use Rattle.registry_rules.proofs.RunLemmas.{legal_after}
 use Rattle.registry_store.proofs.Through.{ended, goes_on}
 use Rattle.registry_store.proofs.reopen.run_through.Goals as goal

@@ -1,4 +1,4 @@
-use Rattle.std.proofs.Common.{◌≡◌, IsTrue, refl, sym, subst, rules}
+use Rattle.std.proofs.Common.{IsTrue, subst}
 use Rattle.std.proofs.Math.Logic.{∥∥₁_map}
 use Rattle.sqlite.specs.FileStore.{view, recovers}
 use Rattle.sqlite.specs.Held.{AreDatabases}

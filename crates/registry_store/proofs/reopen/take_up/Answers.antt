@@ -1,8 +1,7 @@
-use Rattle.std.proofs.Common.{◌≡◌, refl, sym, subst, arith}
+use Rattle.std.proofs.Common.{sym, subst, arith}
 use Rattle.std.proofs.Math.Logic.{∥∥₁_map}
 use Rattle.sqlite.specs.State.{HasCleanDisk}
 use Rattle.sqlite.specs.Files.{file_state}
-use Rattle.registry_rules.specs.Run.{Legal}
 use Rattle.registry_tables.specs.Rows.{Rows, newest}
 use Rattle.registry_store.specs.Promise.{IsFreshAt}
 use Rattle.registry_store.proofs.Opening.{either_legal}

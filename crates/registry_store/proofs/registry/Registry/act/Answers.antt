@@ -1,4 +1,4 @@
-use Rattle.std.proofs.Common.{refl, subst, ◌∙◌}
+use Rattle.std.proofs.Common.{subst, ◌∙◌}
 use Rattle.registry_rules.proofs.RunLemmas.{kept_for_good}
 use Rattle.registry_store.specs.Promise.{Stands}
 use Rattle.registry_store.proofs.registry.Registry.act.Goals as goal

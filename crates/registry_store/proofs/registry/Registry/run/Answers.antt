@@ -1,6 +1,6 @@
-use Rattle.std.proofs.Common.{rules, ◌≡◌, ◌<◌, ◌≤◌, ◌⊎◌, inl, inr, [], ◌∷◌, ◌++◌, length, take, refl, sym, ap, subst, ◌∙◌, arith}
+use Rattle.std.proofs.Common.{rules, ◌≡◌, ◌<◌, [], ◌∷◌, ◌++◌, length, take, sym, ap, subst, ◌∙◌, arith}
 use Rattle.sqlite.specs.State.{HasCleanDisk}
-use Rattle.registry_rules.specs.Run.{after, answers}
+use Rattle.registry_rules.specs.Run.{answers}
 use Rattle.registry_tables.specs.Rows.{newest}
 use Rattle.registry_store.specs.Promise.{Stands, Leaves, state_of}
 use Rattle.registry_store.specs.Run.{IsPlace}
