@@ -1,7 +1,16 @@
-# test: the gate. Proves every crate and its tests from nothing, tries the
-#       must-fail edits, runs the tests and, as two compilers make it, the program.
+# run:   proves and builds the program usbreg, and prints its help.
+# test:  the gate. Proves every crate and its tests from nothing, tries the
+#        must-fail edits, runs the tests and, as two compilers make it, each program.
+# bench: reads and writes lists beside plain readers, and prints ratios. Not part
+#        of the gate; it says which packages are missing.
 
-.PHONY: test
+.PHONY: run test bench
+
+run:
+	rt run registry_cli -- --help
 
 test:
 	rt ci
+
+bench:
+	bench/run.sh
