@@ -11,6 +11,7 @@ times=${TIMES:-7}
 (cd "$here/../crates/usbids_bench" && rt run > /dev/null)
 program="$here/../crates/usbids_bench/out/usbids_bench"
 cc -O2 -o "$work/plain_reader" "$here/plain_reader.c"
+cc -O2 -o "$work/peak" "$here/peak.c"
 
 lists=("$@")
 if [ ${#lists[@]} -eq 0 ]; then
@@ -34,12 +35,7 @@ for list in "${lists[@]}"; do
     written=$(best write < "$work/ours")
     plain_c=$("$work/plain_reader" "$list" "$times" | best read)
     plain_python=$(python3 "$here/plain_reader.py" "$list" 2 | best read)
-    memory=$(python3 - "$program" "$list" <<'PY'
-import resource, subprocess, sys
-subprocess.run([sys.argv[1], sys.argv[2], "0"], stdout=subprocess.DEVNULL, check=True)
-print(resource.getrusage(resource.RUSAGE_CHILDREN).ru_maxrss * 1024)
-PY
-)
+    memory=$("$work/peak" "$program" "$list" 0)
     awk -v list="$list" -v bytes="$bytes" -v ours="$ours" -v written="$written" -v c="$plain_c" -v py="$plain_python" -v memory="$memory" 'BEGIN {
         printf "%s: %d bytes\n", list, bytes
         printf "  read %.0f MB/s, %.2f of C, %.1f times Python\n", bytes / ours, c / ours, py / ours

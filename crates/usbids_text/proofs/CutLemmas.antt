@@ -1,14 +1,13 @@
 -- What is fed byte by byte is what the lines of the whole give.
-use Rattle.std.proofs.Common.{◌≡◌, ℕ, ◌+◌, ◌<◌, ◌≤◌, Bool, true, false, cond, List, [], ◌∷◌, ◌++◌, length, Option, Some, None, refl, sym, ap, subst, ◌∙◌, inl, inr, arith, append_assoc, length-append}
+use Rattle.std.proofs.Common.{◌≡◌, ℕ, ◌<◌, ◌≤◌, true, false, List, [], ◌∷◌, ◌++◌, length, refl, sym, ap, ◌∙◌, inl, inr, arith, append_assoc, length-append}
 use Rattle.std.specs.Prelude.{◌==◌, nat_lt, is_some}
 use Rattle.std.proofs.lemmas.Bool.{cases_Bool, le-ltb, lt-ltb, ltb-false, ltb-true}
 use Rattle.usbids_text.specs.declared.line.Why.TheVariants.{LineTooLong}
 use Rattle.std.proofs.lemmas.List.{append-nil}
 use Rattle.usbids_text.specs.Lines.{class_of}
-use Rattle.usbids_text.specs.Feeding.{Held, Fed, fed, took, line_done, refused, start, step, ended, kept, finished}
-use Rattle.usbids_text.proofs.FeedLemmas.{fed-append}
+use Rattle.usbids_text.specs.Feeding.{Held, Fed, fed, took, line_done, refused}
 use Rattle.usbids_text.proofs.InnerLemmas.{Pieces}
-use Rattle.usbids_text.specs.Cut.{prefixed, cut, lines, with_rest}
+use Rattle.usbids_text.specs.Cut.{prefixed, cut}
 use Rattle.usbids_text.specs.Outcome.{done, over, outcome}
 
 -- no byte is a line feed

@@ -1,21 +1,17 @@
 -- A document that is built entry by entry has those entries in order.
-use Rattle.std.proofs.Common.{◌≡◌, ℕ, zero, suc, ◌+◌, ◌<◌, ◌≤◌, Bool, true, false, List, [], ◌∷◌, ◌++◌, length, Option, Some, None, refl, sym, ap, ◌∙◌, inl, inr, arith, append_assoc, length-append}
+use Rattle.std.proofs.Common.{◌≡◌, ℕ, Bool, true, false, List, [], ◌∷◌, ◌++◌, Option, Some, None, refl, sym, ap, ◌∙◌, append_assoc}
 use Rattle.std.specs.Prelude.{◌==◌, ◌&&◌, ◌||◌, not}
 use Rattle.std.specs.List.{list_all}
-use Rattle.std.proofs.lemmas.Bool.{cases_Bool}
-use Rattle.std.proofs.lemmas.List.{append-nil}
 use Rattle.std.proofs.lemmas.List.Folds.{list_all-append}
-use Rattle.std.proofs.Math.Bool.{and-true, and-false}
-use Rattle.usbids_text.specs.declared.line.Why.{Why}
-use Rattle.usbids_text.specs.declared.line.Why.TheVariants.{BadCode, NoParent}
+use Rattle.usbids_text.specs.declared.line.Why.TheVariants.{BadCode}
 use Rattle.std.specs.Prelude.{if◌then◌else◌}
 use Rattle.usbids_text.specs.declared.kind.Depth.{Depth}
 use Rattle.usbids_text.specs.declared.kind.Depth.TheVariants.{Zero, One, Two}
 use Rattle.usbids_text.specs.declared.kind.Kind.{Kind}
 use Rattle.usbids_text.specs.declared.kind.Kind.TheVariants.{Vendor, Tagged}
 use Rattle.usbids_text.specs.Entries.{Row, LeafEntry, MidEntry, TopEntry, leaf_row, mid_row, top_row, leaves_rows, mids_rows, tops_rows, preorder, is_vendor, has_room, has_four, is_row, is_sound_top, IsSound}
-use Rattle.usbids_text.specs.Documents.{last, misplaced, mid_of, fault_at, below_top}
-use Rattle.usbids_text.specs.Opens.{Open, with_mid, with_top, whole_top, whole, put, misplaced_in, with_leaf, open_mid, has_room_in}
+use Rattle.usbids_text.specs.Documents.{last, misplaced, fault_at, below_top}
+use Rattle.usbids_text.specs.Opens.{Open, with_mid, whole, put, misplaced_in, with_leaf, open_mid, has_room_in}
 use Rattle.usbids_text.proofs.EntryLemmas.{leaves_rows-push, mids_rows-push, tops_rows-push, both, and-both, or-true}
 
 -- the tops behind these are closed, and so are the mids behind that

@@ -1,13 +1,13 @@
 -- The entries of a tree in order, and what each keeps to.
 use Rattle.std.proofs.Common.{◌≡◌, ℕ, Bool, true, false, List, [], ◌∷◌, ◌++◌, refl, sym, ap, ◌∙◌, append_assoc}
-use Rattle.std.specs.Prelude.{◌==◌, ◌&&◌, ◌||◌, not}
+use Rattle.std.specs.Prelude.{◌&&◌, ◌||◌, not}
 use Rattle.std.specs.List.{list_all}
 use Rattle.std.proofs.lemmas.List.{append-nil}
 use Rattle.std.proofs.lemmas.List.Folds.{list_all-append}
 use Rattle.usbids_text.specs.declared.kind.Kind.{Kind}
 use Rattle.usbids_text.specs.declared.kind.Kind.TheVariants.{Vendor, Tagged}
 use Rattle.usbids_text.specs.declared.kind.Depth.{Depth}
-use Rattle.usbids_text.specs.declared.kind.Depth.TheVariants.{Zero, One, Two}
+use Rattle.usbids_text.specs.declared.kind.Depth.TheVariants.{Zero, One}
 use Rattle.usbids_text.specs.Words.{is_code, is_name}
 use Rattle.usbids_text.specs.Entries.{Row, LeafEntry, MidEntry, TopEntry, leaf_row, mid_row, top_row, leaves_rows, mids_rows, tops_rows, is_vendor, has_room, is_depth, is_row, has_four, is_sound_top, IsSound}
 

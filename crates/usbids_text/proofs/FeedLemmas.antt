@@ -1,5 +1,5 @@
 -- Pieces in turn are the whole.
-use Rattle.std.proofs.Common.{◌≡◌, ℕ, suc, ◌+◌, ◌<◌, List, [], ◌∷◌, ◌++◌, length, drop, get_or, refl, sym, ap, ◌∙◌, arith, drop-cons, add-one}
+use Rattle.std.proofs.Common.{◌≡◌, ℕ, ◌+◌, ◌<◌, List, [], ◌∷◌, ◌++◌, length, drop, get_or, refl, drop-cons, add-one}
 use Rattle.std.proofs.Math.Seq.{drop-length}
 use Rattle.usbids_text.specs.Feeding.{Fed, fed, took}
 

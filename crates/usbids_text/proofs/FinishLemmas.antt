@@ -1,13 +1,12 @@
 -- What is fed, and ended, is what the lines of the whole give.
-use Rattle.std.proofs.Common.{◌≡◌, ℕ, ◌+◌, ◌<◌, ◌≤◌, Bool, true, false, List, [], ◌∷◌, ◌++◌, length, Option, Some, None, refl, sym, ap, subst, ◌∙◌, inl, inr, arith, append_assoc, length-append}
+use Rattle.std.proofs.Common.{◌≡◌, ℕ, Bool, true, false, List, [], ◌∷◌, ◌++◌, length, Some, None, refl, sym, ap, subst, ◌∙◌, inl, inr, arith, append_assoc}
 use Rattle.std.specs.Prelude.{◌⊎◌, ◌==◌, nat_lt, is_some, IfOk, IfErr, Result, Ok, Err, if◌then◌else◌}
-use Rattle.std.proofs.lemmas.Bool.{cases_Bool, le-ltb, lt-ltb, ltb-false, ltb-true}
-use Rattle.std.proofs.lemmas.List.{append-nil}
+use Rattle.std.proofs.lemmas.Bool.{cases_Bool, ltb-true}
 use Rattle.usbids_text.specs.declared.line.Why.TheVariants.{LineTooLong}
 use Rattle.usbids_text.specs.declared.fault.LineFault.{LineFault}
 use Rattle.usbids_text.specs.declared.fault.ReadFault.{ReadFault}
 use Rattle.usbids_text.specs.declared.fault.ReadFault.TheVariants.{Line, NoMemory}
-use Rattle.usbids_text.specs.Documents.{Spell, Spells, FaultAt, FaultIn}
+use Rattle.usbids_text.specs.Documents.{Spell, FaultAt}
 use Rattle.usbids_text.specs.Entries.{TopEntry}
 use Rattle.usbids_text.specs.Opens.{Open, none_open, whole}
 use Rattle.usbids_text.specs.Building.{open_of}
@@ -16,14 +15,13 @@ use Rattle.usbids_text.specs.Held.{held_of}
 use Rattle.usbids_text.proofs.InnerLemmas.{Pieces, lines-inner}
 use Rattle.usbids_text.specs.declared.reader.Reader.{Reader}
 use Rattle.usbids_text.specs.declared.taken.Taken.{Taken}
-use Rattle.usbids_text.specs.declared.builder.Builder.{Builder}
 use Rattle.usbids_text.proofs.FeedLemmas.{fed-append}
 use Rattle.usbids_text.proofs.PieceLemmas.{fed-faulty}
 use Rattle.usbids_text.specs.Cut.{cut, lines, with_rest}
-use Rattle.usbids_text.specs.Feeding.{Held, Fed, fed, took, line_done, refused, start, step, finished, with_last}
+use Rattle.usbids_text.specs.Feeding.{Held, Fed, fed, line_done, refused, start, step, finished, with_last}
 use Rattle.usbids_text.specs.Outcome.{done, over, outcome}
 use Rattle.usbids_text.specs.Reading.{Answers}
-use Rattle.usbids_text.proofs.CutLemmas.{IsPart, IsPart-push, cut-open, cut-line, fed-fault, fed_outcome, took-lf, took-more, took-long, line_done-long, done-fault}
+use Rattle.usbids_text.proofs.CutLemmas.{IsPart, IsPart-push, cut-open, cut-line, fed-fault, fed_outcome, took-lf, took-more, took-long, line_done-long}
 use Rattle.usbids_text.proofs.RunLemmas.{Good, Bad, verdict_of}
 
 clash : (b : Bool) → b ≡ true → b ≡ false → ⊥

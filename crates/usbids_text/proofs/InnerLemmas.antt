@@ -1,13 +1,13 @@
 -- The lines of a text have no line feed.
-use Rattle.std.proofs.Common.{◌≡◌, ℕ, ◌+◌, ◌-◌, ◌<◌, ◌≤◌, zero, suc, Bool, true, false, List, [], ◌∷◌, ◌++◌, length, take, get_or, Option, Some, None, refl, sym, ap, ◌∙◌, inl, inr, arith}
-use Rattle.std.specs.Prelude.{◌==◌, ◌&&◌, not, position, IfSome, IsTrue}
+use Rattle.std.proofs.Common.{◌≡◌, ℕ, ◌<◌, ◌≤◌, zero, suc, true, false, List, [], ◌∷◌, ◌++◌, length, take, get_or, Option, Some, None, refl, sym, ap, ◌∙◌, inl, inr, arith}
+use Rattle.std.specs.Prelude.{◌==◌, not, position, IfSome, IsTrue}
 use Rattle.std.specs.List.{list_all}
 use Rattle.std.proofs.lemmas.Bool.{cases_Bool}
 use Rattle.std.proofs.lemmas.List.Folds.{list_all-append}
 use Rattle.std.proofs.lemmas.List.Quantifiers.{position-Some}
 use Rattle.usbids_text.specs.Words.{is_inner}
 use Rattle.usbids_text.specs.Cut.{cut, prefixed, lines, with_rest}
-use Rattle.usbids_text.proofs.EntryLemmas.{both, and-both}
+use Rattle.usbids_text.proofs.EntryLemmas.{and-both}
 
 -- no line has a line feed
 abbrev pub AreInner : List (List ℕ) → Type 0

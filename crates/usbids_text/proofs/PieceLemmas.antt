@@ -1,5 +1,5 @@
 -- A line at a time is a byte at a time.
-use Rattle.std.proofs.Common.{◌≡◌, ℕ, zero, suc, ◌+◌, ◌<◌, ◌≤◌, Bool, true, false, List, [], ◌∷◌, ◌++◌, length, take, drop, get_or, Option, Some, None, refl, sym, ap, ◌∙◌, inl, inr, arith, append_assoc, length-append, drop-cons, add-one}
+use Rattle.std.proofs.Common.{◌≡◌, ℕ, zero, suc, ◌+◌, ◌<◌, ◌≤◌, true, false, List, [], ◌∷◌, ◌++◌, length, take, drop, get_or, Option, Some, None, refl, sym, ap, ◌∙◌, inl, inr, arith, append_assoc, length-append, drop-cons, add-one}
 use Rattle.std.specs.Prelude.{◌==◌, nat_lt, not, is_some, position, IfNone, IsTrue}
 use Rattle.std.specs.List.{list_all, position_or_len}
 use Rattle.usbids_text.specs.Words.{is_inner}
@@ -8,7 +8,7 @@ use Rattle.std.proofs.lemmas.Bool.{cases_Bool, le-ltb, lt-ltb, ltb-false, ltb-tr
 use Rattle.std.proofs.lemmas.List.{append-nil, take-append-drop}
 use Rattle.std.proofs.lemmas.List.Quantifiers.{position-Some}
 use Rattle.usbids_text.specs.declared.line.Why.TheVariants.{LineTooLong}
-use Rattle.usbids_text.specs.Feeding.{Held, Fed, fed, took, line_done, refused, start, ended, kept}
+use Rattle.usbids_text.specs.Feeding.{Held, Fed, fed, took, line_done, refused, ended, kept}
 use Rattle.usbids_text.proofs.FeedLemmas.{fed-append}
 use Rattle.usbids_text.proofs.CutLemmas.{IsPart, took-faulty, took-lf, took-more, took-long, line_done-long}
 

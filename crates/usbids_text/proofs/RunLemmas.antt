@@ -1,21 +1,20 @@
 -- What the lines give: a document that they spell, or their first fault.
-use Rattle.std.proofs.Common.{◌≡◌, ℕ, zero, suc, ◌+◌, ◌<◌, ◌≤◌, Bool, true, false, List, [], ◌∷◌, ◌++◌, length, Option, Some, None, refl, sym, ap, subst, ◌∙◌, inl, inr, arith, append_assoc, length-append}
-use Rattle.std.specs.Prelude.{◌⊎◌, Result, Ok, Err, option_map, is_some}
+use Rattle.std.proofs.Common.{◌≡◌, ℕ, true, List, [], ◌∷◌, ◌++◌, length, Option, Some, None, refl, sym, ap, subst, ◌∙◌, inl, inr, arith, append_assoc, length-append}
+use Rattle.std.specs.Prelude.{◌⊎◌, Result, Ok, Err, is_some}
 use Rattle.std.proofs.lemmas.List.{append-nil}
 use Rattle.usbids_text.specs.declared.line.Why.{Why}
 use Rattle.usbids_text.specs.declared.fault.LineFault.{LineFault}
-use Rattle.usbids_text.specs.declared.fault.ReadFault.{ReadFault}
-use Rattle.usbids_text.specs.declared.fault.ReadFault.TheVariants.{Line, NoMemory}
+use Rattle.usbids_text.specs.declared.fault.ReadFault.TheVariants.{Line}
 use Rattle.std.specs.List.{list_all}
 use Rattle.usbids_text.specs.Words.{is_inner}
-use Rattle.usbids_text.specs.Entries.{Row, TopEntry, preorder, tops_rows, is_row, IsSound}
+use Rattle.usbids_text.specs.Entries.{Row, preorder, tops_rows}
 use Rattle.usbids_text.specs.Lines.{class_of}
-use Rattle.usbids_text.specs.Documents.{entries, with_line, Spell, FaultIn, fault_of, next, misplaced}
-use Rattle.usbids_text.specs.Opens.{Open, whole, put, misplaced_in, none_open}
+use Rattle.usbids_text.specs.Documents.{entries, with_line, Spell, FaultIn, fault_of, next}
+use Rattle.usbids_text.specs.Opens.{whole, misplaced_in}
 use Rattle.usbids_text.specs.Feeding.{Held, line_done, with_class, with_fault, refused, start}
 use Rattle.usbids_text.specs.Outcome.{done}
 use Rattle.usbids_text.proofs.CutLemmas.{done-fault}
-use Rattle.usbids_text.proofs.DocumentLemmas.{IsOpen, Puts, puts, puts-sound, misplaced-same}
+use Rattle.usbids_text.proofs.DocumentLemmas.{IsOpen, puts, puts-sound, misplaced-same}
 use Rattle.usbids_text.proofs.ClassLemmas.{class-row}
 use Rattle.usbids_text.proofs.InnerLemmas.{AreInner}
 

@@ -1,6 +1,6 @@
 -- What a reader answers before the end.
-use Rattle.std.proofs.Common.{◌≡◌, ℕ, ◌+◌, ◌<◌, ◌≤◌, Bool, true, false, List, [], ◌∷◌, ◌++◌, length, Option, Some, None, refl, sym, ap, subst, ◌∙◌, inl, inr, arith, length-append}
-use Rattle.std.specs.Prelude.{◌⊎◌, nat_lt, is_some, Result, Ok, Err}
+use Rattle.std.proofs.Common.{◌≡◌, ℕ, ◌+◌, ◌<◌, ◌≤◌, true, List, [], ◌∷◌, ◌++◌, length, Option, Some, None, refl, sym, ap, subst, ◌∙◌, inl, inr, arith, length-append}
+use Rattle.std.specs.Prelude.{◌⊎◌, nat_lt, is_some, Err}
 use Rattle.std.proofs.lemmas.Bool.{cases_Bool, lt-ltb, ltb-true}
 use Rattle.usbids_text.specs.declared.line.Why.{Why}
 use Rattle.usbids_text.specs.declared.line.Why.TheVariants.{LineTooLong}
@@ -8,14 +8,13 @@ use Rattle.usbids_text.specs.declared.fault.LineFault.{LineFault}
 use Rattle.usbids_text.specs.declared.fault.ReadFault.{ReadFault}
 use Rattle.usbids_text.specs.declared.fault.ReadFault.TheVariants.{Line, NoMemory}
 use Rattle.usbids_text.specs.declared.reader.Reader.{Reader}
-use Rattle.usbids_text.specs.Entries.{Row}
 use Rattle.usbids_text.specs.Lines.{class_of}
-use Rattle.usbids_text.specs.Documents.{FaultIn, FaultAt, fault_of}
+use Rattle.usbids_text.specs.Documents.{FaultIn, fault_of}
 use Rattle.usbids_text.specs.Opens.{whole}
 use Rattle.usbids_text.specs.Readers.{Stands, state_of}
-use Rattle.usbids_text.proofs.InnerLemmas.{AreInner, AreInner-before, cut-inner, with_rest-inner}
+use Rattle.usbids_text.proofs.InnerLemmas.{AreInner, cut-inner, with_rest-inner}
 use Rattle.usbids_text.specs.Cut.{cut, lines, with_rest}
-use Rattle.usbids_text.specs.Feeding.{Held, Fed, fed, refused, start, with_last}
+use Rattle.usbids_text.specs.Feeding.{Held, Fed, refused, start, with_last}
 use Rattle.usbids_text.specs.Outcome.{done, over, outcome}
 use Rattle.usbids_text.specs.Reading.{AnswersSoFar, SeenFault}
 use Rattle.usbids_text.proofs.CutLemmas.{fed_outcome}

@@ -1,10 +1,9 @@
 -- A text spells one document, or has one first fault, and never both.
-use Rattle.std.proofs.Common.{◌≡◌, ℕ, zero, suc, ◌+◌, ◌<◌, ◌≤◌, Bool, true, false, List, [], ◌∷◌, ◌++◌, length, Option, Some, None, refl, sym, ap, subst, ◌∙◌, inl, inr, arith, append_assoc, length-append}
-use Rattle.std.specs.Prelude.{◌⊎◌, ◌==◌, ◌&&◌, ◌||◌, not, Result, Ok, Err, is_some, if◌then◌else◌}
+use Rattle.std.proofs.Common.{◌≡◌, ℕ, true, false, List, [], ◌∷◌, ◌++◌, Option, Some, None, refl, sym, ap, ◌∙◌, inl, inr, append_assoc}
+use Rattle.std.specs.Prelude.{◌==◌, ◌&&◌, ◌||◌, not, Result, Ok, Err, is_some, if◌then◌else◌}
 use Rattle.std.specs.List.{list_all}
 use Rattle.std.proofs.lemmas.List.{append-nil}
 use Rattle.usbids_text.specs.declared.line.Why.{Why}
-use Rattle.usbids_text.specs.declared.kind.Depth.TheVariants.{Zero, One, Two}
 use Rattle.usbids_text.specs.declared.kind.Kind.{Kind}
 use Rattle.usbids_text.specs.declared.kind.Kind.TheVariants.{Vendor, Tagged}
 use Rattle.usbids_text.specs.Entries.{Row, LeafEntry, MidEntry, TopEntry, leaf_row, mid_row, top_row, leaves_rows, mids_rows, tops_rows, preorder, is_vendor, has_four, is_sound_top, IsSound}
@@ -17,7 +16,7 @@ use Rattle.usbids_text.specs.Outcome.{done}
 use Rattle.usbids_text.proofs.CutLemmas.{done-fault}
 use Rattle.usbids_text.proofs.DocumentLemmas.{IsOpen, IsOpenAt, misplaced-same}
 use Rattle.usbids_text.proofs.RunLemmas.{joined, entries-append, verdict_of, done-good}
-use Rattle.usbids_text.specs.Opens.{Open, with_mid, with_top, whole_top, whole, put, misplaced_in, with_leaf, none_open}
+use Rattle.usbids_text.specs.Opens.{Open, with_mid, whole, put, misplaced_in, with_leaf, none_open}
 use Rattle.usbids_text.proofs.EntryLemmas.{both}
 use Rattle.usbids_text.proofs.InnerLemmas.{AreInner, AreInner-before}
 

@@ -1,17 +1,17 @@
 -- The written text spells its document.
-use Rattle.std.proofs.Common.{◌≡◌, ℕ, ◌+◌, ◌-◌, ◌/◌, ◌%◌, ◌<◌, ◌≤◌, Bool, true, false, List, [], ◌∷◌, ◌++◌, length, Option, Some, None, refl, sym, ap, subst, ◌∙◌, inl, inr, arith, append_assoc}
-use Rattle.std.specs.Prelude.{codes, ◌&&◌, ◌==◌, not, nat_eq, nat_lt, Ok, Err, option_map, if◌then◌else◌}
+use Rattle.std.proofs.Common.{◌≡◌, ℕ, ◌+◌, ◌≤◌, Bool, true, false, List, [], ◌∷◌, ◌++◌, length, Option, Some, None, refl, ap, ◌∙◌, arith, append_assoc}
+use Rattle.std.specs.Prelude.{codes, ◌==◌, not, nat_lt, Ok}
 use Rattle.std.specs.List.{list_all}
-use Rattle.std.proofs.lemmas.Bool.{cases_Bool, le-ltb}
+use Rattle.std.proofs.lemmas.Bool.{le-ltb}
 use Rattle.std.proofs.lemmas.Bool.Decides.{nat_tests}
 use Rattle.usbids_text.specs.Words.{is_inner, trimmed, before, past_separators}
 use Rattle.usbids_text.specs.Entries.{Row, TopEntry, preorder, is_row, IsSound}
 use Rattle.usbids_text.specs.Lines.{class_of, is_comment}
 use Rattle.usbids_text.specs.Cut.{cut, lines, with_rest}
-use Rattle.usbids_text.specs.Documents.{entries, with_line, Spell, Spells}
+use Rattle.usbids_text.specs.Documents.{entries, with_line, Spells}
 use Rattle.usbids_text.specs.Moments.{Moment}
-use Rattle.usbids_text.specs.Writing.{front, line_text, row_text, rows_text, two_digits, date_text, time_text, stamp_text, title, head_text, written}
-use Rattle.usbids_text.proofs.EntryLemmas.{both, and-both}
+use Rattle.usbids_text.specs.Writing.{front, line_text, row_text, rows_text, date_text, time_text, stamp_text, title, head_text, written}
+use Rattle.usbids_text.proofs.EntryLemmas.{both}
 use Rattle.usbids_text.proofs.InnerLemmas.{Pieces}
 use Rattle.usbids_text.proofs.CutLemmas.{IsPart, cut-line}
 use Rattle.usbids_text.proofs.ClassLemmas.{trimmed-some}

@@ -1,5 +1,5 @@
 -- The document that a text spells, and the first line at which a text goes wrong.
-use Rattle.std.specs.Prelude.{◌≡◌, ℕ, ◌==◌, List, [], ◌∷◌, ◌++◌, length, true, false, ◌&&◌, not, Option, Some, None, option_map, Result, Ok, Err, if◌then◌else◌, min, ◌+◌, ◌-◌, ◌^◌}
+use Rattle.std.specs.Prelude.{◌≡◌, ℕ, ◌==◌, List, [], ◌∷◌, ◌++◌, length, ◌&&◌, not, Option, Some, None, option_map, Result, Ok, Err, if◌then◌else◌, min, ◌+◌, ◌-◌, ◌^◌}
 use Rattle.usbids_text.specs.declared.line.Why.{Why}
 use Rattle.usbids_text.specs.declared.line.Why.TheVariants.{BadCode, NoParent}
 use Rattle.usbids_text.specs.declared.kind.Depth.TheVariants.{Zero, One, Two}

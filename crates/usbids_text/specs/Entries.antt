@@ -1,5 +1,5 @@
 -- The entries of a list: what one line holds, and the tree of them.
-use Rattle.std.specs.Prelude.{ℕ, ◌==◌, ◌&&◌, ◌||◌, not, List, [], ◌∷◌, ◌++◌, Bool, true, false, Option, Some, None, IsTrue}
+use Rattle.std.specs.Prelude.{ℕ, ◌==◌, ◌&&◌, ◌||◌, not, List, [], ◌∷◌, ◌++◌, Bool, true, false, IsTrue}
 use Rattle.std.specs.List.{list_all}
 use Rattle.usbids_text.specs.Words.{is_tag, is_code, is_name}
 use Rattle.usbids_text.specs.declared.kind.Kind.{Kind}

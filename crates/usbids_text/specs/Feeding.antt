@@ -1,9 +1,9 @@
 -- A text that comes in pieces.
-use Rattle.std.specs.Prelude.{◌⊎◌, ◌≡◌, ℕ, ◌+◌, ◌==◌, nat_lt, List, [], ◌∷◌, ◌++◌, length, true, false, Option, Some, None, is_some, Result, Ok, Err, if◌then◌else◌}
+use Rattle.std.specs.Prelude.{ℕ, ◌+◌, ◌==◌, nat_lt, List, [], ◌∷◌, ◌++◌, length, Option, Some, None, is_some, Result, Ok, Err, if◌then◌else◌}
 use Rattle.usbids_text.specs.declared.line.Why.{Why}
 use Rattle.usbids_text.specs.declared.line.Why.TheVariants.{LineTooLong}
 use Rattle.usbids_text.specs.declared.fault.ReadFault.{ReadFault}
-use Rattle.usbids_text.specs.declared.fault.ReadFault.TheVariants.{Line, NoMemory}
+use Rattle.usbids_text.specs.declared.fault.ReadFault.TheVariants.{Line}
 use Rattle.usbids_text.specs.Entries.{Row}
 use Rattle.usbids_text.specs.Lines.{class_of}
 use Rattle.usbids_text.specs.Documents.{next}

@@ -1,5 +1,5 @@
 -- The first mid with a code under a vendor of a number.
-use Rattle.std.specs.Prelude.{ℕ, ◌==◌, List, [], ◌∷◌, Bool, true, false, Option, Some, None, if◌then◌else◌}
+use Rattle.std.specs.Prelude.{ℕ, ◌==◌, List, [], ◌∷◌, Bool, false, Option, Some, None, if◌then◌else◌}
 use Rattle.std.specs.Option.{option_or}
 use Rattle.usbids_text.specs.declared.kind.Kind.{Kind}
 use Rattle.usbids_text.specs.declared.kind.Kind.TheVariants.{Vendor, Tagged}

@@ -1,5 +1,5 @@
 -- What a line is, by its bytes: an entry, no entry, or faulty.
-use Rattle.std.specs.Prelude.{ℕ, ◌==◌, nat_le, nat_lt, List, [], ◌∷◌, length, Bool, true, false, Option, Some, None, Result, Ok, Err, if◌then◌else◌}
+use Rattle.std.specs.Prelude.{ℕ, ◌==◌, nat_le, nat_lt, List, [], ◌∷◌, length, Bool, true, Option, Some, None, Result, Ok, Err, if◌then◌else◌}
 use Rattle.usbids_text.specs.declared.line.Why.{Why}
 use Rattle.usbids_text.specs.declared.line.Why.TheVariants.{BadTop, BadCode, LineTooLong}
 use Rattle.usbids_text.specs.declared.line.Entry.{Entry}

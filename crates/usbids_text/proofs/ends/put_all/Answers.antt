@@ -1,6 +1,6 @@
-use Rattle.std.proofs.Common.{◌≡◌, ℕ, ◌+◌, ◌-◌, ◌≤◌, List, length, arith, take, drop, ◌∙◌, refl, ap}
+use Rattle.std.proofs.Common.{◌≡◌, arith, drop, ◌∙◌}
 use Rattle.std.proofs.lemmas.Result.{err_from_is_err_and}
-use Rattle.std.proofs.Math.Seq.{take-add, take-length}
+use Rattle.std.proofs.Math.Seq.{take-add}
 use Rattle.std.proofs.lemmas.List.{length-drop}
 use Rattle.usbids_text.proofs.EndLemmas.{Appends-then, Keeps-none, put-fails, suffix}
 use Rattle.usbids_text.proofs.ends.put_all.Goals as goal

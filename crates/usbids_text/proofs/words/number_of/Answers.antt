@@ -1,4 +1,4 @@
-use Rattle.std.proofs.Common.{◌≡◌, ℕ, ◌<◌, length, Some, None, sym, ◌∙◌, refl, arith}
+use Rattle.std.proofs.Common.{◌≡◌, Some, None, sym, ◌∙◌, arith}
 use Rattle.usbids_text.proofs.WordLemmas.{number-read, number-end}
 use Rattle.usbids_text.proofs.words.number_of.Goals as goal
 

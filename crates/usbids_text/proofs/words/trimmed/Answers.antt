@@ -1,4 +1,4 @@
-use Rattle.std.proofs.Common.{sym, ◌∙◌, arith, length, rules}
+use Rattle.std.proofs.Common.{sym, ◌∙◌, arith}
 use Rattle.usbids_text.proofs.WordLemmas.{trimmed_step, trimmed_done, trimmed_nil}
 use Rattle.usbids_text.proofs.words.trimmed.Goals as goal
 

@@ -1,5 +1,4 @@
-use Rattle.std.proofs.Common.{◌≡◌, ℕ, List, sym, ap, ◌∙◌, Some, None, refl, drop, arith, ◌+◌}
-use Rattle.std.specs.Prelude.{position, ◌==◌, OnOk}
+use Rattle.std.proofs.Common.{ℕ, List, sym, ap, ◌∙◌, drop, ◌+◌}
 use Rattle.std.proofs.lemmas.Result.{on_ok_weaker}
 use Rattle.usbids_text.specs.Feeding.{Fed, fed, ended}
 use Rattle.usbids_text.specs.Readers.{state_of}
