@@ -20,5 +20,4 @@ pub mod SetsLemmas
 pub mod TotalsLemmas
 pub mod ConcernLemmas
 pub mod LeastFree
-pub mod LeastLemmas
 pub mod FoundedLemmas

@@ -38,8 +38,6 @@ pub mod laws;
 mod lists;
 mod name;
 mod order;
-#[cfg(test)]
-mod plain;
 mod record;
 mod refusal;
 mod reply;
@@ -47,8 +45,6 @@ mod rows;
 mod span_rows;
 mod spelling;
 mod stop;
-#[cfg(test)]
-mod tests;
 mod text;
 #[cfg(test)]
 mod text_tests;
