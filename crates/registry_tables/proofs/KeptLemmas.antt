@@ -1,13 +1,11 @@
 -- With the kept reply the rows are those of the history with the deed.
-use Rattle.std.proofs.Common.{◌≡◌, ℕ, Bool, true, false, cond, ◌&&◌, if◌then◌else◌, List, [], ◌∷◌, ◌++◌, find, Option, Some, None, Result, Ok, Err, refl, sym, ap, ◌∙◌}
+use Rattle.std.proofs.Common.{◌≡◌, ℕ, Bool, true, false, cond, ◌&&◌, List, [], ◌∷◌, ◌++◌, Option, Some, None, Result, refl, sym, ap, ◌∙◌}
 use Rattle.std.specs.Option.{option_map}
 use Rattle.std.specs.Str.{bytes_eq}
 use Rattle.std.proofs.lemmas.Bool.{and_parts}
 use Rattle.sqlite.specs.State.{State}
 use Rattle.sqlite_keyed.specs.Lists.{delete_where}
-use Rattle.table_laws.specs.Inside.{GoesOn}
 use Rattle.table_laws.proofs.FoundLemmas.{apart_put}
-use Rattle.registry_schema.specs.declared.fault.TableFault.{TableFault}
 use Rattle.registry_rules.specs.History.{History, with_deed, sooner}
 use Rattle.registry_rules.specs.Query.{kept, given}
 use Rattle.registry_rules.specs.Run.{Legal}
@@ -19,13 +17,11 @@ use Rattle.registry_rules.specs.declared.facts.Kept.{Kept}
 use Rattle.registry_rules.specs.declared.order.Request.{Request}
 use Rattle.registry_rules.specs.declared.refusal.Refusal.{Refusal}
 use Rattle.registry_rules.specs.declared.refusal.Refusal.TheVariants.{KeyReused}
-use Rattle.registry_rules.specs.declared.verdict.Verdict.{Verdict}
 use Rattle.registry_rules.specs.declared.verdict.Verdict.TheVariants.{Kept as IsKept, Refused, New}
 use Rattle.registry_rows.specs.declared.kept.KeptRow.{KeptRow}
 use Rattle.registry_rows.specs.Rows.{is_kept_under}
-use Rattle.registry_rows.specs.Steps.{Changes}
 use Rattle.registry_rows.specs.Tables.{Tables, Holds}
-use Rattle.registry_tables.specs.Rows.{newest, AreRecords, AreKeptReplies, HoldsRows, HoldsUnkept}
+use Rattle.registry_tables.specs.Rows.{newest, AreKeptReplies, HoldsRows, HoldsUnkept}
 use Rattle.registry_tables.specs.Calls.{IsKeptAs}
 use Rattle.registry_tables.proofs.ViewLemmas.{same_bytes, kept_put}
 
@@ -61,7 +57,7 @@ module _ (h : History) (deed : Deed) (legal : Legal (with_deed h deed)) (request
   row_is : (caller key : List ℕ) → request.caller ≡ caller → request.key ≡ key → row ≡ under caller key (kept_of deed)
   row_is caller key a b =
       let kept_is : ◌≡◌ {A = Kept} (record { order = order; reply = reply }) (kept_of deed) =
-          ap (λ o. record { order = o; reply = reply }) (spelled ∙ ap spelling_of (sym keeps.order)) ∙ ap (λ r. record { order = spelling_of deed.order; reply = r }) keeps.said in
+      ap (λ o. record { order = o; reply = reply }) (spelled ∙ ap spelling_of (sym keeps.order)) ∙ ap (λ r. record { order = spelling_of deed.order; reply = r }) keeps.said in
       ap (λ (k : Kept). under request.caller request.key k) kept_is ∙ ap (λ c. under c request.key (kept_of deed)) a ∙ ap (λ k. under caller k (kept_of deed)) b
 
   kept_after : (rows : List KeptRow) → AreKeptReplies h rows → AreKeptReplies (with_deed h deed) (delete_where (λ other. is_kept_under request.caller request.key other) rows ++ row ∷ [])
@@ -70,8 +66,8 @@ module _ (h : History) (deed : Deed) (legal : Legal (with_deed h deed)) (request
         let b = bytes_eq request.caller caller && bytes_eq request.key key in
         let both = λ (yes : b ≡ true). and_parts (bytes_eq request.caller caller) (bytes_eq request.key key) yes in
         let none : b ≡ true → kept h caller key ≡ None = λ yes.
-            (let a = keeps.caller ∙ same_bytes request.caller caller (both yes).0 in let k = keeps.key ∙ same_bytes request.key key (both yes).1 in
-            rw (sym a, sym k) (unkept h deed legal)) in
+        (let a = keeps.caller ∙ same_bytes request.caller caller (both yes).0 in let k = keeps.key ∙ same_bytes request.key key (both yes).1 in
+        rw (sym a, sym k) (unkept h deed legal)) in
         let test : (bytes_eq deed.caller caller && bytes_eq deed.key key) ≡ b = rw (keeps.caller, keeps.key) refl in
         kept_put row rows caller key ∙ ap (λ o. cond b (Some row) o) (was.each caller key)
         ∙ one_step b (kept h caller key) deed row (under caller key) none (λ yes. row_is caller key (same_bytes request.caller caller (both yes).0) (same_bytes request.key key (both yes).1))

@@ -2,3 +2,4 @@ pub mod RowsLemmas
 pub mod UnderLemmas
 pub mod ViewLemmas
 pub mod KeptLemmas
+pub mod StoreLemmas
