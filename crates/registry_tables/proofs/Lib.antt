@@ -3,3 +3,5 @@ pub mod UnderLemmas
 pub mod ViewLemmas
 pub mod KeptLemmas
 pub mod StoreLemmas
+pub mod FoundingLemmas
+pub mod CreateLemmas

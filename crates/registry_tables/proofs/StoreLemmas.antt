@@ -32,7 +32,7 @@ any_kept false c rest name other is gone = rw is refl
 last_any : (name last : List ℕ) → (bytes_eq name last || false) ≡ cond (bytes_eq name last) true false
 last_any name last = elim (bytes_eq name last) as (λ b. (b || false) ≡ cond b true false) [ true ↦ refl | false ↦ refl ]
 
-name_put : (name last : List ℕ) (names : List (List ℕ)) → list_any (bytes_eq name) (delete_where (λ other. is_named other last) names ++ last ∷ []) ≡ cond (bytes_eq name last) true (list_any (bytes_eq name) names)
+pub name_put : (name last : List ℕ) (names : List (List ℕ)) → list_any (bytes_eq name) (delete_where (λ other. is_named other last) names ++ last ∷ []) ≡ cond (bytes_eq name last) true (list_any (bytes_eq name) names)
 name_put name last [] = last_any name last
 name_put name last (other ∷ names) = go (bytes_eq other last) (bytes_eq name other) (bytes_eq name last) refl refl refl (name_put name last names)
   where
