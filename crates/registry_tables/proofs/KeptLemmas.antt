@@ -1,13 +1,11 @@
 -- With the kept reply the rows are those of the history with the deed.
-use Rattle.std.proofs.Common.{◌≡◌, ℕ, Bool, true, false, cond, ◌&&◌, if◌then◌else◌, List, [], ◌∷◌, ◌++◌, find, Option, Some, None, Result, Ok, Err, refl, sym, ap, ◌∙◌}
+use Rattle.std.proofs.Common.{◌≡◌, ℕ, Bool, true, false, cond, ◌&&◌, List, [], ◌∷◌, ◌++◌, Option, Some, None, Result, refl, sym, ap, ◌∙◌}
 use Rattle.std.specs.Option.{option_map}
 use Rattle.std.specs.Str.{bytes_eq}
 use Rattle.std.proofs.lemmas.Bool.{and_parts}
 use Rattle.sqlite.specs.State.{State}
 use Rattle.sqlite_keyed.specs.Lists.{delete_where}
-use Rattle.table_laws.specs.Inside.{GoesOn}
 use Rattle.table_laws.proofs.FoundLemmas.{apart_put}
-use Rattle.registry_schema.specs.declared.fault.TableFault.{TableFault}
 use Rattle.registry_rules.specs.History.{History, with_deed, sooner}
 use Rattle.registry_rules.specs.Query.{kept, given}
 use Rattle.registry_rules.specs.Run.{Legal}
@@ -19,13 +17,11 @@ use Rattle.registry_rules.specs.declared.facts.Kept.{Kept}
 use Rattle.registry_rules.specs.declared.order.Request.{Request}
 use Rattle.registry_rules.specs.declared.refusal.Refusal.{Refusal}
 use Rattle.registry_rules.specs.declared.refusal.Refusal.TheVariants.{KeyReused}
-use Rattle.registry_rules.specs.declared.verdict.Verdict.{Verdict}
 use Rattle.registry_rules.specs.declared.verdict.Verdict.TheVariants.{Kept as IsKept, Refused, New}
 use Rattle.registry_rows.specs.declared.kept.KeptRow.{KeptRow}
 use Rattle.registry_rows.specs.Rows.{is_kept_under}
-use Rattle.registry_rows.specs.Steps.{Changes}
 use Rattle.registry_rows.specs.Tables.{Tables, Holds}
-use Rattle.registry_tables.specs.Rows.{newest, AreRecords, AreKeptReplies, HoldsRows, HoldsUnkept}
+use Rattle.registry_tables.specs.Rows.{newest, AreKeptReplies, HoldsRows, HoldsUnkept}
 use Rattle.registry_tables.specs.Calls.{IsKeptAs}
 use Rattle.registry_tables.proofs.ViewLemmas.{same_bytes, kept_put}
 

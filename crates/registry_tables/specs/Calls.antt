@@ -11,6 +11,12 @@ use Rattle.registry_rules.specs.Run.{Legal}
 use Rattle.registry_rules.specs.declared.deed.Deed.{Deed}
 use Rattle.registry_rules.specs.declared.order.Request.{Request}
 use Rattle.std.specs.Prelude.{List, ℕ}
+use Rattle.table_laws.specs.Inside.{GoesOn}
+use Rattle.sqlite_keyed.specs.Keyed.{insert_by}
+use Rattle.registry_rules.specs.declared.founding.Founding.{Founding}
+use Rattle.registry_rows.specs.Rows.{meta_key, vendor_key}
+use Rattle.registry_rows.specs.Tables.{Tables, Holds}
+use Rattle.registry_tables.specs.Changed.{names_put, spans_put}
 use Rattle.registry_tables.specs.Rows.{newest, Rows}
 
 -- no table of the database is called meta
@@ -36,3 +42,17 @@ module _ (old new : State) where
   -- Foreign comes only of an open connection with the rows of no history
   abbrev pub IsForeign : {A : Type 0} → Result A TableFault → Type 0
   IsForeign result = result ≡ Err Foreign → IsTrue old.is_open × ((h : History) → Legal h → ¬ Rows newest old.now.trees h)
+
+-- the transaction goes on, and the tables are changed so
+abbrev pub PutsIn : State → State → (Tables → Tables) → Type 0
+PutsIn old new after = GoesOn old new × ((t : Tables) → Holds old.now t → Holds new.now (after t))
+
+-- what the founding's rows are
+abbrev pub with_founding : Founding → Tables → Tables
+with_founding founding t = record t {
+  metas = insert_by meta_key t.metas (record { version = newest; vendor = founding.vendor; name = founding.name });
+  curators = names_put founding.curators t.curators;
+  licences = names_put founding.licences t.licences;
+  fixed = spans_put founding.fixed t.fixed;
+  vendors = insert_by vendor_key t.vendors (record { vid = founding.vendor; name = founding.name });
+}

@@ -1,10 +1,11 @@
 -- What one change does to the values of the tables.
-use Rattle.std.specs.Prelude.{List, [], ◌∷◌, ◌++◌}
+use Rattle.std.specs.Prelude.{ℕ, List, [], ◌∷◌, ◌++◌}
 use Rattle.sqlite_keyed.specs.Keyed.{insert_by}
 use Rattle.sqlite_keyed.specs.Lists.{delete_where}
+use Rattle.usbnum_core.specs.declared.number.Span.{Span}
 use Rattle.registry_rules.specs.declared.change.Change.{Change}
 use Rattle.registry_rules.specs.declared.change.Change.TheVariants.{PutOrg, PutPetition, PutEntry, PutVendor, PutLicence}
-use Rattle.registry_rows.specs.Rows.{petition_key, vendor_key, is_named, is_called, is_of}
+use Rattle.registry_rows.specs.Rows.{petition_key, vendor_key, fixed_key, is_named, is_called, is_of}
 use Rattle.registry_rows.specs.Tables.{Tables}
 
 -- the tables after a change that puts a record in
@@ -29,3 +30,13 @@ IsPut (PutEntry number entry) = Unit {0}
 IsPut (PutVendor vid name) = Unit {0}
 IsPut (PutLicence name) = Unit {0}
 IsPut _ = ⊥
+
+-- names put in one after another
+abbrev pub names_put : List (List ℕ) → List (List ℕ) → List (List ℕ)
+names_put [] had = had
+names_put (name ∷ names) had = names_put names (delete_where (λ other. is_named other name) had ++ name ∷ [])
+
+-- spans put in one after another
+abbrev pub spans_put : List Span → List Span → List Span
+spans_put [] had = had
+spans_put (span ∷ spans) had = spans_put spans (insert_by fixed_key had span)

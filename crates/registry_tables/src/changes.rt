@@ -7,22 +7,51 @@ ghost use Rattle.table_laws.specs.Inside.{GoesOn};
 ghost use Rattle.registry_rules.specs.History.{History};
 ghost use Rattle.registry_rules.specs.Rows.{LeadsTo};
 ghost use Rattle.registry_rules.specs.Run.{Legal};
+ghost use Rattle.registry_rows.specs.Tables.{Tables, Holds};
+ghost use Rattle.registry_tables.specs.Changed.{applied, IsPut};
 ghost use Rattle.registry_tables.specs.Rows.{newest, HoldsRows, HoldsUnkept};
 
 use crate::TableFault;
+use registry_rows::{put_entry, put_licence, put_org, put_petition, put_vendor};
 use registry_rules::Change;
 use sqlite::{Alter, Transaction};
 
-/// Makes the changes of a deed, in turn. The reply that is kept with the deed is for `keep_reply`.
-pub fn store<S: Alter>(_tx: &mut Transaction<'_, S>, _changes: &[Change]) -> Result<(), TableFault>
-    ensures same_reference { _tx.new.conn.ghost_name ≡ _tx.old.conn.ghost_name }
-    ensures goes_on { HasCleanDisk (state S.Store _tx.new.conn.now) → IsTrue (state S.Store _tx.old.conn.now).in_transaction
-        → OnOk result (GoesOn (state S.Store _tx.old.conn.now) (state S.Store _tx.new.conn.now)) }
-    ensures rows { HasCleanDisk (state S.Store _tx.new.conn.now) → IsTrue (state S.Store _tx.old.conn.now).in_transaction
-        → OnOk result ((h after : History) → Legal h → Legal after → after.founding ≡ h.founding → HoldsRows newest (state S.Store _tx.old.conn.now).now h
-        → LeadsTo _changes.now h after → HoldsUnkept (state S.Store _tx.new.conn.now).now h after) }
+// Makes one change. For those that put no whole record it gives up as yet.
+fn make<S: Alter>(tx: &mut Transaction<'_, S>, change: &Change) -> Result<(), TableFault>
+    ensures same_reference { tx.new.conn.ghost_name ≡ tx.old.conn.ghost_name }
+    ensures made { HasCleanDisk (state S.Store tx.new.conn.now) → IsTrue (state S.Store tx.old.conn.now).in_transaction
+        → OnOk result (GoesOn (state S.Store tx.old.conn.now) (state S.Store tx.new.conn.now)
+        × ((t : Tables) → Holds (state S.Store tx.old.conn.now).now t → Holds (state S.Store tx.new.conn.now).now (applied change.now t))) }
+    ensures put { OnOk result (IsPut change.now) }
     ensures kind { result ≢ Err TableFault.Foreign }
-    ensures survives { Survives (state S.Store _tx.old.conn.now) (state S.Store _tx.new.conn.now) (λ _. ⊥) }
+    ensures survives { Survives (state S.Store tx.old.conn.now) (state S.Store tx.new.conn.now) (λ _. ⊥) }
 {
-    Err(TableFault::NoMemory)
+    match change {
+        Change::PutOrg(org) => put_org(tx, org),
+        Change::PutPetition { id, petition } => put_petition(tx, *id, petition),
+        Change::PutEntry { number, entry } => put_entry(tx, *number, entry),
+        Change::PutVendor { vid, name } => put_vendor(tx, *vid, name),
+        Change::PutLicence(name) => put_licence(tx, name),
+        _ => Err(TableFault::NoMemory),
+    }
+}
+
+/// Makes the changes of a deed, in turn. The reply that is kept with the deed is for `keep_reply`.
+pub fn store<S: Alter>(tx: &mut Transaction<'_, S>, changes: &[Change]) -> Result<(), TableFault>
+    ensures same_reference { tx.new.conn.ghost_name ≡ tx.old.conn.ghost_name }
+    ensures goes_on { HasCleanDisk (state S.Store tx.new.conn.now) → IsTrue (state S.Store tx.old.conn.now).in_transaction → IsTrue (state S.Store tx.old.conn.now).is_open
+        → OnOk result (GoesOn (state S.Store tx.old.conn.now) (state S.Store tx.new.conn.now)) }
+    ensures rows { HasCleanDisk (state S.Store tx.new.conn.now) → IsTrue (state S.Store tx.old.conn.now).in_transaction → IsTrue (state S.Store tx.old.conn.now).is_open
+        → OnOk result ((h after : History) → Legal h → Legal after → after.founding ≡ h.founding → HoldsRows newest (state S.Store tx.old.conn.now).now h
+        → LeadsTo changes.now h after → HoldsUnkept (state S.Store tx.new.conn.now).now h after) }
+    ensures kind { result ≢ Err TableFault.Foreign }
+    ensures survives { Survives (state S.Store tx.old.conn.now) (state S.Store tx.new.conn.now) (λ _. ⊥) }
+{
+    for change in changes {
+        match make(tx, change) {
+            Ok(()) => {}
+            Err(fault) => return Err(fault),
+        }
+    }
+    Ok(())
 }

@@ -3,25 +3,57 @@
 ghost use Rattle.std.specs.Prelude.{◌≡◌, ◌≢◌, false, IsTrue, OnOk, Err};
 ghost use Rattle.sqlite.specs.State.{HasCleanDisk, Survives};
 ghost use Rattle.sqlite.specs.Held.{state};
+ghost use Rattle.table_laws.specs.Making.{no_schema};
 ghost use Rattle.registry_rules.specs.History.{founded};
 ghost use Rattle.registry_tables.specs.Rows.{newest, Rows};
 ghost use Rattle.registry_tables.specs.Calls.{HasNoMeta};
 
 use crate::TableFault;
+use crate::founding::write_founding;
 use registry_rules::Founding;
+use registry_schema::{create_tables, fault_of, is_empty};
 use sqlite::{Alter, Connection};
+
+// The tables and the founding's rows, in one transaction.
+fn create_in_empty<S: Alter>(
+    conn: &mut Connection<S>,
+    founding: &Founding,
+) -> Result<(), TableFault>
+    requires idle { conn.old.in_transaction ≡ false }
+    requires empty { (state S.Store conn.old).now.schema ≡ no_schema }
+    ensures idle { conn.new.in_transaction ≡ false }
+    ensures made { HasCleanDisk (state S.Store conn.new) → OnOk result (IsTrue (state S.Store conn.old).is_open × HasNoMeta (state S.Store conn.old).now
+        × IsTrue (state S.Store conn.new).is_open × ((state S.Store conn.new).now ≡ (state S.Store conn.new).committed)
+        × Rows newest (state S.Store conn.new).committed.trees (founded founding.now)) }
+    ensures kind { result ≢ Err TableFault.Foreign }
+    ensures survives { Survives (state S.Store conn.old) (state S.Store conn.new) (λ db. IsTrue (state S.Store conn.old).is_open × HasNoMeta (state S.Store conn.old).now
+        × Rows newest db (founded founding.now)) }
+{
+    let _schema = conn.schema();
+    let mut tx = conn.transaction();
+    create_tables(&mut tx)?;
+    write_founding(&mut tx, founding)?;
+    match tx.commit() {
+        Ok(()) => Ok(()),
+        Err(error) => Err(fault_of(error)),
+    }
+}
 
 /// Makes all tables and writes the founding's rows, in one transaction. A store that has any table or view is refused
 /// with Store, and then nothing is written.
-pub fn create<S: Alter>(_conn: &mut Connection<S>, _founding: &Founding) -> Result<(), TableFault>
-    requires { _conn.old.in_transaction ≡ false }
-    ensures idle { _conn.new.in_transaction ≡ false }
-    ensures made { HasCleanDisk (state S.Store _conn.new) → OnOk result (IsTrue (state S.Store _conn.old).is_open × HasNoMeta (state S.Store _conn.old).now
-        × IsTrue (state S.Store _conn.new).is_open × ((state S.Store _conn.new).now ≡ (state S.Store _conn.new).committed)
-        × Rows newest (state S.Store _conn.new).committed.trees (founded _founding.now)) }
+pub fn create<S: Alter>(conn: &mut Connection<S>, founding: &Founding) -> Result<(), TableFault>
+    requires { conn.old.in_transaction ≡ false }
+    ensures idle { conn.new.in_transaction ≡ false }
+    ensures made { HasCleanDisk (state S.Store conn.new) → OnOk result (IsTrue (state S.Store conn.old).is_open × HasNoMeta (state S.Store conn.old).now
+        × IsTrue (state S.Store conn.new).is_open × ((state S.Store conn.new).now ≡ (state S.Store conn.new).committed)
+        × Rows newest (state S.Store conn.new).committed.trees (founded founding.now)) }
     ensures kind { result ≢ Err TableFault.Foreign }
-    ensures survives { Survives (state S.Store _conn.old) (state S.Store _conn.new) (λ db. IsTrue (state S.Store _conn.old).is_open × HasNoMeta (state S.Store _conn.old).now
-        × Rows newest db (founded _founding.now)) }
+    ensures survives { Survives (state S.Store conn.old) (state S.Store conn.new) (λ db. IsTrue (state S.Store conn.old).is_open × HasNoMeta (state S.Store conn.old).now
+        × Rows newest db (founded founding.now)) }
 {
-    Err(TableFault::NoMemory)
+    if is_empty(conn) {
+        create_in_empty(conn, founding)
+    } else {
+        Err(TableFault::Store)
+    }
 }

@@ -12,6 +12,7 @@ pub use registry_schema::{TableFault, has_meta};
 mod changes;
 mod creation;
 mod facts;
+mod founding;
 mod kept;
 mod lists;
 mod opening;

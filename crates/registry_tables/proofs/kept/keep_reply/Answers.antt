@@ -1,8 +1,4 @@
-use Rattle.std.proofs.Common.{◌++◌, ◌∷◌, []}
 use Rattle.sqlite.specs.Held.{state}
-use Rattle.sqlite_keyed.specs.Lists.{delete_where}
-use Rattle.table_laws.specs.Inside.{GoesOn}
-use Rattle.registry_rows.specs.Rows.{is_kept_under}
 use Rattle.registry_rows.proofs.AnswerLemmas.{change_made, on_ok}
 use Rattle.registry_tables.proofs.KeptLemmas.{kept_now}
 use Rattle.registry_tables.proofs.kept.keep_reply.Goals as goal

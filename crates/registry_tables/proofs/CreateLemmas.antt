@@ -1,0 +1,53 @@
+-- From an empty store to the rows of a founding.
+use Rattle.std.proofs.Common.{◌≡◌, [], false, IsTrue, refl, ap, subst, ◌∙◌}
+use Rattle.sqlite.specs.Effect.{Database}
+use Rattle.sqlite_catalog.specs.Listing.{IsSound}
+use Rattle.sqlite_schema.specs.declared.schema.Schema.{Schema}
+use Rattle.sqlite_trees.specs.Tree.{Trees}
+use Rattle.usbnum_core.specs.Spans.{IsSpread}
+use Rattle.table_laws.specs.Making.{no_schema, IsBlank}
+use Rattle.registry_schema.specs.Meta.{has_meta_table}
+use Rattle.registry_schema.specs.Schema.{schema_3}
+use Rattle.registry_rules.specs.History.{founded}
+use Rattle.registry_rules.specs.declared.founding.Founding.{Founding}
+use Rattle.registry_rows.specs.Tables.{Holds, no_rows}
+use Rattle.registry_tables.specs.Calls.{HasNoMeta, with_founding}
+use Rattle.registry_tables.specs.Rows.{newest, Rows, HoldsRows}
+use Rattle.registry_tables.proofs.FoundingLemmas.{founded_records, founded_kept}
+use Rattle.registry_tables.proofs.RowsLemmas.{goes_out}
+
+pub blank_of : (db : Database) → db.schema ≡ no_schema → IsSound db.schema db.trees → IsBlank no_schema db
+blank_of db is sound = record { is = is; sound = subst (λ s. IsSound s db.trees) is sound; none = tt }
+
+pub no_meta : (db : Database) → db.schema ≡ no_schema → HasNoMeta db
+no_meta db is = ap has_meta_table is
+
+-- tables without rows have no values
+pub blank_holds : (db : Database) → IsBlank schema_3 db → Holds db no_rows
+blank_holds db blank = record {
+  schema = blank.is;
+  sound = blank.sound;
+  rows = record {
+    metas = record { rows_are = blank.none.0; keyed = tt; valid = tt };
+    curators = record { numbered = []; stores = record { rows_are = blank.none.1.0; keyed = tt; valid = tt }; values_are = refl };
+    licences = record { numbered = []; stores = record { rows_are = blank.none.1.1.0; keyed = tt; valid = tt }; values_are = refl };
+    fixed = record { rows_are = blank.none.1.1.1.0; keyed = tt; valid = tt };
+    orgs = record { numbered = []; stores = record { rows_are = blank.none.1.1.1.1.0; keyed = tt; valid = tt }; values_are = refl };
+    no_petitions = blank.none.1.1.1.1.1.0;
+    no_entries = blank.none.1.1.1.1.1.1.0;
+    no_reserved = blank.none.1.1.1.1.1.1.1.0;
+    kept = record { numbered = []; stores = record { rows_are = blank.none.1.1.1.1.1.1.1.1.0; keyed = tt; valid = tt }; values_are = refl };
+    no_spans = blank.none.1.1.1.1.1.1.1.1.1.0;
+    vendors = record { rows_are = blank.none.1.1.1.1.1.1.1.1.1.1.0; keyed = tt; valid = tt };
+    spans = record { numbered = []; stores = record { rows_are = blank.none.1.1.1.1.1.1.1.1.1.1.1.0; keyed = tt; valid = tt }; values_are = refl };
+    entries = record { numbered = []; stores = record { rows_are = blank.none.1.1.1.1.1.1.1.1.1.1.1.1.0; keyed = tt; valid = tt }; values_are = refl };
+    petitions = record { rows_are = blank.none.1.1.1.1.1.1.1.1.1.1.1.1.1.0; keyed = tt; valid = tt };
+  };
+}
+
+all_held : (db : Database) (founding : Founding) → IsSpread 1 founding.fixed → Holds db (with_founding founding no_rows) → HoldsRows newest db (founded founding)
+unfolding HoldsRows
+all_held db founding spread holds = (refl, with_founding founding no_rows, holds, founded_records founding spread, founded_kept founding)
+
+pub founding_rows : (db : Database) (founding : Founding) → IsSpread 1 founding.fixed → Holds db (with_founding founding no_rows) → Rows newest db.trees (founded founding)
+founding_rows db founding spread holds = goes_out db (founded founding) (all_held db founding spread holds)

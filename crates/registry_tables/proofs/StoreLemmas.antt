@@ -1,0 +1,205 @@
+-- Changes that put records in take the rows of one history to those of another.
+use Rattle.std.proofs.Common.{◌≡◌, ℕ, Bool, true, false, cond, not, ◌||◌, if◌then◌else◌, List, [], ◌∷◌, ◌++◌, find, nat_eq, Option, Some, refl, sym, ap, subst, ◌∙◌}
+use Rattle.std.specs.List.{AllByRecursion, list_any}
+use Rattle.std.specs.Option.{option_map}
+use Rattle.std.specs.Str.{bytes_eq}
+use Rattle.sqlite.specs.State.{State}
+use Rattle.sqlite_keyed.specs.Lists.{delete_where}
+use Rattle.sqlite_trees.specs.Tree.{IsAscending}
+use Rattle.usbnum_core.specs.declared.number.Number.{Number}
+use Rattle.table_laws.proofs.FoundLemmas.{apart_put}
+use Rattle.registry_rules.specs.History.{History}
+use Rattle.registry_rules.specs.Rows.{org_changed, petition_changed, entry_changed, ordered_changed, vendor_changed, licence_changed, after_all, LeadsTo}
+use Rattle.registry_rules.specs.declared.change.Change.{Change}
+use Rattle.registry_rules.specs.declared.change.Change.TheVariants.{PutOrg, PutPetition, PutEntry, SetHeld, SetCard, ReserveSpan, ReleaseSpan, PutVendor, PutLicence}
+use Rattle.registry_rules.specs.declared.founding.Founding.{Founding}
+use Rattle.registry_rules.specs.declared.record.Org.{Org}
+use Rattle.registry_rules.specs.declared.record.Entry.{Entry}
+use Rattle.registry_rules.specs.declared.record.Petition.{Petition}
+use Rattle.registry_rules.specs.declared.record.Vendor.{Vendor}
+use Rattle.registry_rows.specs.Rows.{is_named, is_called, is_of, is_numbered}
+use Rattle.registry_rows.specs.Tables.{Tables, Holds}
+use Rattle.registry_tables.specs.Changed.{applied, applied_all, IsPut}
+use Rattle.registry_tables.specs.Rows.{newest, NoTwo, vendor_span_has, AreApart, AreRecords, AreKeptReplies, HoldsRows, HoldsUnkept}
+use Rattle.registry_tables.proofs.ViewLemmas.{same_bytes, org_put, entry_put, petition_put, vendor_put}
+
+-- ---- a name that is put in
+
+any_kept : (b c : Bool) (rest : List (List ℕ)) (name other : List ℕ) → bytes_eq name other ≡ c → (b ≡ true → c ≡ false) → list_any (bytes_eq name) (cond (not b) (other ∷ rest) rest) ≡ (c || list_any (bytes_eq name) rest)
+any_kept true c rest name other is gone = rw (gone refl) refl
+any_kept false c rest name other is gone = rw is refl
+
+last_any : (name last : List ℕ) → (bytes_eq name last || false) ≡ cond (bytes_eq name last) true false
+last_any name last = elim (bytes_eq name last) as (λ b. (b || false) ≡ cond b true false) [ true ↦ refl | false ↦ refl ]
+
+pub name_put : (name last : List ℕ) (names : List (List ℕ)) → list_any (bytes_eq name) (delete_where (λ other. is_named other last) names ++ last ∷ []) ≡ cond (bytes_eq name last) true (list_any (bytes_eq name) names)
+name_put name last [] = last_any name last
+name_put name last (other ∷ names) = go (bytes_eq other last) (bytes_eq name other) (bytes_eq name last) refl refl refl (name_put name last names)
+  where
+    left : List (List ℕ)
+    left = delete_where (λ x. is_named x last) names
+
+    go : (a b c : Bool) → bytes_eq other last ≡ a → bytes_eq name other ≡ b → bytes_eq name last ≡ c → list_any (bytes_eq name) (left ++ last ∷ []) ≡ cond (bytes_eq name last) true (list_any (bytes_eq name) names)
+        → list_any (bytes_eq name) (cond (not a) (other ∷ left) left ++ last ∷ []) ≡ cond (bytes_eq name last) true (b || list_any (bytes_eq name) names)
+    go true true true x y z more = rw z (rw z at more)
+    go true true false x y z more = absurd (let e : bytes_eq name last ≡ true = ap (bytes_eq name) (sym (same_bytes other last x)) ∙ y in cc)
+    go true false c x y z more = more
+    go false true true x y z more = rw (y, z) refl
+    go false true false x y z more = rw (y, z) refl
+    go false false c x y z more = rw y more
+
+-- ---- what stands under each key
+
+record IsView (t : Tables) (o : List ℕ → Option Org) (p : ℕ → Option Petition) (e : Number → Option Entry) (v : ℕ → Option Vendor) (l : List ℕ → Bool) : Type 0 where
+  orgs : (slug : List ℕ) → find (is_called slug) t.orgs ≡ o slug
+  orgs_once : NoTwo (λ a b. is_called b.slug a) t.orgs
+  petitions : (i : ℕ) → find (is_numbered i) t.petitions ≡ option_map (λ petition. (i, petition)) (p i)
+  entries : (n : Number) → find (is_of n) t.entries ≡ option_map (λ entry. (n, entry)) (e n)
+  entries_once : NoTwo (λ a b. is_of b.0 a) t.entries
+  vendors : (vid : ℕ) → find (λ vendor. nat_eq vendor.vid vid) t.vendors ≡ v vid
+  licences : (name : List ℕ) → list_any (bytes_eq name) t.licences ≡ l name
+  licences_once : NoTwo is_named t.licences
+
+view_one : (c : Change) (t : Tables) (o : List ℕ → Option Org) (p : ℕ → Option Petition) (e : Number → Option Entry) (v : ℕ → Option Vendor) (l : List ℕ → Bool) → IsPut c → IsView t o p e v l
+    → IsView (applied c t) (λ s. org_changed s c (o s)) (λ i. petition_changed i c (p i)) (λ n. entry_changed n c (e n)) (λ d. vendor_changed d c (v d)) (λ n. licence_changed n c (l n))
+view_one (PutOrg org) t o p e v l put was = record {
+  orgs = λ slug. org_put org t.orgs slug ∙ ap (λ old. if bytes_eq org.slug slug then Some org else old) (was.orgs slug);
+  orgs_once = apart_put (λ a b. is_called b.slug a) org t.orgs was.orgs_once;
+  petitions = was.petitions;
+  entries = was.entries;
+  entries_once = was.entries_once;
+  vendors = was.vendors;
+  licences = was.licences;
+  licences_once = was.licences_once;
+}
+view_one (PutPetition id petition) t o p e v l put was = record {
+  orgs = was.orgs;
+  orgs_once = was.orgs_once;
+  petitions = λ i. petition_put id petition t.petitions i (p i) (was.petitions i);
+  entries = was.entries;
+  entries_once = was.entries_once;
+  vendors = was.vendors;
+  licences = was.licences;
+  licences_once = was.licences_once;
+}
+view_one (PutEntry number entry) t o p e v l put was = record {
+  orgs = was.orgs;
+  orgs_once = was.orgs_once;
+  petitions = was.petitions;
+  entries = λ n. entry_put number entry t.entries n (e n) (was.entries n);
+  entries_once = apart_put (λ a b. is_of b.0 a) (number, entry) t.entries was.entries_once;
+  vendors = was.vendors;
+  licences = was.licences;
+  licences_once = was.licences_once;
+}
+view_one (PutVendor vid name) t o p e v l put was = record {
+  orgs = was.orgs;
+  orgs_once = was.orgs_once;
+  petitions = was.petitions;
+  entries = was.entries;
+  entries_once = was.entries_once;
+  vendors = λ d. (let new : Vendor = record { vid = vid; name = name } in vendor_put new t.vendors d ∙ ap (λ old. if nat_eq vid d then Some new else old) (was.vendors d));
+  licences = was.licences;
+  licences_once = was.licences_once;
+}
+view_one (PutLicence name) t o p e v l put was = record {
+  orgs = was.orgs;
+  orgs_once = was.orgs_once;
+  petitions = was.petitions;
+  entries = was.entries;
+  entries_once = was.entries_once;
+  vendors = was.vendors;
+  licences = λ other. name_put other name t.licences ∙ ap (λ old. if bytes_eq other name then true else old) (was.licences other);
+  licences_once = apart_put is_named name t.licences was.licences_once;
+}
+view_one (SetHeld number held) t o p e v l put was = absurd put
+view_one (SetCard number card) t o p e v l put was = absurd put
+view_one (ReserveSpan vid span) t o p e v l put was = absurd put
+view_one (ReleaseSpan vid span) t o p e v l put was = absurd put
+
+view_all : (cs : List Change) (t : Tables) (o : List ℕ → Option Org) (p : ℕ → Option Petition) (e : Number → Option Entry) (v : ℕ → Option Vendor) (l : List ℕ → Bool) → AllByRecursion IsPut cs → IsView t o p e v l
+    → IsView (applied_all cs t) (λ s. after_all (org_changed s) cs (o s)) (λ i. after_all (petition_changed i) cs (p i)) (λ n. after_all (entry_changed n) cs (e n)) (λ d. after_all (vendor_changed d) cs (v d)) (λ n. after_all (licence_changed n) cs (l n))
+view_all [] t o p e v l put was = was
+view_all (c ∷ cs) t o p e v l put was = view_all cs (applied c t) _ _ _ _ _ put.1 (view_one c t o p e v l put.0 was)
+
+-- ---- what stays
+
+record IsRest (a b : Tables) : Type 0 where
+  metas : b.metas ≡ a.metas
+  curators : b.curators ≡ a.curators
+  fixed : b.fixed ≡ a.fixed
+  spans : b.spans ≡ a.spans
+  kept : b.kept ≡ a.kept
+
+rest_one : (c : Change) (t : Tables) → IsPut c → IsRest t (applied c t)
+rest_one (PutOrg org) t put = record { metas = refl; curators = refl; fixed = refl; spans = refl; kept = refl }
+rest_one (PutPetition id petition) t put = record { metas = refl; curators = refl; fixed = refl; spans = refl; kept = refl }
+rest_one (PutEntry number entry) t put = record { metas = refl; curators = refl; fixed = refl; spans = refl; kept = refl }
+rest_one (PutVendor vid name) t put = record { metas = refl; curators = refl; fixed = refl; spans = refl; kept = refl }
+rest_one (PutLicence name) t put = record { metas = refl; curators = refl; fixed = refl; spans = refl; kept = refl }
+rest_one (SetHeld number held) t put = absurd put
+rest_one (SetCard number card) t put = absurd put
+rest_one (ReserveSpan vid span) t put = absurd put
+rest_one (ReleaseSpan vid span) t put = absurd put
+
+rest_all : (cs : List Change) (t : Tables) → AllByRecursion IsPut cs → IsRest t (applied_all cs t)
+rest_all [] t put = record { metas = refl; curators = refl; fixed = refl; spans = refl; kept = refl }
+rest_all (c ∷ cs) t put =
+    let first = rest_one c t put.0 in
+    let later = rest_all cs (applied c t) put.1 in
+    record { metas = later.metas ∙ first.metas; curators = later.curators ∙ first.curators; fixed = later.fixed ∙ first.fixed; spans = later.spans ∙ first.spans; kept = later.kept ∙ first.kept }
+
+unordered : (c : Change) (n : Number) (b : Bool) → IsPut c → ordered_changed n c b ≡ b
+unordered (PutOrg org) n b put = refl
+unordered (PutPetition id petition) n b put = refl
+unordered (PutEntry number entry) n b put = refl
+unordered (PutVendor vid name) n b put = refl
+unordered (PutLicence name) n b put = refl
+unordered (SetHeld number held) n b put = absurd put
+unordered (SetCard number card) n b put = absurd put
+unordered (ReserveSpan vid span) n b put = absurd put
+unordered (ReleaseSpan vid span) n b put = absurd put
+
+unordered_all : (cs : List Change) (n : Number) (b : Bool) → AllByRecursion IsPut cs → after_all (ordered_changed n) cs b ≡ b
+unordered_all [] n b put = refl
+unordered_all (c ∷ cs) n b put = unordered_all cs n (ordered_changed n c b) put.1 ∙ unordered c n b put.0
+
+-- ---- the histories
+
+module _ (cs : List Change) (h after : History) (put : AllByRecursion IsPut cs) (founding : after.founding ≡ h.founding) (leads : LeadsTo cs h after) where
+  records_after : (t : Tables) → AreRecords h t → AreRecords after (applied_all cs t)
+  records_after t had =
+      let rest = rest_all cs t put in
+      let view = view_all cs t _ _ _ _ _ put (record { orgs = had.orgs.each; orgs_once = had.orgs.once; petitions = had.petitions; entries = had.entries.each; entries_once = had.entries.once; vendors = had.vendors; licences = had.licences.each; licences_once = had.licences.once }) in
+      record {
+        metas = rest.metas ∙ had.metas ∙ ap (λ (f : Founding). record { version = newest; vendor = f.vendor; name = f.name } ∷ []) (sym founding);
+        curators = record {
+          each = λ name. ap (list_any (bytes_eq name)) rest.curators ∙ had.curators.each name ∙ ap (λ (f : Founding). list_any (bytes_eq name) f.curators) (sym founding);
+          once = subst (NoTwo is_named) (sym rest.curators) had.curators.once;
+        };
+        licences = record { each = λ name. view.licences name ∙ leads.licences name; once = view.licences_once };
+        fixed = rest.fixed ∙ had.fixed ∙ ap (λ (f : Founding). f.fixed) (sym founding);
+        orgs = record { each = λ slug. view.orgs slug ∙ leads.orgs slug; once = view.orgs_once };
+        vendors = λ vid. view.vendors vid ∙ leads.vendors vid;
+        spans = record {
+          each = λ n. ap (list_any (vendor_span_has n)) rest.spans ∙ had.spans.each n ∙ sym (unordered_all cs n _ put) ∙ leads.ordered n;
+          apart = subst (IsAscending AreApart) (sym rest.spans) had.spans.apart;
+        };
+        entries = record { each = λ n. view.entries n ∙ ap (option_map (λ entry. (n, entry))) (leads.entries n); once = view.entries_once };
+        petitions = λ i. view.petitions i ∙ ap (option_map (λ petition. (i, petition))) (leads.petitions i);
+      }
+
+  pub stored_now : (old new : State) → ((t : Tables) → Holds old.now t → Holds new.now (applied_all cs t)) → HoldsRows newest old.now h → HoldsUnkept new.now h after
+  unfolding HoldsRows HoldsUnkept
+  stored_now old new made had =
+      let rest = rest_all cs had.1 put in
+      (applied_all cs had.1, made had.1 had.2, records_after had.1 had.3, subst (λ rows. AreKeptReplies h rows) (sym rest.kept) had.4)
+
+-- one change more
+pub applied_more : (cs : List Change) (c : Change) (t : Tables) → applied_all (cs ++ c ∷ []) t ≡ applied c (applied_all cs t)
+applied_more [] c t = refl
+applied_more (x ∷ cs) c t = applied_more cs c (applied x t)
+
+pub all_more : (cs : List Change) (c : Change) → AllByRecursion IsPut cs → IsPut c → AllByRecursion IsPut (cs ++ c ∷ [])
+all_more [] c all one = (one, tt)
+all_more (x ∷ cs) c all one = (all.0, all_more cs c all.1 one)

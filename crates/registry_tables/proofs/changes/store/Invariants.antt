@@ -1,0 +1,20 @@
+use Rattle.std.proofs.Common.{◌≡◌, IsTrue, take}
+use Rattle.std.specs.List.{AllByRecursion}
+use Rattle.sqlite.specs.State.{HasCleanDisk, Survives}
+use Rattle.sqlite.specs.Held.{state}
+use Rattle.table_laws.specs.Inside.{GoesOn}
+use Rattle.registry_rows.specs.Tables.{Tables, Holds}
+use Rattle.registry_tables.specs.Changed.{applied_all, IsPut}
+use Rattle.registry_tables.proofs.changes.store.Given as goal
+
+-- the changes so far are made
+abbrev pub invariant-loop-change : goal.invariant-loop-change
+invariant-loop-change g l = record {
+  same : l.tx.conn.ghost_name ≡ l.initial.tx.conn.ghost_name;
+  survives : Survives (state g.S.Store l.initial.tx.conn.now) (state g.S.Store l.tx.conn.now) (λ _. ⊥);
+  goes : HasCleanDisk (state g.S.Store l.tx.conn.now) → IsTrue (state g.S.Store l.initial.tx.conn.now).in_transaction → IsTrue (state g.S.Store l.initial.tx.conn.now).is_open
+      → GoesOn (state g.S.Store l.initial.tx.conn.now) (state g.S.Store l.tx.conn.now);
+  made : HasCleanDisk (state g.S.Store l.tx.conn.now) → IsTrue (state g.S.Store l.initial.tx.conn.now).in_transaction → IsTrue (state g.S.Store l.initial.tx.conn.now).is_open
+      → (t : Tables) → Holds (state g.S.Store l.initial.tx.conn.now).now t → Holds (state g.S.Store l.tx.conn.now).now (applied_all (take l.change-index l.changes) t);
+  put : AllByRecursion IsPut (take l.change-index l.changes);
+}

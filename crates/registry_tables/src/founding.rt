@@ -1,0 +1,82 @@
+//! The rows of a founding.
+
+ghost use Rattle.std.specs.Prelude.{◌≡◌, ◌≢◌, IsTrue, OnOk, Err};
+ghost use Rattle.sqlite.specs.State.{HasCleanDisk, Survives};
+ghost use Rattle.sqlite.specs.Held.{state};
+ghost use Rattle.usbnum_core.specs.Spans.{IsSpread};
+ghost use Rattle.registry_tables.specs.Changed.{names_put, spans_put};
+ghost use Rattle.registry_tables.specs.Calls.{PutsIn, with_founding};
+
+use crate::TableFault;
+use registry_rows::{put_curator, put_fixed, put_licence, put_meta, put_vendor};
+use registry_rules::Founding;
+use sqlite::{Alter, Transaction};
+use usbnum_core::{Slug, Span, Title};
+
+fn add_curators<S: Alter>(tx: &mut Transaction<'_, S>, names: &[Slug]) -> Result<(), TableFault>
+    ensures same_reference { tx.new.conn.ghost_name ≡ tx.old.conn.ghost_name }
+    ensures added { HasCleanDisk (state S.Store tx.new.conn.now) → IsTrue (state S.Store tx.old.conn.now).in_transaction → IsTrue (state S.Store tx.old.conn.now).is_open
+        → OnOk result (PutsIn (state S.Store tx.old.conn.now) (state S.Store tx.new.conn.now) (λ t. record t { curators = names_put names.now t.curators })) }
+    ensures kind { result ≢ Err TableFault.Foreign }
+    ensures survives { Survives (state S.Store tx.old.conn.now) (state S.Store tx.new.conn.now) (λ _. ⊥) }
+{
+    for name in names {
+        match put_curator(tx, name) {
+            Ok(()) => {}
+            Err(fault) => return Err(fault),
+        }
+    }
+    Ok(())
+}
+
+fn add_licences<S: Alter>(tx: &mut Transaction<'_, S>, names: &[Title]) -> Result<(), TableFault>
+    ensures same_reference { tx.new.conn.ghost_name ≡ tx.old.conn.ghost_name }
+    ensures added { HasCleanDisk (state S.Store tx.new.conn.now) → IsTrue (state S.Store tx.old.conn.now).in_transaction → IsTrue (state S.Store tx.old.conn.now).is_open
+        → OnOk result (PutsIn (state S.Store tx.old.conn.now) (state S.Store tx.new.conn.now) (λ t. record t { licences = names_put names.now t.licences })) }
+    ensures kind { result ≢ Err TableFault.Foreign }
+    ensures survives { Survives (state S.Store tx.old.conn.now) (state S.Store tx.new.conn.now) (λ _. ⊥) }
+{
+    for name in names {
+        match put_licence(tx, name) {
+            Ok(()) => {}
+            Err(fault) => return Err(fault),
+        }
+    }
+    Ok(())
+}
+
+fn add_fixed<S: Alter>(tx: &mut Transaction<'_, S>, spans: &[Span]) -> Result<(), TableFault>
+    ensures same_reference { tx.new.conn.ghost_name ≡ tx.old.conn.ghost_name }
+    ensures added { HasCleanDisk (state S.Store tx.new.conn.now) → IsTrue (state S.Store tx.old.conn.now).in_transaction → IsTrue (state S.Store tx.old.conn.now).is_open
+        → OnOk result (PutsIn (state S.Store tx.old.conn.now) (state S.Store tx.new.conn.now) (λ t. record t { fixed = spans_put spans.now t.fixed })) }
+    ensures kind { result ≢ Err TableFault.Foreign }
+    ensures survives { Survives (state S.Store tx.old.conn.now) (state S.Store tx.new.conn.now) (λ _. ⊥) }
+{
+    for span in spans {
+        match put_fixed(tx, *span) {
+            Ok(()) => {}
+            Err(fault) => return Err(fault),
+        }
+    }
+    Ok(())
+}
+
+/// Writes the founding's rows.
+pub fn write_founding<S: Alter>(
+    tx: &mut Transaction<'_, S>,
+    founding: &Founding,
+) -> Result<(), TableFault>
+    ensures same_reference { tx.new.conn.ghost_name ≡ tx.old.conn.ghost_name }
+    ensures written { HasCleanDisk (state S.Store tx.new.conn.now) → IsTrue (state S.Store tx.old.conn.now).in_transaction
+        → OnOk result (PutsIn (state S.Store tx.old.conn.now) (state S.Store tx.new.conn.now) (with_founding founding.now)) }
+    ensures spread { OnOk result (IsSpread 1 founding.now.fixed) }
+    ensures kind { result ≢ Err TableFault.Foreign }
+    ensures survives { Survives (state S.Store tx.old.conn.now) (state S.Store tx.new.conn.now) (λ _. ⊥) }
+{
+    put_meta(tx, 3, founding.vendor, &founding.name)?;
+    add_curators(tx, founding.curators.as_slice())?;
+    add_licences(tx, founding.licences.as_slice())?;
+    add_fixed(tx, founding.fixed.parts())?;
+    put_vendor(tx, founding.vendor, &founding.name)?;
+    Ok(())
+}
