@@ -1,22 +1,21 @@
 -- The facts of a history lead to the outcome of the history.
-use Rattle.std.proofs.Common.{◌≡◌, ℕ, ◌+◌, ◌-◌, ◌<◌, ◌≤◌, Ok, Err, Result, List, [], ◌∷◌, ◌++◌, Option, Some, None, Bool, true, false, cond, refl, ap, sym, ◌∙◌, subst, arith, rules, inl, inr}
-use Rattle.std.proofs.lemmas.Bool.{eq-eqb, and_from, and_parts, or_left, or_right, cases_Bool, not_from_false, le-leb}
-use Rattle.std.specs.Prelude.{length, nat_eq, find, unwrap_or, is_some, option_and_then, ◌&&◌, ◌||◌, not, if◌then◌else◌, is_none}
+use Rattle.std.proofs.Common.{◌≡◌, ℕ, ◌+◌, ◌-◌, Ok, Err, Result, List, [], ◌∷◌, ◌++◌, Option, Some, None, Bool, true, false, refl, ap, sym, ◌∙◌, arith, inl, inr}
+use Rattle.std.proofs.lemmas.Bool.{eq-eqb, and_from, or_left, or_right, cases_Bool, not_from_false}
+use Rattle.std.specs.Prelude.{length, nat_eq, unwrap_or, is_some, ◌&&◌, not}
 use Rattle.std.specs.Option.{option_map, option_or}
 use Rattle.std.specs.List.{list_any}
-use Rattle.std.specs.Str.{bytes_eq}
 use Rattle.usbnum_core.specs.Spans.{span_has, spans_have}
 use Rattle.usbnum_core.specs.declared.number.Number.{Number}
 use Rattle.usbnum_core.specs.declared.number.Span.{Span}
 use Rattle.usbnum_core.proofs.Members.{has}
-use Rattle.registry_rules.specs.Number.{number, is_number, numbers_in}
+use Rattle.registry_rules.specs.Number.{number, is_number}
 use Rattle.registry_rules.specs.History.{History, sooner, first_of, last_of}
-use Rattle.registry_rules.specs.Import.{Standing, class_of, classes_from, is_doubled}
-use Rattle.registry_rules.specs.Query.{owner_of, is_held, is_reserved, holds, receiver, item_of, given, petition_of, least, org_of, open_count, asked, enrolled, vendors, has_vendor, vendor_meant, licences, is_licence}
+use Rattle.registry_rules.specs.Import.{Standing, class_of, classes_from}
+use Rattle.registry_rules.specs.Query.{owner_of, is_held, is_reserved, holds, receiver, item_of, given, petition_of, least, org_of, open_count, asked, has_vendor, vendor_meant, is_licence}
 use Rattle.registry_rules.specs.Checks.{ask_row, grant_row, amend_row, return_row, reserve_row, release_row, import_row}
-use Rattle.registry_rules.specs.Verdict.{outcome, deed_for, verdict, verdict_by, standing_of, standing_at, org_owning, number_chosen, pid_chosen, least_for, least_owned, all_reserved, meets_fixed, new_petition, new_card, kept_under}
+use Rattle.registry_rules.specs.Verdict.{outcome, deed_for, verdict, verdict_by, standing_of, standing_at, org_owning, number_chosen, pid_chosen, least_for, least_owned, meets_fixed, new_petition, new_card, kept_under}
 use Rattle.registry_rules.specs.FactsOf.{AreFactsOf, slug_concerned, petition_named, vendor_concerned, open_concerned, org_concerned, concerns, is_the, holding_of, holding_in}
-use Rattle.registry_rules.specs.OnFacts.{outcome_on, standing_by, standing_in, standing_in_at, least_owned_in, span_is_reserved}
+use Rattle.registry_rules.specs.OnFacts.{outcome_on, standing_in, standing_in_at, least_owned_in}
 use Rattle.registry_rules.specs.declared.deed.Deed.{Deed}
 use Rattle.registry_rules.specs.declared.deed.Act.{Act}
 use Rattle.registry_rules.specs.declared.deed.Act.TheVariants.{Enrolled, OrgAmended, Asked, Granted, Declined, Withdrawn, CardAmended, Returned, Reserved, Released, Imported, VendorAdded, LicenceAdded}
@@ -26,8 +25,6 @@ use Rattle.registry_rules.specs.declared.verdict.Verdict.TheVariants.{New, Refus
 use Rattle.registry_rules.specs.declared.facts.Facts.{Facts}
 use Rattle.registry_rules.specs.declared.facts.Kept.{Kept}
 use Rattle.registry_rules.specs.declared.item.Item.{Item}
-use Rattle.registry_rules.specs.declared.item.ItemClass.{ItemClass}
-use Rattle.registry_rules.specs.declared.item.ItemClass.TheVariants.{Zero}
 use Rattle.registry_rules.specs.declared.record.Holding.{Holding}
 use Rattle.registry_rules.specs.declared.record.Petition.{Petition}
 use Rattle.registry_rules.specs.declared.order.Order.{Order}

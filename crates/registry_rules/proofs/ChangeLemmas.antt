@@ -1,27 +1,27 @@
 -- The changes of a deed lead to what is kept of the history with it.
-use Rattle.std.proofs.Common.{◌≡◌, ◌≢◌, ℕ, zero, suc, ◌+◌, ◌-◌, ◌<◌, ◌≤◌, length, List, [], ◌∷◌, ◌++◌, Option, Some, None, Bool, true, false, cond, refl, ap, sym, ◌∙◌, subst, arith, inl, inr}
+use Rattle.std.proofs.Common.{◌≡◌, ◌≢◌, ℕ, zero, suc, ◌+◌, ◌-◌, length, List, [], ◌∷◌, ◌++◌, Option, Some, None, Bool, true, false, cond, refl, ap, sym, ◌∙◌, subst, arith, inl, inr}
 use Rattle.std.specs.Prelude.{nat_eq, unwrap_or, option_and_then, slice_get, if◌then◌else◌, find, is_some, ◌&&◌, ◌||◌, is_none}
 use Rattle.std.specs.Option.{option_map, option_or}
 use Rattle.std.specs.List.{list_any, filter_map, cons_option, AllByRecursion}
 use Rattle.std.specs.Str.{bytes_eq}
-use Rattle.std.proofs.lemmas.Bool.{cases_eq, cases_Bool, eq-eqb, ne_eqb, eqb-true, eqb-false, and_parts, and_from, or_parts, both_ways, true_from_ne_false, false_from_ne_true}
+use Rattle.std.proofs.lemmas.Bool.{cases_eq, eq-eqb, ne_eqb, eqb-true, or_parts}
 use Rattle.std.proofs.lemmas.List.Folds.{find-append, list_any-append}
 use Rattle.std.proofs.lemmas.Slice.Eq.{bytes_eq-Decides}
 use Rattle.usbnum_core.specs.Spans.{span_has}
 use Rattle.usbnum_core.specs.declared.number.Number.{Number}
 use Rattle.registry_rules.specs.Number.{number, is_number}
 use Rattle.registry_rules.specs.History.{History, with_deed, sooner, first_of, last_of, all_of}
-use Rattle.registry_rules.specs.Query.{given, reserves, adds_licence, item_of, receiver, holds, card_given, card_asked, card_of_item, enroller, described, closes, owner_of, is_held, card_of, org_of, asked, state_of, with_state, petition_of, is_ordered, vendors, vendor_of, licences, is_licence}
+use Rattle.registry_rules.specs.Query.{given, reserves, adds_licence, item_of, receiver, holds, card_given, card_asked, card_of_item, enroller, described, closes, owner_of, is_held, card_of, org_of, asked, state_of, with_state, petition_of, is_ordered, vendors, vendor_of, is_licence}
 use Rattle.registry_rules.specs.Rows.{entry_of, org_changed, petition_changed, entry_changed, ordered_changed, vendor_changed, licence_changed, with_held, with_card, after_all, LeadsTo}
 use Rattle.registry_rules.specs.Changes.{entry_granted, entry_imported, item_change, act_changes}
 use Rattle.registry_rules.specs.Import.{Standing}
 use Rattle.registry_rules.specs.Run.{Legal}
 use Rattle.registry_rules.specs.Verdict.{verdict, standing_at}
-use Rattle.registry_rules.proofs.FollowLemmas.{Follows, CanEnrol, CanAmendOrg, CanAsk, CanGrant, CanClose, CanChange, CanImport, CanAddVendor, new_follows, legal_follows}
+use Rattle.registry_rules.proofs.FollowLemmas.{Follows, CanEnrol, CanAmendOrg, CanAsk, CanGrant, CanClose, CanImport, CanAddVendor, new_follows, legal_follows}
 use Rattle.registry_rules.proofs.ImportLemmas.{IsFreshItem, AreApart, has_code, item_is}
 use Rattle.registry_rules.proofs.NumberLemmas.{same_number}
 use Rattle.registry_rules.proofs.PetitionLemmas.{next_is_open}
-use Rattle.registry_rules.proofs.RowsLemmas.{OwnerFits, CanBeGiven}
+use Rattle.registry_rules.proofs.RowsLemmas.{OwnerFits}
 use Rattle.registry_rules.proofs.RunLemmas.{legal_before}
 use Rattle.registry_rules.specs.declared.change.Change.{Change}
 use Rattle.registry_rules.specs.declared.change.Change.TheVariants.{PutEntry}

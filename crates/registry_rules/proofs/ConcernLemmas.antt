@@ -1,5 +1,5 @@
 -- What an order concerns.
-use Rattle.std.proofs.Common.{◌≡◌, ℕ, List, Option, Some, None, Bool, true, false, refl, ap, sym, ◌∙◌, subst}
+use Rattle.std.proofs.Common.{◌≡◌, ℕ, List, Option, None, true, false, ap, ◌∙◌, subst}
 use Rattle.std.specs.Prelude.{nat_eq, ◌&&◌, not, IsSomeAnd}
 use Rattle.std.specs.List.{list_any}
 use Rattle.std.proofs.lemmas.Bool.{and_parts, not-true}

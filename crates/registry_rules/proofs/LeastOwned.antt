@@ -1,10 +1,10 @@
 -- The least owned number of a span, found by a walk over holdings.
 use Rattle.std.proofs.Common.{◌≡◌, ℕ, ◌+◌, ◌-◌, ◌<◌, ◌≤◌, Bool, true, false, cond, List, [], ◌∷◌, Option, Some, None, refl, sym, ap, ◌∙◌, arith, inl, inr}
-use Rattle.std.specs.Prelude.{find, ◌||◌, ◌&&◌, nat_eq, nat_lt, is_some}
-use Rattle.std.proofs.lemmas.Bool.{cases_eq, cases_lt, cases_Bool, and_from, and_parts, and_left, and_right, and_cases, or_left, or_right, or_from, eq-eqb, ne_eqb, eqb-true, eqb-false, lt-ltb, le-ltb, both_ways}
+use Rattle.std.specs.Prelude.{find, ◌||◌, nat_eq, nat_lt, is_some}
+use Rattle.std.proofs.lemmas.Bool.{cases_lt, cases_Bool, and_parts, and_left, and_right, and_cases, or_left, or_right, or_from, eq-eqb, ne_eqb, eqb-true, eqb-false, lt-ltb, le-ltb, both_ways}
 use Rattle.usbnum_core.specs.Spans.{span_has}
 use Rattle.usbnum_core.specs.declared.number.Span.{Span}
-use Rattle.usbnum_core.proofs.Members.{has, lacks_below, lacks_above}
+use Rattle.usbnum_core.proofs.Members.{has}
 use Rattle.usbnum_core.proofs.Queries.{within_of}
 use Rattle.registry_rules.specs.Number.{number, is_number, numbers_from, numbers_in}
 use Rattle.registry_rules.specs.FactsOf.{holding_in}

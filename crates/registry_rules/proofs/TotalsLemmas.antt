@@ -1,7 +1,6 @@
 -- Totals after a deed are those of the history with it.
-use Rattle.std.proofs.Common.{◌≡◌, ◌∙◌, ap, ap₂, subst, sym, refl, ℕ, ◌+◌, ◌-◌, ◌<◌, ◌≤◌, Bool, true, false, cond, List, [], ◌∷◌, ◌++◌, Option, Some, None, length, length-append, arith, ◌⊎◌, ⊎_elim}
-use Rattle.std.specs.Prelude.{nat_eq, nat_lt, unwrap_or, is_some, if◌then◌else◌, ◌&&◌, ◌||◌, not, find}
-use Rattle.std.specs.List.{list_any}
+use Rattle.std.proofs.Common.{◌≡◌, ◌∙◌, ap, ap₂, subst, sym, refl, ℕ, ◌+◌, ◌-◌, ◌<◌, ◌≤◌, Bool, true, false, List, [], ◌∷◌, ◌++◌, Option, Some, None, length, length-append, arith, ◌⊎◌, ⊎_elim}
+use Rattle.std.specs.Prelude.{nat_eq, nat_lt, unwrap_or, is_some, if◌then◌else◌, ◌&&◌, ◌||◌, not}
 use Rattle.std.proofs.lemmas.Bool.{ltb-true, eq-eqb, ne_eqb, eqb-true, eqb-false, and_parts}
 use Rattle.std.specs.Str.{bytes_eq}
 use Rattle.usbnum_core.specs.Spans.{span_has, spans_have}
@@ -10,16 +9,16 @@ use Rattle.usbnum_core.specs.declared.number.Span.{Span}
 use Rattle.registry_rules.specs.Number.{number, is_number}
 use Rattle.std.specs.Option.{option_or}
 use Rattle.registry_rules.specs.History.{History, with_deed, sooner, last_of}
-use Rattle.registry_rules.specs.Query.{enrolled, asked, open_count, owner_of, is_reserved, is_fixed, is_ordered, is_licence, licences, vendors, vendor_of, adds_licence, adds_vendor, given, reserves}
+use Rattle.registry_rules.specs.Query.{enrolled, asked, open_count, owner_of, is_reserved, is_fixed, adds_licence, adds_vendor, given, reserves}
 use Rattle.registry_rules.specs.Rows.{LeadsTo}
 use Rattle.registry_rules.specs.Changes.{act_changes}
 use Rattle.registry_rules.specs.Run.{Legal}
 use Rattle.registry_rules.specs.Sets.{count_at, numbers_at}
 use Rattle.registry_rules.specs.FactsOf.{IsFoundingOf, AreVendorsOf}
-use Rattle.registry_rules.specs.TotalsOf.{IsSummary, is_taken, AreTotalsOf}
+use Rattle.registry_rules.specs.TotalsOf.{IsSummary, AreTotalsOf}
 use Rattle.registry_rules.specs.Carrying.{Asks, Closes, HasTaken, Reserves, Releases, Carries}
 use Rattle.registry_rules.specs.Verdict.{verdict}
-use Rattle.registry_rules.proofs.FollowLemmas.{CanEnrol, CanAsk, CanGrant, CanClose, CanReserve, CanRelease, Follows, new_follows}
+use Rattle.registry_rules.proofs.FollowLemmas.{CanEnrol, CanAsk, CanGrant, CanClose, CanRelease, Follows, new_follows}
 use Rattle.registry_rules.proofs.NumberLemmas.{owned_or_reserved}
 use Rattle.registry_rules.proofs.OpenLemmas.{open_after_ask, open_after_close}
 use Rattle.registry_rules.proofs.ChangeLemmas.{leads_to}
@@ -32,8 +31,7 @@ use Rattle.registry_rules.specs.declared.order.Request.{Request}
 use Rattle.registry_rules.specs.declared.record.Org.{Org}
 use Rattle.registry_rules.specs.declared.record.Petition.{Petition}
 use Rattle.registry_rules.specs.declared.record.Card.{Card}
-use Rattle.registry_rules.specs.declared.record.PetitionState.{PetitionState}
-use Rattle.registry_rules.specs.declared.record.PetitionState.TheVariants.{Open, Granted as IsGranted, Declined as IsDeclined, Withdrawn as IsWithdrawn}
+use Rattle.registry_rules.specs.declared.record.PetitionState.TheVariants.{Granted as IsGranted, Declined as IsDeclined, Withdrawn as IsWithdrawn}
 use Rattle.registry_rules.specs.declared.record.Vendor.{Vendor}
 use Rattle.registry_rules.specs.declared.name.NumberName.{NumberName}
 use Rattle.registry_rules.specs.declared.name.SpanName.{SpanName}

@@ -10,7 +10,7 @@ use Rattle.registry_rules.specs.Number.{number, numbers_in}
 use Rattle.registry_rules.specs.Import.{Standing, classes_from}
 use Rattle.registry_rules.specs.Checks.{enrol_row, amend_org_row, ask_row, grant_row, decline_row, withdraw_row, amend_row, return_row, reserve_row, release_row, import_row, add_vendor_row, add_licence_row}
 use Rattle.registry_rules.specs.FactsOf.{holding_in, vendor_in}
-use Rattle.registry_rules.specs.Verdict.{new_org, new_petition, new_card, number_chosen, verdict_by}
+use Rattle.registry_rules.specs.Verdict.{new_org, new_petition, new_card, number_chosen}
 use Rattle.registry_rules.specs.declared.deed.Act.{Act}
 use Rattle.registry_rules.specs.declared.facts.Facts.{Facts}
 use Rattle.registry_rules.specs.declared.founding.Founding.{Founding}

@@ -1,5 +1,5 @@
 -- What a history says of numbers, organisations, petitions, vendors and licences.
-use Rattle.std.specs.Prelude.{ℕ, ◌-◌, zero, suc, List, ◌∷◌, ◌++◌, Option, Some, None, Bool, true, false, ◌||◌, ◌&&◌, not, if◌then◌else◌, nat_eq, length, unwrap_or, option_and_then, is_none, is_some, slice_get, find}
+use Rattle.std.specs.Prelude.{ℕ, ◌-◌, List, ◌∷◌, ◌++◌, Option, Some, None, Bool, true, false, ◌||◌, ◌&&◌, not, if◌then◌else◌, nat_eq, length, unwrap_or, option_and_then, is_none, is_some, slice_get, find}
 use Rattle.std.specs.Option.{option_map}
 use Rattle.std.specs.List.{list_any}
 use Rattle.std.specs.Str.{bytes_eq}
