@@ -1,9 +1,7 @@
 -- From an empty store to the rows of a founding.
-use Rattle.std.proofs.Common.{◌≡◌, [], false, IsTrue, refl, ap, subst, ◌∙◌}
+use Rattle.std.proofs.Common.{◌≡◌, [], refl, ap, subst}
 use Rattle.sqlite.specs.Effect.{Database}
 use Rattle.sqlite_catalog.specs.Listing.{IsSound}
-use Rattle.sqlite_schema.specs.declared.schema.Schema.{Schema}
-use Rattle.sqlite_trees.specs.Tree.{Trees}
 use Rattle.usbnum_core.specs.Spans.{IsSpread}
 use Rattle.table_laws.specs.Making.{no_schema, IsBlank}
 use Rattle.registry_schema.specs.Meta.{has_meta_table}

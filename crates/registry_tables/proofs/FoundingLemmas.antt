@@ -1,13 +1,11 @@
 -- The rows of a founding are those of the history without deeds.
-use Rattle.std.proofs.Common.{◌≡◌, ℕ, ◌+◌, ◌≤◌, pos, ◌<ℤ◌, Bool, true, false, cond, ◌||◌, List, [], ◌∷◌, ◌++◌, append_assoc, append-nil, fold, find, nat_eq, Option, Some, None, refl, sym, ap, subst, ◌∙◌, arith}
+use Rattle.std.proofs.Common.{◌≡◌, ℕ, ◌+◌, ◌≤◌, ◌<ℤ◌, Bool, true, false, cond, ◌||◌, List, [], ◌∷◌, ◌++◌, append_assoc, append-nil, nat_eq, None, refl, sym, ap, ◌∙◌, arith}
 use Rattle.std.specs.List.{AllByRecursion, list_any}
 use Rattle.std.specs.Str.{bytes_eq}
 use Rattle.std.proofs.lemmas.Int.{ints}
 use Rattle.sqlite_keyed.specs.Keyed.{insert_by}
 use Rattle.sqlite_keyed.specs.Lists.{delete_where}
-use Rattle.sqlite_trees.specs.Tree.{IsAscending}
 use Rattle.usbnum_core.specs.Spans.{IsSpread}
-use Rattle.usbnum_core.specs.declared.number.Number.{Number}
 use Rattle.usbnum_core.specs.declared.number.Span.{Span}
 use Rattle.table_laws.proofs.FoundLemmas.{apart_put}
 use Rattle.table_laws.proofs.UnnumberedLemmas.{insert_above}
@@ -15,7 +13,7 @@ use Rattle.registry_rows.specs.Rows.{is_named, fixed_key}
 use Rattle.registry_tables.specs.Changed.{names_put, spans_put}
 use Rattle.std.specs.Option.{option_map}
 use Rattle.registry_rules.specs.History.{founded}
-use Rattle.registry_rules.specs.Query.{petition_of, state_of, with_state}
+use Rattle.registry_rules.specs.Query.{petition_of}
 use Rattle.registry_rules.specs.declared.founding.Founding.{Founding}
 use Rattle.registry_rules.specs.declared.record.Petition.{Petition}
 use Rattle.registry_rows.specs.Tables.{no_rows}

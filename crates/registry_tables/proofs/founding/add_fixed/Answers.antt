@@ -1,11 +1,11 @@
-use Rattle.std.proofs.Common.{◌≡◌, ℕ, ◌+◌, List, [], ◌∷◌, ◌++◌, take, sym, ap, subst, ◌∙◌, arith}
+use Rattle.std.proofs.Common.{◌≡◌, ◌+◌, [], ◌∷◌, ◌++◌, take, sym, ap, subst, ◌∙◌, arith}
 use Rattle.std.proofs.lemmas.List.{take_more, take_all}
 use Rattle.sqlite.specs.State.{HasCleanDisk}
 use Rattle.sqlite.specs.Held.{state}
 use Rattle.sqlite.proofs.StateLemmas.{survives_then}
 use Rattle.table_laws.proofs.InsideLemmas.{goes_then}
 use Rattle.usbnum_core.specs.declared.number.Span.{Span}
-use Rattle.registry_rows.specs.Tables.{Tables, Holds}
+use Rattle.registry_rows.specs.Tables.{Holds}
 use Rattle.registry_tables.specs.Changed.{spans_put}
 use Rattle.registry_tables.proofs.FoundingLemmas.{spans_more}
 use Rattle.registry_tables.proofs.founding.add_fixed.Goals as goal

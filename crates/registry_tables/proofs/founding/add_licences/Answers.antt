@@ -4,8 +4,7 @@ use Rattle.sqlite.specs.State.{HasCleanDisk}
 use Rattle.sqlite.specs.Held.{state}
 use Rattle.sqlite.proofs.StateLemmas.{survives_then}
 use Rattle.table_laws.proofs.InsideLemmas.{goes_then}
-use Rattle.usbnum_core.specs.declared.number.Span.{Span}
-use Rattle.registry_rows.specs.Tables.{Tables, Holds}
+use Rattle.registry_rows.specs.Tables.{Holds}
 use Rattle.registry_tables.specs.Changed.{names_put}
 use Rattle.registry_tables.proofs.FoundingLemmas.{names_more}
 use Rattle.registry_tables.proofs.founding.add_licences.Goals as goal

@@ -1,8 +1,7 @@
-use Rattle.std.proofs.Common.{◌≡◌, IsTrue, sym, subst, arith}
+use Rattle.std.proofs.Common.{arith}
 use Rattle.sqlite.specs.State.{HasCleanDisk}
 use Rattle.sqlite.specs.Held.{state}
 use Rattle.table_laws.proofs.InsideLemmas.{goes_then}
-use Rattle.registry_rows.specs.Tables.{Tables, Holds}
 use Rattle.registry_tables.proofs.founding.write_founding.Goals as goal
 
 pub returns-clause-written : goal.returns-clause-written
