@@ -1,4 +1,3 @@
-use Rattle.std.proofs.Common.{◌≡◌}
 use Rattle.toml.proofs.Views.{table_get}
 use Rattle.registry_wire.proofs.founding.value_at.Goals as goal
 

@@ -1,4 +1,4 @@
-use Rattle.std.proofs.Common.{◌≡◌, ◌+◌, Some, None, sym, ◌∙◌, arith, drop, ap, rules}
+use Rattle.std.proofs.Common.{◌≡◌, ◌+◌, Some, None, sym, ◌∙◌, arith, drop, ap}
 use Rattle.toml.specs.View.{view, items_view}
 use Rattle.registry_wire.specs.Founding.{all_of}
 use Rattle.registry_wire.proofs.Items.{with_front, items_step, all_more, all_none, all_end}
