@@ -17,8 +17,8 @@ returns-clause-written g c clean inside =
     let c2 : HasCleanDisk s2 = omega (arith, c.add_licences.ensures.survives.clean) in
     let c1 : HasCleanDisk s1 = omega (arith, c.add_curators.ensures.survives.clean) in
     let one = c.in_ok-put_meta.ensures.put c1 inside in
-    let two = rw c.as_slice.ensures at (c.in_ok-add_curators.ensures.added c2 one.0.mode one.0.is_open) in
-    let three = rw c.as_slice-2.ensures at (c.in_ok-add_licences.ensures.added c3 two.0.mode two.0.is_open) in
+    let two = rw c.as_slice.ensures.slugs at (c.in_ok-add_curators.ensures.added c2 one.0.mode one.0.is_open) in
+    let three = rw c.as_slice-2.ensures.titles at (c.in_ok-add_licences.ensures.added c3 two.0.mode two.0.is_open) in
     let four = rw c.parts.ensures.parts at (c.in_ok-add_fixed.ensures.added c4 three.0.mode three.0.is_open) in
     let five = c.in_ok-put_vendor.ensures.put clean four.0.mode in (
       goes_then a s4 s5 (goes_then a s3 s4 (goes_then a s2 s3 (goes_then a s1 s2 one.0 two.0) three.0) four.0) five.0,
