@@ -93,10 +93,10 @@ module _ {S : Type 0} (g : Ghosts S) (old begun mid : Held S) (is : begun ≡ re
   holds h is_open rows = from_old (λ s. HoldsRows newest s.now h) (enters (state g old) h live is_open rows)
 
   module _ (last : Held S) (after : Totals) (d : Deed) (new : v ≡ New d)
-      (wrote : HasCleanDisk (state g last) → IsTrue (state g mid).in_transaction → Wrote (state g mid) (state g last) before after r d)
+      (wrote : HasCleanDisk (state g last) → IsTrue (state g mid).in_transaction → IsTrue (state g mid).is_open → Wrote (state g mid) (state g last) before after r d)
       (second : Survives (state g mid) (state g last) (λ _. ⊥)) where
     wrote_at : HasCleanDisk (state g last) → Wrote (state g mid) (state g last) before after r d
-    wrote_at clean = let early : HasCleanDisk (state g mid) = omega (arith, second.clean) in wrote clean ((judged early inside).0.mode ∙ inside)
+    wrote_at clean = let early : HasCleanDisk (state g mid) = omega (arith, second.clean) in wrote clean ((judged early inside).0.mode ∙ inside) (judged early inside).0.is_open
 
     says_new : HasCleanDisk (state g last) → (h : History) → Counts before h → HoldsRows newest (state g begun).now h → verdict h r ≡ New d
     says_new clean h counts it = let early : HasCleanDisk (state g mid) = omega (arith, second.clean) in sym (found early inside h counts it) ∙ new

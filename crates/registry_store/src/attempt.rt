@@ -51,7 +51,7 @@ fn write<S: Alter>(
 ) -> Result<(), TableFault>
     requires { reply.now ≡ act_text deed.now.act }
     ensures same_reference { tx.new.conn.ghost_name ≡ tx.old.conn.ghost_name }
-    ensures ok { HasCleanDisk (state S.Store tx.new.conn.now) → IsTrue (state S.Store tx.old.conn.now).in_transaction
+    ensures ok { HasCleanDisk (state S.Store tx.new.conn.now) → IsTrue (state S.Store tx.old.conn.now).in_transaction → IsTrue (state S.Store tx.old.conn.now).is_open
         → OnOk result (Wrote (state S.Store tx.old.conn.now) (state S.Store tx.new.conn.now) totals.old totals.new request.now deed.now) }
     ensures kind { result ≢ Err TableFault.Foreign }
     ensures survives { Survives (state S.Store tx.old.conn.now) (state S.Store tx.new.conn.now) (λ _. ⊥) }

@@ -6,11 +6,11 @@ use Rattle.registry_store.proofs.Steps.{wrote}
 use Rattle.registry_store.proofs.attempt.write.Goals as goal
 
 pub returns-clause-ok : goal.returns-clause-ok
-returns-clause-ok g c clean inside =
+returns-clause-ok g c clean inside is_open =
     let early = earlier _ _ _ c.keep_reply.ensures.survives clean in
-    let first = c.in_ok-store.ensures.goes_on early inside in
+    let first = c.in_ok-store.ensures.goes_on early inside is_open in
     let same : c.in-Ok.changes.items ≡ c.as_slice.result.now = search rules in
     wrote _ _ _ _ _ _ _ _ _ c.requires
     (λ h x legal is. subst (λ cs. LeadsTo cs h (with_deed h c.args.deed.now)) same (c.in-Ok.ensures h x legal is)) c.in-Ok-carry.ensures
-    first (c.in_ok-store.ensures.rows early inside) c.keep_reply.result
+    first (c.in_ok-store.ensures.rows early inside is_open) c.keep_reply.result
     (c.keep_reply.ensures.goes_on clean first.mode) (c.keep_reply.ensures.rows clean first.mode)
