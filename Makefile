@@ -7,7 +7,7 @@
 .PHONY: run test bench
 
 run:
-	rt run registry_cli -- --help
+	cd crates/registry_cli && rt run -- --help
 
 test:
 	rt ci
