@@ -18,14 +18,14 @@ module _ {X : Type 0} (IsValid : X → Type 0) (show : X → Row) (pick : Tables
   pub answers_first : (result : Result (Option X) TableFault) → ((values : List X) → AllByRecursion IsValid values → rows ≡ map show values → Decodes result (slice_get values 0))
       → Answers old new result (λ t found. found ≡ slice_get (pick t) 0)
   answers_first (Ok found) decodes = (read.0, λ t has. (let h = read.1 t has in (h.0, decodes (pick t) (valid t has) h.1)))
-  answers_first (Err fault) decodes = (λ foreign t has. decodes (pick t) (valid t has) (read.1 t has).1 foreign, inl read.0)
+  answers_first (Err fault) decodes = (λ foreign. (read.0, λ t has. decodes (pick t) (valid t has) (read.1 t has).1 foreign), inl read.0)
 
   -- all rows read as all values
   pub answers_all : {A : Type 0} (items : A → List X) (result : Result A TableFault)
       → ((values : List X) → AllByRecursion IsValid values → rows ≡ map show values → MatchResult result (λ all. items all ≡ values) (λ fault. fault ≢ Foreign))
       → Answers old new result (λ t all. items all ≡ pick t)
   answers_all items (Ok all) decodes = (read.0, λ t has. (let h = read.1 t has in (h.0, decodes (pick t) (valid t has) h.1)))
-  answers_all items (Err fault) decodes = (λ foreign t has. decodes (pick t) (valid t has) (read.1 t has).1 foreign, inl read.0)
+  answers_all items (Err fault) decodes = (λ foreign. (read.0, λ t has. decodes (pick t) (valid t has) (read.1 t has).1 foreign), inl read.0)
 
 -- an answer may be told in other words
 pub answers_as : {A : Type 0} (old new : State) (result : Result A TableFault) (Is Also : Tables → A → Type 0) → ((t : Tables) (a : A) → Is t a → Also t a) → Answers old new result Is → Answers old new result Also

@@ -17,7 +17,7 @@ module _ (old new : State) where
   Changes (Ok _) after = GoesOn old new × ((t : Tables) → Holds old.now t → Holds new.now (after t))
   Changes (Err e) after = (e ≢ Foreign) × StaysInside old new
 
-  -- the answer is told by the tables, which stay; it is Foreign only where no values stand in them
+  -- the answer is told by the tables, which stay; it is Foreign only where the rows were read and no values stand in them
   abbrev pub Answers : {A : Type 0} → Result A TableFault → (Tables → A → Type 0) → Type 0
   Answers (Ok a) IsAnswer = GoesOn old new × ((t : Tables) → Holds old.now t → IsUnchanged old new × IsAnswer t a)
-  Answers (Err e) IsAnswer = (e ≡ Foreign → (t : Tables) → ¬ Holds old.now t) × StaysInside old new
+  Answers (Err e) IsAnswer = (e ≡ Foreign → GoesOn old new × ((t : Tables) → ¬ Holds old.now t)) × StaysInside old new
