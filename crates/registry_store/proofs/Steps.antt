@@ -2,7 +2,7 @@
 use Rattle.std.proofs.Common.{◌≡◌, inl, inr, ℕ, IsTrue, true, false, refl, sym, ap, subst, ◌∙◌, arith, List, Result, Ok, Err, OnOk}
 use Rattle.sqlite.specs.Tree.{Trees}
 use Rattle.sqlite.specs.Store.{Ghosts}
-use Rattle.sqlite.specs.State.{State, HasCleanDisk, Survives, Shows, IsLive, IsUnchanged, IsRolledBack}
+use Rattle.sqlite.specs.State.{State, HasCleanDisk, Survives, Shows, IsLive, IsRolledBack}
 use Rattle.sqlite.specs.Held.{Held, state}
 use Rattle.sqlite.proofs.StateLemmas.{survives_then, survives_weaker}
 use Rattle.sqlite.proofs.Callers.{survives_begin}
@@ -23,6 +23,7 @@ use Rattle.registry_rules.specs.Reply.{act_text}
 use Rattle.registry_rules.proofs.RunLemmas.{legal_new, legal_after_one, new_is_of}
 use Rattle.registry_tables.specs.Rows.{Rows, HoldsRows, HoldsUnkept, newest}
 use Rattle.registry_tables.specs.Calls.{IsKeptAs}
+use Rattle.registry_tables.specs.Finds.{Finds}
 use Rattle.registry_tables.proofs.RowsLemmas.{enters, goes_out}
 use Rattle.registry_store.specs.Promise.{Counts, IsAt}
 use Rattle.registry_store.specs.Attempt.{CommitsOne, Wrote}
@@ -67,7 +68,7 @@ quiet a c R p = survives_weaker a c _ R (λ _ db none. absurd none) p
 
 -- the tables of a history are read
 pub never_foreign : {S : Type 0} (g : Ghosts S) (old begun mid end : Held S) → begun ≡ record old { in_transaction = true } → IsLive (state g old) → (before : Totals)
-    → (HasCleanDisk (state g mid) → IsTrue (state g begun).in_transaction → IsTrue (state g begun).is_open × ((h : History) → Counts before h → ¬ HoldsRows newest (state g begun).now h))
+    → (HasCleanDisk (state g mid) → IsTrue (state g begun).in_transaction → IsTrue (state g begun).is_open × ((h : History) → Legal h → ¬ HoldsRows newest (state g begun).now h))
     → Survives (state g begun) (state g mid) (λ _. ⊥) → Survives (state g mid) (state g end) (λ _. ⊥)
     → HasCleanDisk (state g end) → (h : History) → Counts before h → IsAt newest (state g old) h → ⊥
 never_foreign g old begun mid end is live before none first ends clean h counts at =
@@ -76,11 +77,10 @@ never_foreign g old begun mid end is live before none first ends clean h counts 
     let start_old : HasCleanDisk (state g old) = subst (λ b. HasCleanDisk (state g b)) is start in
     let it = none mids (subst (λ b. IsTrue (state g b).in_transaction) (sym is) refl) in
     let is_open : IsTrue (state g old).is_open = subst (λ b. IsTrue (state g b).is_open) is it.0 in
-    it.1 h counts (subst (λ b. HoldsRows newest (state g b).now h) (sym is) (enters (state g old) h live is_open (rows_now (state g old) h at start_old is_open)))
+    it.1 h counts.legal (subst (λ b. HoldsRows newest (state g b).now h) (sym is) (enters (state g old) h live is_open (rows_now (state g old) h at start_old is_open)))
 
 module _ {S : Type 0} (g : Ghosts S) (old begun mid : Held S) (is : begun ≡ record old { in_transaction = true }) (live : IsLive (state g old)) (before : Totals) (r : Request) (v : Verdict)
-    (judged : HasCleanDisk (state g mid) → IsTrue (state g begun).in_transaction → IsUnchanged (state g begun) (state g mid))
-    (found : HasCleanDisk (state g mid) → IsTrue (state g begun).in_transaction → (h : History) → Counts before h → HoldsRows newest (state g begun).now h → v ≡ verdict h r)
+    (judged : HasCleanDisk (state g mid) → IsTrue (state g begun).in_transaction → Finds (state g begun) (state g mid) (Ok v) (λ h found. AreTotalsOf h before → found ≡ verdict h r))
     (first : Survives (state g begun) (state g mid) (λ _. ⊥)) where
   inside : IsTrue (state g begun).in_transaction
   inside = subst (λ b. IsTrue (state g b).in_transaction) (sym is) refl
@@ -96,10 +96,10 @@ module _ {S : Type 0} (g : Ghosts S) (old begun mid : Held S) (is : begun ≡ re
       (wrote : HasCleanDisk (state g last) → IsTrue (state g mid).in_transaction → IsTrue (state g mid).is_open → Wrote (state g mid) (state g last) before after r d)
       (second : Survives (state g mid) (state g last) (λ _. ⊥)) where
     wrote_at : HasCleanDisk (state g last) → Wrote (state g mid) (state g last) before after r d
-    wrote_at clean = let early : HasCleanDisk (state g mid) = omega (arith, second.clean) in wrote clean ((judged early inside).0.mode ∙ inside) (judged early inside).0.is_open
+    wrote_at clean = let early : HasCleanDisk (state g mid) = omega (arith, second.clean) in wrote clean (judged early inside).0.mode (judged early inside).0.is_open
 
     says_new : HasCleanDisk (state g last) → (h : History) → Counts before h → HoldsRows newest (state g begun).now h → verdict h r ≡ New d
-    says_new clean h counts it = let early : HasCleanDisk (state g mid) = omega (arith, second.clean) in sym (found early inside h counts it) ∙ new
+    says_new clean h counts it = let early : HasCleanDisk (state g mid) = omega (arith, second.clean) in sym (((judged early inside).1 h counts.legal it).1 counts.totals_are) ∙ new
 
     was_open : HasCleanDisk (state g last) → IsTrue (state g old).is_open
     was_open clean =
@@ -111,8 +111,8 @@ module _ {S : Type 0} (g : Ghosts S) (old begun mid : Held S) (is : begun ≡ re
       was_open clean,
       λ h counts rows.
           let early : HasCleanDisk (state g mid) = omega (arith, second.clean) in
-          let same = (judged early inside).0 in
           let it = holds h (was_open clean) rows in
+          let same = ((judged early inside).1 h counts.legal it).0.0 in
           let says = says_new clean h counts it in
           let made = (wrote_at clean).made h counts says (subst (λ db. HoldsRows newest db h) (sym same.now_is) it) in
           subst (λ x. Rows newest (state g last).now.trees (after_verdict h x)) (sym says) (goes_out (state g last).now (with_deed h d) made),
@@ -173,7 +173,7 @@ module _ {S : Type 0} (g : Ghosts S) (old begun mid : Held S) (is : begun ≡ re
         let open_before : IsTrue (state g old).is_open = subst (λ b. IsTrue (state g b).is_open) is same.was_open in
         let shown = at.shown start_old open_before in
         let held : Rows newest (state g old).now.trees h = subst (λ db. Rows newest db.trees h) (sym shown.0) shown.1 in
-        let said = found mids inside h counts (holds h open_before held) in
+        let said = ((judged mids inside).1 h counts.legal (holds h open_before held)).1 counts.totals_are in
         let history : after_one h r ≡ h = ap (after_verdict h) (sym said) ∙ same_history h in
         let undone = back clean in
         let committed : (state g mid).committed ≡ (state g old).committed = subst (λ b. (state g mid).committed ≡ (state g b).committed) is same.committed_is in (

@@ -1,12 +1,14 @@
 //! One request in one transaction.
 
 ghost use Rattle.std.specs.Prelude.{◌≡◌, ◌≢◌, true, false, IsTrue, IfOk, OnOk, OnErr, Err};
-ghost use Rattle.sqlite.specs.State.{HasCleanDisk, Survives, Shows, IsUnchanged};
+ghost use Rattle.sqlite.specs.State.{HasCleanDisk, Survives, Shows};
 ghost use Rattle.sqlite.specs.Held.{state};
 ghost use Rattle.registry_rules.specs.History.{History};
 ghost use Rattle.registry_rules.specs.Verdict.{verdict};
 ghost use Rattle.registry_rules.specs.Reply.{act_text};
 ghost use Rattle.registry_rules.specs.Run.{after_one, answer_one};
+ghost use Rattle.registry_rules.specs.TotalsOf.{AreTotalsOf};
+ghost use Rattle.registry_tables.specs.Finds.{Finds};
 ghost use Rattle.registry_tables.specs.Rows.{HoldsRows, newest};
 ghost use Rattle.registry_store.specs.Promise.{Counts, IsAt};
 ghost use Rattle.registry_store.specs.Attempt.{CommitsOne, Wrote};
@@ -25,12 +27,8 @@ fn judged<S: Alter>(
     request: &Request,
 ) -> Result<Verdict, TableFault>
     ensures same_reference { tx.new.conn.ghost_name ≡ tx.old.conn.ghost_name }
-    ensures ok { HasCleanDisk (state S.Store tx.new.conn.now) → IsTrue (state S.Store tx.old.conn.now).in_transaction
-        → OnOk result (IsUnchanged (state S.Store tx.old.conn.now) (state S.Store tx.new.conn.now)) }
-    ensures verdict { HasCleanDisk (state S.Store tx.new.conn.now) → IsTrue (state S.Store tx.old.conn.now).in_transaction
-        → IfOk result (λ found. (h : History) → Counts totals.now h → HoldsRows newest (state S.Store tx.old.conn.now).now h → found ≡ verdict h request.now) }
-    ensures foreign { HasCleanDisk (state S.Store tx.new.conn.now) → IsTrue (state S.Store tx.old.conn.now).in_transaction → result ≡ Err TableFault.Foreign
-        → IsTrue (state S.Store tx.old.conn.now).is_open × ((h : History) → Counts totals.now h → ¬ HoldsRows newest (state S.Store tx.old.conn.now).now h) }
+    ensures found { HasCleanDisk (state S.Store tx.new.conn.now) → IsTrue (state S.Store tx.old.conn.now).in_transaction
+        → Finds (state S.Store tx.old.conn.now) (state S.Store tx.new.conn.now) result (λ h found. AreTotalsOf h totals.now → found ≡ verdict h request.now) }
     ensures survives { Survives (state S.Store tx.old.conn.now) (state S.Store tx.new.conn.now) (λ _. ⊥) }
 {
     let facts = facts_for(alloc, tx, totals, request)?;

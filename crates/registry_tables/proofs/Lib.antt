@@ -5,3 +5,6 @@ pub mod KeptLemmas
 pub mod StoreLemmas
 pub mod FoundingLemmas
 pub mod CreateLemmas
+pub mod FindLemmas
+pub mod HoldingLemmas
+pub mod FactLemmas

@@ -2,3 +2,4 @@ pub mod Rows
 pub mod Lists
 pub mod Calls
 pub mod Changed
+pub mod Finds

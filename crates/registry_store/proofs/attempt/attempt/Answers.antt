@@ -1,7 +1,10 @@
-use Rattle.std.proofs.Common.{◌≡◌, Err, rules, ap, subst}
+use Rattle.std.proofs.Common.{◌≡◌, Err, rules, refl, ap, subst}
 use Rattle.sqlite.specs.State.{HasCleanDisk, Survives, IsRolledBack}
 use Rattle.sqlite.specs.Held.{state}
 use Rattle.registry_rules.specs.Run.{after_one, after_verdict, reply_of}
+use Rattle.registry_rules.specs.TotalsOf.{AreTotalsOf}
+use Rattle.registry_rules.specs.Verdict.{verdict}
+use Rattle.registry_tables.specs.Finds.{Finds}
 use Rattle.registry_tables.specs.Rows.{newest}
 use Rattle.registry_schema.specs.declared.fault.TableFault.TheVariants.{Foreign}
 use Rattle.registry_store.specs.Promise.{IsAt}
@@ -16,7 +19,7 @@ returns-in_ok-finish-in-New-clause-answered g c clean h counts at =
     let same : end ≡ c.conn-in-New-1.given.0 = search rules in
     let late : HasCleanDisk (state g.S.Store end) = search rules in
     let it = answered g.S.Store c.args.conn.now c.transaction-tx.result.conn.now c.judged.new.tx.conn.now c.transaction-tx.ensures.begun c.schema-schema.ensures.live c.args.totals.now r c.in_ok-verdict.verdict
-    c.in_ok-verdict.ensures.ok c.in_ok-verdict.ensures.verdict c.judged.ensures.survives c.write.new.tx.conn.now c.write.new.totals c.in-New.deed c.in-New.is
+    c.in_ok-verdict.ensures.found c.judged.ensures.survives c.write.new.tx.conn.now c.write.new.totals c.in-New.deed c.in-New.is
     c.in_ok-write-in-New.ensures.ok c.write.ensures.survives end c.finish.ensures.survives g.met.S.Store.settled c.in_ok-finish-in-New.ensures.ok
     c.in-Ok.reply c.in-Ok.ensures late h counts at in
     (it.0, it.1, subst (λ x. IsAt newest (state g.S.Store x) (after_one h r)) same it.2)
@@ -26,7 +29,7 @@ returns-in_ok-finish-in-New-clause-survives g c =
     let old = c.args.conn.now in
     let r = c.args.request.now in
     let whole = one_at_most g.S.Store old c.transaction-tx.result.conn.now c.judged.new.tx.conn.now c.transaction-tx.ensures.begun c.schema-schema.ensures.live c.args.totals.now r c.in_ok-verdict.verdict
-    c.in_ok-verdict.ensures.ok c.in_ok-verdict.ensures.verdict c.judged.ensures.survives c.write.new.tx.conn.now c.write.new.totals c.in-New.deed c.in-New.is
+    c.in_ok-verdict.ensures.found c.judged.ensures.survives c.write.new.tx.conn.now c.write.new.totals c.in-New.deed c.in-New.is
     c.in_ok-write-in-New.ensures.ok c.write.ensures.survives c.finish.new.tx.0 c.finish.ensures.survives in
     let same : c.finish.new.tx.0 ≡ c.conn-in-New-1.given.0 = search rules in
     subst (λ x. Survives (state g.S.Store old) (state g.S.Store x) (CommitsOne (state g.S.Store old) c.args.totals.now r)) same whole
@@ -36,7 +39,7 @@ returns-in_err-finish-in-New-clause-survives g c =
     let old = c.args.conn.now in
     let r = c.args.request.now in
     let whole = one_at_most g.S.Store old c.transaction-tx.result.conn.now c.judged.new.tx.conn.now c.transaction-tx.ensures.begun c.schema-schema.ensures.live c.args.totals.now r c.in_ok-verdict.verdict
-    c.in_ok-verdict.ensures.ok c.in_ok-verdict.ensures.verdict c.judged.ensures.survives c.write.new.tx.conn.now c.write.new.totals c.in-New.deed c.in-New.is
+    c.in_ok-verdict.ensures.found c.judged.ensures.survives c.write.new.tx.conn.now c.write.new.totals c.in-New.deed c.in-New.is
     c.in_ok-write-in-New.ensures.ok c.write.ensures.survives c.finish.new.tx.0 c.finish.ensures.survives in
     let same : c.finish.new.tx.0 ≡ c.conn-in-New-1.given.0 = search rules in
     subst (λ x. Survives (state g.S.Store old) (state g.S.Store x) (CommitsOne (state g.S.Store old) c.args.totals.now r)) same whole
@@ -48,7 +51,7 @@ returns-in-Refused-clause-answered g c clean h counts at =
     let ends : Survives (state g.S.Store mid) (state g.S.Store end) (λ _. ⊥) = search rules in
     let back : HasCleanDisk (state g.S.Store end) → IsRolledBack (state g.S.Store mid) (state g.S.Store end) = search rules in
     as_before g.S.Store c.args.conn.now c.transaction-tx.result.conn.now mid c.transaction-tx.ensures.begun c.schema-schema.ensures.live c.args.totals.now c.args.request.now c.in_ok-verdict.verdict
-    c.in_ok-verdict.ensures.ok c.in_ok-verdict.ensures.verdict c.judged.ensures.survives end ends back _ (ap reply_of c.in-Refused.is) (λ x. ap (after_verdict x) c.in-Refused.is) clean h counts at
+    c.in_ok-verdict.ensures.found c.judged.ensures.survives end ends back _ (ap reply_of c.in-Refused.is) (λ x. ap (after_verdict x) c.in-Refused.is) clean h counts at
 
 pub returns-in-Kept-clause-answered : goal.returns-in-Kept-clause-answered
 returns-in-Kept-clause-answered g c clean h counts at =
@@ -57,7 +60,7 @@ returns-in-Kept-clause-answered g c clean h counts at =
     let ends : Survives (state g.S.Store mid) (state g.S.Store end) (λ _. ⊥) = search rules in
     let back : HasCleanDisk (state g.S.Store end) → IsRolledBack (state g.S.Store mid) (state g.S.Store end) = search rules in
     as_before g.S.Store c.args.conn.now c.transaction-tx.result.conn.now mid c.transaction-tx.ensures.begun c.schema-schema.ensures.live c.args.totals.now c.args.request.now c.in_ok-verdict.verdict
-    c.in_ok-verdict.ensures.ok c.in_ok-verdict.ensures.verdict c.judged.ensures.survives end ends back _ (ap reply_of c.in-Kept.is) (λ x. ap (after_verdict x) c.in-Kept.is) clean h counts at
+    c.in_ok-verdict.ensures.found c.judged.ensures.survives end ends back _ (ap reply_of c.in-Kept.is) (λ x. ap (after_verdict x) c.in-Kept.is) clean h counts at
 
 pub returns-in_err-verdict-clause-foreign : goal.returns-in_err-verdict-clause-foreign
 returns-in_err-verdict-clause-foreign g c clean foreign h counts at =
@@ -66,4 +69,4 @@ returns-in_err-verdict-clause-foreign g c clean foreign h counts at =
     let ends : Survives (state g.S.Store mid) (state g.S.Store end) (λ _. ⊥) = search rules in
     let was : c.judged.result ≡ Err Foreign = search rules in
     never_foreign g.S.Store c.args.conn.now c.transaction-tx.result.conn.now mid end c.transaction-tx.ensures.begun c.schema-schema.ensures.live c.args.totals.now
-    (λ mids inside. c.judged.ensures.foreign mids inside was) c.judged.ensures.survives ends clean h counts at
+    (λ mids inside. subst (λ x. Finds _ _ x (λ h found. AreTotalsOf h c.args.totals.now → found ≡ verdict h c.args.request.now)) was (c.judged.ensures.found mids inside) refl) c.judged.ensures.survives ends clean h counts at

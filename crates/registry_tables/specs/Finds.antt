@@ -1,0 +1,34 @@
+-- What a look-up within a transaction answers.
+use Rattle.std.specs.Prelude.{◌≡◌, List, true, IsTrue, Result, Ok, Err}
+use Rattle.sqlite.specs.State.{State, IsUnchanged}
+use Rattle.usbnum_core.specs.Spans.{span_has}
+use Rattle.usbnum_core.specs.declared.number.Number.{Number}
+use Rattle.table_laws.specs.Inside.{GoesOn}
+use Rattle.registry_schema.specs.declared.fault.TableFault.{TableFault}
+use Rattle.registry_schema.specs.declared.fault.TableFault.TheVariants.{Foreign}
+use Rattle.registry_rules.specs.FactsOf.{holding_in, holding_of}
+use Rattle.registry_rules.specs.History.{History}
+use Rattle.registry_rules.specs.Run.{Legal}
+use Rattle.registry_rules.specs.declared.concern.VendorSpan.{VendorSpan}
+use Rattle.registry_rules.specs.declared.record.Entry.{Entry}
+use Rattle.registry_rules.specs.declared.record.Holding.{Holding}
+use Rattle.registry_tables.specs.Rows.{newest, HoldsRows}
+
+module _ (old new : State) where
+  -- The transaction goes on, and where a history's rows are held nothing has changed and the answer is the history's. It is
+  -- Foreign only of an open connection that holds the rows of no history.
+  abbrev pub Finds : {A : Type 0} → Result A TableFault → (History → A → Type 0) → Type 0
+  Finds (Ok a) Is = GoesOn old new × ((h : History) → Legal h → HoldsRows newest old.now h → IsUnchanged old new × Is h a)
+  Finds (Err e) Is = e ≡ Foreign → IsTrue old.is_open × ((h : History) → Legal h → ¬ HoldsRows newest old.now h)
+
+-- who owns a number that has an entry, and whether it is held
+abbrev pub holding_at : Number × Entry → Holding
+holding_at e = record { number = e.0; org = e.1.org; held = e.1.held }
+
+-- the number is one of the vendor's span
+abbrev pub IsWithin : Number → VendorSpan → Type 0
+IsWithin n range = (range.vid ≡ n.vid) × (span_has range.span n.pid ≡ true)
+
+-- of each number within the range the holdings say what the history does
+abbrev pub AreHoldings : VendorSpan → History → List Holding → Type 0
+AreHoldings range h holdings = (n : Number) → IsWithin n range → holding_in holdings n ≡ holding_of h n
