@@ -5,3 +5,7 @@ pub mod KeptLemmas
 pub mod StoreLemmas
 pub mod FoundingLemmas
 pub mod CreateLemmas
+pub mod SortLemmas
+pub mod AscendLemmas
+pub mod CallLemmas
+pub mod ListLemmas

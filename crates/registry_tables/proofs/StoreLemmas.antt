@@ -20,7 +20,7 @@ use Rattle.registry_rules.specs.declared.record.Vendor.{Vendor}
 use Rattle.registry_rows.specs.Rows.{is_named, is_called, is_of, is_numbered}
 use Rattle.registry_rows.specs.Tables.{Tables, Holds}
 use Rattle.registry_tables.specs.Changed.{applied, applied_all, IsPut}
-use Rattle.registry_tables.specs.Rows.{newest, NoTwo, vendor_span_has, AreApart, AreRecords, AreKeptReplies, HoldsRows, HoldsUnkept}
+use Rattle.registry_tables.specs.Rows.{newest, NoTwo, IsFounding, vendor_span_has, AreApart, AreRecords, AreKeptReplies, HoldsRows, HoldsUnkept}
 use Rattle.registry_tables.proofs.ViewLemmas.{same_bytes, org_put, entry_put, petition_put, vendor_put}
 
 -- ---- a name that is put in
@@ -172,6 +172,7 @@ module _ (cs : List Change) (h after : History) (put : AllByRecursion IsPut cs) 
       let rest = rest_all cs t put in
       let view = view_all cs t _ _ _ _ _ put (record { orgs = had.orgs.each; orgs_once = had.orgs.once; petitions = had.petitions; entries = had.entries.each; entries_once = had.entries.once; vendors = had.vendors; licences = had.licences.each; licences_once = had.licences.once }) in
       record {
+        founding = subst IsFounding (sym founding) had.founding;
         metas = rest.metas ∙ had.metas ∙ ap (λ (f : Founding). record { version = newest; vendor = f.vendor; name = f.name } ∷ []) (sym founding);
         curators = record {
           each = λ name. ap (list_any (bytes_eq name)) rest.curators ∙ had.curators.each name ∙ ap (λ (f : Founding). list_any (bytes_eq name) f.curators) (sym founding);
