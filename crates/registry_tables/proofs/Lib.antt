@@ -2,6 +2,7 @@ pub mod RowsLemmas
 pub mod UnderLemmas
 pub mod ViewLemmas
 pub mod KeptLemmas
+pub mod EntryLemmas
 pub mod StoreLemmas
 pub mod FoundingLemmas
 pub mod CreateLemmas
