@@ -21,3 +21,4 @@ pub mod TotalsLemmas
 pub mod ConcernLemmas
 pub mod LeastFree
 pub mod FoundedLemmas
+pub mod Unrepeated
