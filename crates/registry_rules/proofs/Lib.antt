@@ -22,3 +22,4 @@ pub mod ConcernLemmas
 pub mod LeastFree
 pub mod FoundedLemmas
 pub mod Unrepeated
+pub mod SummingLemmas
