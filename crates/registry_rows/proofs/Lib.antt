@@ -3,6 +3,8 @@ pub mod HoldLemmas
 pub mod KeyLemmas
 pub mod PutTexts
 pub mod ReadTexts
+pub mod UpdateTexts
+pub mod UpdateLemmas
 pub mod PutLemmas
 pub mod ReadLemmas
 pub mod DecodeLemmas

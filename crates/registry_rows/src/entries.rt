@@ -5,7 +5,8 @@ ghost use Rattle.std.specs.Option.{option_map, option_copied};
 ghost use Rattle.usbnum_core.specs.Text.{IsTitle, IsLink};
 ghost use Rattle.sqlite.specs.State.{HasCleanDisk, Survives};
 ghost use Rattle.sqlite.specs.Held.{state};
-ghost use Rattle.sqlite_keyed.specs.Lists.{delete_where, sort_by};
+ghost use Rattle.sqlite_keyed.specs.Lists.{update_where, delete_where, sort_by};
+ghost use Rattle.registry_rules.specs.Rows.{with_held, with_card};
 ghost use Rattle.registry_rows.specs.Rows.{IsEntry, entry_row, is_of, is_between, by_number};
 ghost use Rattle.registry_rows.specs.Steps.{Answers, Changes, Decodes};
 
@@ -129,6 +130,61 @@ pub fn put_entry<S: Alter>(
             licence_of(&entry.card),
             site_of(&entry.card),
             source_of(&entry.card)
+        ],
+    );
+    match ran {
+        Ok(_) => Ok(()),
+        Err(error) => Err(fault_of(error)),
+    }
+}
+
+/// Sets whether the number is held, if it has an entry.
+pub fn set_held<S: Alter>(
+    tx: &mut Transaction<'_, S>,
+    number: Number,
+    held: bool,
+) -> Result<(), TableFault>
+    ensures same_reference { tx.new.conn.ghost_name ≡ tx.old.conn.ghost_name }
+    ensures set { HasCleanDisk (state S.Store tx.new.conn.now) → IsTrue (state S.Store tx.old.conn.now).in_transaction
+        → Changes (state S.Store tx.old.conn.now) (state S.Store tx.new.conn.now) result (λ t. record t { entries = update_where (is_of number) (λ e. (e.0, with_held held e.1)) t.entries }) }
+    ensures fault { result ≢ Err TableFault.Foreign }
+    ensures survives { Survives (state S.Store tx.old.conn.now) (state S.Store tx.new.conn.now) (λ _. ⊥) }
+{
+    let ran = tx.execute(
+        "UPDATE entries3 SET held = ?1 WHERE vid = ?2 AND pid = ?3",
+        params![
+            held,
+            u32::from(number.vid.get()),
+            u32::from(number.pid.get())
+        ],
+    );
+    match ran {
+        Ok(_) => Ok(()),
+        Err(error) => Err(fault_of(error)),
+    }
+}
+
+/// Gives the number another card, if it has an entry.
+pub fn set_card<S: Alter>(
+    tx: &mut Transaction<'_, S>,
+    number: Number,
+    card: &Card,
+) -> Result<(), TableFault>
+    ensures same_reference { tx.new.conn.ghost_name ≡ tx.old.conn.ghost_name }
+    ensures set { HasCleanDisk (state S.Store tx.new.conn.now) → IsTrue (state S.Store tx.old.conn.now).in_transaction
+        → Changes (state S.Store tx.old.conn.now) (state S.Store tx.new.conn.now) result (λ t. record t { entries = update_where (is_of number) (λ e. (e.0, with_card card.now e.1)) t.entries }) }
+    ensures fault { result ≢ Err TableFault.Foreign }
+    ensures survives { Survives (state S.Store tx.old.conn.now) (state S.Store tx.new.conn.now) (λ _. ⊥) }
+{
+    let ran = tx.execute(
+        "UPDATE entries3 SET title = ?1, licence = ?2, site = ?3, source = ?4 WHERE vid = ?5 AND pid = ?6",
+        params![
+            card.title.as_str(),
+            licence_of(card),
+            site_of(card),
+            source_of(card),
+            u32::from(number.vid.get()),
+            u32::from(number.pid.get())
         ],
     );
     match ran {

@@ -1,7 +1,7 @@
 //! The rows of a registry's store as values, and each SQL statement as a change of them.
 #![tactic(auto)]
 
-pub use entries::{find_entries, list_entries, put_entry};
+pub use entries::{find_entries, list_entries, put_entry, set_card, set_held};
 pub use fixed::{list_fixed, put_fixed};
 pub use kept::{KeptRow, find_kept, put_kept};
 pub use meta::{Meta, list_metas, put_meta};

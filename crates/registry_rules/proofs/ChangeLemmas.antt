@@ -268,7 +268,7 @@ leads_returned h caller key order vid name = record {
 -- Cards: an owned number has one.
 
 -- where there is an owner there is a card
-abbrev IsCarded : Option (List ℕ) → Option Card → Type 0
+abbrev pub IsCarded : Option (List ℕ) → Option Card → Type 0
 IsCarded None card = Unit {0}
 IsCarded (Some owner) None = ⊥
 IsCarded (Some owner) (Some card) = Unit {0}

@@ -21,3 +21,5 @@ pub mod TotalsLemmas
 pub mod ConcernLemmas
 pub mod LeastFree
 pub mod FoundedLemmas
+pub mod Unrepeated
+pub mod SummingLemmas

@@ -1,24 +1,30 @@
 -- Totals after a deed are those of the history with it.
-use Rattle.std.proofs.Common.{◌≡◌, ◌∙◌, ap, ap₂, subst, sym, refl, ℕ, ◌+◌, ◌-◌, ◌<◌, ◌≤◌, Bool, true, false, List, [], ◌∷◌, ◌++◌, Option, Some, None, length, length-append, arith, ◌⊎◌, ⊎_elim}
-use Rattle.std.specs.Prelude.{nat_eq, nat_lt, unwrap_or, is_some, if◌then◌else◌, ◌&&◌, ◌||◌, not}
+use Rattle.std.proofs.Common.{◌≡◌, ◌∙◌, ap, ap₂, subst, sym, refl, ℕ, ◌+◌, ◌-◌, ◌<◌, ◌≤◌, Bool, true, false, List, [], ◌∷◌, ◌++◌, Option, Some, None, length, length-append, append_assoc, arith, ◌⊎◌, ⊎_elim}
+use Rattle.std.specs.Prelude.{nat_eq, nat_lt, find, unwrap_or, is_some, if◌then◌else◌, ◌&&◌, ◌||◌, not}
 use Rattle.std.proofs.lemmas.Bool.{ltb-true, eq-eqb, ne_eqb, eqb-true, eqb-false, and_parts}
+use Rattle.std.specs.List.{list_any, AllByRecursion}
 use Rattle.std.specs.Str.{bytes_eq}
+use Rattle.std.proofs.lemmas.List.Folds.{find-append, list_any-append}
 use Rattle.usbnum_core.specs.Spans.{span_has, spans_have}
 use Rattle.usbnum_core.specs.declared.number.Number.{Number}
 use Rattle.usbnum_core.specs.declared.number.Span.{Span}
 use Rattle.registry_rules.specs.Number.{number, is_number}
-use Rattle.std.specs.Option.{option_or}
-use Rattle.registry_rules.specs.History.{History, with_deed, sooner, last_of}
-use Rattle.registry_rules.specs.Query.{enrolled, asked, open_count, owner_of, is_reserved, is_fixed, adds_licence, adds_vendor, given, reserves}
+use Rattle.std.specs.Option.{option_map, option_or}
+use Rattle.registry_rules.specs.History.{History, with_deed, sooner, last_of, all_of}
+use Rattle.registry_rules.specs.Query.{enrolled, asked, open_count, owner_of, is_reserved, is_fixed, is_licence, licences, vendors, item_of, adds_licence, adds_vendor, given, reserves}
 use Rattle.registry_rules.specs.Rows.{LeadsTo}
 use Rattle.registry_rules.specs.Changes.{act_changes}
 use Rattle.registry_rules.specs.Run.{Legal}
 use Rattle.registry_rules.specs.Sets.{count_at, numbers_at}
 use Rattle.registry_rules.specs.FactsOf.{IsFoundingOf, AreVendorsOf}
 use Rattle.registry_rules.specs.TotalsOf.{IsSummary, AreTotalsOf}
-use Rattle.registry_rules.specs.Carrying.{Asks, Closes, HasTaken, Reserves, Releases, Carries}
-use Rattle.registry_rules.specs.Verdict.{verdict}
-use Rattle.registry_rules.proofs.FollowLemmas.{CanEnrol, CanAsk, CanGrant, CanClose, CanRelease, Follows, new_follows}
+use Rattle.registry_rules.specs.Carrying.{Asks, Closes, HasTaken, Reserves, Releases, Imports, Allows, Carries, takes}
+use Rattle.registry_rules.specs.Verdict.{verdict, standing_at}
+use Rattle.registry_rules.specs.Import.{Standing}
+use Rattle.registry_rules.proofs.FollowLemmas.{CanEnrol, CanAsk, CanGrant, CanClose, CanRelease, CanImport, Follows, new_follows}
+use Rattle.registry_rules.proofs.ImportLemmas.{IsFreshItem}
+use Rattle.registry_rules.proofs.RunLemmas.{legal_new}
+use Rattle.registry_rules.proofs.Unrepeated.{licences_counted, ascending_distinct}
 use Rattle.registry_rules.proofs.NumberLemmas.{owned_or_reserved}
 use Rattle.registry_rules.proofs.OpenLemmas.{open_after_ask, open_after_close}
 use Rattle.registry_rules.proofs.ChangeLemmas.{leads_to}
@@ -26,6 +32,8 @@ use Rattle.registry_rules.specs.declared.deed.Deed.{Deed}
 use Rattle.registry_rules.specs.declared.deed.Act.{Act}
 use Rattle.registry_rules.specs.declared.deed.Act.TheVariants.{Enrolled, OrgAmended, Asked, Granted, Declined, Withdrawn, CardAmended, Returned, Reserved, Released, Imported, VendorAdded, LicenceAdded}
 use Rattle.registry_rules.specs.declared.founding.Founding.{Founding}
+use Rattle.registry_rules.specs.declared.item.Item.{Item}
+use Rattle.registry_rules.specs.declared.item.Tally.{Tally}
 use Rattle.registry_rules.specs.declared.order.Order.{Order}
 use Rattle.registry_rules.specs.declared.order.Request.{Request}
 use Rattle.registry_rules.specs.declared.record.Org.{Org}
@@ -317,26 +325,114 @@ released_less h caller key order vid name old new legal can is s =
       nothing = s.nothing;
     })
 
-carries_by : (h : History) (caller key : List ℕ) (order : Order) (act : Act) (old new : Totals) → Legal h → Follows h caller act
+-- an import: the numbers of its items more that are taken
+takes_by : (vid : ℕ) (n : Number) (standing : ℕ → Standing) (fresh : List Item) (same : Bool) → nat_eq vid n.vid ≡ same → AllByRecursion (IsFreshItem standing) fresh
+    → list_any (takes vid n) fresh ≡ is_some (if same then find (λ item. nat_eq item.code n.pid) fresh else None)
+takes_by vid n standing [] true e each = refl
+takes_by vid n standing [] false e each = refl
+takes_by vid n standing (item ∷ fresh) true e each =
+    rw (e, each.0.code) (here (nat_eq item.code n.pid) item (find (λ (i : Item). nat_eq i.code n.pid) fresh) (list_any (takes vid n) fresh) (takes_by vid n standing fresh true e each.1))
+  where
+    here : (code : Bool) (item : Item) (found : Option Item) (rest : Bool) → rest ≡ is_some found → ((code && true) || rest) ≡ is_some (if code then Some item else found)
+    here true item found rest same = refl
+    here false item found rest same = same
+takes_by vid n standing (item ∷ fresh) false e each = rw e (takes_by vid n standing fresh false e each.1)
+
+imported_taken : (owner : Option (List ℕ)) (reserved : Bool) (found : Option Item) (org : List ℕ)
+    → ((is_some owner || reserved) || is_some found) ≡ (is_some (sooner owner (option_map (λ (item : Item). org) found)) || reserved)
+imported_taken None true None org = refl
+imported_taken None true (Some item) org = refl
+imported_taken None false None org = refl
+imported_taken None false (Some item) org = refl
+imported_taken (Some owner) reserved None org = refl
+imported_taken (Some owner) reserved (Some item) org = refl
+
+imported_more : (h : History) (caller key : List ℕ) (order : Order) (vid : ℕ) (org : List ℕ) (fresh : List Item) (tally : Tally) (old new : Totals) → CanImport h vid org fresh → Imports old new vid fresh
+    → IsSummary h old → IsSummary (with_deed h (the_deed caller key order (Imported vid org fresh tally))) new
+imported_more h caller key order vid org fresh tally old new can is s =
+    let deed = the_deed caller key order (Imported vid org fresh tally) in
+    subst (λ t. IsSummary (with_deed h deed) t) (sym is.same) (record {
+      founding = keeps_founding h deed old.founding refl s.founding;
+      vendors = keeps_vendors h deed old.vendors refl s.vendors;
+      orgs = s.orgs;
+      petitions = s.petitions;
+      still_open = s.still_open;
+      taken = λ n. is.taken n ∙ ap₂ ◌||◌ (s.taken n) (takes_by vid n (standing_at h vid) fresh (nat_eq vid n.vid) refl can.each)
+          ∙ imported_taken (owner_of h n) (is_reserved h n) (item_of vid fresh n) org;
+      reserved = s.reserved;
+      nothing = s.nothing;
+    })
+
+-- one vendor more
+vendor_more : (h : History) (caller key : List ℕ) (order : Order) (vid : ℕ) (name : List ℕ) (old new : Totals) → new ≡ record old { vendors = old.vendors ++ record { vid = vid; name = name } ∷ [] }
+    → IsSummary h old → IsSummary (with_deed h (the_deed caller key order (VendorAdded vid name))) new
+vendor_more h caller key order vid name old new is s =
+    let deed = the_deed caller key order (VendorAdded vid name) in
+    let added : List Vendor = record { vid = vid; name = name } ∷ [] in
+    subst (λ t. IsSummary (with_deed h deed) t) (sym is) (record {
+      founding = keeps_founding h deed old.founding refl s.founding;
+      vendors = record {
+        each = λ v. find-append (λ (vendor : Vendor). nat_eq vendor.vid v) old.vendors added
+            ∙ ap (λ found. option_or found (find (λ (vendor : Vendor). nat_eq vendor.vid v) added)) (s.vendors.each v)
+            ∙ sym (find-append (λ (vendor : Vendor). nat_eq vendor.vid v) (vendors h) added);
+        count = length-append old.vendors added ∙ ap (λ n. n + 1) s.vendors.count ∙ sym (length-append (vendors h) added);
+      };
+      orgs = s.orgs;
+      petitions = s.petitions;
+      still_open = s.still_open;
+      taken = s.taken;
+      reserved = s.reserved;
+      nothing = s.nothing;
+    })
+
+-- one licence more
+licence_more : (h : History) (caller key : List ℕ) (order : Order) (licence : List ℕ) (old new : Totals) → Legal (with_deed h (the_deed caller key order (LicenceAdded licence))) → Allows old new licence
+    → IsSummary h old → IsSummary (with_deed h (the_deed caller key order (LicenceAdded licence))) new
+licence_more h caller key order licence old new after is s =
+    let deed = the_deed caller key order (LicenceAdded licence) in
+    let allowed : (other : List ℕ) → list_any (bytes_eq other) new.founding.licences ≡ is_licence (with_deed h deed) other = λ other.
+    is.licences.same other ∙ list_any-append (bytes_eq other) old.founding.licences (licence ∷ [])
+    ∙ ap (λ b. b || list_any (bytes_eq other) (licence ∷ [])) (s.founding.allowed other)
+    ∙ sym (list_any-append (bytes_eq other) (licences h) (licence ∷ []))
+    ∙ ap (list_any (bytes_eq other)) (append_assoc h.founding.licences (all_of (λ d. adds_licence d.act) h.deeds) (licence ∷ [])) in
+    subst (λ t. IsSummary (with_deed h deed) t) (sym is.same) (record {
+      founding = record {
+        vendor = s.founding.vendor;
+        name = s.founding.name;
+        curators = s.founding.curators;
+        fixed = s.founding.fixed;
+        allowed = allowed;
+        allowed_count = licences_counted (with_deed h deed) after new.founding.licences allowed (ascending_distinct new.founding.licences is.licences.ascending);
+      };
+      vendors = keeps_vendors h deed old.vendors refl s.vendors;
+      orgs = s.orgs;
+      petitions = s.petitions;
+      still_open = s.still_open;
+      taken = s.taken;
+      reserved = s.reserved;
+      nothing = s.nothing;
+    })
+
+carries_by : (h : History) (caller key : List ℕ) (order : Order) (act : Act) (old new : Totals) → Legal h → Legal (with_deed h (the_deed caller key order act)) → Follows h caller act
     → LeadsTo (act_changes act) h (with_deed h (the_deed caller key order act)) → Carries old new act → IsSummary h old → IsSummary (with_deed h (the_deed caller key order act)) new
-carries_by h caller key order (Enrolled org) old new legal can leads is s = enrolled_more h caller key order org old new can is s
-carries_by h caller key order (OrgAmended org) old new legal can leads is s = org_amended_same h caller key order org old new is s
-carries_by h caller key order (Asked id petition) old new legal can leads is s = asked_more h caller key order id petition old new can leads is s
-carries_by h caller key order (Granted id petition name) old new legal can leads is s = granted_more h caller key order id petition name old is.0 new can leads is.1 is.2 s
-carries_by h caller key order (Declined id petition) old new legal can leads is s = declined_less h caller key order id petition old new can leads is s
-carries_by h caller key order (Withdrawn id petition) old new legal can leads is s = withdrawn_less h caller key order id petition old new can leads is s
-carries_by h caller key order (CardAmended vid name card) old new legal can leads is s = card_amended_same h caller key order vid name card old new is s
-carries_by h caller key order (Returned vid name) old new legal can leads is s = returned_same h caller key order vid name old new is s
-carries_by h caller key order (Reserved vid name) old new legal can leads is s = reserved_more h caller key order vid name old new is s
-carries_by h caller key order (Released vid name) old new legal can leads is s = released_less h caller key order vid name old new legal can is s
-carries_by h caller key order (Imported vid org fresh tally) old new legal can leads is s = absurd is
-carries_by h caller key order (VendorAdded vendor name) old new legal can leads is s = absurd is
-carries_by h caller key order (LicenceAdded licence) old new legal can leads is s = absurd is
+carries_by h caller key order (Enrolled org) old new legal after can leads is s = enrolled_more h caller key order org old new can is s
+carries_by h caller key order (OrgAmended org) old new legal after can leads is s = org_amended_same h caller key order org old new is s
+carries_by h caller key order (Asked id petition) old new legal after can leads is s = asked_more h caller key order id petition old new can leads is s
+carries_by h caller key order (Granted id petition name) old new legal after can leads is s = granted_more h caller key order id petition name old is.0 new can leads is.1 is.2 s
+carries_by h caller key order (Declined id petition) old new legal after can leads is s = declined_less h caller key order id petition old new can leads is s
+carries_by h caller key order (Withdrawn id petition) old new legal after can leads is s = withdrawn_less h caller key order id petition old new can leads is s
+carries_by h caller key order (CardAmended vid name card) old new legal after can leads is s = card_amended_same h caller key order vid name card old new is s
+carries_by h caller key order (Returned vid name) old new legal after can leads is s = returned_same h caller key order vid name old new is s
+carries_by h caller key order (Reserved vid name) old new legal after can leads is s = reserved_more h caller key order vid name old new is s
+carries_by h caller key order (Released vid name) old new legal after can leads is s = released_less h caller key order vid name old new legal can is s
+carries_by h caller key order (Imported vid org fresh tally) old new legal after can leads is s = imported_more h caller key order vid org fresh tally old new can is s
+carries_by h caller key order (VendorAdded vid name) old new legal after can leads is s = vendor_more h caller key order vid name old new is s
+carries_by h caller key order (LicenceAdded licence) old new legal after can leads is s = licence_more h caller key order licence old new after is s
 
 -- totals carried on by a new deed are those of the history with it
 pub carries : (h : History) (request : Request) (deed : Deed) (old new : Totals) → Legal h → verdict h request ≡ New deed → Carries old new deed.act
     → AreTotalsOf h old → AreTotalsOf (with_deed h deed) new
 unfolding AreTotalsOf
 carries h request deed old new legal new_deed is s =
-    carries_by h deed.caller deed.key deed.order deed.act old new legal (new_follows h request deed new_deed)
+    carries_by h deed.caller deed.key deed.order deed.act old new legal (legal_new h request deed legal new_deed) (new_follows h request deed new_deed)
     (leads_to h request deed (act_changes deed.act) legal new_deed refl) is s

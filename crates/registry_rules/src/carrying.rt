@@ -1,11 +1,12 @@
 //! What each kind of act does to totals.
 
-ghost use Rattle.std.specs.Prelude.{◌≡◌, ◌<◌, ◌+◌, OnOk};
-ghost use Rattle.registry_rules.specs.Carrying.{Asks, Closes, HasTaken, Reserves, Releases, Carries};
+ghost use Rattle.std.specs.Prelude.{◌≡◌, ◌<◌, ◌+◌, ◌++◌, ◌∷◌, [], OnOk};
+ghost use Rattle.registry_rules.specs.Carrying.{Asks, Closes, HasTaken, Reserves, Releases, Imports, Allows, Carries};
 
 use crate::counting::{add_number, add_span, cut_span, one_less, one_more};
-use crate::{Act, Totals};
-use usbnum_core::{NoMemory, Pid, Slug, Span, Vid};
+use crate::summing::add_items;
+use crate::{Act, Items, Totals, Vendor};
+use usbnum_core::{NoMemory, Pid, Slug, Span, Title, Vid};
 
 /// Carries the totals on by what a deed did. Nothing is said of the totals after NoMemory.
 pub(crate) fn carry_act(totals: &mut Totals, act: &Act) -> Result<(), NoMemory>
@@ -37,13 +38,13 @@ pub(crate) fn carry_act(totals: &mut Totals, act: &Act) -> Result<(), NoMemory>
         Act::Reserved { vid, name } => reserved(totals, *vid, &name.span),
         Act::Released { vid, name } => released(totals, *vid, &name.span),
         Act::Imported {
-            vid: _,
+            vid,
             org: _,
-            fresh: _,
+            fresh,
             tally: _,
-        }
-        | Act::VendorAdded { vendor: _, name: _ }
-        | Act::LicenceAdded { licence: _ } => Err(NoMemory),
+        } => imported(totals, *vid, fresh),
+        Act::VendorAdded { vendor, name } => vendor_added(totals, *vendor, name),
+        Act::LicenceAdded { licence } => licence_added(totals, licence),
     }
 }
 
@@ -86,4 +87,23 @@ fn released(totals: &mut Totals, vid: Vid, span: &Span) -> Result<(), NoMemory>
     let alloc = totals.alloc;
     cut_span(alloc, &mut totals.taken, vid, span)?;
     cut_span(alloc, &mut totals.reserved, vid, span)
+}
+
+fn imported(totals: &mut Totals, vid: Vid, fresh: &Items) -> Result<(), NoMemory>
+    ensures { OnOk result (Imports totals.old totals.new vid fresh.now) }
+{
+    add_items(totals.alloc, &mut totals.taken, vid, fresh.as_slice())
+}
+
+fn vendor_added(totals: &mut Totals, vid: Vid, name: &Title) -> Result<(), NoMemory>
+    ensures { OnOk result (totals.new ≡ record totals.old { vendors = totals.old.vendors ++ record { vid = vid; name = name.now } ∷ [] }) }
+{
+    let name = name.clone()?;
+    totals.vendors.add(Vendor { vid, name })
+}
+
+fn licence_added(totals: &mut Totals, licence: &Title) -> Result<(), NoMemory>
+    ensures { OnOk result (Allows totals.old totals.new licence.now) }
+{
+    totals.founding.licences.add(licence.clone()?)
 }

@@ -45,6 +45,7 @@ mod rows;
 mod span_rows;
 mod spelling;
 mod stop;
+mod summing;
 mod text;
 #[cfg(test)]
 mod text_tests;

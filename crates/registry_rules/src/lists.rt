@@ -1,11 +1,11 @@
-ghost use Rattle.std.specs.Prelude.{◌≡◌, ◌≤◌, ◌↔◌, ℕ, List, IsTrue, IsSome, IfSome, length};
+ghost use Rattle.std.specs.Prelude.{◌≡◌, ◌≤◌, ◌↔◌, ℕ, List, [], ◌∷◌, ◌++◌, IsTrue, IsSome, IfSome, OnOk, length};
 ghost use Rattle.std.specs.List.{list_any};
 ghost use Rattle.std.specs.Str.{bytes_eq};
 ghost use Rattle.registry_rules.specs.Texts.{AreInOrder};
 
 use std::alloc::AllocError;
 use std::marker::Model;
-use usbnum_core::{Slug, Text, TextRule, Title};
+use usbnum_core::{NoMemory, Slug, Text, TextRule, Title};
 
 /// The curators of a registry: 1 to 64, each once, in the order of their bytes.
 #[derive(Debug, Drop)]
@@ -109,6 +109,20 @@ impl Licences {
         Some(Licences {
             titles: in_order(titles),
         })
+    }
+
+    // One title more. 1,024 are all that there may be: then it answers NoMemory, as where memory is
+    // short, and nothing is changed.
+    pub(crate) fn add(&mut self, title: Title) -> Result<(), NoMemory>
+        ensures { OnOk result (AreInOrder (self.old ++ title ∷ []) self.new) }
+    {
+        if self.titles.len() >= 1024 {
+            return Err(NoMemory);
+        }
+        let mut titles = self.titles.clone()?;
+        titles.push(title)?;
+        self.titles = in_order(titles);
+        Ok(())
     }
 
     pub fn contains(&self, title: &Title) -> bool

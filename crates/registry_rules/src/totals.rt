@@ -14,6 +14,7 @@ ghost use Rattle.usbnum_core.specs.declared.number.Number.{Number};
 use crate::carrying::carry_act;
 use crate::concern::{org_concerned as slug_concerned, vid_concerned};
 use crate::counting::{numbers_of, open_of};
+use crate::summing::{add_entries, add_spans, count_of, open_counts};
 use crate::{
     Deed, Entry, Facts, Founding, Holdings, Kept, Org, Petition, Request, Vendors, Verdict,
 };
@@ -59,18 +60,35 @@ impl Totals {
 
     /// The totals of a history, of the lists of all that is kept of it.
     pub fn of_lists(
-        _alloc: Global,
-        _founding: Founding,
-        _vendors: Vendors,
-        _orgs: &[Org],
-        _petitions: &[(u32, Petition)],
-        _entries: &[(Number, Entry)],
-        _spans: &[(Vid, Span)],
+        alloc: Global,
+        founding: Founding,
+        vendors: Vendors,
+        orgs: &[Org],
+        petitions: &[(u32, Petition)],
+        entries: &[(Number, Entry)],
+        spans: &[(Vid, Span)],
     ) -> Result<Totals, NoMemory>
-        ensures { (h : History) → Legal h → AreListsOf h _founding _vendors _orgs.now _petitions.now _entries.now _spans.now →
+        ensures { (h : History) → Legal h → AreListsOf h founding vendors orgs.now petitions.now entries.now spans.now →
             IfOk result (λ totals. AreTotalsOf h totals) }
     {
-        Err(NoMemory)
+        let petition_count = count_of(petitions.len())?;
+        let still_open = open_counts(alloc, petitions)?;
+        let mut taken = fixed_of(alloc, &founding)?;
+        add_entries(alloc, &mut taken, entries)?;
+        add_spans(alloc, &mut taken, spans)?;
+        let mut reserved = fixed_of(alloc, &founding)?;
+        add_spans(alloc, &mut reserved, spans)?;
+        Ok(Totals {
+            founding,
+            vendors,
+            orgs: count_of(orgs.len())?,
+            petitions: petition_count,
+            still_open,
+            taken,
+            reserved,
+            nothing: Spans::new(alloc),
+            alloc,
+        })
     }
 
     /// Adds a deed. After NoMemory the totals are those of no history, and may not be used any more.

@@ -2,7 +2,6 @@
 use Rattle.std.proofs.Common.{◌≡◌, [], refl, ap, subst}
 use Rattle.sqlite.specs.Effect.{Database}
 use Rattle.sqlite_catalog.specs.Listing.{IsSound}
-use Rattle.usbnum_core.specs.Spans.{IsSpread}
 use Rattle.table_laws.specs.Making.{no_schema, IsBlank}
 use Rattle.registry_schema.specs.Meta.{has_meta_table}
 use Rattle.registry_schema.specs.Schema.{schema_3}
@@ -10,7 +9,7 @@ use Rattle.registry_rules.specs.History.{founded}
 use Rattle.registry_rules.specs.declared.founding.Founding.{Founding}
 use Rattle.registry_rows.specs.Tables.{Holds, no_rows}
 use Rattle.registry_tables.specs.Calls.{HasNoMeta, with_founding}
-use Rattle.registry_tables.specs.Rows.{newest, Rows, HoldsRows}
+use Rattle.registry_tables.specs.Rows.{newest, IsFounding, Rows, HoldsRows}
 use Rattle.registry_tables.proofs.FoundingLemmas.{founded_records, founded_kept}
 use Rattle.registry_tables.proofs.RowsLemmas.{goes_out}
 
@@ -43,9 +42,9 @@ blank_holds db blank = record {
   };
 }
 
-all_held : (db : Database) (founding : Founding) → IsSpread 1 founding.fixed → Holds db (with_founding founding no_rows) → HoldsRows newest db (founded founding)
+all_held : (db : Database) (founding : Founding) → IsFounding founding → Holds db (with_founding founding no_rows) → HoldsRows newest db (founded founding)
 unfolding HoldsRows
-all_held db founding spread holds = (refl, with_founding founding no_rows, holds, founded_records founding spread, founded_kept founding)
+all_held db founding valid holds = (refl, with_founding founding no_rows, holds, founded_records founding valid, founded_kept founding)
 
-pub founding_rows : (db : Database) (founding : Founding) → IsSpread 1 founding.fixed → Holds db (with_founding founding no_rows) → Rows newest db.trees (founded founding)
-founding_rows db founding spread holds = goes_out db (founded founding) (all_held db founding spread holds)
+pub founding_rows : (db : Database) (founding : Founding) → IsFounding founding → Holds db (with_founding founding no_rows) → Rows newest db.trees (founded founding)
+founding_rows db founding valid holds = goes_out db (founded founding) (all_held db founding valid holds)

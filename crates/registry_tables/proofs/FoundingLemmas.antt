@@ -18,7 +18,7 @@ use Rattle.registry_rules.specs.declared.founding.Founding.{Founding}
 use Rattle.registry_rules.specs.declared.record.Petition.{Petition}
 use Rattle.registry_rows.specs.Tables.{no_rows}
 use Rattle.registry_tables.specs.Calls.{with_founding}
-use Rattle.registry_tables.specs.Rows.{NoTwo, AreRecords, AreKeptReplies}
+use Rattle.registry_tables.specs.Rows.{NoTwo, IsFounding, AreRecords, AreKeptReplies}
 use Rattle.registry_tables.proofs.StoreLemmas.{name_put}
 
 -- ---- names
@@ -80,12 +80,13 @@ no_petition : (founding : Founding) (i : ℕ) (b : Bool) → nat_eq i 0 ≡ b
 no_petition founding i true is = rw is refl
 no_petition founding i false is = rw is refl
 
-pub founded_records : (founding : Founding) → IsSpread 1 founding.fixed → AreRecords (founded founding) (with_founding founding no_rows)
-founded_records founding spread = record {
+pub founded_records : (founding : Founding) → IsFounding founding → AreRecords (founded founding) (with_founding founding no_rows)
+founded_records founding valid = record {
+  founding = valid;
   metas = refl;
   curators = record { each = λ name. names_each founding.curators [] name; once = names_once founding.curators [] tt };
   licences = record { each = λ name. names_each founding.licences [] name ∙ ap (list_any (bytes_eq name)) (sym (append-nil founding.licences)); once = names_once founding.licences [] tt };
-  fixed = spans_in_turn 1 founding.fixed [] tt spread;
+  fixed = spans_in_turn 1 founding.fixed [] tt valid.fixed;
   orgs = record { each = λ slug. refl; once = tt };
   vendors = λ vid. refl;
   spans = record { each = λ n. refl; apart = tt };

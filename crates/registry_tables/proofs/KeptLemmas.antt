@@ -83,6 +83,6 @@ module _ (h : History) (deed : Deed) (legal : Legal (with_deed h deed)) (request
         refl,
         record had.0 { kept = delete_where (λ other. is_kept_under request.caller request.key other) had.0.kept ++ row ∷ [] },
         after had.0 had.1,
-        record { metas = records.metas; curators = records.curators; licences = records.licences; fixed = records.fixed; orgs = records.orgs; vendors = records.vendors; spans = records.spans; entries = records.entries; petitions = records.petitions },
+        record { founding = records.founding; metas = records.metas; curators = records.curators; licences = records.licences; fixed = records.fixed; orgs = records.orgs; vendors = records.vendors; spans = records.spans; entries = records.entries; petitions = records.petitions },
         kept_after had.0.kept had.3,
       )

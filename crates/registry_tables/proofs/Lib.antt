@@ -2,9 +2,14 @@ pub mod RowsLemmas
 pub mod UnderLemmas
 pub mod ViewLemmas
 pub mod KeptLemmas
+pub mod EntryLemmas
 pub mod StoreLemmas
 pub mod FoundingLemmas
 pub mod CreateLemmas
 pub mod FindLemmas
 pub mod HoldingLemmas
 pub mod FactLemmas
+pub mod SortLemmas
+pub mod AscendLemmas
+pub mod CallLemmas
+pub mod ListLemmas

@@ -1,4 +1,4 @@
--- Changes that put records in take the rows of one history to those of another.
+-- Changes of records take the rows of one history to those of another.
 use Rattle.std.proofs.Common.{◌≡◌, ℕ, Bool, true, false, cond, not, ◌||◌, if◌then◌else◌, List, [], ◌∷◌, ◌++◌, find, nat_eq, Option, Some, refl, sym, ap, subst, ◌∙◌}
 use Rattle.std.specs.List.{AllByRecursion, list_any}
 use Rattle.std.specs.Option.{option_map}
@@ -9,7 +9,7 @@ use Rattle.sqlite_trees.specs.Tree.{IsAscending}
 use Rattle.usbnum_core.specs.declared.number.Number.{Number}
 use Rattle.table_laws.proofs.FoundLemmas.{apart_put}
 use Rattle.registry_rules.specs.History.{History}
-use Rattle.registry_rules.specs.Rows.{org_changed, petition_changed, entry_changed, ordered_changed, vendor_changed, licence_changed, after_all, LeadsTo}
+use Rattle.registry_rules.specs.Rows.{with_held, with_card, org_changed, petition_changed, entry_changed, ordered_changed, vendor_changed, licence_changed, after_all, LeadsTo}
 use Rattle.registry_rules.specs.declared.change.Change.{Change}
 use Rattle.registry_rules.specs.declared.change.Change.TheVariants.{PutOrg, PutPetition, PutEntry, SetHeld, SetCard, ReserveSpan, ReleaseSpan, PutVendor, PutLicence}
 use Rattle.registry_rules.specs.declared.founding.Founding.{Founding}
@@ -20,7 +20,8 @@ use Rattle.registry_rules.specs.declared.record.Vendor.{Vendor}
 use Rattle.registry_rows.specs.Rows.{is_named, is_called, is_of, is_numbered}
 use Rattle.registry_rows.specs.Tables.{Tables, Holds}
 use Rattle.registry_tables.specs.Changed.{applied, applied_all, IsPut}
-use Rattle.registry_tables.specs.Rows.{newest, NoTwo, vendor_span_has, AreApart, AreRecords, AreKeptReplies, HoldsRows, HoldsUnkept}
+use Rattle.registry_tables.specs.Rows.{newest, NoTwo, IsFounding, vendor_span_has, AreApart, AreRecords, AreKeptReplies, HoldsRows, HoldsUnkept}
+use Rattle.registry_tables.proofs.EntryLemmas.{entry_set, entries_once}
 use Rattle.registry_tables.proofs.ViewLemmas.{same_bytes, org_put, entry_put, petition_put, vendor_put}
 
 -- ---- a name that is put in
@@ -112,8 +113,26 @@ view_one (PutLicence name) t o p e v l put was = record {
   licences = λ other. name_put other name t.licences ∙ ap (λ old. if bytes_eq other name then true else old) (was.licences other);
   licences_once = apart_put is_named name t.licences was.licences_once;
 }
-view_one (SetHeld number held) t o p e v l put was = absurd put
-view_one (SetCard number card) t o p e v l put was = absurd put
+view_one (SetHeld number held) t o p e v l put was = record {
+  orgs = was.orgs;
+  orgs_once = was.orgs_once;
+  petitions = was.petitions;
+  entries = λ n. entry_set (with_held held) number t.entries n (e n) (was.entries n);
+  entries_once = entries_once (with_held held) number t.entries was.entries_once;
+  vendors = was.vendors;
+  licences = was.licences;
+  licences_once = was.licences_once;
+}
+view_one (SetCard number card) t o p e v l put was = record {
+  orgs = was.orgs;
+  orgs_once = was.orgs_once;
+  petitions = was.petitions;
+  entries = λ n. entry_set (with_card card) number t.entries n (e n) (was.entries n);
+  entries_once = entries_once (with_card card) number t.entries was.entries_once;
+  vendors = was.vendors;
+  licences = was.licences;
+  licences_once = was.licences_once;
+}
 view_one (ReserveSpan vid span) t o p e v l put was = absurd put
 view_one (ReleaseSpan vid span) t o p e v l put was = absurd put
 
@@ -137,8 +156,8 @@ rest_one (PutPetition id petition) t put = record { metas = refl; curators = ref
 rest_one (PutEntry number entry) t put = record { metas = refl; curators = refl; fixed = refl; spans = refl; kept = refl }
 rest_one (PutVendor vid name) t put = record { metas = refl; curators = refl; fixed = refl; spans = refl; kept = refl }
 rest_one (PutLicence name) t put = record { metas = refl; curators = refl; fixed = refl; spans = refl; kept = refl }
-rest_one (SetHeld number held) t put = absurd put
-rest_one (SetCard number card) t put = absurd put
+rest_one (SetHeld number held) t put = record { metas = refl; curators = refl; fixed = refl; spans = refl; kept = refl }
+rest_one (SetCard number card) t put = record { metas = refl; curators = refl; fixed = refl; spans = refl; kept = refl }
 rest_one (ReserveSpan vid span) t put = absurd put
 rest_one (ReleaseSpan vid span) t put = absurd put
 
@@ -155,8 +174,8 @@ unordered (PutPetition id petition) n b put = refl
 unordered (PutEntry number entry) n b put = refl
 unordered (PutVendor vid name) n b put = refl
 unordered (PutLicence name) n b put = refl
-unordered (SetHeld number held) n b put = absurd put
-unordered (SetCard number card) n b put = absurd put
+unordered (SetHeld number held) n b put = refl
+unordered (SetCard number card) n b put = refl
 unordered (ReserveSpan vid span) n b put = absurd put
 unordered (ReleaseSpan vid span) n b put = absurd put
 
@@ -172,6 +191,7 @@ module _ (cs : List Change) (h after : History) (put : AllByRecursion IsPut cs) 
       let rest = rest_all cs t put in
       let view = view_all cs t _ _ _ _ _ put (record { orgs = had.orgs.each; orgs_once = had.orgs.once; petitions = had.petitions; entries = had.entries.each; entries_once = had.entries.once; vendors = had.vendors; licences = had.licences.each; licences_once = had.licences.once }) in
       record {
+        founding = subst IsFounding (sym founding) had.founding;
         metas = rest.metas ∙ had.metas ∙ ap (λ (f : Founding). record { version = newest; vendor = f.vendor; name = f.name } ∷ []) (sym founding);
         curators = record {
           each = λ name. ap (list_any (bytes_eq name)) rest.curators ∙ had.curators.each name ∙ ap (λ (f : Founding). list_any (bytes_eq name) f.curators) (sym founding);

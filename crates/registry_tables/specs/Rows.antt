@@ -5,10 +5,12 @@ use Rattle.std.specs.List.{list_any}
 use Rattle.std.specs.Str.{bytes_eq}
 use Rattle.sqlite.specs.Effect.{Database}
 use Rattle.sqlite_trees.specs.Tree.{Trees, IsAscending}
-use Rattle.usbnum_core.specs.Spans.{span_has}
+use Rattle.usbnum_core.specs.Spans.{span_has, IsSpread}
 use Rattle.usbnum_core.specs.declared.number.Number.{Number}
 use Rattle.usbnum_core.specs.declared.number.Span.{Span}
 use Rattle.registry_rules.specs.History.{History}
+use Rattle.registry_rules.specs.Texts.{IsCurators}
+use Rattle.registry_rules.specs.declared.founding.Founding.{Founding}
 use Rattle.registry_rules.specs.Query.{org_of, petition_of, vendor_of, is_ordered, is_licence}
 use Rattle.registry_rules.specs.Rows.{entry_of}
 use Rattle.registry_rules.specs.Verdict.{kept_under}
@@ -36,6 +38,11 @@ vendor_span_has n s = nat_eq s.0 n.vid && span_has s.1 n.pid
 -- there is a number between the two spans, or they are of two vendors
 abbrev pub AreApart : ℕ × Span → ℕ × Span → Type 0
 AreApart a b = (a.0 ≢ b.0) ⊎ ((a.1.last + 1 < b.1.first) ⊎ (b.1.last + 1 < a.1.first))
+
+-- a founding's curators and fixed numbers are such
+pub record IsFounding (founding : Founding) : Type 0 where
+  pub curators : IsCurators founding.curators
+  pub fixed : IsSpread 1 founding.fixed
 
 -- what is found under each key is what the history says, and no key has two rows
 module _ (h : History) where
@@ -76,6 +83,7 @@ meta_of h = record { version = newest; vendor = h.founding.vendor; name = h.foun
 
 -- all tables but the kept replies have the rows of the history
 pub record AreRecords (h : History) (t : Tables) : Type 0 where
+  pub founding : IsFounding h.founding
   pub metas : t.metas ≡ meta_of h ∷ []
   pub curators : AreCurators h t.curators
   pub licences : AreLicences h t.licences

@@ -12,11 +12,13 @@ ghost use Rattle.registry_tables.specs.Changed.{applied, IsPut};
 ghost use Rattle.registry_tables.specs.Rows.{newest, HoldsRows, HoldsUnkept};
 
 use crate::TableFault;
-use registry_rows::{put_entry, put_licence, put_org, put_petition, put_vendor};
+use registry_rows::{
+    put_entry, put_licence, put_org, put_petition, put_vendor, set_card, set_held,
+};
 use registry_rules::Change;
 use sqlite::{Alter, Transaction};
 
-// Makes one change. For those that put no whole record it gives up as yet.
+// Makes one change. For those of reserved spans it gives up as yet.
 fn make<S: Alter>(tx: &mut Transaction<'_, S>, change: &Change) -> Result<(), TableFault>
     ensures same_reference { tx.new.conn.ghost_name ≡ tx.old.conn.ghost_name }
     ensures made { HasCleanDisk (state S.Store tx.new.conn.now) → IsTrue (state S.Store tx.old.conn.now).in_transaction
@@ -30,6 +32,8 @@ fn make<S: Alter>(tx: &mut Transaction<'_, S>, change: &Change) -> Result<(), Ta
         Change::PutOrg(org) => put_org(tx, org),
         Change::PutPetition { id, petition } => put_petition(tx, *id, petition),
         Change::PutEntry { number, entry } => put_entry(tx, *number, entry),
+        Change::SetHeld { number, held } => set_held(tx, *number, *held),
+        Change::SetCard { number, card } => set_card(tx, *number, card),
         Change::PutVendor { vid, name } => put_vendor(tx, *vid, name),
         Change::PutLicence(name) => put_licence(tx, name),
         _ => Err(TableFault::NoMemory),

@@ -3,7 +3,7 @@
 ghost use Rattle.std.specs.Prelude.{◌≡◌, ◌≢◌, IsTrue, OnOk, Err};
 ghost use Rattle.sqlite.specs.State.{HasCleanDisk, Survives};
 ghost use Rattle.sqlite.specs.Held.{state};
-ghost use Rattle.usbnum_core.specs.Spans.{IsSpread};
+ghost use Rattle.registry_tables.specs.Rows.{IsFounding};
 ghost use Rattle.registry_tables.specs.Changed.{names_put, spans_put};
 ghost use Rattle.registry_tables.specs.Calls.{PutsIn, with_founding};
 
@@ -69,7 +69,7 @@ pub fn write_founding<S: Alter>(
     ensures same_reference { tx.new.conn.ghost_name ≡ tx.old.conn.ghost_name }
     ensures written { HasCleanDisk (state S.Store tx.new.conn.now) → IsTrue (state S.Store tx.old.conn.now).in_transaction
         → OnOk result (PutsIn (state S.Store tx.old.conn.now) (state S.Store tx.new.conn.now) (with_founding founding.now)) }
-    ensures spread { OnOk result (IsSpread 1 founding.now.fixed) }
+    ensures valid { OnOk result (IsFounding founding.now) }
     ensures kind { result ≢ Err TableFault.Foreign }
     ensures survives { Survives (state S.Store tx.old.conn.now) (state S.Store tx.new.conn.now) (λ _. ⊥) }
 {

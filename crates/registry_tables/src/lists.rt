@@ -13,7 +13,7 @@ use std::alloc::Global;
 use usbnum_core::Number;
 
 /// All organisations, by slug. Nothing is written.
-pub fn list_orgs<S: Alter>(_alloc: Global, conn: &mut Connection<S>) -> Result<Vec<Org>, TableFault>
+pub fn list_orgs<S: Alter>(alloc: Global, conn: &mut Connection<S>) -> Result<Vec<Org>, TableFault>
     requires { conn.old.in_transaction ≡ false }
     ensures idle { conn.new.in_transaction ≡ false }
     ensures answer { HasCleanDisk (state S.Store conn.new) → IfOk result (λ list. Lists (state S.Store conn.old) (state S.Store conn.new) IsOrgList list.items) }
@@ -21,14 +21,16 @@ pub fn list_orgs<S: Alter>(_alloc: Global, conn: &mut Connection<S>) -> Result<V
     ensures foreign { HasCleanDisk (state S.Store conn.new) → IsForeign (state S.Store conn.old) (state S.Store conn.new) result }
     ensures survives { Survives (state S.Store conn.old) (state S.Store conn.new) (λ _. ⊥) }
 {
-    let tx = conn.transaction();
+    let _schema = conn.schema();
+    let mut tx = conn.transaction();
+    let orgs = registry_rows::list_orgs(alloc, &mut tx);
     tx.rollback();
-    Err(TableFault::NoMemory)
+    orgs
 }
 
 /// All petitions, by number. Nothing is written.
 pub fn list_petitions<S: Alter>(
-    _alloc: Global,
+    alloc: Global,
     conn: &mut Connection<S>,
 ) -> Result<Vec<(u32, Petition)>, TableFault>
     requires { conn.old.in_transaction ≡ false }
@@ -38,14 +40,16 @@ pub fn list_petitions<S: Alter>(
     ensures foreign { HasCleanDisk (state S.Store conn.new) → IsForeign (state S.Store conn.old) (state S.Store conn.new) result }
     ensures survives { Survives (state S.Store conn.old) (state S.Store conn.new) (λ _. ⊥) }
 {
-    let tx = conn.transaction();
+    let _schema = conn.schema();
+    let mut tx = conn.transaction();
+    let petitions = registry_rows::list_petitions(alloc, &mut tx);
     tx.rollback();
-    Err(TableFault::NoMemory)
+    petitions
 }
 
 /// All numbers that have an owner, by vendor and then by product. Nothing is written.
 pub fn list_numbers<S: Alter>(
-    _alloc: Global,
+    alloc: Global,
     conn: &mut Connection<S>,
 ) -> Result<Vec<(Number, Entry)>, TableFault>
     requires { conn.old.in_transaction ≡ false }
@@ -55,7 +59,9 @@ pub fn list_numbers<S: Alter>(
     ensures foreign { HasCleanDisk (state S.Store conn.new) → IsForeign (state S.Store conn.old) (state S.Store conn.new) result }
     ensures survives { Survives (state S.Store conn.old) (state S.Store conn.new) (λ _. ⊥) }
 {
-    let tx = conn.transaction();
+    let _schema = conn.schema();
+    let mut tx = conn.transaction();
+    let numbers = registry_rows::list_entries(alloc, &mut tx);
     tx.rollback();
-    Err(TableFault::NoMemory)
+    numbers
 }

@@ -45,7 +45,7 @@ ids_query tree terms = record {
 }
 
 module _ {X : Type 0} (IsValid : X → Type 0) (key : X → ℤ) (row : X → Row) (keyed : (x : X) → rowid (row x) ≡ Int (key x)) where
-  in_any_order : (ids later : List ℤ) → IsPermutation ids later → (xs : List X) → fold (without_key key) xs ids ≡ fold (without_key key) xs later
+  pub in_any_order : (ids later : List ℤ) → IsPermutation ids later → (xs : List X) → fold (without_key key) xs ids ≡ fold (without_key key) xs later
   in_any_order = along_permutation (λ a b. (xs : List X) → fold (without_key key) xs a ≡ fold (without_key key) xs b) (λ ids xs. refl)
       (λ id a b h xs. h (without_key key xs id)) (λ i j ids xs. ap (λ l. fold (without_key key) l ids) (filter_swap _ _ xs)) (λ a b c p q xs. p xs ∙ q xs)
 

@@ -5,6 +5,7 @@ pub mod KeyedLemmas
 pub mod NumberedLemmas
 pub mod ReadLemmas
 pub mod DeleteLemmas
+pub mod UpdateLemmas
 pub mod UnnumberedLemmas
 pub mod SortedLemmas
 pub mod LastLemmas

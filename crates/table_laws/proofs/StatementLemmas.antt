@@ -1,14 +1,14 @@
 -- From the text of a statement to what it does to the values of its table.
-use Rattle.std.proofs.Common.{◌≡◌, ℕ, ℤ, ◌/◌, length, pos, negsuc, Bool, false, List, [], ◌∷◌, ◌++◌, slice_get, Some, None, Ok, sym, ap, subst, ◌∙◌}
+use Rattle.std.proofs.Common.{◌≡◌, ℕ, ℤ, ◌/◌, length, pos, negsuc, Bool, false, List, [], ◌∷◌, ◌++◌, map, drop, slice_get, Some, None, Ok, sym, ap, subst, ◌∙◌}
 use Rattle.std.specs.List.{list_any, list_all}
 use Rattle.sqlite.specs.declared.types.Value.TheVariants.{Null, Int}
 use Rattle.sqlite.specs.Order.{Row}
 use Rattle.sqlite.specs.Tree.{Trees, rowid}
-use Rattle.sqlite.specs.Term.{Term, lit, holds}
+use Rattle.sqlite.specs.Term.{Term, lit, holds, eval_all}
 use Rattle.sqlite.specs.Schema.{Schema}
 use Rattle.sqlite.specs.Table.{Table}
 use Rattle.sqlite.specs.Source.TheVariants.{Values}
-use Rattle.sqlite.specs.Command.TheVariants.{InsertOr, Select, Delete}
+use Rattle.sqlite.specs.Command.TheVariants.{InsertOr, Update, Select, Delete}
 use Rattle.sqlite.specs.Query.{Query, inner, end, IsAnswer}
 use Rattle.sqlite.specs.Program.{overlay}
 use Rattle.sqlite.specs.Cast.{cast_row}
@@ -24,20 +24,26 @@ use Rattle.sqlite_schema.specs.declared.schema.Column.{Column}
 use Rattle.sqlite_rules.specs.Calls.{ids_of}
 use Rattle.sqlite_rules.specs.Keys.{AreConflicts, shares}
 use Rattle.sqlite_value.specs.declared.keys.Key.{Key}
-use Rattle.sqlite_keyed.specs.Lists.{delete_where}
+use Rattle.sqlite_keyed.specs.Lists.{update_where, delete_where}
 use Rattle.sqlite_keyed.specs.Keyed.{insert_by}
 use Rattle.table_laws.specs.Shape.{numbered_table, keyed_table}
 use Rattle.table_laws.specs.Stored.{Stores, StoresUnnumbered}
 use Rattle.table_laws.proofs.SetLemmas.{IsUntied, Sets}
-use Rattle.table_laws.proofs.WriteLemmas.{replaces, deletes}
+use Rattle.table_laws.proofs.WriteLemmas.{replaces, updates, deletes}
 use Rattle.table_laws.proofs.NumberedLemmas.{replaces_numbered}
 use Rattle.table_laws.proofs.UnnumberedLemmas.{numbered_row, replaces_unnumbered, deletes_unnumbered}
 use Rattle.table_laws.proofs.DeleteLemmas.{ids_query}
+use Rattle.table_laws.proofs.UpdateLemmas.{update_query, updates_unnumbered}
 use Rattle.table_laws.proofs.InsideLemmas.{query_keeps}
 
 -- under the schema the text is one INSERT OR REPLACE of these terms into the table at this place
 pub record IsPut (schema : Schema) (at : ℕ) (sql : List ℕ) (terms : List Term) (width : ℕ) : Type 0 where
   pub is : command_of (understood schema sql) ≡ InsertOr at Replace (Values terms width) []
+  pub plain : IsPlain (understood schema sql)
+
+-- under the schema the text is one UPDATE of the table at this place: these terms in place of each row WHERE the others
+pub record IsUpdate (schema : Schema) (at tree : ℕ) (sql : List ℕ) (terms news : List Term) : Type 0 where
+  pub is : command_of (understood schema sql) ≡ Update at (record { lets = []; body = update_query tree terms news })
   pub plain : IsPlain (understood schema sql)
 
 -- under the schema the text is one DELETE from the table at this place WHERE these terms
@@ -133,3 +139,17 @@ module _ (schema : Schema) (untied : IsUntied schema) (at tree : ℕ) (name : Li
         let held = subst (λ rows. StoresUnnumbered IsValid row rows xs) (sym same) stored in
         let left = deletes_unnumbered IsValid row (overlay old.now.trees []) tree xs held terms params p tests done.0 (done.1.answer Null) in
         (without_all (old.now.trees tree) (ids_of done.0), done.2, subst (λ rows. StoresUnnumbered IsValid row (without_all rows (ids_of done.0)) (delete_where p xs)) same left)
+
+    pub changes_unnumbered : ((db : Trees) → overlay db [] tree ≡ db tree) → (sql : List ℕ) (terms news : List Term) → IsUpdate schema at tree sql terms news → (params : Row) (p : X → Bool) (f : X → X)
+        → ((id : ℤ) (x : X) → list_all (holds (params ∷ (Int id ∷ row x) ∷ [])) terms ≡ p x)
+        → ((id : ℤ) (x : X) → eval_all news (params ∷ (Int id ∷ row x) ∷ []) ≡ Int id ∷ row (f x)) → ((id : ℤ) (x : X) → cast_row keyed_by (Int id ∷ row x) ≡ Int id ∷ row x) → ((x : X) → IsValid x → IsValid (f x))
+        → (old new : State) → old.now.schema ≡ schema → (xs : List X) → StoresUnnumbered IsValid row (old.now.trees tree) xs → (count : ℕ) → Executes sql params old new (Ok count)
+        → (rows : List Row) × Sets schema tree old.now new.now rows × StoresUnnumbered IsValid row rows (update_where p f xs)
+    changes_unnumbered same_tree sql terms news text params p f tests sets casts valid old new has xs stored count h =
+        let w = runs_as sql params old new schema has _ text.is text.plain count h in
+        let done = updates schema untied at tree name columns None primary (primary ∷ []) is old new has _ params count _ w in
+        let same = same_tree old.now.trees in
+        let held = subst (λ rows. StoresUnnumbered IsValid row rows xs) (sym same) stored in
+        let set = updates_unnumbered IsValid row (overlay old.now.trees []) tree xs held keyed_by terms news params p f tests sets casts valid done.0 (done.1.answer Null) in
+        let after = λ (rows : List Row). put_all (without_all rows (ids_of done.0)) (map (λ s. cast_row keyed_by (drop 1 s)) done.0) in
+        (after (old.now.trees tree), done.2, subst (λ rows. StoresUnnumbered IsValid row (after rows) (update_where p f xs)) same set)

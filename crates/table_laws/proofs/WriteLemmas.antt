@@ -1,15 +1,15 @@
--- What INSERT OR REPLACE of one row and DELETE do to the rows of a table, whatever its columns are.
-use Rattle.std.proofs.Common.{◌≡◌, ◌≢◌, inl, inr, ℕ, ℤ, ◌/◌, length, append-nil, List, [], ◌∷◌, slice_get, Option, Some, None, Ok, sym, ap, subst, ◌∙◌}
+-- What INSERT OR REPLACE of one row, UPDATE and DELETE do to the rows of a table, whatever its columns are.
+use Rattle.std.proofs.Common.{◌≡◌, ◌≢◌, inl, inr, ℕ, ℤ, ◌/◌, length, append-nil, List, [], ◌∷◌, map, drop, slice_get, Option, Some, None, Ok, refl, sym, ap, subst, ◌∙◌}
 use Rattle.std.specs.List.{AllByRecursion}
 use Rattle.sqlite.specs.Order.{Row}
-use Rattle.sqlite.specs.Tree.{Trees}
+use Rattle.sqlite.specs.Tree.{Trees, put_row}
 use Rattle.sqlite.specs.Term.{Term}
 use Rattle.sqlite.specs.Table.{Table}
 use Rattle.sqlite.specs.Schema.{Schema}
 use Rattle.sqlite.specs.Source.TheVariants.{Values}
 use Rattle.sqlite.specs.Command.{Command}
-use Rattle.sqlite.specs.Command.TheVariants.{InsertOr, Delete}
-use Rattle.sqlite.specs.Edit.{taken_by, Edit, with_rowid, edit_of, put_all, without_all, Applies}
+use Rattle.sqlite.specs.Command.TheVariants.{InsertOr, Update, Delete}
+use Rattle.sqlite.specs.Edit.{taken_by, Edit, with_rowid, numbered, edit_of, put_all, without_all, Applies}
 use Rattle.sqlite.specs.Cast.{cast_row}
 use Rattle.sqlite.specs.Rowids.TheVariants.{Chosen, Given}
 use Rattle.sqlite.specs.Effect.{Database, Answers, value_rows}
@@ -153,6 +153,34 @@ module _ (schema : Schema) (untied : IsUntied schema) (at tree : ℕ) (name : Li
             same_schema = same;
             sound = stays_sound command w same;
             rows_are = ap (λ (t : Trees). t tree) now ∙ all.rows;
+            others = subst (Others db) (sym now) all.tables;
+          },
+        )
+
+    given_rows : (rows sources : List Row) → numbered Given rows sources ≡ sources
+    given_rows rows [] = refl
+    given_rows rows (r ∷ rs) = ap (λ l. r ∷ l) (given_rows (put_row r rows) rs)
+
+    -- UPDATE takes out the rows that its query finds, and puts in what the query has after their rowids
+    pub updates : (q : Program) → Writes old new None (Update at q) text params count
+        → (found : List Row) × Answers (record { schema = schema; trees = old.now.trees }) q params found
+        × Sets schema tree old.now new.now (put_all (without_all (old.now.trees tree) (ids_of found)) (map (λ s. cast_row table (drop 1 s)) found))
+    updates q w =
+        let command = Update at q in
+        let db = old.now.trees in
+        let put = subst (λ s. Does old.step_limit (mode_of old) params (record old.now { schema = s }) text None command (Ok (w.tally, new.now))) has w.changed in
+        let ran = ran_on_rows command w.tally (rw is at put) in
+        let found = went ran.1 in
+        let set = went found.2 in
+        let all = edits schema untied (mode_of old).keys db set.0 (edit_of db table (ids_of found.0) Given 1 found.0) set.1 in
+        let now : new.now.trees ≡ set.0 = ap (λ (d : Database). d.trees) ran.2 ∙ ap (λ (it : Written). it.trees) (same_ok set.2) in
+        let same : new.now.schema ≡ schema = ap (λ (d : Database). d.schema) ran.2 in (
+          found.0,
+          found.1,
+          record {
+            same_schema = same;
+            sound = stays_sound command w same;
+            rows_are = ap (λ (t : Trees). t tree) now ∙ all.rows ∙ ap (put_all (without_all (db tree) (ids_of found.0))) (given_rows _ (map (λ s. cast_row table (drop 1 s)) found.0));
             others = subst (Others db) (sym now) all.tables;
           },
         )

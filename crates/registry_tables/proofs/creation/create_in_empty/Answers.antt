@@ -27,7 +27,7 @@ returns-in-Ok-clause-made g c clean =
     let blank = blank_of (state g.S.Store old).now is (c.schema-schema.ensures.live was).0 in
     let made = one.1 (rw begun blank) in
     let two = c.in_ok-write_founding.ensures.written fine one.0.mode in
-    (was, no_meta (state g.S.Store old).now is, founding_rows (state g.S.Store last).now f c.in_ok-write_founding.ensures.spread (two.1 no_rows (blank_holds (state g.S.Store mid).now made))) in
+    (was, no_meta (state g.S.Store old).now is, founding_rows (state g.S.Store last).now f c.in_ok-write_founding.ensures.valid (two.1 no_rows (blank_holds (state g.S.Store mid).now made))) in
     let end = c.commit.new.self.0 in
     let same : end ≡ c.conn-2-1.given.0 = search rules in
     let late : HasCleanDisk (state g.S.Store end) = search rules in
@@ -52,7 +52,7 @@ returns-in-Ok-clause-survives g c =
     let blank = blank_of (state g.S.Store old).now is (c.schema-schema.ensures.live was).0 in
     let made = one.1 (rw begun blank) in
     let two = c.in_ok-write_founding.ensures.written fine one.0.mode in
-    (was, no_meta (state g.S.Store old).now is, founding_rows (state g.S.Store last).now f c.in_ok-write_founding.ensures.spread (two.1 no_rows (blank_holds (state g.S.Store mid).now made))) in
+    (was, no_meta (state g.S.Store old).now is, founding_rows (state g.S.Store last).now f c.in_ok-write_founding.ensures.valid (two.1 no_rows (blank_holds (state g.S.Store mid).now made))) in
     let end = c.commit.new.self.0 in
     let same : end ≡ c.conn-2-1.given.0 = search rules in
     let inside = survives_then (state g.S.Store c.transaction-tx.result.conn.now) (state g.S.Store mid) (state g.S.Store last) _ _ (λ _. ⊥) (λ _ db none. none) (λ _ db none. none)
@@ -77,7 +77,7 @@ returns-in-Err-clause-survives g c =
     let blank = blank_of (state g.S.Store old).now is (c.schema-schema.ensures.live was).0 in
     let made = one.1 (rw begun blank) in
     let two = c.in_ok-write_founding.ensures.written fine one.0.mode in
-    (was, no_meta (state g.S.Store old).now is, founding_rows (state g.S.Store last).now f c.in_ok-write_founding.ensures.spread (two.1 no_rows (blank_holds (state g.S.Store mid).now made))) in
+    (was, no_meta (state g.S.Store old).now is, founding_rows (state g.S.Store last).now f c.in_ok-write_founding.ensures.valid (two.1 no_rows (blank_holds (state g.S.Store mid).now made))) in
     let end = c.commit.new.self.0 in
     let same : end ≡ c.conn-2-1.given.0 = search rules in
     let inside = survives_then (state g.S.Store c.transaction-tx.result.conn.now) (state g.S.Store mid) (state g.S.Store last) _ _ (λ _. ⊥) (λ _ db none. none) (λ _ db none. none)
