@@ -4,6 +4,7 @@ ghost use Rattle.std.specs.Prelude.{◌≡◌, false};
 
 use crate::attempt::attempt;
 use crate::fault::{Fault, fault_of};
+use registry_rules::laws::is_legal_from_start;
 use registry_rules::{Founding, Reply, Request, Totals};
 use registry_tables::{create, has_meta, totals};
 use sqlite::{Alter, Connection};
@@ -71,6 +72,7 @@ impl<S: Alter> Registry<S> {
         if has_meta(&conn) {
             return Err((Fault::Taken, conn));
         }
+        is_legal_from_start(founding);
         let totals = match Totals::founded(alloc, founding) {
             Ok(totals) => totals,
             Err(NoMemory) => return Err((Fault::NoMemory, conn)),
