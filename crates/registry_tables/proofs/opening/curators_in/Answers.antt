@@ -1,4 +1,4 @@
-use Rattle.std.proofs.Common.{◌≡◌, ℕ, List, Err, sym, ap, subst, ◌∙◌, rules}
+use Rattle.std.proofs.Common.{◌≡◌, ℕ, List, Err, sym, subst, rules}
 use Rattle.sqlite.specs.Held.{state}
 use Rattle.sqlite_keyed.specs.Lists.{sort_by}
 use Rattle.registry_rules.specs.History.{History}

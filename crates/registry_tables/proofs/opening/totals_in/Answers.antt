@@ -1,4 +1,4 @@
-use Rattle.std.proofs.Common.{◌≡◌, ℕ, List, Err, sym, ap, subst, ◌∙◌, arith, rules, Global}
+use Rattle.std.proofs.Common.{◌≡◌, ℕ, Err, sym, subst, arith, rules, Global}
 use Rattle.std.specs.List.{list_any}
 use Rattle.std.specs.declared.vec.Vec.{Vec}
 use Rattle.sqlite.specs.State.{HasCleanDisk}

@@ -1,10 +1,7 @@
-use Rattle.std.proofs.Common.{◌≡◌, ℕ, List, Err, sym, ap, subst, ◌∙◌, rules}
+use Rattle.std.proofs.Common.{◌≡◌, Err, sym, subst, ◌∙◌, rules}
 use Rattle.sqlite.specs.Held.{state}
-use Rattle.sqlite_keyed.specs.Lists.{sort_by}
-use Rattle.registry_rules.specs.History.{History}
-use Rattle.registry_rows.specs.Rows.{by_bytes}
 use Rattle.registry_tables.specs.Calls.{Tells}
-use Rattle.registry_tables.proofs.CallLemmas.{passes, refuses, fails}
+use Rattle.registry_tables.proofs.CallLemmas.{passes, fails}
 use Rattle.registry_rules.specs.FactsOf.{AreVendorsOf}
 use Rattle.registry_tables.proofs.OpeningLemmas.{vendors_are}
 use Rattle.registry_tables.proofs.opening.vendors_in.Goals as goal
