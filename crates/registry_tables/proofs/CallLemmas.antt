@@ -26,26 +26,34 @@ stays_keeps old new (inr undone) = record { was_open = undone.was_open; committe
 
 -- ---- from the tables to a history
 
-module _ (old new : State) {A B : Type 0} (Says : Tables → A → Type 0) (Is : History → B → Type 0) where
+-- what was read says this of the tables, which stay
+abbrev pub Read : State → State → (Tables → Type 0) → Type 0
+Read old new Says = GoesOn old new × ((t : Tables) → Holds old.now t → IsUnchanged old new × Says t)
+
+module _ (old new : State) {B : Type 0} (Is : History → B → Type 0) where
   -- of an answer of the tables that of a history is made
-  pub passes : (a : A) (b : B) → ((h : History) (t : Tables) → Legal h → Holds old.now t → AreRecords h t → Says t a → Is h b) → Answers old new (Ok a) Says → Tells old new (Ok b) Is
+  pub passes : (Says : Tables → Type 0) (b : B) → ((h : History) (t : Tables) → Legal h → Holds old.now t → AreRecords h t → Says t → Is h b) → Read old new Says → Tells old new (Ok b) Is
   unfolding HoldsRows
-  passes a b means read = (read.0, λ h legal rows. (let it = read.1 rows.1 rows.2 in (it.0, means h rows.1 legal rows.2 rows.3 it.1)))
+  passes Says b means read = (read.0, λ h legal rows. (let it = read.1 rows.1 rows.2 in (it.0, means h rows.1 legal rows.2 rows.3 it.1)))
 
   -- or it is that of none
-  pub refuses : (a : A) → ((h : History) (t : Tables) → Legal h → Holds old.now t → AreRecords h t → ¬ Says t a) → Answers old new (Ok a) Says → Tells old new (Err Foreign) Is
+  pub refuses : (Says : Tables → Type 0) → ((h : History) (t : Tables) → Legal h → Holds old.now t → AreRecords h t → ¬ Says t) → Read old new Says → Tells old new (Err Foreign) Is
   unfolding HoldsRows
-  refuses a never read = (λ _. (read.0.was_open, λ h legal rows. never h rows.1 legal rows.2 rows.3 (read.1 rows.1 rows.2).1), goes_keeps old new read.0)
+  refuses Says never read = (λ _. (read.0.was_open, λ h legal rows. never h rows.1 legal rows.2 rows.3 (read.1 rows.1 rows.2).1), goes_keeps old new read.0)
 
-  pub fails : (e : TableFault) → Answers old new (Err e) Says → Tells old new (Err e) Is
+  pub fails : (e : TableFault) → (e ≡ Foreign → GoesOn old new × ((t : Tables) → ¬ Holds old.now t)) × StaysInside old new → Tells old new (Err e) Is
   unfolding HoldsRows
   fails e read = (λ foreign. (let none = read.0 foreign in (none.0.was_open, λ h legal rows. none.1 rows.1 rows.2)), stays_keeps old new read.1)
+
+-- a fault of another kind says nothing of histories
+pub short : {B : Type 0} (old new : State) (Is : History → B → Type 0) (e : TableFault) → (e ≡ Foreign → ⊥) → GoesOn old new → Tells old new (Err e) Is
+short old new Is e never goes = (λ foreign. absurd (never foreign), goes_keeps old new goes)
 
 -- what the tables say is what a history says
 pub answers_tell : {A : Type 0} (old new : State) (result : Result A TableFault) (Says : Tables → A → Type 0) (Is : History → A → Type 0)
     → ((h : History) (t : Tables) → Legal h → Holds old.now t → AreRecords h t → (a : A) → Says t a → Is h a) → Answers old new result Says → Tells old new result Is
-answers_tell old new (Ok a) Says Is means read = passes old new Says Is a a (λ h t legal has had says. means h t legal has had a says) read
-answers_tell old new (Err e) Says Is means read = fails old new Says Is e read
+answers_tell old new (Ok a) Says Is means read = passes old new Is (λ t. Says t a) a (λ h t legal has had says. means h t legal has had a says) read
+answers_tell old new (Err e) Says Is means read = fails old new Is e read
 
 -- ---- one call after another
 
@@ -69,16 +77,9 @@ module _ (old mid new : State) (First : History → Type 0) (before : Told old m
     record { was_open = λ is_open. before.0.was_open; committed = λ is_open. after.1.committed is_open ∙ before.0.committed_is },
   )
 
-pub told_of : {B : Type 0} (old new : State) (b : B) (Is : History → B → Type 0) → Tells old new (Ok b) Is → Told old new (λ h. Is h b)
-told_of old new b Is told = told
-
 -- what was told makes an answer
 pub told_makes : {B : Type 0} (old new : State) (Is : History → Type 0) (Also : History → B → Type 0) (b : B) → ((h : History) → Legal h → Is h → Also h b) → Told old new Is → Tells old new (Ok b) Also
 told_makes old new Is Also b makes told = (told.0, λ h legal rows. (let it = told.1 h legal rows in (it.0, makes h legal it.1)))
-
--- and want of memory none
-pub told_fails : {B : Type 0} (old new : State) (Is : History → Type 0) (Also : History → B → Type 0) (e : TableFault) → (e ≡ Foreign → ⊥) → Told old new Is → Tells old new (Err e) Also
-told_fails old new Is Also e never told = (λ foreign. absurd (never foreign), goes_keeps old new told.0)
 
 -- ---- the transaction
 

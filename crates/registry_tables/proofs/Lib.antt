@@ -13,3 +13,4 @@ pub mod SortLemmas
 pub mod AscendLemmas
 pub mod CallLemmas
 pub mod ListLemmas
+pub mod OpeningLemmas

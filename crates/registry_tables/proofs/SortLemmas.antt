@@ -1,5 +1,5 @@
 -- A sort of values of which no two have one key.
-use Rattle.std.proofs.Common.{◌≡◌, ℕ, zero, suc, ◌+◌, ◌<◌, ℤ, pos, ◌<ℤ◌, Bool, true, false, cond, ◌||◌, List, [], ◌∷◌, map, find, length, slice_index, Option, Some, refl, sym, ap, ◌∙◌, Ordering, Less, Equal, Greater, is_gt, is_eq, arith}
+use Rattle.std.proofs.Common.{◌≡◌, ℕ, zero, suc, ◌+◌, pos, ◌<ℤ◌, Bool, true, false, cond, ◌||◌, List, [], ◌∷◌, map, find, Option, Some, refl, sym, ap, ◌∙◌, Ordering, Less, Equal, Greater, is_gt, is_eq, arith}
 use Rattle.std.specs.Ordering.{ordering_reverse}
 use Rattle.std.specs.List.{AllByRecursion, list_any}
 use Rattle.std.specs.List.Sorted.{IsStrictlySortedBy, IsStrictlyIncreasing}

@@ -1,5 +1,6 @@
 -- The lists of all that a history has of one kind, ascending.
-use Rattle.std.specs.Prelude.{◌≡◌, ℕ, List, map, find, nat_eq}
+use Rattle.std.specs.Prelude.{◌≡◌, ℕ, List, length, map, find, nat_eq}
+use Rattle.std.specs.List.{list_any}
 use Rattle.std.specs.Option.{option_map}
 use Rattle.std.specs.List.Sorted.{IsStrictlySortedBy, IsStrictlyIncreasing}
 use Rattle.std.specs.Str.{bytes_eq}
@@ -7,7 +8,7 @@ use Rattle.usbnum_core.specs.declared.number.Number.{Number}
 use Rattle.registry_rules.specs.Number.{is_number}
 use Rattle.registry_rules.specs.Texts.{IsAscending}
 use Rattle.registry_rules.specs.History.{History}
-use Rattle.registry_rules.specs.Query.{org_of, petition_of}
+use Rattle.registry_rules.specs.Query.{org_of, petition_of, licences, is_licence}
 use Rattle.registry_rules.specs.Rows.{entry_of}
 use Rattle.registry_rules.specs.declared.record.Org.{Org}
 use Rattle.registry_rules.specs.declared.record.Entry.{Entry}
@@ -28,3 +29,8 @@ pub record IsPetitionList (h : History) (petitions : List (ℕ × Petition)) : T
 pub record IsNumberList (h : History) (numbers : List (Number × Entry)) : Type 0 where
   pub ascend : IsStrictlySortedBy by_number numbers
   pub each : (n : Number) → find (λ pair. is_number n pair.0) numbers ≡ option_map (λ entry. (n, entry)) (entry_of h n)
+
+-- the licences that are allowed, each once
+pub record AreAllowed (h : History) (names : List (List ℕ)) : Type 0 where
+  pub each : (name : List ℕ) → list_any (bytes_eq name) names ≡ is_licence h name
+  pub count : length names ≡ length (licences h)

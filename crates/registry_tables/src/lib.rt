@@ -16,3 +16,5 @@ mod founding;
 mod kept;
 mod lists;
 mod opening;
+#[cfg(test)]
+mod tests;

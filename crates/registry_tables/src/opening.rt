@@ -1,18 +1,145 @@
 //! What is kept in memory of a history.
 
-ghost use Rattle.std.specs.Prelude.{◌≡◌, false, IfOk};
+ghost use Rattle.std.specs.Prelude.{◌≡◌, ◌≢◌, false, IsTrue, IfOk, Err};
 ghost use Rattle.sqlite.specs.State.{HasCleanDisk, Survives};
 ghost use Rattle.sqlite.specs.Held.{state};
+ghost use Rattle.usbnum_core.specs.Spans.{IsSpread};
+ghost use Rattle.registry_rules.specs.FactsOf.{IsFoundingOf, AreVendorsOf};
 ghost use Rattle.registry_rules.specs.TotalsOf.{AreTotalsOf};
-ghost use Rattle.registry_tables.specs.Calls.{Lists, KeepsAll, IsForeign};
+ghost use Rattle.registry_tables.specs.Rows.{meta_of};
+ghost use Rattle.registry_tables.specs.Lists.{AreAllowed};
+ghost use Rattle.registry_tables.specs.Calls.{Lists, KeepsAll, IsForeign, Tells};
 
 use crate::TableFault;
-use registry_rules::Totals;
-use sqlite::{Alter, Connection};
+use registry_rows::{
+    Meta, list_curators, list_entries, list_fixed, list_licences, list_metas, list_orgs,
+    list_petitions, list_spans, list_vendors,
+};
+use registry_rules::{Curators, Founding, Licences, Totals, Vendors};
+use sqlite::{Alter, Connection, Transaction};
 use std::alloc::Global;
+use usbnum_core::{Span, Spans};
+
+// What the store is.
+fn meta_in<S: Alter>(alloc: Global, tx: &mut Transaction<'_, S>) -> Result<Meta, TableFault>
+    ensures same_reference { tx.new.conn.ghost_name ≡ tx.old.conn.ghost_name }
+    ensures told { HasCleanDisk (state S.Store tx.new.conn.now) → IsTrue (state S.Store tx.old.conn.now).in_transaction
+        → Tells (state S.Store tx.old.conn.now) (state S.Store tx.new.conn.now) result (λ h meta. meta ≡ meta_of h) }
+    ensures survives { Survives (state S.Store tx.old.conn.now) (state S.Store tx.new.conn.now) (λ _. ⊥) }
+{
+    let mut metas = list_metas(alloc, tx)?;
+    match metas.pop() {
+        Some(meta) => Ok(meta),
+        None => Err(TableFault::Foreign),
+    }
+}
+
+// The curators of the founding.
+fn curators_in<S: Alter>(alloc: Global, tx: &mut Transaction<'_, S>) -> Result<Curators, TableFault>
+    ensures same_reference { tx.new.conn.ghost_name ≡ tx.old.conn.ghost_name }
+    ensures told { HasCleanDisk (state S.Store tx.new.conn.now) → IsTrue (state S.Store tx.old.conn.now).in_transaction
+        → Tells (state S.Store tx.old.conn.now) (state S.Store tx.new.conn.now) result (λ h curators. curators ≡ h.founding.curators) }
+    ensures survives { Survives (state S.Store tx.old.conn.now) (state S.Store tx.new.conn.now) (λ _. ⊥) }
+{
+    let slugs = list_curators(alloc, tx)?;
+    match Curators::new(slugs) {
+        Some(curators) => Ok(curators),
+        None => Err(TableFault::Foreign),
+    }
+}
+
+// The licences that are allowed.
+fn licences_in<S: Alter>(alloc: Global, tx: &mut Transaction<'_, S>) -> Result<Licences, TableFault>
+    ensures same_reference { tx.new.conn.ghost_name ≡ tx.old.conn.ghost_name }
+    ensures told { HasCleanDisk (state S.Store tx.new.conn.now) → IsTrue (state S.Store tx.old.conn.now).in_transaction
+        → Tells (state S.Store tx.old.conn.now) (state S.Store tx.new.conn.now) result (AreAllowed) }
+    ensures survives { Survives (state S.Store tx.old.conn.now) (state S.Store tx.new.conn.now) (λ _. ⊥) }
+{
+    let titles = list_licences(alloc, tx)?;
+    match Licences::new(titles) {
+        Some(licences) => Ok(licences),
+        None => Err(TableFault::Foreign),
+    }
+}
+
+fn spans_of(alloc: Global, parts: &[Span]) -> Result<Spans, TableFault>
+    ensures same { IsSpread 1 parts.now → IfOk result (λ set. set ≡ parts.now) }
+    ensures kind { result ≢ Err TableFault.Foreign }
+{
+    let mut set = Spans::new(alloc);
+    for part in parts {
+        if set.add(*part).is_err() {
+            return Err(TableFault::NoMemory);
+        }
+    }
+    Ok(set)
+}
+
+// The fixed numbers of the founding.
+fn fixed_in<S: Alter>(alloc: Global, tx: &mut Transaction<'_, S>) -> Result<Spans, TableFault>
+    ensures same_reference { tx.new.conn.ghost_name ≡ tx.old.conn.ghost_name }
+    ensures told { HasCleanDisk (state S.Store tx.new.conn.now) → IsTrue (state S.Store tx.old.conn.now).in_transaction
+        → Tells (state S.Store tx.old.conn.now) (state S.Store tx.new.conn.now) result (λ h fixed. fixed ≡ h.founding.fixed) }
+    ensures survives { Survives (state S.Store tx.old.conn.now) (state S.Store tx.new.conn.now) (λ _. ⊥) }
+{
+    let parts = list_fixed(alloc, tx)?;
+    spans_of(alloc, &parts)
+}
+
+// The founding, with the licences that are allowed now.
+fn founding_in<S: Alter>(alloc: Global, tx: &mut Transaction<'_, S>) -> Result<Founding, TableFault>
+    ensures same_reference { tx.new.conn.ghost_name ≡ tx.old.conn.ghost_name }
+    ensures told { HasCleanDisk (state S.Store tx.new.conn.now) → IsTrue (state S.Store tx.old.conn.now).in_transaction
+        → Tells (state S.Store tx.old.conn.now) (state S.Store tx.new.conn.now) result (IsFoundingOf) }
+    ensures survives { Survives (state S.Store tx.old.conn.now) (state S.Store tx.new.conn.now) (λ _. ⊥) }
+{
+    let meta = meta_in(alloc, tx)?;
+    let curators = curators_in(alloc, tx)?;
+    let licences = licences_in(alloc, tx)?;
+    let fixed = fixed_in(alloc, tx)?;
+    Ok(Founding {
+        vendor: meta.vendor,
+        name: meta.name,
+        curators,
+        licences,
+        fixed,
+    })
+}
+
+// The vendors.
+fn vendors_in<S: Alter>(alloc: Global, tx: &mut Transaction<'_, S>) -> Result<Vendors, TableFault>
+    ensures same_reference { tx.new.conn.ghost_name ≡ tx.old.conn.ghost_name }
+    ensures told { HasCleanDisk (state S.Store tx.new.conn.now) → IsTrue (state S.Store tx.old.conn.now).in_transaction
+        → Tells (state S.Store tx.old.conn.now) (state S.Store tx.new.conn.now) result (AreVendorsOf) }
+    ensures survives { Survives (state S.Store tx.old.conn.now) (state S.Store tx.new.conn.now) (λ _. ⊥) }
+{
+    let vendors = list_vendors(alloc, tx)?;
+    Ok(Vendors::new(vendors))
+}
+
+// The totals, each table read once.
+fn totals_in<S: Alter>(alloc: Global, tx: &mut Transaction<'_, S>) -> Result<Totals, TableFault>
+    ensures same_reference { tx.new.conn.ghost_name ≡ tx.old.conn.ghost_name }
+    ensures told { HasCleanDisk (state S.Store tx.new.conn.now) → IsTrue (state S.Store tx.old.conn.now).in_transaction
+        → Tells (state S.Store tx.old.conn.now) (state S.Store tx.new.conn.now) result (AreTotalsOf) }
+    ensures survives { Survives (state S.Store tx.old.conn.now) (state S.Store tx.new.conn.now) (λ _. ⊥) }
+{
+    let founding = founding_in(alloc, tx)?;
+    let vendors = vendors_in(alloc, tx)?;
+    let orgs = list_orgs(alloc, tx)?;
+    let petitions = list_petitions(alloc, tx)?;
+    let entries = list_entries(alloc, tx)?;
+    let spans = list_spans(alloc, tx)?;
+    match Totals::of_lists(
+        alloc, founding, vendors, &orgs, &petitions, &entries, &spans,
+    ) {
+        Ok(totals) => Ok(totals),
+        Err(_) => Err(TableFault::NoMemory),
+    }
+}
 
 /// The totals of the history whose rows the store has. Each table is read once, and nothing is written.
-pub fn totals<S: Alter>(_alloc: Global, conn: &mut Connection<S>) -> Result<Totals, TableFault>
+pub fn totals<S: Alter>(alloc: Global, conn: &mut Connection<S>) -> Result<Totals, TableFault>
     requires { conn.old.in_transaction ≡ false }
     ensures idle { conn.new.in_transaction ≡ false }
     ensures answer { HasCleanDisk (state S.Store conn.new) → IfOk result (Lists (state S.Store conn.old) (state S.Store conn.new) AreTotalsOf) }
@@ -20,7 +147,9 @@ pub fn totals<S: Alter>(_alloc: Global, conn: &mut Connection<S>) -> Result<Tota
     ensures foreign { HasCleanDisk (state S.Store conn.new) → IsForeign (state S.Store conn.old) (state S.Store conn.new) result }
     ensures survives { Survives (state S.Store conn.old) (state S.Store conn.new) (λ _. ⊥) }
 {
-    let tx = conn.transaction();
+    let _schema = conn.schema();
+    let mut tx = conn.transaction();
+    let totals = totals_in(alloc, &mut tx);
     tx.rollback();
-    Err(TableFault::NoMemory)
+    totals
 }
