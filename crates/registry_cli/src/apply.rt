@@ -107,7 +107,14 @@ fn apply_bytes<S: Alter, W: Sink, E: Sink>(
     ensures { IsApplied registry.old registry.new (requests_in bytes.now) answered (W.contents output.old) (W.contents output.new) (E.contents errors.old) (E.contents errors.new) result }
 {
     match requests_in(alloc, bytes) {
-        Ok(Ok(requests)) => apply_requests(alloc, requests.as_slice(), answered, registry, output, errors),
+        Ok(Ok(requests)) => apply_requests(
+            alloc,
+            requests.as_slice(),
+            answered,
+            registry,
+            output,
+            errors,
+        ),
         Ok(Err(bad)) => reject_line(alloc, errors, bad),
         Err(_) => fail(errors, Failure::Memory),
     }

@@ -9,20 +9,20 @@ mod input;
 mod lines;
 mod messages;
 mod program;
-mod trial;
 #[cfg(test)]
 mod tests;
+mod trial;
 
 pub use apply::apply_lines;
 pub use command::{Command, Usage, command_of};
+use files::{run_apply, run_found, run_trial};
 pub use found::found_registry;
 pub use input::{InputFault, read_all};
 pub use lines::{BadLine, requests_in};
 pub use messages::Failure;
-pub use trial::{trial, trial_founding};
-use files::{run_apply, run_found, run_trial};
 use std::io;
 use std::process::ExitCode;
+pub use trial::{trial, trial_founding};
 
 fn main(rt: HostRuntime) -> ExitCode {
     ExitCode::from(run(&rt))

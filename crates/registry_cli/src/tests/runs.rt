@@ -9,15 +9,20 @@ use std::process::Abort;
 use std::test::Fail;
 use usbids_text::{Inlet, Outlet};
 
-const ENROL: &str = r#"{"caller":"ann","key":"k1","order":"enrol","org":"acme","title":"Acme Tools","site":"https://acme.example/"}"#;
+const ENROL: &str =
+    r#"{"caller":"ann","key":"k1","order":"enrol","org":"acme","title":"Acme Tools","site":"https://acme.example/"}"#;
 
-const ENROL_BOLT: &str = r#"{"caller":"bob","key":"b2","order":"enrol","org":"bolt","title":"Bolt","site":"https://bolt.example/"}"#;
+const ENROL_BOLT: &str =
+    r#"{"caller":"bob","key":"b2","order":"enrol","org":"bolt","title":"Bolt","site":"https://bolt.example/"}"#;
 
-const ASK: &str = r#"{"caller":"ann","key":"k2","order":"ask","org":"acme","number":"0011","title":"Blinker","licence":"MIT","site":"https://acme.example/blinker","source":"https://acme.example/src"}"#;
+const ASK: &str =
+    r#"{"caller":"ann","key":"k2","order":"ask","org":"acme","number":"0011","title":"Blinker","licence":"MIT","site":"https://acme.example/blinker","source":"https://acme.example/src"}"#;
 
-const ASK_ANY: &str = r#"{"caller":"ann","key":"k2","order":"ask","org":"acme","title":"Blinker","licence":"MIT","site":"https://acme.example/blinker","source":"https://acme.example/src"}"#;
+const ASK_ANY: &str =
+    r#"{"caller":"ann","key":"k2","order":"ask","org":"acme","title":"Blinker","licence":"MIT","site":"https://acme.example/blinker","source":"https://acme.example/src"}"#;
 
-const BOLT_ASKS: &str = r#"{"caller":"bob","key":"b1","order":"ask","org":"bolt","title":"Lamp","licence":"MIT","site":"https://bolt.example/lamp","source":"https://bolt.example/src"}"#;
+const BOLT_ASKS: &str =
+    r#"{"caller":"bob","key":"b1","order":"ask","org":"bolt","title":"Lamp","licence":"MIT","site":"https://bolt.example/lamp","source":"https://bolt.example/src"}"#;
 
 const GRANT: &str = r#"{"caller":"cora","key":"k3","order":"grant","petition":1,"number":"0011"}"#;
 
@@ -224,22 +229,46 @@ fn goes_on_from_the_first_unanswered(rt: HostRuntime) -> Result<(), Fail> {
     let none = applied(&rt, &mut registry, text.as_str(), 3);
     let first = applied(&rt, &mut registry, ENROL, 0);
     let rest = applied(&rt, &mut registry, ASK_ANY, 0);
-    let again = applied(&rt, &mut registry, joined(rt.alloc(), &[ENROL, ASK_ANY])?.as_str(), 1);
+    let again = applied(
+        &rt,
+        &mut registry,
+        joined(rt.alloc(), &[ENROL, ASK_ANY])?.as_str(),
+        1,
+    );
     drop(registry.close().into_store());
     assert_eq!(rt; exceeds.status, 2);
-    assert_eq!(rt; exceeds.errors.as_slice(), b"answered exceeds requests\n".as_slice());
+    assert_eq!(rt;
+        exceeds.errors.as_slice(),
+        b"answered exceeds requests\n".as_slice()
+    );
     assert!(rt; exceeds.output.is_empty());
-    assert_eq!(rt; (none.status, none.output.len(), none.errors.len()), (0, 0, 0));
-    assert_eq!(rt; first.output.as_slice(), joined(rt.alloc(), &[ENROLLED])?.as_bytes());
-    assert_eq!(rt; rest.output.as_slice(), joined(rt.alloc(), &[ASKED])?.as_bytes());
-    assert_eq!(rt; again.output.as_slice(), joined(rt.alloc(), &[ASKED])?.as_bytes());
+    assert_eq!(rt;
+        (none.status, none.output.len(), none.errors.len()),
+        (0, 0, 0)
+    );
+    assert_eq!(rt;
+        first.output.as_slice(),
+        joined(rt.alloc(), &[ENROLLED])?.as_bytes()
+    );
+    assert_eq!(rt;
+        rest.output.as_slice(),
+        joined(rt.alloc(), &[ASKED])?.as_bytes()
+    );
+    assert_eq!(rt;
+        again.output.as_slice(),
+        joined(rt.alloc(), &[ASKED])?.as_bytes()
+    );
     Ok(())
 }
 
 #[test]
 fn founding_files(rt: HostRuntime) -> Result<(), Fail> {
     let cases = [
-        ("=", "{\"detail\":\"toml\",\"name\":\"BadFounding\",\"refused\":32}\n", 2),
+        (
+            "=",
+            "{\"detail\":\"toml\",\"name\":\"BadFounding\",\"refused\":32}\n",
+            2,
+        ),
         (
             "vendor = \"0000\"",
             "{\"detail\":\"vendor\",\"name\":\"BadFounding\",\"refused\":32}\n",
@@ -308,7 +337,11 @@ fn an_output_that_fails(rt: HostRuntime) -> Result<(), Fail> {
         assert!(rt; whole.as_bytes().starts_with(bytes.as_slice()), "at {most}");
         assert_eq!(rt; bytes.len(), most);
         let told = if most < 50 { "fault: file\n" } else { "" };
-        assert_eq!(rt; errors.into_inner().as_slice(), told.as_bytes(), "at {most}");
+        assert_eq!(rt;
+            errors.into_inner().as_slice(),
+            told.as_bytes(),
+            "at {most}"
+        );
         assert_eq!(rt; status == 0, most == 50);
     }
     Ok(())

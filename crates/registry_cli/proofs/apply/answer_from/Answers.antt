@@ -40,7 +40,7 @@ loop-request-preserved g c =
           subst (λ (k : ℕ). HasAnswered c.answer.new.registry h rs k × Appends out last (lines_between h rs a k)) next (
             now_answered c.answer.new.registry h rs n r item.0 item.1 one.0,
             subst (λ (t : List ℕ). Appends out last t) (sym (between_more h rs a n r (omega arith) item.0 item.1))
-            (Appends-then out (g.W.Sink.contents loop.output) last _ _ so_far.1 one.1),
+                (Appends-then out (g.W.Sink.contents loop.output) last _ _ so_far.1 one.1),
           );
       endures = search rules;
     }
