@@ -1,4 +1,6 @@
+pub mod ApplyLemmas
 pub mod CommandLemmas
+pub mod EndLemmas
 pub mod NumberLemmas
 pub mod Vectors
 pub mod LineLemmas

@@ -1,18 +1,28 @@
 //! `usbreg`, a registry of shared USB product numbers.
 #![tactic(auto)]
 
+mod apply;
 mod command;
+mod files;
+mod found;
 mod input;
 mod lines;
+mod messages;
 mod program;
 #[cfg(test)]
 mod tests;
+mod trial;
 
+pub use apply::apply_lines;
 pub use command::{Command, Usage, command_of};
+use files::{run_apply, run_found, run_trial};
+pub use found::found_registry;
 pub use input::{InputFault, read_all};
 pub use lines::{BadLine, requests_in};
+pub use messages::Failure;
 use std::io;
 use std::process::ExitCode;
+pub use trial::{trial, trial_founding};
 
 fn main(rt: HostRuntime) -> ExitCode {
     ExitCode::from(run(&rt))
@@ -44,9 +54,13 @@ fn words(rt: &HostRuntime) -> io::Result<Vec<String>> {
 /// Does what the command asks for, and answers the status.
 fn perform(rt: &HostRuntime, command: Command<&str>) -> u8 {
     match command {
-        Command::Trial => not_yet(rt, "trial"),
-        Command::Found { .. } => not_yet(rt, "found"),
-        Command::Apply { .. } => not_yet(rt, "apply"),
+        Command::Trial => run_trial(rt),
+        Command::Found { store, founding } => run_found(rt, store, founding),
+        Command::Apply {
+            store,
+            file,
+            answered,
+        } => run_apply(rt, store, file, answered),
         Command::Import { .. } => not_yet(rt, "import"),
         Command::Serve { .. } => not_yet(rt, "serve"),
         Command::Export { .. } => not_yet(rt, "export"),

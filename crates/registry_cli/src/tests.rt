@@ -1,4 +1,5 @@
 //! What no clause says.
 
 mod lines;
+mod runs;
 mod words;
