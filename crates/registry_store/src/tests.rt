@@ -184,6 +184,9 @@ fn goes_on(
     stopped: Registry<FileStore<Fuse<Memory>>>,
     requests: &[Request],
 ) -> Result<bool, Fail> {
+    if requests.len() < 6 {
+        return Err(Fail::from("too few requests"));
+    }
     let opened = crash_and_open(alloc, stopped, Options::new(1)).ok_or("not opened")?;
     let mut conn = opened.close();
     let found = organisations(rt, alloc, &mut conn)?;
@@ -203,12 +206,15 @@ fn a_stop_within_the_seventh_commit_loses_no_reply(rt: HostRuntime) -> Result<()
     let alloc = rt.alloc();
     let requests = ten(alloc)?;
     let mut stops = 0;
-    for calls in 0..400 {
+    for calls in 0..200 {
         let Some(mut registry) = fused(alloc, calls)? else {
             continue;
         };
         let end = registry.run_from(&requests, 0);
-        if end.replies.len() != 6 {
+        if end.replies.len() > 6 {
+            break;
+        }
+        if end.replies.len() < 6 {
             continue;
         }
         assert_eq!(rt; end.fault, Some(Fault::Store));
@@ -222,10 +228,10 @@ fn a_stop_within_the_seventh_commit_loses_no_reply(rt: HostRuntime) -> Result<()
 }
 
 #[test]
-fn stops_at_every_call_end_as_a_run_without_stops(rt: HostRuntime) -> Result<(), Fail> {
+fn a_run_with_stops_ends_as_one_without(rt: HostRuntime) -> Result<(), Fail> {
     let alloc = rt.alloc();
     let requests = ten(alloc)?;
-    for calls in 0..400 {
+    for calls in (10..60).step_by(9) {
         let Some(registry) = fused(alloc, calls)? else {
             continue;
         };
