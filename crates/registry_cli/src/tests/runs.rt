@@ -208,12 +208,12 @@ fn applied<R: AllocGlobal>(
 
 #[test]
 fn no_number_is_free(rt: HostRuntime) -> Result<(), Fail> {
-    let mut registry = founded(&rt, ALL_FIXED);
     let text = joined(rt.alloc(), &[ENROL, ASK_ANY, GRANT_ANY])?;
     let wanted = joined(
         rt.alloc(),
         &[ENROLLED, ASKED, r#"{"name":"NoneFree","refused":12}"#],
     )?;
+    let mut registry = founded(&rt, ALL_FIXED);
     let written = applied(&rt, &mut registry, text.as_str(), 0);
     drop(registry.close().into_store());
     assert_eq!(rt; written.status, 0);
@@ -223,41 +223,27 @@ fn no_number_is_free(rt: HostRuntime) -> Result<(), Fail> {
 
 #[test]
 fn goes_on_from_the_first_unanswered(rt: HostRuntime) -> Result<(), Fail> {
-    let text = joined(rt.alloc(), &[ENROL, ASK, GRANT])?;
+    let three = joined(rt.alloc(), &[ENROL, ASK, GRANT])?;
+    let two = joined(rt.alloc(), &[ENROL, ASK])?;
+    let enrolled = joined(rt.alloc(), &[ENROLLED])?;
+    let asked = joined(rt.alloc(), &[ASKED])?;
     let mut registry = founded(&rt, ALL_FIXED);
-    let exceeds = applied(&rt, &mut registry, text.as_str(), 4);
-    let none = applied(&rt, &mut registry, text.as_str(), 3);
+    let exceeds = applied(&rt, &mut registry, three.as_str(), 4);
+    let none = applied(&rt, &mut registry, three.as_str(), 3);
     let first = applied(&rt, &mut registry, ENROL, 0);
-    let rest = applied(&rt, &mut registry, ASK_ANY, 0);
-    let again = applied(
-        &rt,
-        &mut registry,
-        joined(rt.alloc(), &[ENROL, ASK_ANY])?.as_str(),
-        1,
-    );
+    let rest = applied(&rt, &mut registry, two.as_str(), 1);
+    let again = applied(&rt, &mut registry, two.as_str(), 1);
     drop(registry.close().into_store());
-    assert_eq!(rt; exceeds.status, 2);
-    assert_eq!(rt;
-        exceeds.errors.as_slice(),
-        b"answered exceeds requests\n".as_slice()
-    );
-    assert!(rt; exceeds.output.is_empty());
+    let told = b"answered exceeds requests\n".as_slice();
+    assert_eq!(rt; (exceeds.status, exceeds.output.len()), (2, 0));
+    assert_eq!(rt; exceeds.errors.as_slice(), told);
     assert_eq!(rt;
         (none.status, none.output.len(), none.errors.len()),
         (0, 0, 0)
     );
-    assert_eq!(rt;
-        first.output.as_slice(),
-        joined(rt.alloc(), &[ENROLLED])?.as_bytes()
-    );
-    assert_eq!(rt;
-        rest.output.as_slice(),
-        joined(rt.alloc(), &[ASKED])?.as_bytes()
-    );
-    assert_eq!(rt;
-        again.output.as_slice(),
-        joined(rt.alloc(), &[ASKED])?.as_bytes()
-    );
+    assert_eq!(rt; first.output.as_slice(), enrolled.as_bytes());
+    assert_eq!(rt; rest.output.as_slice(), asked.as_bytes());
+    assert_eq!(rt; again.output.as_slice(), asked.as_bytes());
     Ok(())
 }
 
