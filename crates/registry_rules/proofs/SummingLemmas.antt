@@ -1,27 +1,25 @@
 -- What the lists of all that is kept of a history count up to.
-use Rattle.std.proofs.Common.{◌≡◌, ◌≢◌, ◌∙◌, ap, ap₂, subst, sym, refl, ℕ, zero, suc, ◌+◌, ◌-◌, ◌<◌, ◌≤◌, List, [], ◌∷◌, ◌++◌, Option, Some, None, Less, Equal, Greater, Bool, true, false, cond, length, map, arith, ⊎_elim, inl, inr}
-use Rattle.std.specs.Prelude.{nat_eq, find, is_some, ◌||◌, ◌&&◌, not, slice_get, if◌then◌else◌, option_and_then, unwrap_or}
+use Rattle.std.proofs.Common.{◌≡◌, ◌≢◌, ◌∙◌, ap, ap₂, subst, sym, refl, ℕ, zero, suc, ◌+◌, ◌-◌, ◌<◌, ◌≤◌, List, [], ◌∷◌, Option, Some, None, Less, Equal, Greater, Bool, true, false, cond, length, map, arith, inl, inr}
+use Rattle.std.specs.Prelude.{nat_eq, find, is_some, ◌||◌, ◌&&◌, slice_get, if◌then◌else◌, option_and_then}
 use Rattle.std.specs.Option.{option_map, option_or}
 use Rattle.std.specs.List.{list_any, count_by, IsDistinct, AllByRecursion}
 use Rattle.std.specs.List.Sorted.{IsStrictlyIncreasing}
 use Rattle.std.specs.Ordering.{nat_cmp, is_eq, eq_by_cmp}
 use Rattle.std.specs.Cmp.{nat_cmp_is}
 use Rattle.std.specs.Str.{bytes_eq}
-use Rattle.std.proofs.Math.Bool.{or_assoc, or-false}
-use Rattle.std.proofs.lemmas.Bool.{cases_order, eq-eqb, ne_eqb, eqb-true, or_parts}
+use Rattle.std.proofs.lemmas.Bool.{cases_order, eq-eqb, ne_eqb}
 use Rattle.std.proofs.lemmas.Cmp.{nat_eq_equiv, nat_list_eq_equiv}
 use Rattle.std.proofs.lemmas.List.{length-map, map-append}
 use Rattle.std.proofs.lemmas.List.Sums.{sum_by-cons}
 use Rattle.std.proofs.lemmas.List.Folds.{list_any-append}
 use Rattle.std.proofs.lemmas.Map.Keys.{IsDistinct-push, IsDistinct-from_sorted, sorted_from_strictly_increasing}
 use Rattle.std.proofs.lemmas.Map.Made.{length-from_same_keys}
-use Rattle.std.proofs.lemmas.Option.{slice_get-get_or}
 use Rattle.usbnum_core.specs.Spans.{span_has, spans_have, count_to}
 use Rattle.usbnum_core.specs.declared.number.Number.{Number}
 use Rattle.usbnum_core.specs.declared.number.Span.{Span}
-use Rattle.registry_rules.specs.Number.{number, is_number}
+use Rattle.registry_rules.specs.Number.{is_number}
 use Rattle.registry_rules.specs.History.{History, first_of, last_of, all_of, with_answer, sooner}
-use Rattle.registry_rules.specs.Query.{given, enroller, described, enrolment, enrolled, asked, org_of, petition_of, with_state, state_of, is_open, is_open_of, open_count, owner_of, card_of, is_held, is_fixed, is_ordered, is_reserved}
+use Rattle.registry_rules.specs.Query.{given, enroller, described, enrolment, enrolled, asked, org_of, petition_of, with_state, state_of, is_open_of, open_count, owner_of, card_of, is_held, is_fixed, is_ordered}
 use Rattle.registry_rules.specs.Rows.{entry_of}
 use Rattle.registry_rules.specs.Run.{Legal}
 use Rattle.registry_rules.specs.Texts.{IsAscending}

@@ -29,6 +29,8 @@ mod checks;
 mod concern;
 mod counting;
 mod deed;
+#[cfg(test)]
+mod dice;
 mod facts;
 mod founding;
 mod importing;
@@ -38,6 +40,12 @@ pub mod laws;
 mod lists;
 mod name;
 mod order;
+#[cfg(test)]
+mod plain;
+#[cfg(test)]
+mod plain_rows;
+#[cfg(test)]
+mod plain_tests;
 mod record;
 mod refusal;
 mod reply;
