@@ -24,10 +24,10 @@ use Rattle.registry_rules.specs.declared.record.Entry.{Entry}
 use Rattle.registry_rules.specs.declared.record.Petition.{Petition}
 use Rattle.registry_rules.specs.declared.record.Vendor.{Vendor}
 use Rattle.table_laws.proofs.NumberedLemmas.{equal_ints}
-use Rattle.registry_schema.specs.Schema.{schema_3, meta, curators, licences, fixed, orgs, kept, vendors, entries3, petitions3}
+use Rattle.registry_schema.specs.Schema.{schema_3, meta, curators, licences, fixed, orgs, kept, vendors, spans3, entries3, petitions3}
 use Rattle.registry_rows.specs.declared.kept.KeptRow.{KeptRow}
 use Rattle.registry_rows.specs.declared.meta.Meta.{Meta}
-use Rattle.registry_rows.specs.Rows.{whole, part, meta_row, name_row, fixed_row, org_row, kept_row, vendor_row, entry_row, petition_row, is_named, is_called, is_kept_under, is_of}
+use Rattle.registry_rows.specs.Rows.{whole, part, meta_row, name_row, fixed_row, org_row, kept_row, vendor_row, span_row, begins_at, entry_row, petition_row, is_named, is_called, is_kept_under, is_of}
 use Rattle.registry_rows.proofs.NumberLemmas.{same_numbers, same_texts}
 
 either : (b : Bool) (x : Value) → cond b x x ≡ x
@@ -86,6 +86,12 @@ cast_kept k = simp cast_null
 pub cast_kept_numbered : (k : KeptRow) (id : ℤ) → cast_row kept (Int id ∷ kept_row k) ≡ Int id ∷ kept_row k
 cast_kept_numbered k id = simp cast_int
 
+pub cast_span : (s : ℕ × Span) → cast_row spans3 (Null ∷ span_row s) ≡ Null ∷ span_row s
+cast_span s = simp (cast_int, cast_null)
+
+pub cast_span_numbered : (s : ℕ × Span) (id : ℤ) → cast_row spans3 (Int id ∷ span_row s) ≡ Int id ∷ span_row s
+cast_span_numbered s id = simp cast_int
+
 pub cast_entry : (e : Number × Entry) → cast_row entries3 (Null ∷ entry_row e) ≡ Null ∷ entry_row e
 cast_entry e = simp (cast_int, cast_null, cast_part)
 
@@ -126,6 +132,11 @@ pub kept_shared : (new old : ℤ × KeptRow) → list_any (shares None kept (Int
 kept_shared new old =
     no_more_of_two (equal (first_key plain).collation (Text old.1.caller) (Text new.1.caller)) (equal (first_key plain).collation (Text old.1.key) (Text new.1.key))
     ∙ ap₂ ◌&&◌ (equal_texts old.1.caller new.1.caller) (equal_texts old.1.key new.1.key)
+
+pub spans_shared : (new old : ℤ × (ℕ × Span)) → list_any (shares None spans3 (Int new.0 ∷ span_row new.1) (Int old.0 ∷ span_row old.1)) schema_3.indexes ≡ begins_at new.1.0 new.1.1.first old.1
+spans_shared new old =
+    no_more_of_two (equal (first_key plain).collation (whole old.1.0) (whole new.1.0)) (equal (first_key plain).collation (whole old.1.1.first) (whole new.1.1.first))
+    ∙ ap₂ ◌&&◌ (equal_ints (pos old.1.0) (pos new.1.0) ∙ same_numbers old.1.0 new.1.0) (equal_ints (pos old.1.1.first) (pos new.1.1.first) ∙ same_numbers old.1.1.first new.1.1.first)
 
 pub entries_shared : (new old : ℤ × (Number × Entry)) → list_any (shares None entries3 (Int new.0 ∷ entry_row new.1) (Int old.0 ∷ entry_row old.1)) schema_3.indexes ≡ is_of new.1.0 old.1
 entries_shared new old =

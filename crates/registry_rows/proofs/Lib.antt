@@ -3,6 +3,8 @@ pub mod HoldLemmas
 pub mod KeyLemmas
 pub mod PutTexts
 pub mod ReadTexts
+pub mod SpanTexts
+pub mod SpanLemmas
 pub mod UpdateTexts
 pub mod UpdateLemmas
 pub mod PutLemmas

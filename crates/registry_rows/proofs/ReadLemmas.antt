@@ -20,7 +20,7 @@ use Rattle.registry_rows.specs.Tables.{Tables, Holds}
 use Rattle.registry_rows.proofs.NumberLemmas.{same_numbers, same_order, same_texts}
 use Rattle.registry_rows.proofs.ReadTexts.{find_meta_text, find_meta_query, find_meta_is, list_curators_text, list_curators_query, list_curators_is, list_licences_text, list_licences_query, list_licences_is, list_fixed_text, list_fixed_query, list_fixed_is, find_org_text, find_org_query, find_org_is, list_orgs_text, list_orgs_query, list_orgs_is, find_kept_text, find_kept_query, find_kept_is, list_vendors_text, list_vendors_query, list_vendors_is, list_spans_text, list_spans_query, list_spans_is, find_entries_text, find_entries_query, find_entries_is, list_entries_text, list_entries_query, list_entries_is, find_petition_text, find_petition_query, find_petition_is, list_petitions_text, list_petitions_query, list_petitions_is}
 
-then_then : (a b c : Ordering) → ordering_then a (ordering_then b c) ≡ ordering_then (ordering_then a b) c
+pub then_then : (a b c : Ordering) → ordering_then a (ordering_then b c) ≡ ordering_then (ordering_then a b) c
 then_then Less b c = refl
 then_then Equal b c = refl
 then_then Greater b c = refl

@@ -127,6 +127,10 @@ span_row s = whole s.0 ∷ whole s.1.first ∷ whole s.1.last ∷ []
 abbrev pub begins_at : ℕ → ℕ → ℕ × Span → Bool
 begins_at vid first s = nat_eq s.0 vid && nat_eq s.1.first first
 
+-- the vendor's span, where it has any of the numbers from the low to the high one
+abbrev pub meets : ℕ → ℕ → ℕ → ℕ × Span → Bool
+meets vid low high s = nat_eq s.0 vid && (nat_le low s.1.last && nat_le s.1.first high)
+
 -- by vendor and then by the first number
 abbrev pub by_beginning : ℕ × Span → ℕ × Span → Ordering
 by_beginning a b = ordering_then (nat_cmp a.0 b.0) (nat_cmp a.1.first b.1.first)

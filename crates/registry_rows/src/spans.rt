@@ -1,16 +1,16 @@
 //! The numbers that an order reserved.
 
-ghost use Rattle.std.specs.Prelude.{◌≡◌, ◌≢◌, map, IsTrue, Err};
+ghost use Rattle.std.specs.Prelude.{◌≡◌, ◌≢◌, [], ◌∷◌, ◌++◌, map, filter, IsTrue, Err};
 ghost use Rattle.sqlite.specs.State.{HasCleanDisk, Survives};
 ghost use Rattle.sqlite.specs.Held.{state};
-ghost use Rattle.sqlite_keyed.specs.Lists.{sort_by};
-ghost use Rattle.registry_rows.specs.Rows.{IsVendorSpan, span_row, by_beginning};
-ghost use Rattle.registry_rows.specs.Steps.{Answers, Decodes};
+ghost use Rattle.sqlite_keyed.specs.Lists.{delete_where, sort_by};
+ghost use Rattle.registry_rows.specs.Rows.{IsVendorSpan, span_row, begins_at, meets, by_beginning};
+ghost use Rattle.registry_rows.specs.Steps.{Answers, Changes, Decodes};
 
 use crate::columns::{span_at, vid_at};
 use crate::decode::{FromRow, all_from};
 use registry_schema::{TableFault, fault_of};
-use sqlite::{Alter, Row, Transaction};
+use sqlite::{Alter, Row, Transaction, params};
 use std::alloc::Global;
 use usbnum_core::{Span, Vid};
 
@@ -30,6 +30,94 @@ impl FromRow for (Vid, Span) {
     fn from_row(_alloc: Global, row: &Row) -> Result<(Vid, Span), TableFault> {
         Ok((vid_at(row, 0)?, span_from(row)?))
     }
+}
+
+/// Puts the span in, in the place of the vendor's one that begins with the same number, if there is one.
+pub fn put_span<S: Alter>(
+    tx: &mut Transaction<'_, S>,
+    vid: Vid,
+    span: Span,
+) -> Result<(), TableFault>
+    ensures same_reference { tx.new.conn.ghost_name ≡ tx.old.conn.ghost_name }
+    ensures put { HasCleanDisk (state S.Store tx.new.conn.now) → IsTrue (state S.Store tx.old.conn.now).in_transaction
+        → Changes (state S.Store tx.old.conn.now) (state S.Store tx.new.conn.now) result (λ t. record t { spans = delete_where (λ other. begins_at vid span.first other) t.spans ++ (vid, span) ∷ [] }) }
+    ensures fault { result ≢ Err TableFault.Foreign }
+    ensures survives { Survives (state S.Store tx.old.conn.now) (state S.Store tx.new.conn.now) (λ _. ⊥) }
+{
+    let ran = tx.execute(
+        "INSERT OR REPLACE INTO spans3 (vid, lo, hi) VALUES (?1, ?2, ?3)",
+        params![
+            u32::from(vid.get()),
+            u32::from(span.first().get()),
+            u32::from(span.last().get())
+        ],
+    );
+    match ran {
+        Ok(_) => Ok(()),
+        Err(error) => Err(fault_of(error)),
+    }
+}
+
+/// Takes out the vendor's spans that have any of the numbers from the low to the high one.
+pub fn cut_spans<S: Alter>(
+    tx: &mut Transaction<'_, S>,
+    vid: Vid,
+    low: u32,
+    high: u32,
+) -> Result<(), TableFault>
+    ensures same_reference { tx.new.conn.ghost_name ≡ tx.old.conn.ghost_name }
+    ensures cut { HasCleanDisk (state S.Store tx.new.conn.now) → IsTrue (state S.Store tx.old.conn.now).in_transaction
+        → Changes (state S.Store tx.old.conn.now) (state S.Store tx.new.conn.now) result (λ t. record t { spans = delete_where (meets vid low high) t.spans }) }
+    ensures fault { result ≢ Err TableFault.Foreign }
+    ensures survives { Survives (state S.Store tx.old.conn.now) (state S.Store tx.new.conn.now) (λ _. ⊥) }
+{
+    let ran = tx.execute(
+        "DELETE FROM spans3 WHERE vid = ?1 AND hi >= ?2 AND lo <= ?3",
+        params![u32::from(vid.get()), low, high],
+    );
+    match ran {
+        Ok(_) => Ok(()),
+        Err(error) => Err(fault_of(error)),
+    }
+}
+
+fn meeting_rows<S: Alter>(
+    tx: &mut Transaction<'_, S>,
+    vid: Vid,
+    low: u32,
+    high: u32,
+) -> Result<Vec<Row>, TableFault>
+    ensures same_reference { tx.new.conn.ghost_name ≡ tx.old.conn.ghost_name }
+    ensures rows { HasCleanDisk (state S.Store tx.new.conn.now) → IsTrue (state S.Store tx.old.conn.now).in_transaction
+        → Answers (state S.Store tx.old.conn.now) (state S.Store tx.new.conn.now) result (λ t rows. rows.items ≡ map span_row (sort_by by_beginning (filter (meets vid low high) t.spans))) }
+    ensures fault { result ≢ Err TableFault.Foreign }
+    ensures survives { Survives (state S.Store tx.old.conn.now) (state S.Store tx.new.conn.now) (λ _. ⊥) }
+{
+    let ran = tx.query_all(
+        "SELECT vid, lo, hi FROM spans3 WHERE vid = ?1 AND hi >= ?2 AND lo <= ?3 ORDER BY vid, lo, rowid",
+        params![u32::from(vid.get()), low, high],
+    );
+    match ran {
+        Ok(rows) => Ok(rows),
+        Err(error) => Err(fault_of(error)),
+    }
+}
+
+/// The vendor's spans that have any of the numbers from the low to the high one, ascending.
+pub fn find_spans<S: Alter>(
+    alloc: Global,
+    tx: &mut Transaction<'_, S>,
+    vid: Vid,
+    low: u32,
+    high: u32,
+) -> Result<Vec<(Vid, Span)>, TableFault>
+    ensures same_reference { tx.new.conn.ghost_name ≡ tx.old.conn.ghost_name }
+    ensures listed { HasCleanDisk (state S.Store tx.new.conn.now) → IsTrue (state S.Store tx.old.conn.now).in_transaction
+        → Answers (state S.Store tx.old.conn.now) (state S.Store tx.new.conn.now) result (λ t all. all.items ≡ sort_by by_beginning (filter (meets vid low high) t.spans)) }
+    ensures survives { Survives (state S.Store tx.old.conn.now) (state S.Store tx.new.conn.now) (λ _. ⊥) }
+{
+    let rows = meeting_rows(tx, vid, low, high)?;
+    all_from(alloc, &rows)
 }
 
 fn all_rows<S: Alter>(tx: &mut Transaction<'_, S>) -> Result<Vec<Row>, TableFault>

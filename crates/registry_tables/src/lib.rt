@@ -16,5 +16,3 @@ mod founding;
 mod kept;
 mod lists;
 mod opening;
-#[cfg(test)]
-mod tests;

@@ -1,0 +1,16 @@
+use Rattle.sqlite.specs.Held.{state}
+use Rattle.table_laws.proofs.InsideLemmas.{query_goes, query_fails}
+use Rattle.registry_rows.proofs.SpanTexts.{find_spans_text}
+use Rattle.registry_rows.proofs.SpanLemmas.{reads_find_spans}
+use Rattle.registry_rows.proofs.spans.meeting_rows.Goals as goal
+
+pub returns-in-Ok-clause-rows : goal.returns-in-Ok-clause-rows
+returns-in-Ok-clause-rows g c clean inside =
+    let old = state g.S.Store c.args.tx.now.conn.now in
+    let new = state g.S.Store c.query_all-ran.new.self.conn.now in
+    let shown = rw (c.params-to_sql.ensures, c.params-to_sql-2.ensures, c.params-to_sql-3.ensures, c.from.ensures, c.get.ensures.number) at (c.in-Ok.ensures.ok clean) in
+    (query_goes old new inside _ _ _ shown, λ t has. reads_find_spans old new _ _ _ _ shown t has)
+
+pub returns-in-Err-clause-rows : goal.returns-in-Err-clause-rows
+returns-in-Err-clause-rows g c clean inside =
+    (λ foreign. absurd (c.fault_of.ensures foreign), query_fails (state g.S.Store c.args.tx.now.conn.now) (state g.S.Store c.query_all-ran.new.self.conn.now) inside find_spans_text _ _ (c.in-Err.ensures.err clean))
