@@ -19,7 +19,6 @@ pub struct RunEnd {
 }
 
 /// A registry: tables in a store, and in memory what a request would else have to count.
-#[derive(Drop)]
 pub struct Registry<S: Alter> {
     alloc: Global,
     conn: Connection<S>,
