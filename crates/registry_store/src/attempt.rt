@@ -60,7 +60,7 @@ fn write<S: Alter>(
     let Ok(()) = totals.carry(deed) else {
         return Err(TableFault::NoMemory);
     };
-    store(tx, changes.as_slice())?;
+    store(alloc, tx, changes.as_slice())?;
     keep_reply(alloc, tx, request, reply)
 }
 

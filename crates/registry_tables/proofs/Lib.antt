@@ -10,6 +10,9 @@ pub mod FindLemmas
 pub mod HoldingLemmas
 pub mod FactLemmas
 pub mod SortLemmas
+pub mod SpanLists
+pub mod ReservedLemmas
+pub mod SpanSteps
 pub mod AscendLemmas
 pub mod CallLemmas
 pub mod ListLemmas

@@ -1,13 +1,16 @@
 -- Changes of records take the rows of one history to those of another.
-use Rattle.std.proofs.Common.{◌≡◌, ℕ, Bool, true, false, cond, not, ◌||◌, if◌then◌else◌, List, [], ◌∷◌, ◌++◌, find, nat_eq, Option, Some, refl, sym, ap, subst, ◌∙◌}
-use Rattle.std.specs.List.{AllByRecursion, list_any}
+use Rattle.std.proofs.Common.{◌≡◌, ℕ, Bool, true, false, cond, not, ◌||◌, if◌then◌else◌, List, [], ◌∷◌, ◌++◌, find, nat_eq, Option, Some, Result, Ok, Err, OnOk, refl, sym, ap, subst, ◌∙◌}
+use Rattle.std.specs.List.{list_any}
 use Rattle.std.specs.Option.{option_map}
 use Rattle.std.specs.Str.{bytes_eq}
+use Rattle.sqlite.specs.Effect.{Database}
 use Rattle.sqlite.specs.State.{State}
 use Rattle.sqlite_keyed.specs.Lists.{delete_where}
 use Rattle.sqlite_trees.specs.Tree.{IsAscending}
 use Rattle.usbnum_core.specs.declared.number.Number.{Number}
+use Rattle.usbnum_core.specs.declared.number.Span.{Span}
 use Rattle.table_laws.proofs.FoundLemmas.{apart_put}
+use Rattle.registry_schema.specs.declared.fault.TableFault.{TableFault}
 use Rattle.registry_rules.specs.History.{History}
 use Rattle.registry_rules.specs.Rows.{with_held, with_card, org_changed, petition_changed, entry_changed, ordered_changed, vendor_changed, licence_changed, after_all, LeadsTo}
 use Rattle.registry_rules.specs.declared.change.Change.{Change}
@@ -18,8 +21,9 @@ use Rattle.registry_rules.specs.declared.record.Entry.{Entry}
 use Rattle.registry_rules.specs.declared.record.Petition.{Petition}
 use Rattle.registry_rules.specs.declared.record.Vendor.{Vendor}
 use Rattle.registry_rows.specs.Rows.{is_named, is_called, is_of, is_numbered}
+use Rattle.registry_rows.specs.Steps.{Changes}
 use Rattle.registry_rows.specs.Tables.{Tables, Holds}
-use Rattle.registry_tables.specs.Changed.{applied, applied_all, IsPut}
+use Rattle.registry_tables.specs.Changed.{applied, applied_all, with_spans, Makes}
 use Rattle.registry_tables.specs.Rows.{newest, NoTwo, IsFounding, vendor_span_has, AreApart, AreRecords, AreKeptReplies, HoldsRows, HoldsUnkept}
 use Rattle.registry_tables.proofs.EntryLemmas.{entry_set, entries_once}
 use Rattle.registry_tables.proofs.ViewLemmas.{same_bytes, org_put, entry_put, petition_put, vendor_put}
@@ -61,9 +65,9 @@ record IsView (t : Tables) (o : List ℕ → Option Org) (p : ℕ → Option Pet
   licences : (name : List ℕ) → list_any (bytes_eq name) t.licences ≡ l name
   licences_once : NoTwo is_named t.licences
 
-view_one : (c : Change) (t : Tables) (o : List ℕ → Option Org) (p : ℕ → Option Petition) (e : Number → Option Entry) (v : ℕ → Option Vendor) (l : List ℕ → Bool) → IsPut c → IsView t o p e v l
+view_one : (c : Change) (t : Tables) (o : List ℕ → Option Org) (p : ℕ → Option Petition) (e : Number → Option Entry) (v : ℕ → Option Vendor) (l : List ℕ → Bool) → IsView t o p e v l
     → IsView (applied c t) (λ s. org_changed s c (o s)) (λ i. petition_changed i c (p i)) (λ n. entry_changed n c (e n)) (λ d. vendor_changed d c (v d)) (λ n. licence_changed n c (l n))
-view_one (PutOrg org) t o p e v l put was = record {
+view_one (PutOrg org) t o p e v l was = record {
   orgs = λ slug. org_put org t.orgs slug ∙ ap (λ old. if bytes_eq org.slug slug then Some org else old) (was.orgs slug);
   orgs_once = apart_put (λ a b. is_called b.slug a) org t.orgs was.orgs_once;
   petitions = was.petitions;
@@ -73,7 +77,7 @@ view_one (PutOrg org) t o p e v l put was = record {
   licences = was.licences;
   licences_once = was.licences_once;
 }
-view_one (PutPetition id petition) t o p e v l put was = record {
+view_one (PutPetition id petition) t o p e v l was = record {
   orgs = was.orgs;
   orgs_once = was.orgs_once;
   petitions = λ i. petition_put id petition t.petitions i (p i) (was.petitions i);
@@ -83,7 +87,7 @@ view_one (PutPetition id petition) t o p e v l put was = record {
   licences = was.licences;
   licences_once = was.licences_once;
 }
-view_one (PutEntry number entry) t o p e v l put was = record {
+view_one (PutEntry number entry) t o p e v l was = record {
   orgs = was.orgs;
   orgs_once = was.orgs_once;
   petitions = was.petitions;
@@ -93,7 +97,7 @@ view_one (PutEntry number entry) t o p e v l put was = record {
   licences = was.licences;
   licences_once = was.licences_once;
 }
-view_one (PutVendor vid name) t o p e v l put was = record {
+view_one (PutVendor vid name) t o p e v l was = record {
   orgs = was.orgs;
   orgs_once = was.orgs_once;
   petitions = was.petitions;
@@ -103,7 +107,7 @@ view_one (PutVendor vid name) t o p e v l put was = record {
   licences = was.licences;
   licences_once = was.licences_once;
 }
-view_one (PutLicence name) t o p e v l put was = record {
+view_one (PutLicence name) t o p e v l was = record {
   orgs = was.orgs;
   orgs_once = was.orgs_once;
   petitions = was.petitions;
@@ -113,7 +117,7 @@ view_one (PutLicence name) t o p e v l put was = record {
   licences = λ other. name_put other name t.licences ∙ ap (λ old. if bytes_eq other name then true else old) (was.licences other);
   licences_once = apart_put is_named name t.licences was.licences_once;
 }
-view_one (SetHeld number held) t o p e v l put was = record {
+view_one (SetHeld number held) t o p e v l was = record {
   orgs = was.orgs;
   orgs_once = was.orgs_once;
   petitions = was.petitions;
@@ -123,7 +127,7 @@ view_one (SetHeld number held) t o p e v l put was = record {
   licences = was.licences;
   licences_once = was.licences_once;
 }
-view_one (SetCard number card) t o p e v l put was = record {
+view_one (SetCard number card) t o p e v l was = record {
   orgs = was.orgs;
   orgs_once = was.orgs_once;
   petitions = was.petitions;
@@ -133,13 +137,13 @@ view_one (SetCard number card) t o p e v l put was = record {
   licences = was.licences;
   licences_once = was.licences_once;
 }
-view_one (ReserveSpan vid span) t o p e v l put was = absurd put
-view_one (ReleaseSpan vid span) t o p e v l put was = absurd put
+view_one (ReserveSpan vid span) t o p e v l was = was
+view_one (ReleaseSpan vid span) t o p e v l was = was
 
-view_all : (cs : List Change) (t : Tables) (o : List ℕ → Option Org) (p : ℕ → Option Petition) (e : Number → Option Entry) (v : ℕ → Option Vendor) (l : List ℕ → Bool) → AllByRecursion IsPut cs → IsView t o p e v l
+view_all : (cs : List Change) (t : Tables) (o : List ℕ → Option Org) (p : ℕ → Option Petition) (e : Number → Option Entry) (v : ℕ → Option Vendor) (l : List ℕ → Bool) → IsView t o p e v l
     → IsView (applied_all cs t) (λ s. after_all (org_changed s) cs (o s)) (λ i. after_all (petition_changed i) cs (p i)) (λ n. after_all (entry_changed n) cs (e n)) (λ d. after_all (vendor_changed d) cs (v d)) (λ n. after_all (licence_changed n) cs (l n))
-view_all [] t o p e v l put was = was
-view_all (c ∷ cs) t o p e v l put was = view_all cs (applied c t) _ _ _ _ _ put.1 (view_one c t o p e v l put.0 was)
+view_all [] t o p e v l was = was
+view_all (c ∷ cs) t o p e v l was = view_all cs (applied c t) _ _ _ _ _ (view_one c t o p e v l was)
 
 -- ---- what stays
 
@@ -147,49 +151,84 @@ record IsRest (a b : Tables) : Type 0 where
   metas : b.metas ≡ a.metas
   curators : b.curators ≡ a.curators
   fixed : b.fixed ≡ a.fixed
-  spans : b.spans ≡ a.spans
   kept : b.kept ≡ a.kept
 
-rest_one : (c : Change) (t : Tables) → IsPut c → IsRest t (applied c t)
-rest_one (PutOrg org) t put = record { metas = refl; curators = refl; fixed = refl; spans = refl; kept = refl }
-rest_one (PutPetition id petition) t put = record { metas = refl; curators = refl; fixed = refl; spans = refl; kept = refl }
-rest_one (PutEntry number entry) t put = record { metas = refl; curators = refl; fixed = refl; spans = refl; kept = refl }
-rest_one (PutVendor vid name) t put = record { metas = refl; curators = refl; fixed = refl; spans = refl; kept = refl }
-rest_one (PutLicence name) t put = record { metas = refl; curators = refl; fixed = refl; spans = refl; kept = refl }
-rest_one (SetHeld number held) t put = record { metas = refl; curators = refl; fixed = refl; spans = refl; kept = refl }
-rest_one (SetCard number card) t put = record { metas = refl; curators = refl; fixed = refl; spans = refl; kept = refl }
-rest_one (ReserveSpan vid span) t put = absurd put
-rest_one (ReleaseSpan vid span) t put = absurd put
+rest_one : (c : Change) (t : Tables) → IsRest t (applied c t)
+rest_one (PutOrg org) t = record { metas = refl; curators = refl; fixed = refl; kept = refl }
+rest_one (PutPetition id petition) t = record { metas = refl; curators = refl; fixed = refl; kept = refl }
+rest_one (PutEntry number entry) t = record { metas = refl; curators = refl; fixed = refl; kept = refl }
+rest_one (SetHeld number held) t = record { metas = refl; curators = refl; fixed = refl; kept = refl }
+rest_one (SetCard number card) t = record { metas = refl; curators = refl; fixed = refl; kept = refl }
+rest_one (ReserveSpan vid span) t = record { metas = refl; curators = refl; fixed = refl; kept = refl }
+rest_one (ReleaseSpan vid span) t = record { metas = refl; curators = refl; fixed = refl; kept = refl }
+rest_one (PutVendor vid name) t = record { metas = refl; curators = refl; fixed = refl; kept = refl }
+rest_one (PutLicence name) t = record { metas = refl; curators = refl; fixed = refl; kept = refl }
 
-rest_all : (cs : List Change) (t : Tables) → AllByRecursion IsPut cs → IsRest t (applied_all cs t)
-rest_all [] t put = record { metas = refl; curators = refl; fixed = refl; spans = refl; kept = refl }
-rest_all (c ∷ cs) t put =
-    let first = rest_one c t put.0 in
-    let later = rest_all cs (applied c t) put.1 in
-    record { metas = later.metas ∙ first.metas; curators = later.curators ∙ first.curators; fixed = later.fixed ∙ first.fixed; spans = later.spans ∙ first.spans; kept = later.kept ∙ first.kept }
+rest_all : (cs : List Change) (t : Tables) → IsRest t (applied_all cs t)
+rest_all [] t = record { metas = refl; curators = refl; fixed = refl; kept = refl }
+rest_all (c ∷ cs) t =
+    let first = rest_one c t in
+    let later = rest_all cs (applied c t) in
+    record { metas = later.metas ∙ first.metas; curators = later.curators ∙ first.curators; fixed = later.fixed ∙ first.fixed; kept = later.kept ∙ first.kept }
 
-unordered : (c : Change) (n : Number) (b : Bool) → IsPut c → ordered_changed n c b ≡ b
-unordered (PutOrg org) n b put = refl
-unordered (PutPetition id petition) n b put = refl
-unordered (PutEntry number entry) n b put = refl
-unordered (PutVendor vid name) n b put = refl
-unordered (PutLicence name) n b put = refl
-unordered (SetHeld number held) n b put = refl
-unordered (SetCard number card) n b put = refl
-unordered (ReserveSpan vid span) n b put = absurd put
-unordered (ReleaseSpan vid span) n b put = absurd put
+-- ---- one change more
 
-unordered_all : (cs : List Change) (n : Number) (b : Bool) → AllByRecursion IsPut cs → after_all (ordered_changed n) cs b ≡ b
-unordered_all [] n b put = refl
-unordered_all (c ∷ cs) n b put = unordered_all cs n (ordered_changed n c b) put.1 ∙ unordered c n b put.0
+applied_more : (cs : List Change) (c : Change) (t : Tables) → applied_all (cs ++ c ∷ []) t ≡ applied c (applied_all cs t)
+applied_more [] c t = refl
+applied_more (x ∷ cs) c t = applied_more cs c (applied x t)
+
+ordered_more : (cs : List Change) (c : Change) (n : Number) (b : Bool) → after_all (ordered_changed n) (cs ++ c ∷ []) b ≡ ordered_changed n c (after_all (ordered_changed n) cs b)
+ordered_more [] c n b = refl
+ordered_more (x ∷ cs) c n b = ordered_more cs c n (ordered_changed n x b)
+
+spans_over : (c : Change) (a b : List (ℕ × Span)) (t : Tables) → with_spans b (applied c (with_spans a t)) ≡ with_spans b (applied c t)
+spans_over (PutOrg org) a b t = refl
+spans_over (PutPetition id petition) a b t = refl
+spans_over (PutEntry number entry) a b t = refl
+spans_over (SetHeld number held) a b t = refl
+spans_over (SetCard number card) a b t = refl
+spans_over (ReserveSpan vid span) a b t = refl
+spans_over (ReleaseSpan vid span) a b t = refl
+spans_over (PutVendor vid name) a b t = refl
+spans_over (PutLicence name) a b t = refl
+
+-- a change that leaves the spans as they are
+pub record_made : {A : Type 0} (old new : State) (change made : Change) → change ≡ made → (result : Result A TableFault) → ((t : Tables) → with_spans t.spans (applied made t) ≡ applied made t)
+    → ((n : Number) (b : Bool) → ordered_changed n made b ≡ b) → Changes old new result (applied made) → OnOk result (Makes change old new)
+record_made old new change made is (Err e) same unordered h = tt
+record_made old new change made is (Ok a) same unordered h =
+    subst (λ x. Makes x old new) (sym is) (
+      h.0,
+      λ t has up. (t.spans, subst (Holds new.now) (sym (same t)) (h.1 t has), record { each = λ n. sym (unordered n (list_any (vendor_span_has n) t.spans)); apart = up }),
+    )
+
+-- changes are made to the tables and to their spans
+pub record AreMade (cs : List Change) (t : Tables) (db : Database) : Type 0 where
+  spans : List (ℕ × Span)
+  holds : Holds db (with_spans spans (applied_all cs t))
+  each : (n : Number) → list_any (vendor_span_has n) spans ≡ after_all (ordered_changed n) cs (list_any (vendor_span_has n) t.spans)
+  apart : IsAscending AreApart spans
+
+pub none_made : (t : Tables) (db : Database) → Holds db t → IsAscending AreApart t.spans → AreMade [] t db
+none_made t db has up = record { spans = t.spans; holds = has; each = λ n. refl; apart = up }
+
+pub made_more : (cs : List Change) (c : Change) (b d : State) (t : Tables) → AreMade cs t b.now → Makes c b d → AreMade (cs ++ c ∷ []) t d.now
+made_more cs c b d t before makes =
+    let now = makes.1 (with_spans before.spans (applied_all cs t)) before.holds before.apart in
+    record {
+      spans = now.0;
+      holds = subst (Holds d.now) (spans_over c before.spans now.0 (applied_all cs t) ∙ ap (with_spans now.0) (sym (applied_more cs c t))) now.1;
+      each = λ n. now.2.each n ∙ ap (ordered_changed n c) (before.each n) ∙ sym (ordered_more cs c n (list_any (vendor_span_has n) t.spans));
+      apart = now.2.apart;
+    }
 
 -- ---- the histories
 
-module _ (cs : List Change) (h after : History) (put : AllByRecursion IsPut cs) (founding : after.founding ≡ h.founding) (leads : LeadsTo cs h after) where
-  records_after : (t : Tables) → AreRecords h t → AreRecords after (applied_all cs t)
-  records_after t had =
-      let rest = rest_all cs t put in
-      let view = view_all cs t _ _ _ _ _ put (record { orgs = had.orgs.each; orgs_once = had.orgs.once; petitions = had.petitions; entries = had.entries.each; entries_once = had.entries.once; vendors = had.vendors; licences = had.licences.each; licences_once = had.licences.once }) in
+module _ (cs : List Change) (h after : History) (founding : after.founding ≡ h.founding) (leads : LeadsTo cs h after) where
+  records_after : (t : Tables) (db : Database) → AreRecords h t → (made : AreMade cs t db) → AreRecords after (with_spans made.spans (applied_all cs t))
+  records_after t db had made =
+      let rest = rest_all cs t in
+      let view = view_all cs t _ _ _ _ _ (record { orgs = had.orgs.each; orgs_once = had.orgs.once; petitions = had.petitions; entries = had.entries.each; entries_once = had.entries.once; vendors = had.vendors; licences = had.licences.each; licences_once = had.licences.once }) in
       record {
         founding = subst IsFounding (sym founding) had.founding;
         metas = rest.metas ∙ had.metas ∙ ap (λ (f : Founding). record { version = newest; vendor = f.vendor; name = f.name } ∷ []) (sym founding);
@@ -201,25 +240,13 @@ module _ (cs : List Change) (h after : History) (put : AllByRecursion IsPut cs) 
         fixed = rest.fixed ∙ had.fixed ∙ ap (λ (f : Founding). f.fixed) (sym founding);
         orgs = record { each = λ slug. view.orgs slug ∙ leads.orgs slug; once = view.orgs_once };
         vendors = λ vid. view.vendors vid ∙ leads.vendors vid;
-        spans = record {
-          each = λ n. ap (list_any (vendor_span_has n)) rest.spans ∙ had.spans.each n ∙ sym (unordered_all cs n _ put) ∙ leads.ordered n;
-          apart = subst (IsAscending AreApart) (sym rest.spans) had.spans.apart;
-        };
+        spans = record { each = λ n. made.each n ∙ ap (after_all (ordered_changed n) cs) (had.spans.each n) ∙ leads.ordered n; apart = made.apart };
         entries = record { each = λ n. view.entries n ∙ ap (option_map (λ entry. (n, entry))) (leads.entries n); once = view.entries_once };
         petitions = λ i. view.petitions i ∙ ap (option_map (λ petition. (i, petition))) (leads.petitions i);
       }
 
-  pub stored_now : (old new : State) → ((t : Tables) → Holds old.now t → Holds new.now (applied_all cs t)) → HoldsRows newest old.now h → HoldsUnkept new.now h after
+  pub stored_now : (old new : State) → ((t : Tables) → Holds old.now t → IsAscending AreApart t.spans → AreMade cs t new.now) → HoldsRows newest old.now h → HoldsUnkept new.now h after
   unfolding HoldsRows HoldsUnkept
   stored_now old new made had =
-      let rest = rest_all cs had.1 put in
-      (applied_all cs had.1, made had.1 had.2, records_after had.1 had.3, subst (λ rows. AreKeptReplies h rows) (sym rest.kept) had.4)
-
--- one change more
-pub applied_more : (cs : List Change) (c : Change) (t : Tables) → applied_all (cs ++ c ∷ []) t ≡ applied c (applied_all cs t)
-applied_more [] c t = refl
-applied_more (x ∷ cs) c t = applied_more cs c (applied x t)
-
-pub all_more : (cs : List Change) (c : Change) → AllByRecursion IsPut cs → IsPut c → AllByRecursion IsPut (cs ++ c ∷ [])
-all_more [] c all one = (one, tt)
-all_more (x ∷ cs) c all one = (all.0, all_more cs c all.1 one)
+      let now = made had.1 had.2 had.3.spans.apart in
+      (with_spans now.spans (applied_all cs had.1), now.holds, records_after had.1 new.now had.3 now, subst (λ rows. AreKeptReplies h rows) (sym (rest_all cs had.1).kept) had.4)

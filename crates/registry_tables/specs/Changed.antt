@@ -1,15 +1,21 @@
 -- What one change does to the values of the tables.
-use Rattle.std.specs.Prelude.{ℕ, List, [], ◌∷◌, ◌++◌}
+use Rattle.std.specs.Prelude.{◌≡◌, ℕ, List, [], ◌∷◌, ◌++◌}
+use Rattle.std.specs.List.{list_any}
+use Rattle.sqlite.specs.State.{State}
+use Rattle.sqlite_trees.specs.Tree.{IsAscending}
 use Rattle.sqlite_keyed.specs.Keyed.{insert_by}
 use Rattle.sqlite_keyed.specs.Lists.{update_where, delete_where}
+use Rattle.usbnum_core.specs.declared.number.Number.{Number}
 use Rattle.usbnum_core.specs.declared.number.Span.{Span}
+use Rattle.table_laws.specs.Inside.{GoesOn}
 use Rattle.registry_rules.specs.declared.change.Change.{Change}
 use Rattle.registry_rules.specs.declared.change.Change.TheVariants.{PutOrg, PutPetition, PutEntry, SetHeld, SetCard, PutVendor, PutLicence}
-use Rattle.registry_rules.specs.Rows.{with_held, with_card}
+use Rattle.registry_rules.specs.Rows.{with_held, with_card, ordered_changed}
 use Rattle.registry_rows.specs.Rows.{petition_key, vendor_key, fixed_key, is_named, is_called, is_of}
-use Rattle.registry_rows.specs.Tables.{Tables}
+use Rattle.registry_rows.specs.Tables.{Tables, Holds}
+use Rattle.registry_tables.specs.Rows.{vendor_span_has, AreApart}
 
--- the tables after a change of one record
+-- the tables after a change, but for the reserved spans
 abbrev pub applied : Change → Tables → Tables
 applied (PutOrg org) t = record t { orgs = delete_where (λ other. is_called org.slug other) t.orgs ++ org ∷ [] }
 applied (PutPetition id petition) t = record t { petitions = insert_by petition_key t.petitions (id, petition) }
@@ -25,16 +31,20 @@ abbrev pub applied_all : List Change → Tables → Tables
 applied_all [] t = t
 applied_all (change ∷ changes) t = applied_all changes (applied change t)
 
--- the change is one of a record
-abbrev pub IsPut : Change → Type 0
-IsPut (PutOrg org) = Unit {0}
-IsPut (PutPetition id petition) = Unit {0}
-IsPut (PutEntry number entry) = Unit {0}
-IsPut (SetHeld number held) = Unit {0}
-IsPut (SetCard number card) = Unit {0}
-IsPut (PutVendor vid name) = Unit {0}
-IsPut (PutLicence name) = Unit {0}
-IsPut _ = ⊥
+-- the tables with other spans
+abbrev pub with_spans : List (ℕ × Span) → Tables → Tables
+with_spans spans t = record t { spans = spans }
+
+-- the spans after a change have the numbers that it leaves reserved, and are maximal again
+pub record AreSpansAfter (change : Change) (before spans : List (ℕ × Span)) : Type 0 where
+  pub each : (n : Number) → list_any (vendor_span_has n) spans ≡ ordered_changed n change (list_any (vendor_span_has n) before)
+  pub apart : IsAscending AreApart spans
+
+-- the transaction goes on, and the change is made to the tables and to their spans
+abbrev pub Makes : Change → State → State → Type 0
+Makes change old new =
+    GoesOn old new
+    × ((t : Tables) → Holds old.now t → IsAscending AreApart t.spans → (spans : List (ℕ × Span)) × Holds new.now (with_spans spans (applied change t)) × AreSpansAfter change t.spans spans)
 
 -- names put in one after another
 abbrev pub names_put : List (List ℕ) → List (List ℕ) → List (List ℕ)

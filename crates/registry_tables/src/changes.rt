@@ -7,24 +7,27 @@ ghost use Rattle.table_laws.specs.Inside.{GoesOn};
 ghost use Rattle.registry_rules.specs.History.{History};
 ghost use Rattle.registry_rules.specs.Rows.{LeadsTo};
 ghost use Rattle.registry_rules.specs.Run.{Legal};
-ghost use Rattle.registry_rows.specs.Tables.{Tables, Holds};
-ghost use Rattle.registry_tables.specs.Changed.{applied, IsPut};
+ghost use Rattle.registry_tables.specs.Changed.{Makes};
 ghost use Rattle.registry_tables.specs.Rows.{newest, HoldsRows, HoldsUnkept};
 
 use crate::TableFault;
+use crate::spans::{release_span, reserve_span};
 use registry_rows::{
     put_entry, put_licence, put_org, put_petition, put_vendor, set_card, set_held,
 };
 use registry_rules::Change;
 use sqlite::{Alter, Transaction};
+use std::alloc::Global;
 
-// Makes one change. For those of reserved spans it gives up as yet.
-fn make<S: Alter>(tx: &mut Transaction<'_, S>, change: &Change) -> Result<(), TableFault>
+// Makes one change.
+fn make<S: Alter>(
+    alloc: Global,
+    tx: &mut Transaction<'_, S>,
+    change: &Change,
+) -> Result<(), TableFault>
     ensures same_reference { tx.new.conn.ghost_name ≡ tx.old.conn.ghost_name }
     ensures made { HasCleanDisk (state S.Store tx.new.conn.now) → IsTrue (state S.Store tx.old.conn.now).in_transaction
-        → OnOk result (GoesOn (state S.Store tx.old.conn.now) (state S.Store tx.new.conn.now)
-        × ((t : Tables) → Holds (state S.Store tx.old.conn.now).now t → Holds (state S.Store tx.new.conn.now).now (applied change.now t))) }
-    ensures put { OnOk result (IsPut change.now) }
+        → OnOk result (Makes change.now (state S.Store tx.old.conn.now) (state S.Store tx.new.conn.now)) }
     ensures kind { result ≢ Err TableFault.Foreign }
     ensures survives { Survives (state S.Store tx.old.conn.now) (state S.Store tx.new.conn.now) (λ _. ⊥) }
 {
@@ -34,14 +37,19 @@ fn make<S: Alter>(tx: &mut Transaction<'_, S>, change: &Change) -> Result<(), Ta
         Change::PutEntry { number, entry } => put_entry(tx, *number, entry),
         Change::SetHeld { number, held } => set_held(tx, *number, *held),
         Change::SetCard { number, card } => set_card(tx, *number, card),
+        Change::ReserveSpan { vid, span } => reserve_span(alloc, tx, *vid, span),
+        Change::ReleaseSpan { vid, span } => release_span(alloc, tx, *vid, span),
         Change::PutVendor { vid, name } => put_vendor(tx, *vid, name),
         Change::PutLicence(name) => put_licence(tx, name),
-        _ => Err(TableFault::NoMemory),
     }
 }
 
 /// Makes the changes of a deed, in turn. The reply that is kept with the deed is for `keep_reply`.
-pub fn store<S: Alter>(tx: &mut Transaction<'_, S>, changes: &[Change]) -> Result<(), TableFault>
+pub fn store<S: Alter>(
+    alloc: Global,
+    tx: &mut Transaction<'_, S>,
+    changes: &[Change],
+) -> Result<(), TableFault>
     ensures same_reference { tx.new.conn.ghost_name ≡ tx.old.conn.ghost_name }
     ensures goes_on { HasCleanDisk (state S.Store tx.new.conn.now) → IsTrue (state S.Store tx.old.conn.now).in_transaction → IsTrue (state S.Store tx.old.conn.now).is_open
         → OnOk result (GoesOn (state S.Store tx.old.conn.now) (state S.Store tx.new.conn.now)) }
@@ -52,7 +60,7 @@ pub fn store<S: Alter>(tx: &mut Transaction<'_, S>, changes: &[Change]) -> Resul
     ensures survives { Survives (state S.Store tx.old.conn.now) (state S.Store tx.new.conn.now) (λ _. ⊥) }
 {
     for change in changes {
-        match make(tx, change) {
+        match make(alloc, tx, change) {
             Ok(()) => {}
             Err(fault) => return Err(fault),
         }

@@ -16,3 +16,4 @@ mod founding;
 mod kept;
 mod lists;
 mod opening;
+mod spans;

@@ -1,14 +1,11 @@
-use Rattle.std.proofs.Common.{◌≡◌, ◌+◌, [], ◌∷◌, ◌++◌, take, sym, ap, subst, ◌∙◌, arith}
-use Rattle.std.specs.List.{AllByRecursion}
+use Rattle.std.proofs.Common.{◌≡◌, ◌+◌, [], ◌∷◌, ◌++◌, take, refl, sym, ap, subst, ◌∙◌, arith, rules}
 use Rattle.std.proofs.lemmas.List.{take_more, take_all}
 use Rattle.sqlite.specs.State.{HasCleanDisk}
 use Rattle.sqlite.specs.Held.{state}
 use Rattle.sqlite.proofs.StateLemmas.{survives_then}
 use Rattle.table_laws.proofs.InsideLemmas.{goes_then}
 use Rattle.registry_rules.specs.declared.change.Change.{Change}
-use Rattle.registry_rows.specs.Tables.{Holds}
-use Rattle.registry_tables.specs.Changed.{applied_all, IsPut}
-use Rattle.registry_tables.proofs.StoreLemmas.{stored_now, applied_more, all_more}
+use Rattle.registry_tables.proofs.StoreLemmas.{AreMade, none_made, made_more, stored_now}
 use Rattle.registry_tables.proofs.changes.store.Goals as goal
 
 pub loop-change-preserved : goal.loop-change-preserved
@@ -28,11 +25,9 @@ loop-change-preserved g c =
       goes = λ clean inside is_open.
           let first = before.goes (early clean) inside is_open in
           goes_then a b d first (c.in-Ok.ensures.made clean first.mode).0;
-      made = λ clean inside is_open t had.
+      made = λ clean inside is_open t had up.
           let first = before.goes (early clean) inside is_open in
-          let later = c.in-Ok.ensures.made clean first.mode in
-          subst (λ x. Holds d.now x) (sym (ap (λ l. applied_all l t) more ∙ applied_more (take i cs) one t)) (later.1 _ (before.made (early clean) inside is_open t had));
-      put = subst (AllByRecursion IsPut) (sym more) (all_more (take i cs) one before.put c.in-Ok.ensures.put);
+          subst (λ l. AreMade l t d.now) (sym more) (made_more (take i cs) one b d t (before.made (early clean) inside is_open t had up) (c.in-Ok.ensures.made clean first.mode));
     }
 
 pub returns-clause-rows : goal.returns-clause-rows
@@ -42,4 +37,12 @@ returns-clause-rows g c clean inside is_open h after legal also founding had lea
     let cs = c.args.changes.now in
     let before = c.loop-change.invariant in
     let all : take c.loop-change.change-index cs ≡ cs = take_all c.loop-change.change-index cs (omega arith) in
-    stored_now cs h after (subst (AllByRecursion IsPut) all before.put) founding leads a b (λ t held. subst (λ l. Holds b.now (applied_all l t)) all (before.made clean inside is_open t held)) had
+    stored_now cs h after founding leads a b (λ t held up. subst (λ l. AreMade l t b.now) all (before.made clean inside is_open t held up)) had
+
+pub loop-change-init : goal.loop-change-init
+loop-change-init g c = record {
+  same = refl;
+  survives = search rules;
+  goes = search rules;
+  made = λ clean inside is_open t had up. none_made t (state g.S.Store c.args.tx.now.conn.now).now had up;
+}

@@ -1,10 +1,11 @@
 use Rattle.std.proofs.Common.{◌≡◌, IsTrue, take}
-use Rattle.std.specs.List.{AllByRecursion}
 use Rattle.sqlite.specs.State.{HasCleanDisk, Survives}
 use Rattle.sqlite.specs.Held.{state}
+use Rattle.sqlite_trees.specs.Tree.{IsAscending}
 use Rattle.table_laws.specs.Inside.{GoesOn}
 use Rattle.registry_rows.specs.Tables.{Tables, Holds}
-use Rattle.registry_tables.specs.Changed.{applied_all, IsPut}
+use Rattle.registry_tables.specs.Rows.{AreApart}
+use Rattle.registry_tables.proofs.StoreLemmas.{AreMade}
 use Rattle.registry_tables.proofs.changes.store.Given as goal
 
 -- the changes so far are made
@@ -15,6 +16,5 @@ invariant-loop-change g l = record {
   goes : HasCleanDisk (state g.S.Store l.tx.conn.now) → IsTrue (state g.S.Store l.initial.tx.conn.now).in_transaction → IsTrue (state g.S.Store l.initial.tx.conn.now).is_open
       → GoesOn (state g.S.Store l.initial.tx.conn.now) (state g.S.Store l.tx.conn.now);
   made : HasCleanDisk (state g.S.Store l.tx.conn.now) → IsTrue (state g.S.Store l.initial.tx.conn.now).in_transaction → IsTrue (state g.S.Store l.initial.tx.conn.now).is_open
-      → (t : Tables) → Holds (state g.S.Store l.initial.tx.conn.now).now t → Holds (state g.S.Store l.tx.conn.now).now (applied_all (take l.change-index l.changes) t);
-  put : AllByRecursion IsPut (take l.change-index l.changes);
+      → (t : Tables) → Holds (state g.S.Store l.initial.tx.conn.now).now t → IsAscending AreApart t.spans → AreMade (take l.change-index l.changes) t (state g.S.Store l.tx.conn.now).now;
 }

@@ -1,0 +1,134 @@
+//! The numbers that an order reserved, kept as maximal spans.
+
+ghost use Rattle.std.specs.Prelude.{◌≡◌, ◌≢◌, ◌+◌, ◌≤◌, ◌++◌, IsTrue, IfOk, OnOk, MatchOption, Err, filter};
+ghost use Rattle.sqlite.specs.State.{HasCleanDisk, Survives, IsUnchanged};
+ghost use Rattle.sqlite.specs.Held.{state};
+ghost use Rattle.sqlite_keyed.specs.Lists.{sort_by};
+ghost use Rattle.table_laws.specs.Inside.{GoesOn};
+ghost use Rattle.registry_rows.specs.Rows.{meets, by_beginning};
+ghost use Rattle.registry_rows.specs.Tables.{Tables, Holds};
+ghost use Rattle.registry_tables.specs.Changed.{with_spans, Makes};
+ghost use Rattle.registry_tables.specs.Reserved.{Reaches, part_of, AreApartFrom};
+
+use crate::TableFault;
+use registry_rows::{cut_spans, find_spans, put_span};
+use registry_rules::Change;
+use sqlite::{Alter, Transaction};
+use std::alloc::Global;
+use usbnum_core::{Pid, Span, Vid};
+
+// The vendor's spans that have any of the numbers from the low to the high one. Rows that are no spans are a fault of the
+// store: the rows were read when it was opened.
+fn spans_meeting<S: Alter>(
+    alloc: Global,
+    tx: &mut Transaction<'_, S>,
+    vid: Vid,
+    low: u32,
+    high: u32,
+) -> Result<Vec<(Vid, Span)>, TableFault>
+    ensures same_reference { tx.new.conn.ghost_name ≡ tx.old.conn.ghost_name }
+    ensures found { HasCleanDisk (state S.Store tx.new.conn.now) → IsTrue (state S.Store tx.old.conn.now).in_transaction
+        → IfOk result (λ found. GoesOn (state S.Store tx.old.conn.now) (state S.Store tx.new.conn.now)
+        × ((t : Tables) → Holds (state S.Store tx.old.conn.now).now t → IsUnchanged (state S.Store tx.old.conn.now) (state S.Store tx.new.conn.now)
+        × (found.items ≡ sort_by by_beginning (filter (meets vid low high) t.spans)))) }
+    ensures kind { result ≢ Err TableFault.Foreign }
+    ensures survives { Survives (state S.Store tx.old.conn.now) (state S.Store tx.new.conn.now) (λ _. ⊥) }
+{
+    match find_spans(alloc, tx, vid, low, high) {
+        Ok(found) => Ok(found),
+        Err(TableFault::NoMemory) => Err(TableFault::NoMemory),
+        Err(_) => Err(TableFault::Store),
+    }
+}
+
+// The least and the greatest number of the span and of those that were found.
+fn reach(found: &[(Vid, Span)], span: &Span) -> (Pid, Pid)
+    ensures { Reaches span.now found.now result.0 result.1 }
+{
+    let mut least = span.first();
+    let mut greatest = span.last();
+    for (_, other) in found {
+        least = least.min(other.first());
+        greatest = greatest.max(other.last());
+    }
+    (least, greatest)
+}
+
+// The numbers from the least one on that are before the first, if there are any.
+fn before(least: Pid, first: Pid) -> Option<Span>
+    ensures { MatchOption result (first ≤ least) (λ part. (part.first ≡ least) × (part.last + 1 ≡ first)) }
+{
+    let end = Pid::new(first.get() - 1)?;
+    Span::new(least, end)
+}
+
+// The numbers after the last, up to the greatest, if there are any.
+fn after(last: Pid, greatest: Pid) -> Option<Span>
+    ensures { MatchOption result (greatest ≤ last) (λ part. (part.first ≡ last + 1) × (part.last ≡ greatest)) }
+{
+    let start = Pid::new(last.get().checked_add(1)?)?;
+    Span::new(start, greatest)
+}
+
+// Puts the part in, if there is one, beside the spans that it is apart from.
+fn put_part<S: Alter>(
+    tx: &mut Transaction<'_, S>,
+    vid: Vid,
+    part: Option<Span>,
+) -> Result<(), TableFault>
+    ensures same_reference { tx.new.conn.ghost_name ≡ tx.old.conn.ghost_name }
+    ensures put { HasCleanDisk (state S.Store tx.new.conn.now) → IsTrue (state S.Store tx.old.conn.now).in_transaction → IsTrue (state S.Store tx.old.conn.now).is_open
+        → OnOk result (GoesOn (state S.Store tx.old.conn.now) (state S.Store tx.new.conn.now)
+        × ((t : Tables) → Holds (state S.Store tx.old.conn.now).now t → AreApartFrom (part_of vid part) t.spans
+        → Holds (state S.Store tx.new.conn.now).now (with_spans (t.spans ++ part_of vid part) t))) }
+    ensures kind { result ≢ Err TableFault.Foreign }
+    ensures survives { Survives (state S.Store tx.old.conn.now) (state S.Store tx.new.conn.now) (λ _. ⊥) }
+{
+    match part {
+        Some(span) => put_span(tx, vid, span),
+        None => Ok(()),
+    }
+}
+
+/// Puts in the numbers of the span: it joins the vendor's spans that overlap it or touch it.
+pub(crate) fn reserve_span<S: Alter>(
+    alloc: Global,
+    tx: &mut Transaction<'_, S>,
+    vid: Vid,
+    span: &Span,
+) -> Result<(), TableFault>
+    ensures same_reference { tx.new.conn.ghost_name ≡ tx.old.conn.ghost_name }
+    ensures made { HasCleanDisk (state S.Store tx.new.conn.now) → IsTrue (state S.Store tx.old.conn.now).in_transaction
+        → OnOk result (Makes (Change.ReserveSpan vid span.now) (state S.Store tx.old.conn.now) (state S.Store tx.new.conn.now)) }
+    ensures kind { result ≢ Err TableFault.Foreign }
+    ensures survives { Survives (state S.Store tx.old.conn.now) (state S.Store tx.new.conn.now) (λ _. ⊥) }
+{
+    let low = u32::from(span.first().get()) - 1;
+    let high = u32::from(span.last().get()) + 1;
+    let found = spans_meeting(alloc, tx, vid, low, high)?;
+    let (least, greatest) = reach(&found, span);
+    cut_spans(tx, vid, low, high)?;
+    put_part(tx, vid, Span::new(least, greatest))
+}
+
+/// Takes out the numbers of the span: of the vendor's spans that overlap it what is on either side stays.
+pub(crate) fn release_span<S: Alter>(
+    alloc: Global,
+    tx: &mut Transaction<'_, S>,
+    vid: Vid,
+    span: &Span,
+) -> Result<(), TableFault>
+    ensures same_reference { tx.new.conn.ghost_name ≡ tx.old.conn.ghost_name }
+    ensures made { HasCleanDisk (state S.Store tx.new.conn.now) → IsTrue (state S.Store tx.old.conn.now).in_transaction
+        → OnOk result (Makes (Change.ReleaseSpan vid span.now) (state S.Store tx.old.conn.now) (state S.Store tx.new.conn.now)) }
+    ensures kind { result ≢ Err TableFault.Foreign }
+    ensures survives { Survives (state S.Store tx.old.conn.now) (state S.Store tx.new.conn.now) (λ _. ⊥) }
+{
+    let low = u32::from(span.first().get());
+    let high = u32::from(span.last().get());
+    let found = spans_meeting(alloc, tx, vid, low, high)?;
+    let (least, greatest) = reach(&found, span);
+    cut_spans(tx, vid, low, high)?;
+    put_part(tx, vid, before(least, span.first()))?;
+    put_part(tx, vid, after(span.last(), greatest))
+}
