@@ -224,7 +224,7 @@ fn no_number_is_free(rt: HostRuntime) -> Result<(), Fail> {
 #[test]
 fn goes_on_from_the_first_unanswered(rt: HostRuntime) -> Result<(), Fail> {
     let three = joined(rt.alloc(), &[ENROL, ASK, GRANT])?;
-    let two = joined(rt.alloc(), &[ENROL, ASK])?;
+    let two = joined(rt.alloc(), &[ENROL, ASK_ANY])?;
     let enrolled = joined(rt.alloc(), &[ENROLLED])?;
     let asked = joined(rt.alloc(), &[ASKED])?;
     let mut registry = founded(&rt, ALL_FIXED);
