@@ -1,9 +1,6 @@
 //! The commands on files: they open what the words name, and hand it on.
 
-use crate::apply::apply_lines;
-use crate::found::found_registry;
-use crate::messages::{Failure, fail, failure_of};
-use crate::trial::trial;
+use registry_commands::{Failure, apply_lines, fail, failure_of, found_registry, trial};
 use registry_store::Registry;
 use sqlite::{Connection, Error, ErrorCode, FileFrom, FileStore, Wary};
 use std::fs;

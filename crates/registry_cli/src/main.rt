@@ -1,28 +1,12 @@
 //! `usbreg`, a registry of shared USB product numbers.
 #![tactic(auto)]
 
-mod apply;
-mod command;
 mod files;
-mod found;
-mod input;
-mod lines;
-mod messages;
-mod program;
-#[cfg(test)]
-mod tests;
-mod trial;
 
-pub use apply::apply_lines;
-pub use command::{Command, Usage, command_of};
 use files::{run_apply, run_found, run_trial};
-pub use found::found_registry;
-pub use input::{InputFault, read_all};
-pub use lines::{BadLine, requests_in};
-pub use messages::Failure;
+use registry_words::{Command, Usage, command_of};
 use std::io;
 use std::process::ExitCode;
-pub use trial::{trial, trial_founding};
 
 fn main(rt: HostRuntime) -> ExitCode {
     ExitCode::from(run(&rt))

@@ -29,8 +29,6 @@ mod checks;
 mod concern;
 mod counting;
 mod deed;
-#[cfg(test)]
-mod dice;
 mod facts;
 mod founding;
 mod importing;
@@ -40,12 +38,6 @@ pub mod laws;
 mod lists;
 mod name;
 mod order;
-#[cfg(test)]
-mod plain;
-#[cfg(test)]
-mod plain_rows;
-#[cfg(test)]
-mod plain_tests;
 mod record;
 mod refusal;
 mod reply;
@@ -55,8 +47,6 @@ mod spelling;
 mod stop;
 mod summing;
 mod text;
-#[cfg(test)]
-mod text_tests;
 mod totals;
 mod vendors;
 mod verdict;

@@ -5,8 +5,6 @@ mod attempt;
 pub mod fault;
 pub mod registry;
 pub mod reopen;
-#[cfg(test)]
-mod tests;
 
 pub use fault::Fault;
 pub use registry::{Registry, RunEnd};

@@ -22,7 +22,5 @@ mod request;
 mod span;
 mod stamp;
 mod stop;
-#[cfg(test)]
-mod tests;
 mod text;
 mod toml_value;

@@ -31,6 +31,3 @@ pub use stamp::Stamp;
 pub use streams::{Inlet, Outlet};
 pub use tag::Tag;
 pub use writing::{WriteFault, write};
-
-#[cfg(test)]
-mod tests;

@@ -24,8 +24,6 @@ mod parts;
 mod pid;
 mod slug;
 mod spans;
-#[cfg(test)]
-mod tests;
 mod text;
 mod title;
 mod vid;

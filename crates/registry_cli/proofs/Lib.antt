@@ -1,6 +1,0 @@
-pub mod ApplyLemmas
-pub mod CommandLemmas
-pub mod EndLemmas
-pub mod NumberLemmas
-pub mod Vectors
-pub mod LineLemmas

@@ -1,7 +1,0 @@
-use Rattle.registry_cli.specs.declared.messages.Failure.TheVariants.{Memory}
-use Rattle.registry_wire.specs.Founding.{founding_listed}
-use Rattle.registry_cli.proofs.EndLemmas.{founding_fails}
-use Rattle.registry_cli.proofs.found.found_by.Goals as goal
-
-pub returns-in-Err : goal.returns-in-Err
-returns-in-Err g c = founding_fails g.S.Store c.args.conn (founding_listed c.args.bytes.now) _ _ c.fail.result c.fail.ensures.status (Memory, c.fail.ensures.told)

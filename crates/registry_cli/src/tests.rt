@@ -1,5 +1,0 @@
-//! What no clause says.
-
-mod lines;
-mod runs;
-mod words;

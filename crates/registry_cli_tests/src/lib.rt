@@ -1,0 +1,9 @@
+//! The program's commands by example: their words, what they write, and their status.
+#![tactic(auto)]
+
+#[cfg(test)]
+mod lines;
+#[cfg(test)]
+mod runs;
+#[cfg(test)]
+mod words;

@@ -1,0 +1,3 @@
+pub mod ApplyLemmas
+pub mod EndLemmas
+pub mod LineLemmas

@@ -1,0 +1,70 @@
+-- What is written and what the registry is after request lines were acted on.
+use Rattle.std.specs.Prelude.{◌≡◌, ◌⊎◌, ◌<◌, ◌≤◌, ◌+◌, ℕ, true, List, length, take, drop, Option, Result, Ok, Err}
+use Rattle.std.specs.Io.KnownBytes.{Appends, Keeps}
+use Rattle.sqlite.specs.Store.{Ghosts}
+use Rattle.sqlite.specs.State.{HasCleanDisk}
+use Rattle.usbids_text.specs.Ends.{AppendsBeginning}
+use Rattle.registry_rules.specs.declared.order.Request.{Request}
+use Rattle.registry_rules.specs.History.{History}
+use Rattle.registry_rules.specs.Run.{after, after_one, answer_one, answers}
+use Rattle.registry_tables.specs.Rows.{newest}
+use Rattle.registry_store.specs.declared.registry.Registry.{Registry}
+use Rattle.registry_store.specs.Promise.{Leaves, Stands, is_spent, state_of}
+use Rattle.registry_store.specs.Run.{HasAnswered, IsPlace}
+use Rattle.registry_commands.specs.declared.lines.BadLine.{BadLine}
+use Rattle.registry_commands.specs.declared.messages.Failure.{Failure}
+use Rattle.registry_commands.specs.Messages.{bad_line_text, exceeds_text, failure_line, reply_line, reply_lines}
+
+-- the reply lines of the requests from one place up to another
+abbrev pub lines_between : History → List Request → ℕ → ℕ → List ℕ
+lines_between h rs a n = reply_lines (drop a (answers h (take n rs)))
+
+-- the message of a failure was written, as far as the errors took it
+abbrev pub TellsFailure : Option (List ℕ) → Option (List ℕ) → Type 0
+TellsFailure old new = (failure : Failure) × AppendsBeginning old new (failure_line failure)
+
+module _ {S : Type 0} {g : Ghosts S} where
+  -- the request is not acted on yet, or was acted on last
+  abbrev pub MayBeActedOn : Registry S g → History → Request → Type 0
+  MayBeActedOn it h r = Stands it h ⊎ Stands it (after_one h r)
+
+  -- A request failed: a beginning of its reply line is out, and a crash leaves the history with or without it.
+  pub record IsCutShort (it : Registry S g) (h : History) (r : Request) (old new : Option (List ℕ)) : Type 0 where
+    pub gained : AppendsBeginning old new (reply_line (answer_one h r))
+    pub leaves : Leaves newest (state_of it) (λ x. (x ≡ h) ⊎ (x ≡ after_one h r))
+    pub ends : (is_spent it ≡ true) ⊎ Stands it (after_one h r)
+
+  -- All requests from this place on are answered: their reply lines are out, and the registry is at the history after them.
+  pub record IsThrough (it : Registry S g) (h : History) (rs : List Request) (a : ℕ) (old new : Option (List ℕ)) : Type 0 where
+    pub gained : Appends old new (reply_lines (drop a (answers h rs)))
+    pub stands : Stands it (after h rs)
+
+  -- The run stopped with n requests answered. Their reply lines are out, and of the next one at most a beginning.
+  -- The registry, and what a crash leaves, has acted on these requests and on at most one more.
+  pub record IsStoppedAt (it : Registry S g) (h : History) (rs : List Request) (a n : ℕ) (old new : Option (List ℕ)) : Type 0 where
+    pub from : a ≤ n
+    pub within : n ≤ length rs
+    pub gained : (middle : Option (List ℕ)) × Appends old middle (lines_between h rs a n) × AppendsBeginning middle new (lines_between h rs n (n + 1))
+    pub leaves : Leaves newest (state_of it) (IsPlace h rs n)
+    pub ends : (is_spent it ≡ true) ⊎ HasAnswered it h rs n
+
+  -- Nothing was acted on and no reply was written. The errors say why, or that there was no memory to say it.
+  pub record IsRejected (it new : Registry S g) (out out_new errors errors_new : Option (List ℕ)) (text : List ℕ) (status : ℕ) : Type 0 where
+    pub same : new ≡ it
+    pub silent : Keeps out out_new
+    pub told : ((status ≡ 2) × AppendsBeginning errors errors_new text) ⊎ ((status ≡ 1) × TellsFailure errors errors_new)
+
+  -- The requests from this place on were acted on in turn: all of them, or up to a failure.
+  pub record IsRun (it new : Registry S g) (rs : List Request) (a : ℕ) (out out_new errors errors_new : Option (List ℕ)) (status : ℕ) : Type 0 where
+    pub statuses : (status ≡ 0) ⊎ (status ≡ 1)
+    pub through : status ≡ 0 → (h : History) → HasAnswered it h rs a → HasCleanDisk (state_of new) → IsThrough new h rs a out out_new
+    pub quiet : status ≡ 0 → Keeps errors errors_new
+    pub stopped : status ≡ 1 → (h : History) → HasAnswered it h rs a → HasCleanDisk (state_of new) → (n : ℕ) × IsStoppedAt new h rs a n out out_new
+    pub told : status ≡ 1 → TellsFailure errors errors_new
+
+  -- what becomes of the requests that were read, of which the first are answered already, or of a line that is none
+  abbrev pub IsApplied : Registry S g → Registry S g → Result (List Request) BadLine → ℕ → Option (List ℕ) → Option (List ℕ) → Option (List ℕ) → Option (List ℕ) → ℕ → Type 0
+  IsApplied it new (Err bad) a out out_new errors errors_new status = IsRejected it new out out_new errors errors_new (bad_line_text bad) status
+  IsApplied it new (Ok rs) a out out_new errors errors_new status =
+      (length rs < a → IsRejected it new out out_new errors errors_new exceeds_text status)
+      × (a ≤ length rs → IsRun it new rs a out out_new errors errors_new status)

@@ -1,0 +1,5 @@
+pub mod Apply
+pub mod Found
+pub mod Lines
+pub mod Messages
+pub mod Trial

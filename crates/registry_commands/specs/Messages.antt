@@ -1,0 +1,40 @@
+-- What the program writes.
+use Rattle.std.specs.Prelude.{List, [], ◌∷◌, ◌++◌, ℕ, codes}
+use Rattle.std.specs.Fmt.{decimal}
+use Rattle.serde_json.specs.Written.{compact_text}
+use Rattle.registry_rules.specs.declared.verdict.Reply.{Reply}
+use Rattle.registry_wire.specs.declared.refusal.WireRefusal.{WireRefusal}
+use Rattle.registry_wire.specs.Replies.{refusal_data, reply_data}
+use Rattle.registry_commands.specs.declared.lines.BadLine.{BadLine}
+use Rattle.registry_commands.specs.declared.messages.Failure.{Failure}
+use Rattle.registry_commands.specs.declared.messages.Failure.TheVariants.{Store, Memory, Foreign, Taken, Spent, File}
+
+-- a reply as a line of the output
+unfoldable pub reply_line : Reply → List ℕ
+reply_line reply = compact_text (reply_data reply) ++ codes "\n"
+
+-- replies as lines, one after another
+abbrev pub reply_lines : List Reply → List ℕ
+reply_lines [] = []
+reply_lines (reply ∷ replies) = reply_line reply ++ reply_lines replies
+
+-- why bytes are no request or no founding, as a line
+unfoldable pub refusal_line : WireRefusal → List ℕ
+refusal_line refusal = compact_text (refusal_data refusal) ++ codes "\n"
+
+-- the first line that is no request, and why
+unfoldable pub bad_line_text : BadLine → List ℕ
+bad_line_text bad = codes "line " ++ decimal bad.number ++ codes ": " ++ refusal_line bad.refusal
+
+-- more requests are said to be answered than there are
+abbrev pub exceeds_text : List ℕ
+exceeds_text = codes "answered exceeds requests\n"
+
+-- why a command fails
+abbrev pub failure_line : Failure → List ℕ
+failure_line Store = codes "fault: store\n"
+failure_line Memory = codes "fault: memory\n"
+failure_line Foreign = codes "fault: foreign\n"
+failure_line Taken = codes "fault: taken\n"
+failure_line Spent = codes "fault: spent\n"
+failure_line File = codes "fault: file\n"

@@ -1,0 +1,34 @@
+-- The registry of a trial, and what a trial writes.
+use Rattle.std.specs.Prelude.{◌≡◌, ◌⊎◌, ℕ, ◌&&◌, nat_le, List, [], ◌∷◌, codes, Option, Result, Ok, Err}
+use Rattle.std.specs.Io.KnownBytes.{Appends, Keeps}
+use Rattle.usbnum_core.specs.Spans.{spans_have}
+use Rattle.usbids_text.specs.Ends.{AppendsBeginning}
+use Rattle.registry_rules.specs.Texts.{AreInOrder}
+use Rattle.registry_rules.specs.declared.founding.Founding.{Founding}
+use Rattle.registry_rules.specs.declared.order.Request.{Request}
+use Rattle.registry_rules.specs.History.{founded}
+use Rattle.registry_rules.specs.Run.{answers}
+use Rattle.registry_commands.specs.declared.lines.BadLine.{BadLine}
+use Rattle.registry_commands.specs.Apply.{TellsFailure}
+use Rattle.registry_commands.specs.Messages.{bad_line_text, reply_lines}
+
+-- vendor 1209, `Shared products`, with the curator `cora`, two licences and the fixed numbers 0001 to 0010
+pub record IsTrial (founding : Founding) : Type 0 where
+  pub vendor : founding.vendor ≡ 4617
+  pub name : founding.name ≡ codes "Shared products"
+  pub curators : AreInOrder (codes "cora" ∷ []) founding.curators
+  pub licences : AreInOrder (codes "MIT" ∷ codes "GPL-3.0-only" ∷ []) founding.licences
+  pub fixed : (n : ℕ) → spans_have founding.fixed n ≡ (nat_le 1 n && nat_le n 16)
+
+-- all requests were acted on after such a founding, and all reply lines are out
+pub record IsTried (rs : List Request) (out out_new : Option (List ℕ)) : Type 0 where
+  pub founding : Founding
+  pub trial : IsTrial founding
+  pub gained : Appends out out_new (reply_lines (answers (founded founding) rs))
+
+-- what a trial writes, and its status
+abbrev pub IsTrialOf : Result (List Request) BadLine → Option (List ℕ) → Option (List ℕ) → Option (List ℕ) → Option (List ℕ) → ℕ → Type 0
+IsTrialOf (Err bad) out out_new errors errors_new status =
+    Keeps out out_new × (((status ≡ 2) × AppendsBeginning errors errors_new (bad_line_text bad)) ⊎ ((status ≡ 1) × TellsFailure errors errors_new))
+IsTrialOf (Ok rs) out out_new errors errors_new status =
+    ((status ≡ 0) × IsTried rs out out_new × Keeps errors errors_new) ⊎ ((status ≡ 1) × TellsFailure errors errors_new)

@@ -1,0 +1,146 @@
+//! Request lines, acted on one after another over a registry.
+
+ghost use Rattle.std.specs.Prelude.{◌≡◌, ◌≤◌, ◌<◌, ◌⊎◌, ℕ, List, length, Ok, OnOk, OnErr};
+ghost use Rattle.sqlite.specs.State.{HasCleanDisk};
+ghost use Rattle.usbids_text.specs.Ends.{AppendsBeginning, MayGive};
+ghost use Rattle.registry_rules.specs.History.{History};
+ghost use Rattle.registry_rules.specs.Run.{after_one, answer_one};
+ghost use Rattle.registry_store.specs.Promise.{Endures, Stands, state_of};
+ghost use Rattle.registry_store.specs.Run.{HasAnswered};
+ghost use Rattle.std.specs.Io.KnownBytes.{Appends};
+ghost use Rattle.registry_commands.specs.Lines.{requests_in};
+ghost use Rattle.registry_commands.specs.Messages.{bad_line_text, exceeds_text, reply_line};
+ghost use Rattle.registry_commands.specs.Apply.{IsApplied, IsCutShort, IsRejected, IsRun, IsStoppedAt, IsThrough, MayBeActedOn, TellsFailure};
+
+use crate::input::read_all;
+use crate::lines::{BadLine, requests_in};
+use crate::messages::{Failure, bad_line_text, fail, failure_of, input_failure, put_reply, tell};
+use registry_rules::Request;
+use registry_store::Registry;
+use sqlite::Alter;
+use std::alloc::Global;
+use usbids_text::{Sink, Source};
+
+/// Acts on a request and writes its reply.
+fn answer<S: Alter, W: Sink>(
+    alloc: Global,
+    registry: &mut Registry<S>,
+    request: &Request,
+    output: &mut W,
+) -> Result<(), Failure>
+    ensures done { (h : History) → MayBeActedOn registry.old h request.now → HasCleanDisk (state_of registry.new)
+        → OnOk result (Stands registry.new (after_one h request.now) × Appends (W.contents output.old) (W.contents output.new) (reply_line (answer_one h request.now))) }
+    ensures stopped { (h : History) → MayBeActedOn registry.old h request.now → HasCleanDisk (state_of registry.new)
+        → OnErr result (IsCutShort registry.new h request.now (W.contents output.old) (W.contents output.new)) }
+    ensures endures { Endures (state_of registry.old) (state_of registry.new) }
+{
+    match registry.act(request) {
+        Ok(reply) => put_reply(alloc, output, &reply),
+        Err(fault) => Err(failure_of(fault)),
+    }
+}
+
+/// Acts on the requests from the first unanswered one on. Each reply is written before the next
+/// request is acted on.
+fn answer_from<S: Alter, W: Sink>(
+    alloc: Global,
+    registry: &mut Registry<S>,
+    requests: &[Request],
+    answered: usize,
+    output: &mut W,
+) -> Result<(), Failure>
+    requires { answered ≤ length requests.now }
+    ensures through { (h : History) → HasAnswered registry.old h requests.now answered → HasCleanDisk (state_of registry.new)
+        → OnOk result (IsThrough registry.new h requests.now answered (W.contents output.old) (W.contents output.new)) }
+    ensures stopped { (h : History) → HasAnswered registry.old h requests.now answered → HasCleanDisk (state_of registry.new)
+        → OnErr result ((n : ℕ) × IsStoppedAt registry.new h requests.now answered n (W.contents output.old) (W.contents output.new)) }
+    ensures endures { Endures (state_of registry.old) (state_of registry.new) }
+{
+    for request in &requests[answered..] {
+        answer(alloc, registry, request, output)?;
+    }
+    Ok(())
+}
+
+/// Tells which line is no request, and answers the status.
+fn reject_line<E: Sink>(alloc: Global, errors: &mut E, bad: BadLine) -> u8
+    ensures { ((result ≡ 2) × AppendsBeginning (E.contents errors.old) (E.contents errors.new) (bad_line_text bad))
+        ⊎ ((result ≡ 1) × TellsFailure (E.contents errors.old) (E.contents errors.new)) }
+{
+    let Ok(text) = bad_line_text(alloc, bad) else {
+        return fail(errors, Failure::Memory);
+    };
+    tell(errors, text.as_str());
+    2
+}
+
+/// Acts on requests that were read, but for the first ones, which are answered.
+fn apply_requests<S: Alter, W: Sink, E: Sink>(
+    alloc: Global,
+    requests: &[Request],
+    answered: u64,
+    registry: &mut Registry<S>,
+    output: &mut W,
+    errors: &mut E,
+) -> u8
+    ensures { IsApplied registry.old registry.new (Ok requests.now) answered (W.contents output.old) (W.contents output.new) (E.contents errors.old) (E.contents errors.new) result }
+{
+    if answered > requests.len() as u64 {
+        tell(errors, "answered exceeds requests\n");
+        return 2;
+    }
+    match answer_from(alloc, registry, requests, answered as usize, output) {
+        Ok(()) => 0,
+        Err(failure) => fail(errors, failure),
+    }
+}
+
+/// Reads request lines and acts on them.
+fn apply_bytes<S: Alter, W: Sink, E: Sink>(
+    alloc: Global,
+    bytes: &[u8],
+    answered: u64,
+    registry: &mut Registry<S>,
+    output: &mut W,
+    errors: &mut E,
+) -> u8
+    ensures { IsApplied registry.old registry.new (requests_in bytes.now) answered (W.contents output.old) (W.contents output.new) (E.contents errors.old) (E.contents errors.new) result }
+{
+    match requests_in(alloc, bytes) {
+        Ok(Ok(requests)) => apply_requests(
+            alloc,
+            requests.as_slice(),
+            answered,
+            registry,
+            output,
+            errors,
+        ),
+        Ok(Err(bad)) => reject_line(alloc, errors, bad),
+        Err(_) => fail(errors, Failure::Memory),
+    }
+}
+
+/// Acts on the requests of all lines of a source, but for the first ones, of which it is said how many
+/// are answered. All lines are read before the first request is acted on, and each reply line is
+/// written before the next request is acted on.
+///
+/// The status is 0 where all requests were acted on, refused ones too, and all reply lines are
+/// written. It is 2 where a line is no request or fewer requests are there than are answered: then
+/// nothing is acted on, and the errors say why. It is 1 after a failure, which the errors name: of the
+/// source, the registry, the output, or memory. Where the errors fail nothing else changes.
+pub fn apply_lines<R: Source, S: Alter, W: Sink, E: Sink>(
+    alloc: Global,
+    source: &mut R,
+    answered: u64,
+    registry: &mut Registry<S>,
+    output: &mut W,
+    errors: &mut E,
+) -> u8
+    ensures { (bytes : List ℕ) × MayGive (R.remaining source.old) bytes
+        × IsApplied registry.old registry.new (requests_in bytes) answered (W.contents output.old) (W.contents output.new) (E.contents errors.old) (E.contents errors.new) result }
+{
+    match read_all(alloc, source) {
+        Ok(bytes) => apply_bytes(alloc, bytes.as_slice(), answered, registry, output, errors),
+        Err(fault) => fail(errors, input_failure(fault)),
+    }
+}

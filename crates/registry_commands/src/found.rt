@@ -1,0 +1,81 @@
+//! A registry that is founded on a connection, by a founding file.
+
+ghost use Rattle.std.specs.Prelude.{◌≡◌, ◌⊎◌, ℕ, List};
+ghost use Rattle.usbids_text.specs.Ends.{AppendsBeginning, MayGive};
+ghost use Rattle.registry_wire.specs.Founding.{founding_listed};
+ghost use Rattle.registry_commands.specs.Apply.{TellsFailure};
+ghost use Rattle.registry_commands.specs.Messages.{refusal_line};
+ghost use Rattle.registry_commands.specs.Found.{IsFoundBy, IsTriedOn};
+
+use crate::input::read_all;
+use crate::messages::{Failure, fail, failure_of, input_failure, refusal_line, tell};
+use registry_rules::Founding;
+use registry_store::Registry;
+use registry_wire::{WireRefusal, founding_from_toml};
+use sqlite::{Alter, Connection};
+use std::alloc::Global;
+use usbids_text::{Sink, Source};
+
+/// Tells why a founding file is none, and answers the status.
+fn reject<E: Sink>(alloc: Global, errors: &mut E, refusal: WireRefusal) -> u8
+    ensures { ((result ≡ 2) × AppendsBeginning (E.contents errors.old) (E.contents errors.new) (refusal_line refusal))
+        ⊎ ((result ≡ 1) × TellsFailure (E.contents errors.old) (E.contents errors.new)) }
+{
+    let Ok(text) = refusal_line(alloc, refusal) else {
+        return fail(errors, Failure::Memory);
+    };
+    tell(errors, text.as_str());
+    2
+}
+
+/// Founds a registry, and hands back the connection with the status.
+fn found_with<S: Alter, E: Sink>(
+    alloc: Global,
+    conn: Connection<S>,
+    founding: &Founding,
+    errors: &mut E,
+) -> (u8, Connection<S>)
+    ensures { IsTriedOn S.Store conn result.1 founding.now (E.contents errors.old) (E.contents errors.new) result.0 }
+{
+    match Registry::found(alloc, conn, founding) {
+        Ok(registry) => (0, registry.close()),
+        Err((fault, conn)) => (fail(errors, failure_of(fault)), conn),
+    }
+}
+
+/// The same by the bytes of a founding file.
+fn found_by<S: Alter, E: Sink>(
+    alloc: Global,
+    conn: Connection<S>,
+    bytes: &[u8],
+    errors: &mut E,
+) -> (u8, Connection<S>)
+    ensures { IsFoundBy S.Store conn result.1 (founding_listed bytes.now) (E.contents errors.old) (E.contents errors.new) result.0 }
+{
+    match founding_from_toml(alloc, bytes) {
+        Ok(Ok(founding)) => found_with(alloc, conn, &founding, errors),
+        Ok(Err(refusal)) => (reject(alloc, errors, refusal), conn),
+        Err(_) => (fail(errors, Failure::Memory), conn),
+    }
+}
+
+/// Founds a registry on a connection, by the founding file that a source gives, and hands back the
+/// connection with the status.
+///
+/// The status is 0 where the registry is founded. It is 2 where the source gives no founding file:
+/// then nothing is changed, and the errors say why. It is 1 after a failure, which the errors name;
+/// one is that the store holds a registry already, which is never replaced.
+pub fn found_registry<R: Source, S: Alter, E: Sink>(
+    alloc: Global,
+    conn: Connection<S>,
+    source: &mut R,
+    errors: &mut E,
+) -> (u8, Connection<S>)
+    ensures { (bytes : List ℕ) × MayGive (R.remaining source.old) bytes
+        × IsFoundBy S.Store conn result.1 (founding_listed bytes) (E.contents errors.old) (E.contents errors.new) result.0 }
+{
+    match read_all(alloc, source) {
+        Ok(bytes) => found_by(alloc, conn, bytes.as_slice(), errors),
+        Err(fault) => (fail(errors, input_failure(fault)), conn),
+    }
+}

@@ -1,0 +1,65 @@
+//! The lines of some bytes, and the requests that they are.
+
+ghost use Rattle.std.specs.Prelude.{◌≡◌, ◌==◌, ◌<◌, ◌∷◌, length, position, IfOk, MatchResult, Ok, Err};
+ghost use Rattle.registry_commands.specs.Lines.{is_blank, lines_of, requests_in};
+
+use registry_rules::Request;
+use registry_wire::{WireRefusal, line_request};
+use std::alloc::Global;
+use usbnum_core::NoMemory;
+
+/// A line that is no request, by its number from 1 over all lines, the blank ones too.
+#[derive(Clone, Copy, Debug, PartialEq, Eq)]
+pub struct BadLine {
+    pub number: u64,
+    pub refusal: WireRefusal,
+}
+
+/// Where the first line ends at a line feed.
+fn line_feed(bytes: &[u8]) -> Option<usize>
+    ensures { result ≡ position (λ b. b == 10) bytes.now }
+{
+    bytes.iter().position(|b| *b == b'\n')
+}
+
+/// The first line, and what follows its line feed.
+fn first_line(bytes: &[u8]) -> (&[u8], &[u8])
+    requires { 0 < length bytes.now }
+    ensures lines { lines_of bytes.now ≡ result.0.now ∷ lines_of result.1.now }
+    ensures shorter { length result.1.now < length bytes.now }
+{
+    match line_feed(bytes) {
+        Some(end) => (&bytes[..end], &bytes[end + 1..]),
+        None => (bytes, &[]),
+    }
+}
+
+/// Whether the line has spaces, tabs and carriage returns alone.
+#[tactic(auto, unfolding(crate::specs::Lines::is_blank))]
+fn is_blank(line: &[u8]) -> bool
+    ensures { result ≡ is_blank line.now }
+{
+    line.iter()
+        .all(|b| *b == b' ' || *b == b'\t' || *b == b'\r')
+}
+
+/// The requests of the lines that aren't blank, in order, or the first line that is no request.
+pub fn requests_in(alloc: Global, bytes: &[u8]) -> Result<Result<Vec<Request>, BadLine>, NoMemory>
+    ensures { IfOk result (λ read. MatchResult read (λ v. requests_in bytes.now ≡ Ok v.items) (λ bad. requests_in bytes.now ≡ Err bad)) }
+{
+    let mut requests = Vec::new(alloc);
+    let mut rest = bytes;
+    let mut number = 1;
+    while !rest.is_empty() {
+        let (line, after) = first_line(rest);
+        if !is_blank(line) {
+            match line_request(alloc, line)? {
+                Ok(request) => requests.push(request)?,
+                Err(refusal) => return Ok(Err(BadLine { number, refusal })),
+            }
+        }
+        rest = after;
+        number += 1;
+    }
+    Ok(Ok(requests))
+}

@@ -1,0 +1,139 @@
+//! What the program writes: replies, and why it rejects an input or fails.
+
+ghost use Rattle.std.specs.Prelude.{◌≡◌, ℕ, IfOk, OnOk, OnErr, Err, MatchResult};
+ghost use Rattle.std.specs.String.{string_bytes};
+ghost use Rattle.std.specs.Io.KnownBytes.{Appends};
+ghost use Rattle.usbids_text.specs.Ends.{AppendsBeginning, HasFailed};
+ghost use Rattle.registry_commands.specs.Messages.{bad_line_text, failure_line, refusal_line, reply_line};
+
+use crate::input::InputFault;
+use crate::lines::BadLine;
+use registry_rules::Reply;
+use registry_store::Fault;
+use registry_wire::{WireRefusal, refusal_json, reply_json};
+use std::alloc::Global;
+use usbids_text::{Broken, Sink, put_all};
+use usbnum_core::NoMemory;
+
+/// Why a command fails.
+#[derive(Clone, Copy, Debug, PartialEq, Eq)]
+pub enum Failure {
+    /// The store refused or failed.
+    Store,
+    /// There is no memory for something that is needed.
+    Memory,
+    /// The store holds no registry.
+    Foreign,
+    /// The store holds a registry already.
+    Taken,
+    /// The registry had a fault before.
+    Spent,
+    /// An input or the output failed.
+    File,
+}
+
+impl Failure {
+    ghost use Rattle.std.specs.Prelude.{◌≡◌};
+    ghost use Rattle.registry_commands.specs.Messages.{failure_line};
+
+    /// What the user is told, as a line.
+    pub fn line(self) -> &'static str
+        ensures { result.now ≡ failure_line self }
+    {
+        match self {
+            Failure::Store => "fault: store\n",
+            Failure::Memory => "fault: memory\n",
+            Failure::Foreign => "fault: foreign\n",
+            Failure::Taken => "fault: taken\n",
+            Failure::Spent => "fault: spent\n",
+            Failure::File => "fault: file\n",
+        }
+    }
+}
+
+/// The failure that a fault of the registry is.
+pub fn failure_of(fault: Fault) -> Failure {
+    match fault {
+        Fault::Store => Failure::Store,
+        Fault::NoMemory => Failure::Memory,
+        Fault::Foreign => Failure::Foreign,
+        Fault::Taken => Failure::Taken,
+        Fault::Spent => Failure::Spent,
+    }
+}
+
+/// The failure that an input's is.
+pub(crate) fn input_failure(fault: InputFault) -> Failure {
+    match fault {
+        InputFault::File => Failure::File,
+        InputFault::NoMemory => Failure::Memory,
+    }
+}
+
+/// A reply as a line of the output.
+#[tactic(auto, unfolding(crate::specs::Messages::reply_line))]
+fn reply_line(alloc: Global, reply: &Reply) -> Result<String, NoMemory>
+    ensures { IfOk result (λ line. string_bytes line ≡ reply_line reply.now) }
+{
+    let mut line = reply_json(alloc, reply)?;
+    line.push_str("\n")?;
+    Ok(line)
+}
+
+/// Why bytes are no request or no founding, as a line.
+#[tactic(auto, unfolding(crate::specs::Messages::refusal_line))]
+pub(crate) fn refusal_line(alloc: Global, refusal: WireRefusal) -> Result<String, NoMemory>
+    ensures { IfOk result (λ line. string_bytes line ≡ refusal_line refusal) }
+{
+    let mut line = refusal_json(alloc, refusal)?;
+    line.push_str("\n")?;
+    Ok(line)
+}
+
+/// The line that is no request, by its number, and why.
+#[tactic(auto, unfolding(crate::specs::Messages::bad_line_text))]
+pub(crate) fn bad_line_text(alloc: Global, bad: BadLine) -> Result<String, NoMemory>
+    ensures { IfOk result (λ text. string_bytes text ≡ bad_line_text bad) }
+{
+    let number = bad.number;
+    let line = refusal_line(alloc, bad.refusal)?;
+    Ok(format!(in alloc; "line {number}: {line}")?)
+}
+
+/// Writes to the errors. If they fail, nothing else changes.
+pub(crate) fn tell<E: Sink>(errors: &mut E, text: &str)
+    ensures { AppendsBeginning (E.contents errors.old) (E.contents errors.new) text.now }
+{
+    let _ = put_all(errors, text.as_bytes());
+}
+
+/// Tells why the command fails, and answers the status.
+pub fn fail<E: Sink>(errors: &mut E, failure: Failure) -> u8
+    ensures status { result ≡ 1 }
+    ensures told { AppendsBeginning (E.contents errors.old) (E.contents errors.new) (failure_line failure) }
+{
+    tell(errors, failure.line());
+    1
+}
+
+/// Writes a reply as a line.
+///
+/// The failure is `File` only where the output failed, else `Memory`. Either way a beginning of the
+/// line was written.
+pub(crate) fn put_reply<W: Sink>(
+    alloc: Global,
+    output: &mut W,
+    reply: &Reply,
+) -> Result<(), Failure>
+    ensures ok { OnOk result (Appends (W.contents output.old) (W.contents output.new) (reply_line reply.now)) }
+    ensures err { OnErr result (AppendsBeginning (W.contents output.old) (W.contents output.new) (reply_line reply.now)) }
+    ensures file { result ≡ Err Failure.File → HasFailed (W.failures output.old) (W.failures output.new) }
+{
+    let Ok(line) = reply_line(alloc, reply) else {
+        return Err(Failure::Memory);
+    };
+    match put_all(output, line.as_bytes()) {
+        Ok(()) => Ok(()),
+        Err(Broken) => Err(Failure::File),
+    }
+}

@@ -1,4 +1,0 @@
-mod files;
-mod lines;
-mod replies;
-mod values;

@@ -1,0 +1,302 @@
+//! The program's command line, as `clap` is told of it.
+
+ghost use Rattle.std.specs.Prelude.{◌≡◌, IfOk, false, codes};
+ghost use Rattle.clap.specs.Words.{app_of, rule_of, new_app, with_rule, with_subcommand};
+ghost use Rattle.clap.specs.declared.builder.command.Command.TheViews.{out-Command};
+ghost use Rattle.registry_words.specs.Commands.{apply_app, bare_app, export_app, found_app, import_app, lookup_app, needed_option, numeric, option, report_app, serve_app, trial_app, usbreg_app, word};
+
+use clap::builder::ValueParser;
+use clap::{Arg, Command};
+use std::alloc::{AllocError, Global};
+
+/// A word that has to be there, at its place.
+fn word<'a>(alloc: Global, name: &'a str, shown: &'a str, help: &'a str) -> Arg<'a>
+    ensures rule { rule_of result ≡ word name.entry.now }
+    ensures local { result.global ≡ false }
+{
+    Arg::new(alloc, name)
+        .required(true)
+        .value_name(shown)
+        .help(help)
+}
+
+/// `--name VALUE`, which may be left out.
+fn option<'a>(alloc: Global, name: &'a str, shown: &'a str, help: &'a str) -> Arg<'a>
+    ensures rule { rule_of result ≡ option name.entry.now }
+    ensures local { result.global ≡ false }
+{
+    Arg::new(alloc, name)
+        .long(name)
+        .value_name(shown)
+        .help(help)
+}
+
+/// `--name VALUE`, which has to be there.
+fn needed_option<'a>(alloc: Global, name: &'a str, shown: &'a str, help: &'a str) -> Arg<'a>
+    ensures rule { rule_of result ≡ needed_option name.entry.now }
+    ensures local { result.global ≡ false }
+{
+    option(alloc, name, shown, help).required(true)
+}
+
+/// The same argument, with a decimal number between the two as its value.
+fn numeric<'a>(arg: Arg<'a>, low: u64, high: u64) -> Arg<'a>
+    ensures rule { rule_of result ≡ numeric low high (rule_of arg.entry) }
+    ensures local { result.global ≡ arg.entry.global }
+{
+    arg.value_parser(ValueParser::Unsigned(low, high))
+}
+
+/// A subcommand with what it does and an example of it.
+fn subcommand<'a>(alloc: Global, name: &'a str, about: &'a str, example: &'a str) -> Command<'a>
+    ensures app { app_of result ≡ new_app name.entry.now }
+    ensures local { (out-Command result).has_globals ≡ false }
+{
+    Command::new(alloc, name).about(about).after_help(example)
+}
+
+fn with_arg<'a>(command: Command<'a>, arg: Arg<'a>) -> Result<Command<'a>, AllocError>
+    requires { arg.global ≡ false }
+    ensures app { IfOk result (λ c. app_of c ≡ with_rule (app_of command.entry) (rule_of arg.entry)) }
+    ensures local { IfOk result (λ c. (out-Command c).has_globals ≡ (out-Command command.entry).has_globals) }
+{
+    command.arg(arg)
+}
+
+fn with_command<'a>(command: Command<'a>, sub: Command<'a>) -> Result<Command<'a>, AllocError>
+    requires { (out-Command sub).has_globals ≡ false }
+    ensures app { IfOk result (λ c. app_of c ≡ with_subcommand (app_of command.entry) (app_of sub.entry).top) }
+{
+    command.subcommand(sub)
+}
+
+#[tactic(auto, unfolding(crate::specs::Commands::trial_app))]
+fn trial<'a>(alloc: Global) -> Result<Command<'a>, AllocError>
+    ensures app { IfOk result (λ c. app_of c ≡ trial_app) }
+    ensures local { IfOk result (λ c. (out-Command c).has_globals ≡ false) }
+{
+    Ok(subcommand(
+        alloc,
+        "trial",
+        "Try the registry: run request lines over one in memory, which is then forgotten",
+        "Request lines come from standard input, one JSON object a line; a reply line is printed \
+         for each.\n\nExample:\n  usbreg trial < examples/first.jsonl",
+    ))
+}
+
+#[tactic(auto, unfolding(crate::specs::Commands::found_app))]
+fn found<'a>(alloc: Global) -> Result<Command<'a>, AllocError>
+    ensures app { IfOk result (λ c. app_of c ≡ found_app) }
+    ensures local { IfOk result (λ c. (out-Command c).has_globals ≡ false) }
+{
+    let command = subcommand(
+        alloc,
+        "found",
+        "Found a registry in a new file",
+        "FOUNDING names the vendor, its name, the curators, the licences that are allowed and the \
+         numbers that stay reserved.\n\nExample:\n  usbreg found numbers.db founding.toml",
+    );
+    let command = with_arg(
+        command,
+        word(alloc, "store", "STORE", "The registry's file"),
+    )?;
+    with_arg(
+        command,
+        word(
+            alloc,
+            "founding",
+            "FOUNDING",
+            "A TOML file with the founding",
+        ),
+    )
+}
+
+#[tactic(auto, unfolding(crate::specs::Commands::apply_app))]
+fn apply<'a>(alloc: Global) -> Result<Command<'a>, AllocError>
+    ensures app { IfOk result (λ c. app_of c ≡ apply_app) }
+    ensures local { IfOk result (λ c. (out-Command c).has_globals ≡ false) }
+{
+    let command = subcommand(
+        alloc,
+        "apply",
+        "Run the request lines of a file over a registry",
+        "After a stop, count the reply lines that were printed and run the same file again with \
+         that count: no request is acted on twice.\n\nExample:\n  usbreg apply numbers.db \
+         requests.jsonl\n  usbreg apply numbers.db requests.jsonl --answered 6",
+    );
+    let command = with_arg(
+        command,
+        word(alloc, "store", "STORE", "The registry's file"),
+    )?;
+    let command = with_arg(
+        command,
+        word(alloc, "file", "FILE", "One JSON object a line"),
+    )?;
+    let answered = option(
+        alloc,
+        "answered",
+        "N",
+        "How many requests were answered before",
+    );
+    with_arg(command, numeric(answered, 0, u64::MAX))
+}
+
+#[tactic(auto, unfolding(crate::specs::Commands::import_app))]
+fn import<'a>(alloc: Global) -> Result<Command<'a>, AllocError>
+    ensures app { IfOk result (λ c. app_of c ≡ import_app) }
+    ensures local { IfOk result (λ c. (out-Command c).has_globals ≡ false) }
+{
+    let command = subcommand(
+        alloc,
+        "import",
+        "Give an organisation the devices of a list, as far as they are free",
+        "Example:\n  usbreg import numbers.db usb.ids --caller cora --key first-list --org acme",
+    );
+    let command = with_arg(
+        command,
+        word(alloc, "store", "STORE", "The registry's file"),
+    )?;
+    let command = with_arg(command, word(alloc, "list", "LIST", "A list as in usb.ids"))?;
+    let command = with_sender(alloc, command)?;
+    let vendor = option(alloc, "vendor", "V", "The vendor, if not the founding one");
+    with_arg(command, vendor)
+}
+
+/// The command with who asks, under which key and for whom.
+fn with_sender<'a>(alloc: Global, command: Command<'a>) -> Result<Command<'a>, AllocError>
+    ensures app { IfOk result (λ c. app_of c ≡ with_rule (with_rule (with_rule (app_of command.entry)
+        (needed_option (codes "caller"))) (needed_option (codes "key"))) (needed_option (codes "org"))) }
+    ensures local { IfOk result (λ c. (out-Command c).has_globals ≡ (out-Command command.entry).has_globals) }
+{
+    let caller = needed_option(alloc, "caller", "C", "Who asks");
+    let key = needed_option(alloc, "key", "K", "A key that this caller uses once");
+    let org = needed_option(alloc, "org", "O", "The organisation that gets the numbers");
+    let command = with_arg(command, caller)?;
+    let command = with_arg(command, key)?;
+    with_arg(command, org)
+}
+
+#[tactic(auto, unfolding(crate::specs::Commands::serve_app))]
+fn serve<'a>(alloc: Global) -> Result<Command<'a>, AllocError>
+    ensures app { IfOk result (λ c. app_of c ≡ serve_app) }
+    ensures local { IfOk result (λ c. (out-Command c).has_globals ≡ false) }
+{
+    let command = subcommand(
+        alloc,
+        "serve",
+        "Serve a registry by HTTP on 127.0.0.1, one connection after another",
+        "Example:\n  usbreg serve numbers.db --port 8080",
+    );
+    let command = with_arg(
+        command,
+        word(alloc, "store", "STORE", "The registry's file"),
+    )?;
+    let port = needed_option(alloc, "port", "P", "The port, from 1 to 65535");
+    let command = with_arg(command, numeric(port, 1, 65_535))?;
+    let count = option(alloc, "count", "N", "End after so many connections");
+    with_arg(command, numeric(count, 0, 4_294_967_295))
+}
+
+#[tactic(auto, unfolding(crate::specs::Commands::export_app))]
+fn export<'a>(alloc: Global) -> Result<Command<'a>, AllocError>
+    ensures app { IfOk result (λ c. app_of c ≡ export_app) }
+    ensures local { IfOk result (λ c. (out-Command c).has_globals ≡ false) }
+{
+    let command = subcommand(
+        alloc,
+        "export",
+        "Print the held numbers as a list in the syntax of usb.ids",
+        "Example:\n  usbreg export numbers.db --stamp '2024-01-30 20:34:13' > usb.ids",
+    );
+    let command = with_arg(
+        command,
+        word(alloc, "store", "STORE", "The registry's file"),
+    )?;
+    let stamp = option(alloc, "stamp", "TEXT", "When the list was made");
+    with_arg(command, stamp)
+}
+
+#[tactic(auto, unfolding(crate::specs::Commands::report_app))]
+fn report<'a>(alloc: Global) -> Result<Command<'a>, AllocError>
+    ensures app { IfOk result (λ c. app_of c ≡ report_app) }
+    ensures local { IfOk result (λ c. (out-Command c).has_globals ≡ false) }
+{
+    let command = subcommand(
+        alloc,
+        "report",
+        "Print what is free and held, who holds it, or the open petitions",
+        "Example:\n  usbreg report numbers.db census",
+    );
+    let command = with_arg(
+        command,
+        word(alloc, "store", "STORE", "The registry's file"),
+    )?;
+    let name = word(alloc, "name", "NAME", "census, holders or petitions");
+    with_arg(command, name)
+}
+
+#[tactic(auto, unfolding(crate::specs::Commands::lookup_app))]
+fn lookup<'a>(alloc: Global) -> Result<Command<'a>, AllocError>
+    ensures app { IfOk result (λ c. app_of c ≡ lookup_app) }
+    ensures local { IfOk result (λ c. (out-Command c).has_globals ≡ false) }
+{
+    let command = subcommand(
+        alloc,
+        "lookup",
+        "Print the name of a device in a list",
+        "Example:\n  usbreg lookup usb.ids 1209 0011",
+    );
+    let command = with_arg(command, word(alloc, "list", "LIST", "A list as in usb.ids"))?;
+    let command = with_arg(
+        command,
+        word(alloc, "vid", "VID", "Four hexadecimal digits"),
+    )?;
+    with_arg(
+        command,
+        word(alloc, "pid", "PID", "Four hexadecimal digits"),
+    )
+}
+
+/// The program without its subcommands.
+#[tactic(auto, unfolding(crate::specs::Commands::bare_app))]
+fn bare<'a>(alloc: Global) -> Command<'a>
+    ensures { app_of result ≡ bare_app }
+{
+    Command::new(alloc, "usbreg")
+        .version("0.1.0")
+        .about("A registry of shared USB product numbers, which loses and doubles no grant")
+        .after_help(
+            "With no command it is `trial`.\n\nExit status: 0, 1 after a fault of the store, of \
+             memory or of a file, 2 for words or lines that are refused.",
+        )
+}
+
+/// The program with the commands that take requests.
+fn with_requests<'a>(alloc: Global, program: Command<'a>) -> Result<Command<'a>, AllocError>
+    ensures { IfOk result (λ c. app_of c ≡ with_subcommand (with_subcommand (with_subcommand (with_subcommand
+        (app_of program.entry) trial_app.top) found_app.top) apply_app.top) import_app.top) }
+{
+    let program = with_command(program, trial(alloc)?)?;
+    let program = with_command(program, found(alloc)?)?;
+    let program = with_command(program, apply(alloc)?)?;
+    with_command(program, import(alloc)?)
+}
+
+/// The program with the commands that show something.
+fn with_views<'a>(alloc: Global, program: Command<'a>) -> Result<Command<'a>, AllocError>
+    ensures { IfOk result (λ c. app_of c ≡ with_subcommand (with_subcommand (with_subcommand (with_subcommand
+        (app_of program.entry) serve_app.top) export_app.top) report_app.top) lookup_app.top) }
+{
+    let program = with_command(program, serve(alloc)?)?;
+    let program = with_command(program, export(alloc)?)?;
+    let program = with_command(program, report(alloc)?)?;
+    with_command(program, lookup(alloc)?)
+}
+
+/// `usbreg` with all its subcommands.
+pub fn usbreg<'a>(alloc: Global) -> Result<Command<'a>, AllocError>
+    ensures { IfOk result (λ c. app_of c ≡ usbreg_app) }
+{
+    let program = with_requests(alloc, bare(alloc))?;
+    with_views(alloc, program)
+}

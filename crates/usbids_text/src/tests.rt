@@ -1,5 +1,0 @@
-//! What no contract says: that calls succeed, and the values of outside examples.
-mod ends;
-mod reading;
-mod values;
-mod writing;
