@@ -25,7 +25,10 @@ fn span(first: u16, last: u16) -> Span
     ensures first { result.first ≡ first }
     ensures last { result.last ≡ last }
 {
-    Span::between(pid(first), pid(last))
+    match Span::new(pid(first), pid(last)) {
+        Some(span) => span,
+        None => unreachable!(),
+    }
 }
 
 #[test]
