@@ -1,7 +1,7 @@
 //! The reply to each act, as it stands in documents of its own.
 
 use crate::values::{acme, link, petition, pid, slug, span, terms, title, vid};
-use registry_rules::{Act, Card, Deed, NumberName, Order, SpanName, Tally, reply_text};
+use registry_rules::{Act, Card, Deed, Items, NumberName, Order, SpanName, Tally, reply_text};
 use std::alloc::Global;
 use std::process::Abort;
 use std::test::Fail;
