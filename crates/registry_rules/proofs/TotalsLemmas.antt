@@ -1,32 +1,30 @@
 -- Totals after a deed are those of the history with it.
-use Rattle.std.proofs.Common.{◌≡◌, ◌∙◌, ap, ap₂, subst, sym, refl, ℕ, ◌+◌, ◌-◌, ◌<◌, ◌≤◌, Bool, true, false, List, [], ◌∷◌, ◌++◌, Option, Some, None, length, length-append, append_assoc, arith, ◌⊎◌, ⊎_elim}
-use Rattle.std.specs.Prelude.{nat_eq, nat_lt, find, unwrap_or, is_some, if◌then◌else◌, ◌&&◌, ◌||◌, not}
-use Rattle.std.proofs.lemmas.Bool.{ltb-true, eq-eqb, ne_eqb, eqb-true, eqb-false, and_parts}
-use Rattle.std.specs.List.{list_any, AllByRecursion}
+use Rattle.std.proofs.Common.{◌≡◌, ◌∙◌, ap, ap₂, subst, sym, refl, ℕ, ◌+◌, ◌-◌, ◌<◌, ◌≤◌, true, false, List, [], ◌∷◌, ◌++◌, None, length, length-append, append_assoc, arith}
+use Rattle.std.specs.Prelude.{nat_eq, nat_lt, find, is_some, if◌then◌else◌, ◌&&◌, ◌||◌, not}
+use Rattle.std.proofs.lemmas.Bool.{ltb-true}
+use Rattle.std.specs.List.{list_any}
 use Rattle.std.specs.Str.{bytes_eq}
 use Rattle.std.proofs.lemmas.List.Folds.{find-append, list_any-append}
 use Rattle.usbnum_core.specs.Spans.{span_has, spans_have}
 use Rattle.usbnum_core.specs.declared.number.Number.{Number}
-use Rattle.usbnum_core.specs.declared.number.Span.{Span}
 use Rattle.registry_rules.specs.Number.{number, is_number}
-use Rattle.std.specs.Option.{option_map, option_or}
-use Rattle.registry_rules.specs.History.{History, with_deed, sooner, last_of, all_of}
-use Rattle.registry_rules.specs.Query.{enrolled, asked, open_count, owner_of, is_reserved, is_fixed, is_licence, licences, vendors, item_of, adds_licence, adds_vendor, given, reserves}
+use Rattle.std.specs.Option.{option_or}
+use Rattle.registry_rules.specs.History.{History, with_deed, last_of, all_of}
+use Rattle.registry_rules.specs.Query.{enrolled, asked, open_count, owner_of, is_reserved, is_fixed, is_licence, licences, vendors, item_of, adds_licence, adds_vendor, reserves}
 use Rattle.registry_rules.specs.Rows.{LeadsTo}
 use Rattle.registry_rules.specs.Changes.{act_changes}
 use Rattle.registry_rules.specs.Run.{Legal}
 use Rattle.registry_rules.specs.Sets.{count_at, numbers_at}
 use Rattle.registry_rules.specs.FactsOf.{IsFoundingOf, AreVendorsOf}
 use Rattle.registry_rules.specs.TotalsOf.{IsSummary, AreTotalsOf}
-use Rattle.registry_rules.specs.Carrying.{Asks, Closes, HasTaken, Reserves, Releases, Imports, Allows, Carries, takes}
+use Rattle.registry_rules.specs.Carrying.{Asks, Closes, HasTaken, Reserves, Releases, Imports, Allows, Carries}
 use Rattle.registry_rules.specs.Verdict.{verdict, standing_at}
-use Rattle.registry_rules.specs.Import.{Standing}
 use Rattle.registry_rules.proofs.FollowLemmas.{CanEnrol, CanAsk, CanGrant, CanClose, CanRelease, CanImport, Follows, new_follows}
-use Rattle.registry_rules.proofs.ImportLemmas.{IsFreshItem}
 use Rattle.registry_rules.proofs.RunLemmas.{legal_new}
 use Rattle.registry_rules.proofs.Unrepeated.{licences_counted, ascending_distinct}
 use Rattle.registry_rules.proofs.NumberLemmas.{owned_or_reserved}
 use Rattle.registry_rules.proofs.OpenLemmas.{open_after_ask, open_after_close}
+use Rattle.registry_rules.proofs.TakenLemmas.{taken_more, same_test, reserves_taken, reserves_reserved, released_taken, released_reserved, unowned_by, in_span, takes_by, imported_taken}
 use Rattle.registry_rules.proofs.ChangeLemmas.{leads_to}
 use Rattle.registry_rules.specs.declared.deed.Deed.{Deed}
 use Rattle.registry_rules.specs.declared.deed.Act.{Act}
@@ -114,25 +112,6 @@ asked_more h caller key order id petition old new can leads is s =
       reserved = s.reserved;
       nothing = s.nothing;
     })
-
--- the numbers that are taken, by one more that has an owner
-taken_more : (owner : Option (List ℕ)) (reserved this : Bool) (org : List ℕ) → ((is_some owner || reserved) || this) ≡ (is_some (sooner owner (given this org)) || reserved)
-taken_more None false false org = refl
-taken_more None false true org = refl
-taken_more None true false org = refl
-taken_more None true true org = refl
-taken_more (Some owner) false false org = refl
-taken_more (Some owner) false true org = refl
-taken_more (Some owner) true false org = refl
-taken_more (Some owner) true true org = refl
-
--- a test of two numbers, either way round
-equal_by : (a b : ℕ) (same : Bool) → nat_eq a b ≡ same → nat_eq a b ≡ nat_eq b a
-equal_by a b true e = e ∙ sym (eq-eqb b a (sym (eqb-true a b e)))
-equal_by a b false e = e ∙ sym (ne_eqb b a (λ is. eqb-false a b e (sym is)))
-
-same_test : (vid pid : ℕ) (n : Number) → (nat_eq vid n.vid && nat_eq pid n.pid) ≡ is_number n (number vid pid)
-same_test vid pid n = ap₂ ◌&&◌ (equal_by vid n.vid (nat_eq vid n.vid) refl) (equal_by pid n.pid (nat_eq pid n.pid) refl)
 
 -- a grant: one open petition less, and one number more that is taken
 granted_more : (h : History) (caller key : List ℕ) (order : Order) (id : ℕ) (petition : Petition) (name : NumberName) (old mid new : Totals) → CanGrant h id petition name
@@ -237,34 +216,6 @@ returned_same h caller key order vid name old new is s =
       nothing = s.nothing;
     })
 
-and_true : (b : Bool) → (b && true) ≡ b
-and_true true = refl
-and_true false = refl
-
-and_false : (b : Bool) → (b && false) ≡ false
-and_false true = refl
-and_false false = refl
-
-or_true : (b : Bool) → (b || true) ≡ true
-or_true true = refl
-or_true false = refl
-
-or_false : (b : Bool) → (b || false) ≡ b
-or_false true = refl
-or_false false = refl
-
--- the spans: what a reservation and a release leave of a number
-reserves_taken : (owner fixed this : Bool) (last : Option Bool) → ((owner || (fixed || unwrap_or last false)) || this) ≡ (owner || (fixed || unwrap_or (option_or (given this true) last) false))
-reserves_taken true fixed this last = refl
-reserves_taken false true this last = refl
-reserves_taken false false true last = or_true (unwrap_or last false)
-reserves_taken false false false last = or_false (unwrap_or last false)
-
-reserves_reserved : (fixed this : Bool) (last : Option Bool) → ((fixed || unwrap_or last false) || this) ≡ (fixed || unwrap_or (option_or (given this true) last) false)
-reserves_reserved true this last = refl
-reserves_reserved false true last = or_true (unwrap_or last false)
-reserves_reserved false false last = or_false (unwrap_or last false)
-
 reserved_more : (h : History) (caller key : List ℕ) (order : Order) (vid : ℕ) (name : SpanName) (old new : Totals) → Reserves old new vid name.span
     → IsSummary h old → IsSummary (with_deed h (the_deed caller key order (Reserved vid name))) new
 reserved_more h caller key order vid name old new is s =
@@ -281,27 +232,6 @@ reserved_more h caller key order vid name old new is s =
           ∙ reserves_reserved (is_fixed h n) (nat_eq vid n.vid && span_has name.span n.pid) (last_of (λ d. reserves n d.act) h.deeds);
       nothing = s.nothing;
     })
-
--- what a release leaves
-released_taken : (owner : Option (List ℕ)) (fixed this : Bool) (last : Option Bool) → (this ≡ true → is_some owner ≡ false) → (this ≡ true → fixed ≡ false)
-    → ((is_some owner || (fixed || unwrap_or last false)) && not this) ≡ (is_some owner || (fixed || unwrap_or (option_or (given this false) last) false))
-released_taken owner fixed false last unowned unfixed = and_true (is_some owner || (fixed || unwrap_or last false))
-released_taken owner fixed true last unowned unfixed = and_false (is_some owner || (fixed || unwrap_or last false)) ∙ sym (rw (unowned refl, unfixed refl) refl)
-
-released_reserved : (fixed this : Bool) (last : Option Bool) → (this ≡ true → fixed ≡ false)
-    → ((fixed || unwrap_or last false) && not this) ≡ (fixed || unwrap_or (option_or (given this false) last) false)
-released_reserved fixed false last unfixed = and_true (fixed || unwrap_or last false)
-released_reserved fixed true last unfixed = and_false (fixed || unwrap_or last false) ∙ sym (rw (unfixed refl) refl)
-
--- a reserved number has no owner
-unowned_by : (owner : Option (List ℕ)) (reserved : Bool) → (owner ≡ None) ⊎ (reserved ≡ false) → reserved ≡ true → is_some owner ≡ false
-unowned_by owner reserved either e = ⊎_elim (λ (none : owner ≡ None). ap is_some none) (λ (free : reserved ≡ false). absurd (let both : true ≡ false = sym e ∙ free in cc)) either
-
--- a number in the vendor's span is that product number of the vendor
-in_span : (vid : ℕ) (span : Span) (n : Number) → (nat_eq vid n.vid && span_has span n.pid) ≡ true → (number vid n.pid ≡ n) × (span_has span n.pid ≡ true)
-in_span vid span n e =
-    let parts = and_parts (nat_eq vid n.vid) (span_has span n.pid) e in
-    (ap (λ v. number v n.pid) (eqb-true vid n.vid parts.0), parts.1)
 
 released_less : (h : History) (caller key : List ℕ) (order : Order) (vid : ℕ) (name : SpanName) (old new : Totals) → Legal h → CanRelease h vid name → Releases old new vid name.span
     → IsSummary h old → IsSummary (with_deed h (the_deed caller key order (Released vid name))) new
@@ -324,28 +254,6 @@ released_less h caller key order vid name old new legal can is s =
           ∙ released_reserved (is_fixed h n) (nat_eq vid n.vid && span_has name.span n.pid) (last_of (λ d. reserves n d.act) h.deeds) (unfixed n);
       nothing = s.nothing;
     })
-
--- an import: the numbers of its items more that are taken
-takes_by : (vid : ℕ) (n : Number) (standing : ℕ → Standing) (fresh : List Item) (same : Bool) → nat_eq vid n.vid ≡ same → AllByRecursion (IsFreshItem standing) fresh
-    → list_any (takes vid n) fresh ≡ is_some (if same then find (λ item. nat_eq item.code n.pid) fresh else None)
-takes_by vid n standing [] true e each = refl
-takes_by vid n standing [] false e each = refl
-takes_by vid n standing (item ∷ fresh) true e each =
-    rw (e, each.0.code) (here (nat_eq item.code n.pid) item (find (λ (i : Item). nat_eq i.code n.pid) fresh) (list_any (takes vid n) fresh) (takes_by vid n standing fresh true e each.1))
-  where
-    here : (code : Bool) (item : Item) (found : Option Item) (rest : Bool) → rest ≡ is_some found → ((code && true) || rest) ≡ is_some (if code then Some item else found)
-    here true item found rest same = refl
-    here false item found rest same = same
-takes_by vid n standing (item ∷ fresh) false e each = rw e (takes_by vid n standing fresh false e each.1)
-
-imported_taken : (owner : Option (List ℕ)) (reserved : Bool) (found : Option Item) (org : List ℕ)
-    → ((is_some owner || reserved) || is_some found) ≡ (is_some (sooner owner (option_map (λ (item : Item). org) found)) || reserved)
-imported_taken None true None org = refl
-imported_taken None true (Some item) org = refl
-imported_taken None false None org = refl
-imported_taken None false (Some item) org = refl
-imported_taken (Some owner) reserved None org = refl
-imported_taken (Some owner) reserved (Some item) org = refl
 
 imported_more : (h : History) (caller key : List ℕ) (order : Order) (vid : ℕ) (org : List ℕ) (fresh : List Item) (tally : Tally) (old new : Totals) → CanImport h vid org fresh → Imports old new vid fresh
     → IsSummary h old → IsSummary (with_deed h (the_deed caller key order (Imported vid org fresh tally))) new

@@ -17,7 +17,7 @@ use Rattle.registry_rules.specs.declared.concern.VendorSpan.{VendorSpan}
 use Rattle.registry_rules.specs.declared.record.Card.{Card}
 use Rattle.registry_rules.specs.declared.record.Entry.{Entry}
 use Rattle.registry_rules.specs.declared.record.Holding.{Holding}
-use Rattle.registry_rules.proofs.ChangeLemmas.{carded}
+use Rattle.registry_rules.proofs.EntryLemmas.{carded}
 use Rattle.registry_rows.specs.Rows.{is_of, is_between, by_number}
 use Rattle.registry_rows.proofs.AnswerLemmas.{valid_sorted}
 use Rattle.registry_tables.specs.Finds.{holding_at, AreHoldings}

@@ -5,10 +5,14 @@
 //! writes; with 0 it reads once.
 #![tactic(auto)]
 
+ghost use Rattle.std.specs.Prelude.{◌≡◌, length, IfOk, None};
+ghost use Rattle.usbids_text.specs.Writing.{written};
+ghost use Rattle.usbids_bench.specs.Counts.{counted, leaves_below, mids_in, leaves_in};
+
 use std::alloc::{AllocError, Global};
 use std::time::Instant;
 use std::{fs, io};
-use usbids_text::{Document, Outlet, ReadFault, WriteFault, read_all, write};
+use usbids_text::{Document, Mid, Outlet, ReadFault, WriteFault, read_all, write};
 
 /// What a list has.
 #[derive(Clone, Copy, Debug, PartialEq, Eq)]
@@ -18,23 +22,39 @@ struct Counts {
     leaves: usize,
 }
 
-fn counts_of(document: &Document) -> Counts {
+fn leaves_of(mids: &[Mid]) -> usize
+    ensures { result ≡ counted (leaves_below mids.now) }
+{
+    let mut leaves = 0usize;
+    for mid in mids {
+        leaves = leaves.saturating_add(mid.leaves().len());
+    }
+    leaves
+}
+
+fn counts_of(document: &Document) -> Counts
+    ensures tops { result.tops ≡ length document.now }
+    ensures mids { result.mids ≡ counted (mids_in document.now) }
+    ensures leaves { result.leaves ≡ counted (leaves_in document.now) }
+{
+    let tops = document.tops();
     let mut mids = 0usize;
     let mut leaves = 0usize;
-    for top in document.tops() {
+    for top in tops {
         mids = mids.saturating_add(top.mids().len());
-        for mid in top.mids() {
-            leaves = leaves.saturating_add(mid.leaves().len());
-        }
+        leaves = leaves.saturating_add(leaves_of(top.mids()));
     }
     Counts {
-        tops: document.tops().len(),
+        tops: tops.len(),
         mids,
         leaves,
     }
 }
 
-fn text_of(alloc: Global, document: &Document) -> Result<Vec<u8>, WriteFault> {
+// The document's text. It fails only where memory is short.
+fn text_of(alloc: Global, document: &Document) -> Result<Vec<u8>, WriteFault>
+    ensures { IfOk result (λ text. text.items ≡ written document.now None) }
+{
     let mut sink = Outlet::new(Vec::new(alloc));
     write(document, None, &mut sink)?;
     Ok(sink.into_inner())

@@ -12,6 +12,7 @@ pub mod UniqueLemmas
 pub mod FinishLemmas
 pub mod SeenLemmas
 pub mod GatherLemmas
+pub mod CodeLemmas
 pub mod LineLemmas
 pub mod WrittenLemmas
 pub mod TextLemmas

@@ -1,200 +1,22 @@
 -- The line of an entry is read as that entry.
-use Rattle.std.proofs.Common.{◌≡◌, ℕ, suc, ◌+◌, ◌*◌, ◌-◌, ◌/◌, ◌%◌, ◌^◌, ◌<◌, ◌≤◌, Bool, true, false, List, [], ◌∷◌, ◌++◌, length, take, drop, get_or, Option, Some, None, refl, sym, ap, subst, ◌∙◌, inl, inr, arith, append_assoc, length-append}
-use Rattle.std.specs.Prelude.{◌&&◌, ◌==◌, not, nat_le, nat_lt, Ok, option_and_then, is_some, if◌then◌else◌}
-use Rattle.std.specs.List.{list_all, position_or_len}
-use Rattle.std.proofs.Math.Seq.{take-append_seam, drop-append_seam}
+use Rattle.std.proofs.Common.{◌≡◌, ℕ, ◌-◌, ◌^◌, ◌<◌, ◌≤◌, true, false, List, [], ◌∷◌, ◌++◌, length, get_or, Some, None, refl, sym, ap, ◌∙◌, arith, append_assoc, length-append}
+use Rattle.std.specs.Prelude.{◌&&◌, ◌==◌, not, nat_le, nat_lt, Ok, is_some, if◌then◌else◌}
+use Rattle.std.specs.List.{list_all}
 use Rattle.std.proofs.lemmas.List.{append-nil}
-use Rattle.std.proofs.lemmas.Bool.{cases_Bool, cases_lt, le-ltb, leb-true, ltb-true, ltb-false}
+use Rattle.std.proofs.lemmas.Bool.{le-ltb, leb-true}
 use Rattle.std.proofs.lemmas.Bool.Decides.{nat_tests}
 use Rattle.std.proofs.lemmas.List.Folds.{list_all-append}
-use Rattle.usbnum_core.specs.Number.{hex_value, lower_hex_digit}
+use Rattle.usbnum_core.specs.Number.{lower_hex_digit}
 use Rattle.usbids_text.specs.declared.kind.Depth.{Depth}
 use Rattle.usbids_text.specs.declared.kind.Depth.TheVariants.{Zero, One, Two}
 use Rattle.usbids_text.specs.declared.kind.Kind.TheVariants.{Vendor, Tagged}
-use Rattle.usbids_text.specs.Words.{is_separator, is_tail, is_inner, is_upper, trimmed, before, word, past_separators, after_word, number_from, code_in, is_four, is_tag, is_code, begins_well, ends_well, is_name}
+use Rattle.usbids_text.specs.Words.{is_separator, is_tail, is_inner, is_upper, trimmed, word, past_separators, after_word, code_in, is_four, is_tag, is_code, begins_well, ends_well, is_name}
 use Rattle.usbids_text.specs.Entries.{Row, is_depth, is_row}
 use Rattle.usbids_text.specs.Lines.{short_enough, with_code, below, tagged, top, after_tab, by_tabs, is_comment, class_of}
 use Rattle.usbids_text.specs.Writing.{front, code_text, gap, line_text}
 use Rattle.usbids_text.proofs.EntryLemmas.{both, and-both, row-code, row-name, row-depth}
 use Rattle.usbids_text.proofs.WordLemmas.{trimmed_done, ends_well-last}
-
--- words and separators
-
-abbrev is_solid : ℕ → Bool
-is_solid b = not (is_separator b)
-
-abbrev StopsWord : List ℕ → Type 0
-StopsWord [] = Unit {0}
-StopsWord (b ∷ bytes) = is_separator b ≡ true
-
-not-true : (b : Bool) → not b ≡ true → b ≡ false
-not-true true e = absurd cc
-not-true false e = refl
-
-count-le : (test : ℕ → Bool) (xs : List ℕ) → position_or_len test xs ≤ length xs
-count-le test [] = omega arith
-count-le test (b ∷ xs) = let rest = count-le test xs in elim (cases_Bool (test b)) [ inl e ↦ rw e (omega arith) | inr e ↦ rw e (omega arith) ]
-
-before-count : (test : ℕ → Bool) (xs : List ℕ) → before test xs ≡ position_or_len test xs
-unfolding before
-before-count test xs = elim (cases_Bool (nat_lt (position_or_len test xs) (length xs))) [
-  | inl less ↦ rw less refl
-  | inr more ↦ let low = ltb-false (position_or_len test xs) (length xs) more in let high = count-le test xs in rw more (omega arith)
-]
-
-count-word : (a b : List ℕ) → list_all is_solid a ≡ true → StopsWord b → position_or_len is_separator (a ++ b) ≡ length a
-count-word [] [] p s = refl
-count-word [] (b ∷ bytes) p s = rw s refl
-count-word (x ∷ a) b p s =
-    let parts = both (is_solid x) (list_all is_solid a) p in
-    let other : is_separator x ≡ false = not-true (is_separator x) parts.0 in
-    let rest = count-word a b parts.1 s in
-    rw other (omega arith)
-
-before-word : (a b : List ℕ) → list_all is_solid a ≡ true → StopsWord b → before is_separator (a ++ b) ≡ length a
-before-word a b p s = before-count is_separator (a ++ b) ∙ count-word a b p s
-
-word-is : (a b : List ℕ) → list_all is_solid a ≡ true → StopsWord b → word (a ++ b) ≡ a
-unfolding word
-word-is a b p s = ap (λ (n : ℕ). take n (a ++ b)) (before-word a b p s) ∙ take-append_seam a b
-
-after-is : (a b : List ℕ) → list_all is_solid a ≡ true → StopsWord b → after_word (a ++ b) ≡ past_separators b
-unfolding after_word
-after-is a b p s = ap (λ (l : List ℕ). past_separators l) (ap (λ (n : ℕ). drop n (a ++ b)) (before-word a b p s) ∙ drop-append_seam a b)
-
-pub past-solid : (b : ℕ) (bytes : List ℕ) → is_separator b ≡ false → past_separators (b ∷ bytes) ≡ b ∷ bytes
-past-solid b bytes e =
-    let none : before (λ x. not (is_separator x)) (b ∷ bytes) ≡ 0 = before-count (λ x. not (is_separator x)) (b ∷ bytes) ∙ rw e refl in
-    ap (λ (n : ℕ). drop n (b ∷ bytes)) none
-
-past-one : (b : ℕ) (bytes : List ℕ) → is_separator b ≡ true → past_separators (b ∷ bytes) ≡ past_separators bytes
-past-one b bytes e =
-    let n : ℕ = position_or_len (λ x. not (is_separator x)) bytes in
-    let more : position_or_len (λ x. not (is_separator x)) (b ∷ bytes) ≡ suc n = rw e (omega arith) in
-    ap (λ (k : ℕ). drop k (b ∷ bytes)) (before-count (λ x. not (is_separator x)) (b ∷ bytes) ∙ more) ∙ ap (λ (k : ℕ). drop k bytes) (sym (before-count (λ x. not (is_separator x)) bytes))
-
-past-nil : past_separators [] ≡ []
-unfolding before
-past-nil = refl
-
-gap-past : (name : List ℕ) → begins_well name ≡ true → past_separators (gap name ++ name) ≡ name
-gap-past [] h = past-nil
-gap-past (b ∷ bytes) h = past-one 32 (32 ∷ b ∷ bytes) refl ∙ (past-one 32 (b ∷ bytes) refl ∙ past-solid b bytes (not-true (is_separator b) h))
-
-gap-stops : (name : List ℕ) → StopsWord (gap name ++ name)
-gap-stops [] = tt
-gap-stops (b ∷ bytes) = refl
-
--- codes
-
-abbrev text_of : List ℕ → List ℕ
-text_of [] = []
-text_of (v ∷ vs) = lower_hex_digit v ∷ text_of vs
-
-abbrev AreDigits : List ℕ → Type 0
-AreDigits [] = Unit {0}
-AreDigits (v ∷ vs) = (v < 16) × AreDigits vs
-
-abbrev value_of : ℕ → List ℕ → ℕ
-value_of n [] = n
-value_of n (v ∷ vs) = value_of (n * 16 + v) vs
-
-hex-reads : (v : ℕ) → v < 16 → hex_value (lower_hex_digit v) ≡ Some v
-hex-reads v small = grind (arith, nat_tests)
-
-hex-solid : (v : ℕ) → v < 16 → is_separator (lower_hex_digit v) ≡ false
-hex-solid v small = grind (arith, nat_tests)
-
-hex-kept : (v : ℕ) → v < 16 → is_tail (lower_hex_digit v) ≡ false
-hex-kept v small = grind (arith, nat_tests)
-
-hex-inner : (v : ℕ) → v < 16 → (lower_hex_digit v == 10) ≡ false
-hex-inner v small = grind (arith, nat_tests)
-
-hex-plain : (v : ℕ) → v < 16 → (lower_hex_digit v == 35) ≡ false
-hex-plain v small = grind (arith, nat_tests)
-
-hex-tab : (v : ℕ) → v < 16 → (lower_hex_digit v == 9) ≡ false
-hex-tab v small = grind (arith, nat_tests)
-
-number-text : (vs : List ℕ) (n : ℕ) → AreDigits vs → number_from n (text_of vs) ≡ Some (value_of n vs)
-unfolding number_from
-number-text [] n d = refl
-number-text (v ∷ vs) n d = ap (λ (o : Option ℕ). option_and_then (λ x. number_from (n * 16 + x) (text_of vs)) o) (hex-reads v d.0) ∙ number-text vs (n * 16 + v) d.1
-
-solid-text : (vs : List ℕ) → AreDigits vs → list_all is_solid (text_of vs) ≡ true
-solid-text [] d = refl
-solid-text (v ∷ vs) d = and-both (is_solid (lower_hex_digit v)) (list_all is_solid (text_of vs)) (ap not (hex-solid v d.0)) (solid-text vs d.1)
-
-inner-text : (vs : List ℕ) → AreDigits vs → list_all is_inner (text_of vs) ≡ true
-inner-text [] d = refl
-inner-text (v ∷ vs) d = and-both (is_inner (lower_hex_digit v)) (list_all is_inner (text_of vs)) (ap not (hex-inner v d.0)) (inner-text vs d.1)
-
-ends-text : (v : ℕ) (vs : List ℕ) → v < 16 → AreDigits vs → ends_well (text_of (v ∷ vs)) ≡ true
-unfolding ends_well
-ends-text v [] small d = ap not (hex-kept v small)
-ends-text v (w ∷ vs) small d = ends-text w vs d.0 d.1
-
-length-text : (vs : List ℕ) → length (text_of vs) ≡ length vs
-length-text [] = refl
-length-text (v ∷ vs) = let rest = length-text vs in omega arith
-
--- a code's text is made of digits, and spells it
-record IsSpelt (digits code : ℕ) : Type 0 where
-  first : ℕ
-  others : List ℕ
-  small : first < 16
-  each : AreDigits others
-  text : code_text digits code ≡ text_of (first ∷ others)
-  counts : length (first ∷ others) ≡ digits
-  value : value_of 0 (first ∷ others) ≡ code
-
-spelt-4 : (code : ℕ) → code < 65536 → IsSpelt 4 code
-unfolding code_text
-spelt-4 code h = record { first = code / 4096; others = (code / 256 % 16) ∷ (code / 16 % 16) ∷ (code % 16) ∷ []; small = omega arith; each = (omega arith, (omega arith, (omega arith, tt))); text = refl; counts = refl; value = omega arith }
-
-spelt-3 : (code : ℕ) → code < 4096 → IsSpelt 3 code
-unfolding code_text
-spelt-3 code h = record { first = code / 256 % 16; others = (code / 16 % 16) ∷ (code % 16) ∷ []; small = omega arith; each = (omega arith, (omega arith, tt)); text = refl; counts = refl; value = omega arith }
-
-spelt-2 : (code : ℕ) → code < 256 → IsSpelt 2 code
-unfolding code_text
-spelt-2 code h = record { first = code / 16 % 16; others = (code % 16) ∷ []; small = omega arith; each = (omega arith, tt); text = refl; counts = refl; value = omega arith }
-
-spelt-1 : (code : ℕ) → code < 16 → IsSpelt 1 code
-unfolding code_text
-spelt-1 code h = record { first = code % 16; others = []; small = omega arith; each = tt; text = refl; counts = refl; value = omega arith }
-
-spelt-at : (k digits code : ℕ) → digits ≡ k → code < 16 ^ digits → (code < 16 ^ k → IsSpelt k code) → IsSpelt digits code
-spelt-at k digits code e below make = subst (λ (n : ℕ). IsSpelt n code) (sym e) (make (subst (λ (n : ℕ). code < 16 ^ n) e below))
-
-spelt : (digits code : ℕ) → is_code code digits ≡ true → IsSpelt digits code
-spelt digits code e =
-    let parts = both (nat_le 1 digits && nat_le digits 4) (nat_lt code (16 ^ digits)) e in
-    let counts = both (nat_le 1 digits) (nat_le digits 4) parts.0 in
-    let some = leb-true 1 digits counts.0 in
-    let few = leb-true digits 4 counts.1 in
-    let below = ltb-true code (16 ^ digits) parts.1 in
-    elim (cases_lt digits 2) [
-      | inl one ↦ spelt-at 1 digits code (omega arith) below (λ h. spelt-1 code h)
-      | inr more ↦ elim (cases_lt digits 3) [
-        | inl two ↦ spelt-at 2 digits code (omega arith) below (λ h. spelt-2 code h)
-        | inr three ↦ elim (cases_lt digits 4) [
-          | inl third ↦ spelt-at 3 digits code (omega arith) below (λ h. spelt-3 code h)
-          | inr four ↦ spelt-at 4 digits code (omega arith) below (λ h. spelt-4 code h)
-        ]
-      ]
-    ]
-
-code-reads : (digits code : ℕ) → is_code code digits ≡ true → IsSpelt digits code → code_in (code_text digits code) ≡ Some code
-unfolding code_in
-code-reads digits code e s =
-    let long : length (code_text digits code) ≡ digits = ap length s.text ∙ (length-text (s.first ∷ s.others) ∙ s.counts) in
-    let counted : (nat_le 1 (length (code_text digits code)) && nat_le (length (code_text digits code)) 4) ≡ true =
-    ap (λ (n : ℕ). nat_le 1 n && nat_le n 4) long ∙ (both (nat_le 1 digits && nat_le digits 4) (nat_lt code (16 ^ digits)) e).0 in
-    rw counted (ap (λ (l : List ℕ). number_from 0 l) s.text ∙ (number-text (s.first ∷ s.others) 0 (s.small, s.each) ∙ ap (λ (n : ℕ). Some n) s.value))
-
--- lines
+use Rattle.usbids_text.proofs.CodeLemmas.{is_solid, not-true, word-is, after-is, past-solid, past-one, gap-past, gap-stops, text_of, hex-solid, hex-plain, hex-tab, solid-text, inner-text, ends-text, length-text, IsSpelt, spelt, code-reads}
 
 -- bytes that begin as a code does
 record Begins (bytes : List ℕ) : Type 0 where

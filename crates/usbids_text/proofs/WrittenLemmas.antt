@@ -15,7 +15,8 @@ use Rattle.usbids_text.proofs.EntryLemmas.{both}
 use Rattle.usbids_text.proofs.InnerLemmas.{Pieces}
 use Rattle.usbids_text.proofs.CutLemmas.{IsPart, cut-line}
 use Rattle.usbids_text.proofs.ClassLemmas.{trimmed-some}
-use Rattle.usbids_text.proofs.LineLemmas.{row-read, row-inner, past-solid}
+use Rattle.usbids_text.proofs.CodeLemmas.{past-solid}
+use Rattle.usbids_text.proofs.LineLemmas.{row-read, row-inner}
 
 not-not : (b : Bool) → not b ≡ true → b ≡ false
 not-not true e = absurd cc
