@@ -1,4 +1,5 @@
 pub mod Opening
+pub mod Asking
 pub mod Steps
 pub mod Runs
 pub mod Places

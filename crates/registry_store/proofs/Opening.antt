@@ -14,16 +14,17 @@ use Rattle.registry_store.specs.Promise.{IsAt, IsFreshAt, Stands, is_spent, stat
 use Rattle.registry_store.specs.Reopen.{IsEither}
 
 -- whatever was read in a transaction that was rolled back, the connection is where it was
-pub still_at : (old new : State) (h : History) → IsAt newest old h → IsTrue old.is_open → KeepsAll old new → Survives old new (λ _. ⊥) → HasCleanDisk new → IsAt newest new h
-still_at old new h at was_open back survives clean =
-    let early : HasCleanDisk old = omega (arith, survives.clean) in
-    record {
-      shown = λ _ is_open.
-          let rows = (at.shown early was_open).1 in
-          let undone = back is_open in
-          (undone.0 ∙ sym undone.1, subst (λ db. Rows newest db.trees h) (sym undone.1) rows);
-      left = λ _ db may. at.left early db (elim (survives.crash clean db may) [ inl before ↦ before | inr none ↦ absurd none ]);
-    }
+pub still_at : (old new : State) (h : History) → IsAt newest old h → (HasCleanDisk new → KeepsAll old new) → Survives old new (λ _. ⊥) → IsAt newest new h
+still_at old new h at back survives = record {
+  shown = λ clean is_open.
+      let early : HasCleanDisk old = omega (arith, survives.clean) in
+      let undone = back clean is_open in
+      let rows = (at.shown early undone.0).1 in
+      (undone.1 ∙ sym undone.2, subst (λ db. Rows newest db.trees h) (sym undone.2) rows);
+  left = λ clean db may.
+      let early : HasCleanDisk old = omega (arith, survives.clean) in
+      at.left early db (elim (survives.crash clean db may) [ inl before ↦ before | inr none ↦ absurd none ]);
+}
 
 -- what an open connection shows at rest is what a crash leaves
 pub at_rest : {S : Type 0} (g : Ghosts S) (it : Held S) (h : History)

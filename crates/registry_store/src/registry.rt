@@ -20,10 +20,10 @@ pub struct RunEnd {
 
 /// A registry: tables in a store, and in memory what a request would else have to count.
 pub struct Registry<S: Alter> {
-    alloc: Global,
-    conn: Connection<S>,
-    totals: Totals,
-    spent: bool,
+    pub(crate) alloc: Global,
+    pub(crate) conn: Connection<S>,
+    pub(crate) totals: Totals,
+    pub(crate) spent: bool,
     ghost idle: { conn.in_transaction ≡ false },
 }
 

@@ -25,7 +25,7 @@ use Rattle.registry_rows.specs.Rows.{is_called, is_kept_under, is_numbered, is_b
 use Rattle.registry_rows.specs.Steps.{Answers}
 use Rattle.registry_rows.specs.declared.kept.KeptRow.{KeptRow}
 use Rattle.registry_tables.specs.Finds.{Finds, AreHoldings, IsWithin, holding_at}
-use Rattle.registry_tables.proofs.FindLemmas.{finds_as, finds_by, finds_none, finds_ok, finds_then}
+use Rattle.registry_tables.proofs.FindLemmas.{finds_as, finds_by, fails, finds_ok, finds_then}
 use Rattle.registry_tables.proofs.HoldingLemmas.{holdings_are}
 
 second_is : {A : Type 0} (i : ℕ) (found : Option (ℕ × A)) (o : Option A) → found ≡ option_map (λ a. (i, a)) o → option_map (λ (pair : ℕ × A). pair.1) found ≡ o
@@ -65,7 +65,7 @@ module _ (old new : State) where
   org_found slug wanted same (Ok found) =
       finds_by old new (λ t x. x ≡ find (is_called slug) t.orgs) (λ h org. org ≡ option_and_then (org_of h) wanted) found found
       (λ h t legal are kept is. is ∙ are.orgs.each slug ∙ ap (option_and_then (org_of h)) (sym same))
-  org_found slug wanted same (Err e) = finds_none old new e
+  org_found slug wanted same (Err e) = fails old new (λ h org. org ≡ option_and_then (org_of h) wanted) e
 
   pub holdings_found : (range : VendorSpan) (low high : ℕ) → low ≡ range.span.first → high ≡ range.span.last → (entries : List (Number × Entry)) (holdings : List Holding) → holdings ≡ map holding_at entries
       → Answers old new (Ok entries) (λ t x. x ≡ sort_by by_number (filter (is_between range.vid low high) t.entries)) → Finds old new (Ok holdings) (AreHoldings range)

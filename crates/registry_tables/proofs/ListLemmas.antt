@@ -16,10 +16,11 @@ use Rattle.registry_rules.specs.History.{History}
 use Rattle.registry_rules.specs.declared.record.Org.{Org}
 use Rattle.registry_rules.specs.declared.record.Entry.{Entry}
 use Rattle.registry_rules.specs.declared.record.Petition.{Petition}
+use Rattle.registry_rules.specs.declared.record.Vendor.{Vendor}
 use Rattle.registry_rows.specs.Rows.{is_called, is_of, by_slug, by_number}
 use Rattle.registry_rows.specs.Tables.{Tables, Holds}
 use Rattle.registry_tables.specs.Rows.{AreOrgs, AreEntries, AreRecords}
-use Rattle.registry_tables.specs.Lists.{IsOrgList, IsPetitionList, IsNumberList}
+use Rattle.registry_tables.specs.Lists.{IsOrgList, IsPetitionList, IsNumberList, IsVendorList}
 use Rattle.registry_tables.proofs.SortLemmas.{sorted_up, find_sorted, keys_up, numbers_up}
 use Rattle.registry_tables.proofs.ViewLemmas.{same_bytes, bytes_same, same_number, number_same}
 
@@ -44,6 +45,14 @@ pub petition_list : (h : History) (db : Database) (t : Tables) → Holds db t �
 petition_list h db t has had all is = record {
   ascend = subst (λ l. IsStrictlyIncreasing (map (λ (p : ℕ × Petition). p.0) l)) (sym is) (numbers_up (λ (p : ℕ × Petition). p.0) t.petitions has.rows.petitions.keyed);
   each = λ i. ap (find (λ (p : ℕ × Petition). nat_eq p.0 i)) is ∙ had.petitions i;
+}
+
+-- ---- vendors
+
+pub vendor_list : (h : History) (db : Database) (t : Tables) → Holds db t → AreRecords h t → (all : List Vendor) → all ≡ t.vendors → IsVendorList h all
+vendor_list h db t has had all is = record {
+  ascend = subst (λ l. IsStrictlyIncreasing (map (λ (v : Vendor). v.vid) l)) (sym is) (numbers_up (λ (v : Vendor). v.vid) t.vendors has.rows.vendors.keyed);
+  each = λ vid. ap (find (λ (v : Vendor). nat_eq v.vid vid)) is ∙ had.vendors vid;
 }
 
 -- ---- numbers

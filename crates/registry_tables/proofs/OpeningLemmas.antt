@@ -36,8 +36,8 @@ use Rattle.registry_schema.specs.declared.fault.TableFault.TheVariants.{Foreign}
 use Rattle.registry_rows.specs.Tables.{Tables, Holds}
 use Rattle.registry_tables.specs.Rows.{meta_of, vendor_span_has, AreCurators, AreLicences, AreRecords, IsFounding}
 use Rattle.registry_tables.specs.Lists.{AreAllowed}
-use Rattle.registry_tables.specs.Calls.{Tells}
-use Rattle.registry_tables.proofs.CallLemmas.{Read, passes, short}
+use Rattle.registry_tables.specs.Finds.{Finds}
+use Rattle.registry_tables.proofs.FindLemmas.{Read, passes, short}
 use Rattle.registry_tables.proofs.AscendLemmas.{one_order}
 use Rattle.registry_tables.proofs.SortLemmas.{sorted_up, any_sorted}
 use Rattle.registry_tables.proofs.ViewLemmas.{same_bytes}
@@ -129,7 +129,7 @@ vendors_are h db t legal has had all is =
 -- ---- the fixed numbers
 
 pub fixed_tells : (old new : State) (all : List Span) (result : Result (List Span) TableFault) → (IsSpread 1 all → IfOk result (λ set. set ≡ all)) → result ≢ Err Foreign
-    → Read old new (λ t. all ≡ t.fixed) → Tells old new result (λ h fixed. fixed ≡ h.founding.fixed)
+    → Read old new (λ t. all ≡ t.fixed) → Finds old new result (λ h fixed. fixed ≡ h.founding.fixed)
 fixed_tells old new all (Ok set) same kind read =
     passes old new (λ (h : History) (fixed : List Span). fixed ≡ h.founding.fixed) (λ t. all ≡ t.fixed) set
     (λ h t legal has had is. (let founded = is ∙ had.fixed in same (subst (IsSpread 1) (sym founded) had.founding.fixed) ∙ founded)) read

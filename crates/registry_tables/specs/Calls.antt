@@ -1,6 +1,6 @@
 -- What the calls on the tables do.
-use Rattle.std.specs.Prelude.{◌≡◌, false, IsTrue, Result, Ok, Err}
-use Rattle.sqlite.specs.State.{State, IsUnchanged, KeepsCommit}
+use Rattle.std.specs.Prelude.{◌≡◌, false, IsTrue, Result, Err}
+use Rattle.sqlite.specs.State.{State}
 use Rattle.sqlite.specs.Effect.{Database}
 use Rattle.registry_schema.specs.Meta.{has_meta_table}
 use Rattle.registry_schema.specs.declared.fault.TableFault.{TableFault}
@@ -17,7 +17,7 @@ use Rattle.registry_rules.specs.declared.founding.Founding.{Founding}
 use Rattle.registry_rows.specs.Rows.{meta_key, vendor_key}
 use Rattle.registry_rows.specs.Tables.{Tables, Holds}
 use Rattle.registry_tables.specs.Changed.{names_put, spans_put}
-use Rattle.registry_tables.specs.Rows.{newest, Rows, HoldsRows}
+use Rattle.registry_tables.specs.Rows.{newest, Rows}
 
 -- no table of the database is called meta
 abbrev pub HasNoMeta : Database → Type 0
@@ -35,19 +35,13 @@ module _ (old new : State) where
   abbrev pub Lists : {A : Type 0} → (History → A → Type 0) → A → Type 0
   Lists Is list = IsTrue old.is_open × ((h : History) → Legal h → Rows newest old.now.trees h → Is h list)
 
-  -- while it is open the connection shows what was committed before
+  -- a connection that is open was open before, and shows what was committed then
   abbrev pub KeepsAll : Type 0
-  KeepsAll = IsTrue new.is_open → (new.now ≡ old.committed) × (new.committed ≡ old.committed)
+  KeepsAll = IsTrue new.is_open → IsTrue old.is_open × (new.now ≡ old.committed) × (new.committed ≡ old.committed)
 
   -- Foreign comes only of an open connection with the rows of no history
   abbrev pub IsForeign : {A : Type 0} → Result A TableFault → Type 0
   IsForeign result = result ≡ Err Foreign → IsTrue old.is_open × ((h : History) → Legal h → ¬ Rows newest old.now.trees h)
-
-  -- within a transaction: the answer is that of each history whose rows are held, and they stay; it is Foreign only of
-  -- an open connection that holds the rows of no history
-  abbrev pub Tells : {A : Type 0} → Result A TableFault → (History → A → Type 0) → Type 0
-  Tells (Ok a) Is = GoesOn old new × ((h : History) → Legal h → HoldsRows newest old.now h → IsUnchanged old new × Is h a)
-  Tells (Err e) Is = (e ≡ Foreign → IsTrue old.is_open × ((h : History) → Legal h → ¬ HoldsRows newest old.now h)) × KeepsCommit old new
 
 -- the transaction goes on, and the tables are changed so
 abbrev pub PutsIn : State → State → (Tables → Tables) → Type 0

@@ -1,6 +1,6 @@
 -- What a look-up within a transaction answers.
 use Rattle.std.specs.Prelude.{◌≡◌, List, true, IsTrue, Result, Ok, Err}
-use Rattle.sqlite.specs.State.{State, IsUnchanged}
+use Rattle.sqlite.specs.State.{State, IsUnchanged, KeepsCommit}
 use Rattle.usbnum_core.specs.Spans.{span_has}
 use Rattle.usbnum_core.specs.declared.number.Number.{Number}
 use Rattle.table_laws.specs.Inside.{GoesOn}
@@ -16,10 +16,10 @@ use Rattle.registry_tables.specs.Rows.{newest, HoldsRows}
 
 module _ (old new : State) where
   -- The transaction goes on, and where a history's rows are held nothing has changed and the answer is the history's. It is
-  -- Foreign only of an open connection that holds the rows of no history.
+  -- Foreign only of an open connection that holds the rows of no history, and a fault commits nothing.
   abbrev pub Finds : {A : Type 0} → Result A TableFault → (History → A → Type 0) → Type 0
   Finds (Ok a) Is = GoesOn old new × ((h : History) → Legal h → HoldsRows newest old.now h → IsUnchanged old new × Is h a)
-  Finds (Err e) Is = e ≡ Foreign → IsTrue old.is_open × ((h : History) → Legal h → ¬ HoldsRows newest old.now h)
+  Finds (Err e) Is = (e ≡ Foreign → IsTrue old.is_open × ((h : History) → Legal h → ¬ HoldsRows newest old.now h)) × KeepsCommit old new
 
 -- who owns a number that has an entry, and whether it is held
 abbrev pub holding_at : Number × Entry → Holding

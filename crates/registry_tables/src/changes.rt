@@ -45,6 +45,10 @@ fn make<S: Alter>(
 }
 
 /// Makes the changes of a deed, in turn. The reply that is kept with the deed is for `keep_reply`.
+///
+/// The fault is that of the first change that is not made: `TableFault::NoMemory` where it finds no room, or
+/// `TableFault::Store` where the store refuses or fails. Some of the changes may be made then, so the transaction is to be
+/// rolled back. It is never `TableFault::Foreign`.
 pub fn store<S: Alter>(
     alloc: Global,
     tx: &mut Transaction<'_, S>,

@@ -40,7 +40,10 @@ fn create_in_empty<S: Alter>(
 }
 
 /// Makes all tables and writes the founding's rows, in one transaction. A store that has any table or view is refused
-/// with Store, and then nothing is written.
+/// with `TableFault::Store`, and then nothing is written.
+///
+/// `TableFault::NoMemory` comes where the store finds no room, `TableFault::Store` else where it refuses or fails. After
+/// either a crash leaves what it could before, or all of it. It is never `TableFault::Foreign`.
 pub fn create<S: Alter>(conn: &mut Connection<S>, founding: &Founding) -> Result<(), TableFault>
     requires { conn.old.in_transaction ≡ false }
     ensures idle { conn.new.in_transaction ≡ false }

@@ -169,7 +169,10 @@ fn least_of(totals: &Totals, petition: Option<&Petition>) -> Option<Pid>
     }
 }
 
-/// The facts of the history for a request: the rows that it needs, by their keys, with the totals.
+/// The facts of the history for a request: the rows that it needs, by their keys, with the totals. Nothing is written.
+///
+/// `TableFault::Foreign` comes only where the tables are those of no history, `TableFault::NoMemory` where a row or the
+/// holdings find no room, `TableFault::Store` where the store refuses or fails.
 pub fn facts_for<'a, S: Alter>(
     alloc: Global,
     tx: &mut Transaction<'_, S>,

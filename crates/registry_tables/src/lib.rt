@@ -5,7 +5,7 @@ pub use changes::store;
 pub use creation::create;
 pub use facts::facts_for;
 pub use kept::keep_reply;
-pub use lists::{list_numbers, list_orgs, list_petitions};
+pub use lists::{list_numbers, list_orgs, list_petitions, list_vendors};
 pub use opening::totals;
 pub use registry_schema::{TableFault, has_meta};
 

@@ -4,15 +4,18 @@ ghost use Rattle.std.specs.Prelude.{◌≡◌, false, IfOk};
 ghost use Rattle.sqlite.specs.State.{HasCleanDisk, Survives};
 ghost use Rattle.sqlite.specs.Held.{state};
 ghost use Rattle.registry_tables.specs.Calls.{Lists, KeepsAll, IsForeign};
-ghost use Rattle.registry_tables.specs.Lists.{IsOrgList, IsPetitionList, IsNumberList};
+ghost use Rattle.registry_tables.specs.Lists.{IsOrgList, IsPetitionList, IsNumberList, IsVendorList};
 
 use crate::TableFault;
-use registry_rules::{Entry, Org, Petition};
+use registry_rules::{Entry, Org, Petition, Vendor};
 use sqlite::{Alter, Connection};
 use std::alloc::Global;
 use usbnum_core::Number;
 
 /// All organisations, by slug. Nothing is written.
+///
+/// `TableFault::Foreign` comes only where the tables are those of no history, `TableFault::NoMemory` where the rows or
+/// the list find no room, `TableFault::Store` where the store refuses or fails.
 pub fn list_orgs<S: Alter>(alloc: Global, conn: &mut Connection<S>) -> Result<Vec<Org>, TableFault>
     requires { conn.old.in_transaction ≡ false }
     ensures idle { conn.new.in_transaction ≡ false }
@@ -29,6 +32,9 @@ pub fn list_orgs<S: Alter>(alloc: Global, conn: &mut Connection<S>) -> Result<Ve
 }
 
 /// All petitions, by number. Nothing is written.
+///
+/// `TableFault::Foreign` comes only where the tables are those of no history, `TableFault::NoMemory` where the rows or
+/// the list find no room, `TableFault::Store` where the store refuses or fails.
 pub fn list_petitions<S: Alter>(
     alloc: Global,
     conn: &mut Connection<S>,
@@ -48,6 +54,9 @@ pub fn list_petitions<S: Alter>(
 }
 
 /// All numbers that have an owner, by vendor and then by product. Nothing is written.
+///
+/// `TableFault::Foreign` comes only where the tables are those of no history, `TableFault::NoMemory` where the rows or
+/// the list find no room, `TableFault::Store` where the store refuses or fails.
 pub fn list_numbers<S: Alter>(
     alloc: Global,
     conn: &mut Connection<S>,
@@ -64,4 +73,26 @@ pub fn list_numbers<S: Alter>(
     let numbers = registry_rows::list_entries(alloc, &mut tx);
     tx.rollback();
     numbers
+}
+
+/// All vendors, the founding one included, by number. Nothing is written.
+///
+/// `TableFault::Foreign` comes only where the tables are those of no history, `TableFault::NoMemory` where the rows or
+/// the list find no room, `TableFault::Store` where the store refuses or fails.
+pub fn list_vendors<S: Alter>(
+    alloc: Global,
+    conn: &mut Connection<S>,
+) -> Result<Vec<Vendor>, TableFault>
+    requires { conn.old.in_transaction ≡ false }
+    ensures idle { conn.new.in_transaction ≡ false }
+    ensures answer { HasCleanDisk (state S.Store conn.new) → IfOk result (λ list. Lists (state S.Store conn.old) (state S.Store conn.new) IsVendorList list.items) }
+    ensures same { HasCleanDisk (state S.Store conn.new) → KeepsAll (state S.Store conn.old) (state S.Store conn.new) }
+    ensures foreign { HasCleanDisk (state S.Store conn.new) → IsForeign (state S.Store conn.old) (state S.Store conn.new) result }
+    ensures survives { Survives (state S.Store conn.old) (state S.Store conn.new) (λ _. ⊥) }
+{
+    let _schema = conn.schema();
+    let mut tx = conn.transaction();
+    let vendors = registry_rows::list_vendors(alloc, &mut tx);
+    tx.rollback();
+    vendors
 }

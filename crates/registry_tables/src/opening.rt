@@ -8,7 +8,8 @@ ghost use Rattle.registry_rules.specs.FactsOf.{IsFoundingOf, AreVendorsOf};
 ghost use Rattle.registry_rules.specs.TotalsOf.{AreTotalsOf};
 ghost use Rattle.registry_tables.specs.Rows.{meta_of};
 ghost use Rattle.registry_tables.specs.Lists.{AreAllowed};
-ghost use Rattle.registry_tables.specs.Calls.{Lists, KeepsAll, IsForeign, Tells};
+ghost use Rattle.registry_tables.specs.Calls.{Lists, KeepsAll, IsForeign};
+ghost use Rattle.registry_tables.specs.Finds.{Finds};
 
 use crate::TableFault;
 use registry_rows::{
@@ -24,7 +25,7 @@ use usbnum_core::{Span, Spans};
 fn meta_in<S: Alter>(alloc: Global, tx: &mut Transaction<'_, S>) -> Result<Meta, TableFault>
     ensures same_reference { tx.new.conn.ghost_name ≡ tx.old.conn.ghost_name }
     ensures told { HasCleanDisk (state S.Store tx.new.conn.now) → IsTrue (state S.Store tx.old.conn.now).in_transaction
-        → Tells (state S.Store tx.old.conn.now) (state S.Store tx.new.conn.now) result (λ h meta. meta ≡ meta_of h) }
+        → Finds (state S.Store tx.old.conn.now) (state S.Store tx.new.conn.now) result (λ h meta. meta ≡ meta_of h) }
     ensures survives { Survives (state S.Store tx.old.conn.now) (state S.Store tx.new.conn.now) (λ _. ⊥) }
 {
     let mut metas = list_metas(alloc, tx)?;
@@ -38,7 +39,7 @@ fn meta_in<S: Alter>(alloc: Global, tx: &mut Transaction<'_, S>) -> Result<Meta,
 fn curators_in<S: Alter>(alloc: Global, tx: &mut Transaction<'_, S>) -> Result<Curators, TableFault>
     ensures same_reference { tx.new.conn.ghost_name ≡ tx.old.conn.ghost_name }
     ensures told { HasCleanDisk (state S.Store tx.new.conn.now) → IsTrue (state S.Store tx.old.conn.now).in_transaction
-        → Tells (state S.Store tx.old.conn.now) (state S.Store tx.new.conn.now) result (λ h curators. curators ≡ h.founding.curators) }
+        → Finds (state S.Store tx.old.conn.now) (state S.Store tx.new.conn.now) result (λ h curators. curators ≡ h.founding.curators) }
     ensures survives { Survives (state S.Store tx.old.conn.now) (state S.Store tx.new.conn.now) (λ _. ⊥) }
 {
     let slugs = list_curators(alloc, tx)?;
@@ -52,7 +53,7 @@ fn curators_in<S: Alter>(alloc: Global, tx: &mut Transaction<'_, S>) -> Result<C
 fn licences_in<S: Alter>(alloc: Global, tx: &mut Transaction<'_, S>) -> Result<Licences, TableFault>
     ensures same_reference { tx.new.conn.ghost_name ≡ tx.old.conn.ghost_name }
     ensures told { HasCleanDisk (state S.Store tx.new.conn.now) → IsTrue (state S.Store tx.old.conn.now).in_transaction
-        → Tells (state S.Store tx.old.conn.now) (state S.Store tx.new.conn.now) result (AreAllowed) }
+        → Finds (state S.Store tx.old.conn.now) (state S.Store tx.new.conn.now) result (AreAllowed) }
     ensures survives { Survives (state S.Store tx.old.conn.now) (state S.Store tx.new.conn.now) (λ _. ⊥) }
 {
     let titles = list_licences(alloc, tx)?;
@@ -79,7 +80,7 @@ fn spans_of(alloc: Global, parts: &[Span]) -> Result<Spans, TableFault>
 fn fixed_in<S: Alter>(alloc: Global, tx: &mut Transaction<'_, S>) -> Result<Spans, TableFault>
     ensures same_reference { tx.new.conn.ghost_name ≡ tx.old.conn.ghost_name }
     ensures told { HasCleanDisk (state S.Store tx.new.conn.now) → IsTrue (state S.Store tx.old.conn.now).in_transaction
-        → Tells (state S.Store tx.old.conn.now) (state S.Store tx.new.conn.now) result (λ h fixed. fixed ≡ h.founding.fixed) }
+        → Finds (state S.Store tx.old.conn.now) (state S.Store tx.new.conn.now) result (λ h fixed. fixed ≡ h.founding.fixed) }
     ensures survives { Survives (state S.Store tx.old.conn.now) (state S.Store tx.new.conn.now) (λ _. ⊥) }
 {
     let parts = list_fixed(alloc, tx)?;
@@ -90,7 +91,7 @@ fn fixed_in<S: Alter>(alloc: Global, tx: &mut Transaction<'_, S>) -> Result<Span
 fn founding_in<S: Alter>(alloc: Global, tx: &mut Transaction<'_, S>) -> Result<Founding, TableFault>
     ensures same_reference { tx.new.conn.ghost_name ≡ tx.old.conn.ghost_name }
     ensures told { HasCleanDisk (state S.Store tx.new.conn.now) → IsTrue (state S.Store tx.old.conn.now).in_transaction
-        → Tells (state S.Store tx.old.conn.now) (state S.Store tx.new.conn.now) result (IsFoundingOf) }
+        → Finds (state S.Store tx.old.conn.now) (state S.Store tx.new.conn.now) result (IsFoundingOf) }
     ensures survives { Survives (state S.Store tx.old.conn.now) (state S.Store tx.new.conn.now) (λ _. ⊥) }
 {
     let meta = meta_in(alloc, tx)?;
@@ -110,7 +111,7 @@ fn founding_in<S: Alter>(alloc: Global, tx: &mut Transaction<'_, S>) -> Result<F
 fn vendors_in<S: Alter>(alloc: Global, tx: &mut Transaction<'_, S>) -> Result<Vendors, TableFault>
     ensures same_reference { tx.new.conn.ghost_name ≡ tx.old.conn.ghost_name }
     ensures told { HasCleanDisk (state S.Store tx.new.conn.now) → IsTrue (state S.Store tx.old.conn.now).in_transaction
-        → Tells (state S.Store tx.old.conn.now) (state S.Store tx.new.conn.now) result (AreVendorsOf) }
+        → Finds (state S.Store tx.old.conn.now) (state S.Store tx.new.conn.now) result (AreVendorsOf) }
     ensures survives { Survives (state S.Store tx.old.conn.now) (state S.Store tx.new.conn.now) (λ _. ⊥) }
 {
     let vendors = list_vendors(alloc, tx)?;
@@ -121,7 +122,7 @@ fn vendors_in<S: Alter>(alloc: Global, tx: &mut Transaction<'_, S>) -> Result<Ve
 fn totals_in<S: Alter>(alloc: Global, tx: &mut Transaction<'_, S>) -> Result<Totals, TableFault>
     ensures same_reference { tx.new.conn.ghost_name ≡ tx.old.conn.ghost_name }
     ensures told { HasCleanDisk (state S.Store tx.new.conn.now) → IsTrue (state S.Store tx.old.conn.now).in_transaction
-        → Tells (state S.Store tx.old.conn.now) (state S.Store tx.new.conn.now) result (AreTotalsOf) }
+        → Finds (state S.Store tx.old.conn.now) (state S.Store tx.new.conn.now) result (AreTotalsOf) }
     ensures survives { Survives (state S.Store tx.old.conn.now) (state S.Store tx.new.conn.now) (λ _. ⊥) }
 {
     let founding = founding_in(alloc, tx)?;
@@ -139,6 +140,9 @@ fn totals_in<S: Alter>(alloc: Global, tx: &mut Transaction<'_, S>) -> Result<Tot
 }
 
 /// The totals of the history whose rows the store has. Each table is read once, and nothing is written.
+///
+/// `TableFault::Foreign` comes only where the tables are those of no history, `TableFault::NoMemory` where the rows or the
+/// totals find no room, `TableFault::Store` where the store refuses or fails.
 pub fn totals<S: Alter>(alloc: Global, conn: &mut Connection<S>) -> Result<Totals, TableFault>
     requires { conn.old.in_transaction ≡ false }
     ensures idle { conn.new.in_transaction ≡ false }

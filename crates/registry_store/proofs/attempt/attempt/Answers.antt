@@ -69,4 +69,4 @@ returns-in_err-verdict-clause-foreign g c clean foreign h counts at =
     let ends : Survives (state g.S.Store mid) (state g.S.Store end) (λ _. ⊥) = search rules in
     let was : c.judged.result ≡ Err Foreign = search rules in
     never_foreign g.S.Store c.args.conn.now c.transaction-tx.result.conn.now mid end c.transaction-tx.ensures.begun c.schema-schema.ensures.live c.args.totals.now
-    (λ mids inside. subst (λ x. Finds (state g.S.Store c.transaction-tx.result.conn.now) (state g.S.Store mid) x (λ h found. AreTotalsOf h c.args.totals.now → found ≡ verdict h c.args.request.now)) was (c.judged.ensures.found mids inside) refl) c.judged.ensures.survives ends clean h counts at
+    (λ mids inside. (subst (λ x. Finds (state g.S.Store c.transaction-tx.result.conn.now) (state g.S.Store mid) x (λ h found. AreTotalsOf h c.args.totals.now → found ≡ verdict h c.args.request.now)) was (c.judged.ensures.found mids inside)).0 refl) c.judged.ensures.survives ends clean h counts at

@@ -5,7 +5,8 @@ use Rattle.sqlite_keyed.specs.Lists.{sort_by}
 use Rattle.registry_rows.specs.Rows.{by_slug}
 use Rattle.registry_tables.specs.Calls.{Lists, KeepsAll, IsForeign}
 use Rattle.registry_tables.specs.Lists.{IsOrgList}
-use Rattle.registry_tables.proofs.CallLemmas.{answers_tell, lists_all, keeps_all, is_foreign, quiet_all}
+use Rattle.registry_tables.proofs.CallLemmas.{lists_all, keeps_all, is_foreign, quiet_all}
+use Rattle.registry_tables.proofs.FindLemmas.{answers_tell}
 use Rattle.registry_tables.proofs.ListLemmas.{org_list}
 use Rattle.registry_tables.proofs.lists.list_orgs.Goals as goal
 

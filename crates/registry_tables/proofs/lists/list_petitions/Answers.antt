@@ -3,7 +3,8 @@ use Rattle.sqlite.specs.State.{HasCleanDisk, Survives}
 use Rattle.sqlite.specs.Held.{state}
 use Rattle.registry_tables.specs.Calls.{Lists, KeepsAll, IsForeign}
 use Rattle.registry_tables.specs.Lists.{IsPetitionList}
-use Rattle.registry_tables.proofs.CallLemmas.{answers_tell, lists_all, keeps_all, is_foreign, quiet_all}
+use Rattle.registry_tables.proofs.CallLemmas.{lists_all, keeps_all, is_foreign, quiet_all}
+use Rattle.registry_tables.proofs.FindLemmas.{answers_tell}
 use Rattle.registry_tables.proofs.ListLemmas.{petition_list}
 use Rattle.registry_tables.proofs.lists.list_petitions.Goals as goal
 

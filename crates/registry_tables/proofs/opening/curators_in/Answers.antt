@@ -3,8 +3,8 @@ use Rattle.sqlite.specs.Held.{state}
 use Rattle.sqlite_keyed.specs.Lists.{sort_by}
 use Rattle.registry_rules.specs.History.{History}
 use Rattle.registry_rows.specs.Rows.{by_bytes}
-use Rattle.registry_tables.specs.Calls.{Tells}
-use Rattle.registry_tables.proofs.CallLemmas.{passes, refuses, fails}
+use Rattle.registry_tables.specs.Finds.{Finds}
+use Rattle.registry_tables.proofs.FindLemmas.{passes, refuses, fails}
 use Rattle.registry_tables.proofs.OpeningLemmas.{curators_in_order, curators_fit}
 use Rattle.registry_tables.proofs.opening.curators_in.Goals as goal
 
@@ -13,7 +13,7 @@ returns-in_err-slugs-clause-told g c clean inside =
     let old = state g.S.Store c.args.tx.now.conn.now in
     let new = state g.S.Store c.list_curators.new.tx.conn.now in
     let is : c.from_residual.result ≡ Err c.in_err-slugs.field-0.0 = search rules in
-    subst (λ r. Tells old new r (λ (h : History) (x : List (List ℕ)). x ≡ h.founding.curators)) (sym is) (fails old new (λ (h : History) (x : List (List ℕ)). x ≡ h.founding.curators) c.in_err-slugs.field-0.0 (c.in_err-slugs.ensures.listed clean inside))
+    subst (λ r. Finds old new r (λ (h : History) (x : List (List ℕ)). x ≡ h.founding.curators)) (sym is) (fails old new (λ (h : History) (x : List (List ℕ)). x ≡ h.founding.curators) c.in_err-slugs.field-0.0 (c.in_err-slugs.ensures.listed clean inside))
 
 pub returns-in-Some-clause-told : goal.returns-in-Some-clause-told
 returns-in-Some-clause-told g c clean inside =

@@ -2,8 +2,8 @@ use Rattle.std.proofs.Common.{◌≡◌, List, Err, sym, subst, rules}
 use Rattle.sqlite.specs.Held.{state}
 use Rattle.usbnum_core.specs.declared.number.Span.{Span}
 use Rattle.registry_rules.specs.History.{History}
-use Rattle.registry_tables.specs.Calls.{Tells}
-use Rattle.registry_tables.proofs.CallLemmas.{fails}
+use Rattle.registry_tables.specs.Finds.{Finds}
+use Rattle.registry_tables.proofs.FindLemmas.{fails}
 use Rattle.registry_tables.proofs.OpeningLemmas.{fixed_tells}
 use Rattle.registry_tables.proofs.opening.fixed_in.Goals as goal
 
@@ -12,7 +12,7 @@ returns-in_err-parts-clause-told g c clean inside =
     let old = state g.S.Store c.args.tx.now.conn.now in
     let new = state g.S.Store c.list_fixed.new.tx.conn.now in
     let is : c.from_residual.result ≡ Err c.in_err-parts.field-0.0 = search rules in
-    subst (λ r. Tells old new r (λ (h : History) (x : List Span). x ≡ h.founding.fixed)) (sym is)
+    subst (λ r. Finds old new r (λ (h : History) (x : List Span). x ≡ h.founding.fixed)) (sym is)
     (fails old new (λ (h : History) (x : List Span). x ≡ h.founding.fixed) c.in_err-parts.field-0.0 (c.in_err-parts.ensures.listed clean inside))
 
 pub returns-clause-told : goal.returns-clause-told

@@ -2,8 +2,8 @@ use Rattle.std.proofs.Common.{◌≡◌, Err, sym, subst, rules}
 use Rattle.sqlite.specs.Held.{state}
 use Rattle.sqlite_keyed.specs.Lists.{sort_by}
 use Rattle.registry_rows.specs.Rows.{by_bytes}
-use Rattle.registry_tables.specs.Calls.{Tells}
-use Rattle.registry_tables.proofs.CallLemmas.{passes, refuses, fails}
+use Rattle.registry_tables.specs.Finds.{Finds}
+use Rattle.registry_tables.proofs.FindLemmas.{passes, refuses, fails}
 use Rattle.registry_tables.specs.Lists.{AreAllowed}
 use Rattle.registry_tables.proofs.OpeningLemmas.{allowed_in_order, licences_fit}
 use Rattle.registry_tables.proofs.opening.licences_in.Goals as goal
@@ -13,7 +13,7 @@ returns-in_err-titles-clause-told g c clean inside =
     let old = state g.S.Store c.args.tx.now.conn.now in
     let new = state g.S.Store c.list_licences.new.tx.conn.now in
     let is : c.from_residual.result ≡ Err c.in_err-titles.field-0.0 = search rules in
-    subst (λ r. Tells old new r (AreAllowed)) (sym is) (fails old new (AreAllowed) c.in_err-titles.field-0.0 (c.in_err-titles.ensures.listed clean inside))
+    subst (λ r. Finds old new r (AreAllowed)) (sym is) (fails old new (AreAllowed) c.in_err-titles.field-0.0 (c.in_err-titles.ensures.listed clean inside))
 
 pub returns-in-Some-clause-told : goal.returns-in-Some-clause-told
 returns-in-Some-clause-told g c clean inside =

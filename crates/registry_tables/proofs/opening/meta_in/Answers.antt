@@ -1,8 +1,8 @@
 use Rattle.std.proofs.Common.{◌≡◌, ◌<◌, length, Err, sym, subst, ◌∙◌, arith, rules}
 use Rattle.sqlite.specs.Held.{state}
 use Rattle.registry_rules.specs.History.{History}
-use Rattle.registry_tables.specs.Calls.{Tells}
-use Rattle.registry_tables.proofs.CallLemmas.{passes, refuses, fails}
+use Rattle.registry_tables.specs.Finds.{Finds}
+use Rattle.registry_tables.proofs.FindLemmas.{passes, refuses, fails}
 use Rattle.registry_rows.specs.declared.meta.Meta.{Meta}
 use Rattle.registry_tables.specs.Rows.{meta_of}
 use Rattle.registry_tables.proofs.OpeningLemmas.{only_meta, one_meta}
@@ -13,7 +13,7 @@ returns-in_err-metas-clause-told g c clean inside =
     let old = state g.S.Store c.args.tx.now.conn.now in
     let new = state g.S.Store c.list_metas.new.tx.conn.now in
     let is : c.from_residual.result ≡ Err c.in_err-metas.field-0.0 = search rules in
-    subst (λ r. Tells old new r (λ (h : History) (m : Meta). m ≡ meta_of h)) (sym is) (fails old new (λ (h : History) (m : Meta). m ≡ meta_of h) c.in_err-metas.field-0.0 (c.in_err-metas.ensures.listed clean inside))
+    subst (λ r. Finds old new r (λ (h : History) (m : Meta). m ≡ meta_of h)) (sym is) (fails old new (λ (h : History) (m : Meta). m ≡ meta_of h) c.in_err-metas.field-0.0 (c.in_err-metas.ensures.listed clean inside))
 
 pub returns-in-Some-clause-told : goal.returns-in-Some-clause-told
 returns-in-Some-clause-told g c clean inside =

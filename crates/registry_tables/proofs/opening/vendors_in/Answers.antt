@@ -1,7 +1,7 @@
 use Rattle.std.proofs.Common.{◌≡◌, Err, sym, subst, ◌∙◌, rules}
 use Rattle.sqlite.specs.Held.{state}
-use Rattle.registry_tables.specs.Calls.{Tells}
-use Rattle.registry_tables.proofs.CallLemmas.{passes, fails}
+use Rattle.registry_tables.specs.Finds.{Finds}
+use Rattle.registry_tables.proofs.FindLemmas.{passes, fails}
 use Rattle.registry_rules.specs.FactsOf.{AreVendorsOf}
 use Rattle.registry_tables.proofs.OpeningLemmas.{vendors_are}
 use Rattle.registry_tables.proofs.opening.vendors_in.Goals as goal
@@ -11,7 +11,7 @@ returns-in_err-vendors-clause-told g c clean inside =
     let old = state g.S.Store c.args.tx.now.conn.now in
     let new = state g.S.Store c.list_vendors.new.tx.conn.now in
     let is : c.from_residual.result ≡ Err c.in_err-vendors.field-0.0 = search rules in
-    subst (λ r. Tells old new r (AreVendorsOf)) (sym is) (fails old new (AreVendorsOf) c.in_err-vendors.field-0.0 (c.in_err-vendors.ensures.listed clean inside))
+    subst (λ r. Finds old new r (AreVendorsOf)) (sym is) (fails old new (AreVendorsOf) c.in_err-vendors.field-0.0 (c.in_err-vendors.ensures.listed clean inside))
 
 pub returns-clause-told : goal.returns-clause-told
 returns-clause-told g c clean inside =

@@ -12,7 +12,7 @@ returns-in-Ok-clause-stands g c h legal at clean =
     record {
       unspent = refl;
       counts = record { legal = legal; totals_are = it.1 h legal (rows_now old h at early it.0) };
-      at = still_at old (state g.S.Store c.totals.new.conn) h at it.0 (c.totals.ensures.same clean) c.totals.ensures.survives clean;
+      at = still_at old (state g.S.Store c.totals.new.conn) h at c.totals.ensures.same c.totals.ensures.survives;
     }
 
 pub returns-in-Ok-clause-fresh : goal.returns-in-Ok-clause-fresh
