@@ -1,50 +1,91 @@
 -- How a founding and a trial end.
 use Rattle.std.proofs.Common.{◌≡◌, ◌⊎◌, inl, inr, ℕ, List, Option, refl, arith}
-use Rattle.std.specs.Prelude.{Result, Ok, Err}
+use Rattle.std.specs.Prelude.{◌≢◌, Result, Ok, Err}
 use Rattle.sqlite.specs.Store.{Ghosts}
 use Rattle.sqlite.specs.State.{HasCleanDisk}
-use Rattle.sqlite.specs.Held.{Held}
+use Rattle.sqlite.specs.Held.{Held, state}
 use Rattle.sqlite.specs.Steps.{over_memory}
 use Rattle.sqlite_trees.specs.declared.memory.MemStore.{MemStore}
 use Rattle.sqlite_trees.specs.View.{doubt}
 use Rattle.registry_rules.specs.declared.founding.Founding.{Founding}
 use Rattle.registry_rules.specs.declared.order.Request.{Request}
 use Rattle.registry_rules.specs.History.{founded}
+use Rattle.registry_tables.specs.Calls.{HasNoMeta}
+use Rattle.registry_store.specs.declared.fault.Fault.{Fault}
+use Rattle.registry_store.specs.declared.fault.Fault.TheVariants as faults
 use Rattle.registry_store.specs.declared.registry.Registry.{Registry}
 use Rattle.registry_store.specs.Promise.{Stands, state_of}
+use Rattle.registry_store.specs.Run.{HasAnswered}
 use Rattle.registry_wire.specs.declared.refusal.WireRefusal.{WireRefusal}
 use Rattle.registry_wire.specs.Founding.{Listed}
 use Rattle.registry_commands.specs.declared.lines.BadLine.{BadLine}
-use Rattle.registry_commands.specs.Apply.{IsApplied, TellsFailure}
-use Rattle.registry_commands.specs.Found.{IsFoundBy}
-use Rattle.registry_commands.specs.Trial.{IsTrial, IsTrialOf}
+use Rattle.registry_commands.specs.declared.messages.Failure.{Failure}
+use Rattle.registry_commands.specs.declared.messages.Failure.TheVariants.{Store, Memory}
+use Rattle.registry_commands.specs.Failures.{IsOfInput, IsOfSoundRun, TellsFailure}
+use Rattle.registry_commands.specs.Messages.{failure_of}
+use Rattle.registry_commands.specs.Apply.{IsApplied, IsOfRun}
+use Rattle.registry_commands.specs.Found.{IsFoundBy, IsOfFounding}
+use Rattle.registry_commands.specs.Trial.{IsOfStart, IsTrial, IsTrialOf}
 use Rattle.registry_commands.proofs.ApplyLemmas.{Keeps-same}
+use Rattle.registry_commands.proofs.FailureLemmas.{memory_of_input, of_standing, tells_more}
 
 -- a failure before anything is founded
-pub founding_fails : {S : Type 0} (g : Ghosts S) (conn : Held S) (read : Result Listed WireRefusal) (errors errors_new : Option (List ℕ)) (status : ℕ)
-    → status ≡ 1 → TellsFailure errors errors_new → IsFoundBy g conn conn read errors errors_new status
-founding_fails g conn (Err refusal) errors errors_new status one told = (refl, inr (one, told))
-founding_fails g conn (Ok listed) errors errors_new status one told = inl (refl, one, told)
+pub founding_fails : {S : Type 0} (OfInput : Failure → Type 0) (g : Ghosts S) (conn : Held S) (read : Result Listed WireRefusal) (errors errors_new : Option (List ℕ)) (status : ℕ)
+    → status ≡ 1 → TellsFailure OfInput errors errors_new → IsFoundBy g OfInput conn conn read errors errors_new status
+founding_fails OfInput g conn (Err refusal) errors errors_new status one told = (refl, inr (one, told))
+founding_fails OfInput g conn (Ok listed) errors errors_new status one told = inl (refl, one, told)
+
+-- the founding file was read of an input, which may fail too
+pub found_more : {S : Type 0} (OfMemory OfInput : Failure → Type 0) → ((failure : Failure) → OfMemory failure → OfInput failure)
+    → (g : Ghosts S) (conn new : Held S) (read : Result Listed WireRefusal) (errors errors_new : Option (List ℕ)) (status : ℕ)
+    → IsFoundBy g OfMemory conn new read errors errors_new status → IsFoundBy g OfInput conn new read errors errors_new status
+found_more OfMemory OfInput more g conn new (Err refusal) errors errors_new status is =
+    (is.0, elim is.1 [ inl said ↦ inl said | inr failed ↦ inr (failed.0, tells_more OfMemory OfInput errors errors_new more failed.1) ])
+found_more OfMemory OfInput more g conn new (Ok listed) errors errors_new status is =
+    elim is [ inl failed ↦ inl (failed.0, failed.1, tells_more OfMemory OfInput errors errors_new more failed.2) | inr tried ↦ inr tried ]
+
+-- why a connection is handed back with no registry
+pub of_founding : {S : Type 0} (g : Ghosts S) (conn new : Held S) (fault : Fault)
+    → (fault ≡ faults.Taken → (new ≡ conn) × ¬ HasNoMeta (state g conn).now) → (fault ≢ faults.Spent) × (fault ≢ faults.Foreign)
+    → IsOfFounding g conn new (failure_of fault)
+of_founding g conn new faults.Store taken kind = tt
+of_founding g conn new faults.NoMemory taken kind = tt
+of_founding g conn new faults.Taken taken kind = taken refl
+of_founding g conn new faults.Spent taken kind = absurd (kind.0 refl)
+of_founding g conn new faults.Foreign taken kind = absurd (kind.1 refl)
 
 -- a failure before any line is acted on
-pub trial_fails : (read : Result (List Request) BadLine) (out errors errors_new : Option (List ℕ)) (status : ℕ)
-    → status ≡ 1 → TellsFailure errors errors_new → IsTrialOf read out out errors errors_new status
-trial_fails (Err bad) out errors errors_new status one told = (Keeps-same out, inr (one, told))
-trial_fails (Ok rs) out errors errors_new status one told = inr (one, told)
+pub trial_fails : (OfInput OfOutput : Failure → Type 0) (read : Result (List Request) BadLine) (out errors errors_new : Option (List ℕ)) (status : ℕ)
+    → status ≡ 1 → TellsFailure (IsOfStart OfInput) errors errors_new → IsTrialOf OfInput OfOutput read out out errors errors_new status
+trial_fails OfInput OfOutput (Err bad) out errors errors_new status one told = (Keeps-same out, inr (one, told))
+trial_fails OfInput OfOutput (Ok rs) out errors errors_new status one told = inr (inl (one, Keeps-same out, told))
+
+-- a founding that fails before the input is read
+pub of_start : (n : ℕ) (bytes : List ℕ) (failure : Failure) → (failure ≡ Store) ⊎ (failure ≡ Memory) → IsOfStart (IsOfInput n n bytes) failure
+of_start n bytes failure (inl store) = inl store
+of_start n bytes failure (inr memory) = inr (memory_of_input n n bytes refl failure memory)
 
 -- memory gives back what was put into it
 pub memory_is_clean : (it : Registry MemStore over_memory) → HasCleanDisk (state_of it)
 unfolding doubt
 memory_is_clean it = refl
 
-pub tried : (it new : Registry MemStore over_memory) (founding : Founding) → IsTrial founding → Stands it (founded founding) → (read : Result (List Request) BadLine)
-    (out out_new errors errors_new : Option (List ℕ)) (status : ℕ) → IsApplied it new read 0 out out_new errors errors_new status → IsTrialOf read out out_new errors errors_new status
-tried it new founding trial stands (Err bad) out out_new errors errors_new status applied = (applied.silent, applied.told)
-tried it new founding trial stands (Ok rs) out out_new errors errors_new status applied =
+pub tried : (OfInput OfOutput : Failure → Type 0) (it new : Registry MemStore over_memory) (founding : Founding) → IsTrial founding → Stands it (founded founding) → (read : Result (List Request) BadLine)
+    (out out_new errors errors_new : Option (List ℕ)) (status : ℕ) → IsApplied OfInput OfOutput it new read 0 out out_new errors errors_new status → IsTrialOf OfInput OfOutput read out out_new errors errors_new status
+tried OfInput OfOutput it new founding trial stands (Err bad) out out_new errors errors_new status applied =
+    (applied.silent, elim applied.told [ inl said ↦ inl said | inr failed ↦ inr (failed.0, tells_more OfInput (IsOfStart OfInput) errors errors_new (λ failure is. inr is) failed.1) ])
+tried OfInput OfOutput it new founding trial stands (Ok rs) out out_new errors errors_new status applied =
     let run = applied.1 (omega arith) in
     elim run.statuses [
       | inl zero ↦
           let through = run.through zero (founded founding) (inl stands) (memory_is_clean new) in
           inl (zero, record { founding = founding; trial = trial; gained = through.gained }, run.quiet zero)
-      | inr one ↦ inr (one, run.told one)
+      | inr one ↦ elim (run.told one) [
+        | inl unread ↦ inr (inl (one, unread.silent, tells_more OfInput (IsOfStart OfInput) errors errors_new (λ failure is. inr is) unread.told))
+        | inr told ↦ inr (inr (
+          one,
+          tells_more (λ failure. IsOfRun it new (λ h. HasAnswered it h rs 0) failure × OfOutput failure) (λ failure. IsOfSoundRun failure × OfOutput failure) errors errors_new
+              (λ failure is. (of_standing it new (λ h. HasAnswered it h rs 0) (founded founding) (inl stands) stands.unspent (memory_is_clean new) failure is.0, is.1)) told,
+        ))
+      ]
     ]

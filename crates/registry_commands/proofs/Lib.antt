@@ -1,3 +1,4 @@
 pub mod ApplyLemmas
 pub mod EndLemmas
+pub mod FailureLemmas
 pub mod LineLemmas

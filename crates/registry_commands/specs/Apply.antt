@@ -1,5 +1,5 @@
 -- What is written and what the registry is after request lines were acted on.
-use Rattle.std.specs.Prelude.{◌≡◌, ◌⊎◌, ◌<◌, ◌≤◌, ◌+◌, ℕ, true, List, length, take, drop, Option, Result, Ok, Err}
+use Rattle.std.specs.Prelude.{◌≡◌, ◌⊎◌, ◌<◌, ◌≤◌, ◌+◌, ⊤, ℕ, true, List, length, take, drop, Option, Result, Ok, Err}
 use Rattle.std.specs.Io.KnownBytes.{Appends, Keeps}
 use Rattle.sqlite.specs.Store.{Ghosts}
 use Rattle.sqlite.specs.State.{HasCleanDisk}
@@ -13,20 +13,26 @@ use Rattle.registry_store.specs.Promise.{Leaves, Stands, is_spent, state_of}
 use Rattle.registry_store.specs.Run.{HasAnswered, IsPlace}
 use Rattle.registry_commands.specs.declared.lines.BadLine.{BadLine}
 use Rattle.registry_commands.specs.declared.messages.Failure.{Failure}
-use Rattle.registry_commands.specs.Messages.{bad_line_text, exceeds_text, failure_line, reply_line, reply_lines}
+use Rattle.registry_commands.specs.declared.messages.Failure.TheVariants.{Foreign, Spent, Taken}
+use Rattle.registry_commands.specs.Failures.{TellsFailure}
+use Rattle.registry_commands.specs.Messages.{bad_line_text, exceeds_text, reply_line, reply_lines}
 
 -- the reply lines of the requests from one place up to another
 abbrev pub lines_between : History → List Request → ℕ → ℕ → List ℕ
 lines_between h rs a n = reply_lines (drop a (answers h (take n rs)))
 
--- the message of a failure was written, as far as the errors took it
-abbrev pub TellsFailure : Option (List ℕ) → Option (List ℕ) → Type 0
-TellsFailure old new = (failure : Failure) × AppendsBeginning old new (failure_line failure)
-
 module _ {S : Type 0} {g : Ghosts S} where
   -- the request is not acted on yet, or was acted on last
   abbrev pub MayBeActedOn : Registry S g → History → Request → Type 0
   MayBeActedOn it h r = Stands it h ⊎ Stands it (after_one h r)
+
+  -- What a run over this registry may fail of: Spent only where it was spent before, Foreign and Taken only where it stood at
+  -- none of these histories or the disk isn't clean.
+  abbrev pub IsOfRun : Registry S g → Registry S g → (History → Type 0) → Failure → Type 0
+  IsOfRun it new These Spent = is_spent it ≡ true
+  IsOfRun it new These Foreign = ¬ ((h : History) × These h × HasCleanDisk (state_of new))
+  IsOfRun it new These Taken = ¬ ((h : History) × These h × HasCleanDisk (state_of new))
+  IsOfRun it new These _ = ⊤
 
   -- A request failed: a beginning of its reply line is out, and a crash leaves the history with or without it.
   pub record IsCutShort (it : Registry S g) (h : History) (r : Request) (old new : Option (List ℕ)) : Type 0 where
@@ -48,23 +54,30 @@ module _ {S : Type 0} {g : Ghosts S} where
     pub leaves : Leaves newest (state_of it) (IsPlace h rs n)
     pub ends : (is_spent it ≡ true) ⊎ HasAnswered it h rs n
 
-  -- Nothing was acted on and no reply was written. The errors say why, or that there was no memory to say it.
-  pub record IsRejected (it new : Registry S g) (out out_new errors errors_new : Option (List ℕ)) (text : List ℕ) (status : ℕ) : Type 0 where
+  -- Nothing was acted on and no reply was written. The errors say why, or that the input failed or there was no memory to say it.
+  pub record IsRejected (OfInput : Failure → Type 0) (it new : Registry S g) (out out_new errors errors_new : Option (List ℕ)) (text : List ℕ) (status : ℕ) : Type 0 where
     pub same : new ≡ it
     pub silent : Keeps out out_new
-    pub told : ((status ≡ 2) × AppendsBeginning errors errors_new text) ⊎ ((status ≡ 1) × TellsFailure errors errors_new)
+    pub told : ((status ≡ 2) × AppendsBeginning errors errors_new text) ⊎ ((status ≡ 1) × TellsFailure OfInput errors errors_new)
+
+  -- The input failed, or there was no memory for its requests. Nothing was acted on and no reply was written.
+  pub record IsUnread (OfInput : Failure → Type 0) (it new : Registry S g) (out out_new errors errors_new : Option (List ℕ)) : Type 0 where
+    pub same : new ≡ it
+    pub silent : Keeps out out_new
+    pub told : TellsFailure OfInput errors errors_new
 
   -- The requests from this place on were acted on in turn: all of them, or up to a failure.
-  pub record IsRun (it new : Registry S g) (rs : List Request) (a : ℕ) (out out_new errors errors_new : Option (List ℕ)) (status : ℕ) : Type 0 where
+  pub record IsRun (OfInput OfOutput : Failure → Type 0) (it new : Registry S g) (rs : List Request) (a : ℕ) (out out_new errors errors_new : Option (List ℕ)) (status : ℕ) : Type 0 where
     pub statuses : (status ≡ 0) ⊎ (status ≡ 1)
     pub through : status ≡ 0 → (h : History) → HasAnswered it h rs a → HasCleanDisk (state_of new) → IsThrough new h rs a out out_new
     pub quiet : status ≡ 0 → Keeps errors errors_new
     pub stopped : status ≡ 1 → (h : History) → HasAnswered it h rs a → HasCleanDisk (state_of new) → (n : ℕ) × IsStoppedAt new h rs a n out out_new
-    pub told : status ≡ 1 → TellsFailure errors errors_new
+    pub told : status ≡ 1 → IsUnread OfInput it new out out_new errors errors_new
+        ⊎ TellsFailure (λ failure. IsOfRun it new (λ h. HasAnswered it h rs a) failure × OfOutput failure) errors errors_new
 
-  -- what becomes of the requests that were read, of which the first are answered already, or of a line that is none
-  abbrev pub IsApplied : Registry S g → Registry S g → Result (List Request) BadLine → ℕ → Option (List ℕ) → Option (List ℕ) → Option (List ℕ) → Option (List ℕ) → ℕ → Type 0
-  IsApplied it new (Err bad) a out out_new errors errors_new status = IsRejected it new out out_new errors errors_new (bad_line_text bad) status
-  IsApplied it new (Ok rs) a out out_new errors errors_new status =
-      (length rs < a → IsRejected it new out out_new errors errors_new exceeds_text status)
-      × (a ≤ length rs → IsRun it new rs a out out_new errors errors_new status)
+  -- What becomes of the requests that were read, of which the first are answered already, or of a line that is none.
+  abbrev pub IsApplied : (Failure → Type 0) → (Failure → Type 0) → Registry S g → Registry S g → Result (List Request) BadLine → ℕ → Option (List ℕ) → Option (List ℕ) → Option (List ℕ) → Option (List ℕ) → ℕ → Type 0
+  IsApplied OfInput OfOutput it new (Err bad) a out out_new errors errors_new status = IsRejected OfInput it new out out_new errors errors_new (bad_line_text bad) status
+  IsApplied OfInput OfOutput it new (Ok rs) a out out_new errors errors_new status =
+      (length rs < a → IsRejected OfInput it new out out_new errors errors_new exceeds_text status)
+      × (a ≤ length rs → IsRun OfInput OfOutput it new rs a out out_new errors errors_new status)

@@ -3,8 +3,12 @@ use Rattle.std.specs.Prelude.{List, [], ◌∷◌, ◌++◌, ℕ, codes}
 use Rattle.std.specs.Fmt.{decimal}
 use Rattle.serde_json.specs.Written.{compact_text}
 use Rattle.registry_rules.specs.declared.verdict.Reply.{Reply}
+use Rattle.registry_store.specs.declared.fault.Fault.{Fault}
+use Rattle.registry_store.specs.declared.fault.Fault.TheVariants as faults
 use Rattle.registry_wire.specs.declared.refusal.WireRefusal.{WireRefusal}
 use Rattle.registry_wire.specs.Replies.{refusal_data, reply_data}
+use Rattle.registry_commands.specs.declared.input.InputFault.{InputFault}
+use Rattle.registry_commands.specs.declared.input.InputFault.TheVariants as inputs
 use Rattle.registry_commands.specs.declared.lines.BadLine.{BadLine}
 use Rattle.registry_commands.specs.declared.messages.Failure.{Failure}
 use Rattle.registry_commands.specs.declared.messages.Failure.TheVariants.{Store, Memory, Foreign, Taken, Spent, File}
@@ -38,3 +42,16 @@ failure_line Foreign = codes "fault: foreign\n"
 failure_line Taken = codes "fault: taken\n"
 failure_line Spent = codes "fault: spent\n"
 failure_line File = codes "fault: file\n"
+
+-- the failure that a fault of the registry is
+abbrev pub failure_of : Fault → Failure
+failure_of faults.Store = Store
+failure_of faults.NoMemory = Memory
+failure_of faults.Foreign = Foreign
+failure_of faults.Taken = Taken
+failure_of faults.Spent = Spent
+
+-- the failure that an input's fault is
+abbrev pub input_failure : InputFault → Failure
+input_failure inputs.File = File
+input_failure inputs.NoMemory = Memory

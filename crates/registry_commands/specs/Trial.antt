@@ -9,7 +9,9 @@ use Rattle.registry_rules.specs.declared.order.Request.{Request}
 use Rattle.registry_rules.specs.History.{founded}
 use Rattle.registry_rules.specs.Run.{answers}
 use Rattle.registry_commands.specs.declared.lines.BadLine.{BadLine}
-use Rattle.registry_commands.specs.Apply.{TellsFailure}
+use Rattle.registry_commands.specs.declared.messages.Failure.{Failure}
+use Rattle.registry_commands.specs.declared.messages.Failure.TheVariants.{Store}
+use Rattle.registry_commands.specs.Failures.{IsOfSoundRun, TellsFailure}
 use Rattle.registry_commands.specs.Messages.{bad_line_text, reply_lines}
 
 -- vendor 1209, `Shared products`, with the curator `cora`, two licences and the fixed numbers 0001 to 0010
@@ -26,9 +28,15 @@ pub record IsTried (rs : List Request) (out out_new : Option (List ℕ)) : Type 
   pub trial : IsTrial founding
   pub gained : Appends out out_new (reply_lines (answers (founded founding) rs))
 
--- what a trial writes, and its status
-abbrev pub IsTrialOf : Result (List Request) BadLine → Option (List ℕ) → Option (List ℕ) → Option (List ℕ) → Option (List ℕ) → ℕ → Type 0
-IsTrialOf (Err bad) out out_new errors errors_new status =
-    Keeps out out_new × (((status ≡ 2) × AppendsBeginning errors errors_new (bad_line_text bad)) ⊎ ((status ≡ 1) × TellsFailure errors errors_new))
-IsTrialOf (Ok rs) out out_new errors errors_new status =
-    ((status ≡ 0) × IsTried rs out out_new × Keeps errors errors_new) ⊎ ((status ≡ 1) × TellsFailure errors errors_new)
+-- a trial failed before any line was acted on: the store, in which the registry is founded, or the input
+abbrev pub IsOfStart : (Failure → Type 0) → Failure → Type 0
+IsOfStart OfInput failure = (failure ≡ Store) ⊎ OfInput failure
+
+-- What a trial writes, and its status. Its registry stands, so no failure is Foreign, Taken or Spent.
+abbrev pub IsTrialOf : (Failure → Type 0) → (Failure → Type 0) → Result (List Request) BadLine → Option (List ℕ) → Option (List ℕ) → Option (List ℕ) → Option (List ℕ) → ℕ → Type 0
+IsTrialOf OfInput OfOutput (Err bad) out out_new errors errors_new status =
+    Keeps out out_new × (((status ≡ 2) × AppendsBeginning errors errors_new (bad_line_text bad)) ⊎ ((status ≡ 1) × TellsFailure (IsOfStart OfInput) errors errors_new))
+IsTrialOf OfInput OfOutput (Ok rs) out out_new errors errors_new status =
+    ((status ≡ 0) × IsTried rs out out_new × Keeps errors errors_new)
+    ⊎ ((status ≡ 1) × Keeps out out_new × TellsFailure (IsOfStart OfInput) errors errors_new)
+    ⊎ ((status ≡ 1) × TellsFailure (λ failure. IsOfSoundRun failure × OfOutput failure) errors errors_new)

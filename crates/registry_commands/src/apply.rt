@@ -1,16 +1,17 @@
 //! Request lines, acted on one after another over a registry.
 
-ghost use Rattle.std.specs.Prelude.{◌≡◌, ◌≤◌, ◌<◌, ◌⊎◌, ℕ, List, length, Ok, OnOk, OnErr};
+ghost use Rattle.std.specs.Prelude.{◌≡◌, ◌≤◌, ◌⊎◌, false, ℕ, List, length, IfErr, Ok, OnOk, OnErr};
 ghost use Rattle.sqlite.specs.State.{HasCleanDisk};
 ghost use Rattle.usbids_text.specs.Ends.{AppendsBeginning, MayGive};
 ghost use Rattle.registry_rules.specs.History.{History};
 ghost use Rattle.registry_rules.specs.Run.{after_one, answer_one};
-ghost use Rattle.registry_store.specs.Promise.{Endures, Stands, state_of};
+ghost use Rattle.registry_store.specs.Promise.{Endures, Stands, is_spent, state_of};
 ghost use Rattle.registry_store.specs.Run.{HasAnswered};
 ghost use Rattle.std.specs.Io.KnownBytes.{Appends};
 ghost use Rattle.registry_commands.specs.Lines.{requests_in};
 ghost use Rattle.registry_commands.specs.Messages.{bad_line_text, exceeds_text, reply_line};
-ghost use Rattle.registry_commands.specs.Apply.{IsApplied, IsCutShort, IsRejected, IsRun, IsStoppedAt, IsThrough, MayBeActedOn, TellsFailure};
+ghost use Rattle.registry_commands.specs.Apply.{IsApplied, IsCutShort, IsOfRun, IsStoppedAt, IsThrough, MayBeActedOn};
+ghost use Rattle.registry_commands.specs.Failures.{IsOfInput, IsOfMemory, IsOfOutput, TellsFailure};
 
 use crate::input::read_all;
 use crate::lines::{BadLine, requests_in};
@@ -32,6 +33,9 @@ fn answer<S: Alter, W: Sink>(
         → OnOk result (Stands registry.new (after_one h request.now) × Appends (W.contents output.old) (W.contents output.new) (reply_line (answer_one h request.now))) }
     ensures stopped { (h : History) → MayBeActedOn registry.old h request.now → HasCleanDisk (state_of registry.new)
         → OnErr result (IsCutShort registry.new h request.now (W.contents output.old) (W.contents output.new)) }
+    ensures failure { IfErr result (λ failure. IsOfRun registry.old registry.new (λ h. MayBeActedOn registry.old h request.now) failure
+        × IsOfOutput (W.failures output.old) (W.failures output.new) failure) }
+    ensures goes_on { OnOk result ((is_spent registry.new ≡ false) × (W.failures output.new ≡ W.failures output.old)) }
     ensures endures { Endures (state_of registry.old) (state_of registry.new) }
 {
     match registry.act(request) {
@@ -54,6 +58,8 @@ fn answer_from<S: Alter, W: Sink>(
         → OnOk result (IsThrough registry.new h requests.now answered (W.contents output.old) (W.contents output.new)) }
     ensures stopped { (h : History) → HasAnswered registry.old h requests.now answered → HasCleanDisk (state_of registry.new)
         → OnErr result ((n : ℕ) × IsStoppedAt registry.new h requests.now answered n (W.contents output.old) (W.contents output.new)) }
+    ensures failure { IfErr result (λ failure. IsOfRun registry.old registry.new (λ h. HasAnswered registry.old h requests.now answered) failure
+        × IsOfOutput (W.failures output.old) (W.failures output.new) failure) }
     ensures endures { Endures (state_of registry.old) (state_of registry.new) }
 {
     for request in &requests[answered..] {
@@ -65,7 +71,7 @@ fn answer_from<S: Alter, W: Sink>(
 /// Tells which line is no request, and answers the status.
 fn reject_line<E: Sink>(alloc: Global, errors: &mut E, bad: BadLine) -> u8
     ensures { ((result ≡ 2) × AppendsBeginning (E.contents errors.old) (E.contents errors.new) (bad_line_text bad))
-        ⊎ ((result ≡ 1) × TellsFailure (E.contents errors.old) (E.contents errors.new)) }
+        ⊎ ((result ≡ 1) × TellsFailure IsOfMemory (E.contents errors.old) (E.contents errors.new)) }
 {
     let Ok(text) = bad_line_text(alloc, bad) else {
         return fail(errors, Failure::Memory);
@@ -83,7 +89,8 @@ fn apply_requests<S: Alter, W: Sink, E: Sink>(
     output: &mut W,
     errors: &mut E,
 ) -> u8
-    ensures { IsApplied registry.old registry.new (Ok requests.now) answered (W.contents output.old) (W.contents output.new) (E.contents errors.old) (E.contents errors.new) result }
+    ensures { IsApplied IsOfMemory (IsOfOutput (W.failures output.old) (W.failures output.new)) registry.old registry.new (Ok requests.now) answered
+        (W.contents output.old) (W.contents output.new) (E.contents errors.old) (E.contents errors.new) result }
 {
     if answered > requests.len() as u64 {
         tell(errors, "answered exceeds requests\n");
@@ -104,7 +111,8 @@ fn apply_bytes<S: Alter, W: Sink, E: Sink>(
     output: &mut W,
     errors: &mut E,
 ) -> u8
-    ensures { IsApplied registry.old registry.new (requests_in bytes.now) answered (W.contents output.old) (W.contents output.new) (E.contents errors.old) (E.contents errors.new) result }
+    ensures { IsApplied IsOfMemory (IsOfOutput (W.failures output.old) (W.failures output.new)) registry.old registry.new (requests_in bytes.now) answered
+        (W.contents output.old) (W.contents output.new) (E.contents errors.old) (E.contents errors.new) result }
 {
     match requests_in(alloc, bytes) {
         Ok(Ok(requests)) => apply_requests(
@@ -137,7 +145,8 @@ pub fn apply_lines<R: Source, S: Alter, W: Sink, E: Sink>(
     errors: &mut E,
 ) -> u8
     ensures { (bytes : List ℕ) × MayGive (R.remaining source.old) bytes
-        × IsApplied registry.old registry.new (requests_in bytes) answered (W.contents output.old) (W.contents output.new) (E.contents errors.old) (E.contents errors.new) result }
+        × IsApplied (IsOfInput (R.failures source.old) (R.failures source.new) bytes) (IsOfOutput (W.failures output.old) (W.failures output.new))
+        registry.old registry.new (requests_in bytes) answered (W.contents output.old) (W.contents output.new) (E.contents errors.old) (E.contents errors.new) result }
 {
     match read_all(alloc, source) {
         Ok(bytes) => apply_bytes(alloc, bytes.as_slice(), answered, registry, output, errors),

@@ -3,7 +3,7 @@
 ghost use Rattle.std.specs.Prelude.{◌≡◌, ◌⊎◌, ℕ, List};
 ghost use Rattle.usbids_text.specs.Ends.{AppendsBeginning, MayGive};
 ghost use Rattle.registry_wire.specs.Founding.{founding_listed};
-ghost use Rattle.registry_commands.specs.Apply.{TellsFailure};
+ghost use Rattle.registry_commands.specs.Failures.{IsOfInput, IsOfMemory, TellsFailure};
 ghost use Rattle.registry_commands.specs.Messages.{refusal_line};
 ghost use Rattle.registry_commands.specs.Found.{IsFoundBy, IsTriedOn};
 
@@ -19,7 +19,7 @@ use usbids_text::{Sink, Source};
 /// Tells why a founding file is none, and answers the status.
 fn reject<E: Sink>(alloc: Global, errors: &mut E, refusal: WireRefusal) -> u8
     ensures { ((result ≡ 2) × AppendsBeginning (E.contents errors.old) (E.contents errors.new) (refusal_line refusal))
-        ⊎ ((result ≡ 1) × TellsFailure (E.contents errors.old) (E.contents errors.new)) }
+        ⊎ ((result ≡ 1) × TellsFailure IsOfMemory (E.contents errors.old) (E.contents errors.new)) }
 {
     let Ok(text) = refusal_line(alloc, refusal) else {
         return fail(errors, Failure::Memory);
@@ -50,7 +50,7 @@ fn found_by<S: Alter, E: Sink>(
     bytes: &[u8],
     errors: &mut E,
 ) -> (u8, Connection<S>)
-    ensures { IsFoundBy S.Store conn result.1 (founding_listed bytes.now) (E.contents errors.old) (E.contents errors.new) result.0 }
+    ensures { IsFoundBy S.Store IsOfMemory conn result.1 (founding_listed bytes.now) (E.contents errors.old) (E.contents errors.new) result.0 }
 {
     match founding_from_toml(alloc, bytes) {
         Ok(Ok(founding)) => found_with(alloc, conn, &founding, errors),
@@ -72,7 +72,8 @@ pub fn found_registry<R: Source, S: Alter, E: Sink>(
     errors: &mut E,
 ) -> (u8, Connection<S>)
     ensures { (bytes : List ℕ) × MayGive (R.remaining source.old) bytes
-        × IsFoundBy S.Store conn result.1 (founding_listed bytes) (E.contents errors.old) (E.contents errors.new) result.0 }
+        × IsFoundBy S.Store (IsOfInput (R.failures source.old) (R.failures source.new) bytes)
+        conn result.1 (founding_listed bytes) (E.contents errors.old) (E.contents errors.new) result.0 }
 {
     match read_all(alloc, source) {
         Ok(bytes) => found_by(alloc, conn, bytes.as_slice(), errors),

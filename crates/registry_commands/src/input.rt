@@ -1,8 +1,10 @@
 //! All that comes from a source.
 
-ghost use Rattle.std.specs.Prelude.{Err, ◌≡◌, ◌≤◌, ◌<◌, ◌⊎◌, ◌++◌, ℕ, List, length, IfOk, IfErr};
+ghost use Rattle.std.specs.Prelude.{Err, ◌≡◌, ◌≤◌, ◌++◌, ℕ, List, length, IfOk, IfErr, OnOk};
 ghost use Rattle.std.specs.Io.KnownBytes.{Consumes, IsAtEnd};
 ghost use Rattle.usbids_text.specs.Ends.{HasFailed, MayGive};
+ghost use Rattle.registry_commands.specs.Failures.{IsOfInput};
+ghost use Rattle.registry_commands.specs.Messages.{input_failure};
 
 use std::alloc::Global;
 use usbids_text::{Broken, Source};
@@ -26,6 +28,7 @@ fn take_more<R: Source>(source: &mut R, bytes: &mut Vec<u8>) -> Result<usize, In
         × Consumes (R.remaining source.old) (R.remaining source.new) more × (n ≡ 0 → IsAtEnd (R.remaining source.new))
         × (R.failures source.new ≡ R.failures source.old)) }
     ensures file { result ≡ Err InputFault.File → HasFailed (R.failures source.old) (R.failures source.new) }
+    ensures memory { result ≡ Err InputFault.NoMemory → R.failures source.new ≡ R.failures source.old }
 {
     let mut chunk = [0u8; 8192];
     match source.take(&mut chunk) {
@@ -38,11 +41,12 @@ fn take_more<R: Source>(source: &mut R, bytes: &mut Vec<u8>) -> Result<usize, In
 }
 
 /// All bytes of the source, at most 4,294,967,295. `File` comes only where the source failed during
-/// this call or has more than that.
+/// this call or has more than that, and `NoMemory` only where it did not fail.
 pub fn read_all<R: Source>(alloc: Global, source: &mut R) -> Result<Vec<u8>, InputFault>
     ensures ok { IfOk result (λ v. MayGive (R.remaining source.old) v.items × (length v.items ≤ 4294967295)) }
+    ensures kept { OnOk result (R.failures source.new ≡ R.failures source.old) }
     ensures err { IfErr result (λ fault. (b : List ℕ) × MayGive (R.remaining source.old) b
-        × (fault ≡ InputFault.File → HasFailed (R.failures source.old) (R.failures source.new) ⊎ (4294967295 < length b))) }
+        × IsOfInput (R.failures source.old) (R.failures source.new) b (input_failure fault)) }
 {
     let mut bytes = Vec::new(alloc);
     while bytes.len() <= MOST {

@@ -7,11 +7,11 @@ mod found;
 mod input;
 mod lines;
 mod messages;
-mod trial;
+mod trials;
 
 pub use apply::apply_lines;
 pub use found::found_registry;
 pub use input::{InputFault, read_all};
 pub use lines::{BadLine, requests_in};
 pub use messages::{Failure, fail, failure_of};
-pub use trial::{trial, trial_founding};
+pub use trials::{trial, trial_founding};

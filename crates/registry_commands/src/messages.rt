@@ -1,10 +1,11 @@
 //! What the program writes: replies, and why it rejects an input or fails.
 
-ghost use Rattle.std.specs.Prelude.{◌≡◌, ℕ, IfOk, OnOk, OnErr, Err, MatchResult};
+ghost use Rattle.std.specs.Prelude.{◌≡◌, ◌⊎◌, ℕ, IfErr, IfOk, OnOk, OnErr};
 ghost use Rattle.std.specs.String.{string_bytes};
 ghost use Rattle.std.specs.Io.KnownBytes.{Appends};
-ghost use Rattle.usbids_text.specs.Ends.{AppendsBeginning, HasFailed};
-ghost use Rattle.registry_commands.specs.Messages.{bad_line_text, failure_line, refusal_line, reply_line};
+ghost use Rattle.usbids_text.specs.Ends.{AppendsBeginning};
+ghost use Rattle.registry_commands.specs.Failures.{IsOfOutput};
+ghost use Rattle.registry_commands.specs.Messages.{bad_line_text, failure_line, failure_of, input_failure, refusal_line, reply_line};
 
 use crate::input::InputFault;
 use crate::lines::BadLine;
@@ -52,7 +53,9 @@ impl Failure {
 }
 
 /// The failure that a fault of the registry is.
-pub fn failure_of(fault: Fault) -> Failure {
+pub fn failure_of(fault: Fault) -> Failure
+    ensures { result ≡ failure_of fault }
+{
     match fault {
         Fault::Store => Failure::Store,
         Fault::NoMemory => Failure::Memory,
@@ -63,7 +66,9 @@ pub fn failure_of(fault: Fault) -> Failure {
 }
 
 /// The failure that an input's is.
-pub(crate) fn input_failure(fault: InputFault) -> Failure {
+pub(crate) fn input_failure(fault: InputFault) -> Failure
+    ensures { result ≡ input_failure fault }
+{
     match fault {
         InputFault::File => Failure::File,
         InputFault::NoMemory => Failure::Memory,
@@ -118,7 +123,7 @@ pub fn fail<E: Sink>(errors: &mut E, failure: Failure) -> u8
 
 /// Writes a reply as a line.
 ///
-/// The failure is `File` only where the output failed, else `Memory`. Either way a beginning of the
+/// The failure is `File` where the output failed, and else `Memory`. Either way a beginning of the
 /// line was written.
 pub(crate) fn put_reply<W: Sink>(
     alloc: Global,
@@ -127,7 +132,8 @@ pub(crate) fn put_reply<W: Sink>(
 ) -> Result<(), Failure>
     ensures ok { OnOk result (Appends (W.contents output.old) (W.contents output.new) (reply_line reply.now)) }
     ensures err { OnErr result (AppendsBeginning (W.contents output.old) (W.contents output.new) (reply_line reply.now)) }
-    ensures file { result ≡ Err Failure.File → HasFailed (W.failures output.old) (W.failures output.new) }
+    ensures kept { OnOk result (W.failures output.new ≡ W.failures output.old) }
+    ensures failure { IfErr result (λ failure. ((failure ≡ Failure.Memory) ⊎ (failure ≡ Failure.File)) × IsOfOutput (W.failures output.old) (W.failures output.new) failure) }
 {
     let Ok(line) = reply_line(alloc, reply) else {
         return Err(Failure::Memory);

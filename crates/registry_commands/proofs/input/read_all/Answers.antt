@@ -1,16 +1,32 @@
-use Rattle.std.proofs.Common.{◌≡◌, ◌≤◌, ◌<◌, ◌++◌, List, ℕ, length, inl, inr, ap, Err, arith, length-append}
+use Rattle.std.proofs.Common.{◌≡◌, ◌<◌, ◌++◌, List, ℕ, length, ◌∙◌, inl, inr, ap, refl, Err, arith, length-append}
+use Rattle.usbids_text.specs.Ends.{HasFailed}
 use Rattle.usbids_text.proofs.EndLemmas.{all_of}
+use Rattle.registry_commands.specs.declared.input.InputFault.{InputFault}
+use Rattle.registry_commands.specs.declared.input.InputFault.TheVariants as inputs
+use Rattle.registry_commands.specs.Failures.{IsOfInput}
+use Rattle.registry_commands.specs.Messages.{input_failure}
 use Rattle.registry_commands.proofs.input.read_all.Goals as goal
+
+-- what is told of an input's fault
+told : (before after : ℕ) (bytes : List ℕ) (fault : InputFault) → (fault ≡ inputs.File → HasFailed before after) → (fault ≡ inputs.NoMemory → after ≡ before)
+    → IsOfInput before after bytes (input_failure fault)
+told before after bytes inputs.File failed kept = inl (failed refl)
+told before after bytes inputs.NoMemory failed kept = kept refl
 
 pub returns-clause-err : goal.returns-clause-err
 returns-clause-err g c =
     let bytes = c.loop-source.bytes.items in
     let all = all_of _ _ bytes c.loop-source.invariant.read in
     let long : 4294967295 < length (bytes ++ all.0) = omega (arith, length-append bytes all.0) in
-    (bytes ++ all.0, all.1, λ _. inr long)
+    (bytes ++ all.0, all.1, inr long)
 
 pub returns-in-Err-clause-err : goal.returns-in-Err-clause-err
 returns-in-Err-clause-err g c =
+    let fault = c.in-Err.fault in
     let bytes = c.loop-source.bytes.items in
     let all = all_of _ _ bytes c.loop-source.invariant.read in
-    (bytes ++ all.0, all.1, λ e. inl (rw (← c.loop-source.invariant.same_failures) (c.in-Err.ensures.file (ap Err e))))
+    let before = g.R.Source.failures c.args.source.now in
+    let after = g.R.Source.failures c.take_more.new.source in
+    let failed : (fault ≡ inputs.File) → HasFailed before after = λ e. rw (← c.loop-source.invariant.same_failures) (c.in-Err.ensures.file (ap Err e)) in
+    let kept : (fault ≡ inputs.NoMemory) → after ≡ before = λ e. c.in-Err.ensures.memory (ap Err e) ∙ c.loop-source.invariant.same_failures in
+    (bytes ++ all.0, all.1, told before after (bytes ++ all.0) fault failed kept)

@@ -1,4 +1,4 @@
-use Rattle.std.proofs.Common.{◌≡◌, ◌+◌, ◌<◌, length, arith}
+use Rattle.std.proofs.Common.{◌+◌}
 use Rattle.registry_commands.proofs.LineLemmas.{first-found, first-none, suffix}
 use Rattle.registry_commands.proofs.lines.first_line.Goals as goal
 

@@ -1,7 +1,7 @@
-use Rattle.std.proofs.Common.{rules, ◌≡◌, ◌+◌, ◌≤◌, true, false, List, [], ◌∷◌, ◌++◌, Ok, Err, length, sym, arith, ◌∙◌}
+use Rattle.std.proofs.Common.{◌≡◌, true, false, [], ◌∷◌, ◌++◌, Ok, Err, length, sym, arith, ◌∙◌}
 use Rattle.std.proofs.lemmas.Bool.Decides.{nat_tests}
 use Rattle.registry_wire.specs.Reading.{line_reading}
-use Rattle.registry_commands.specs.Lines.{is_blank, lines_of, requests_from}
+use Rattle.registry_commands.specs.Lines.{is_blank}
 use Rattle.registry_commands.proofs.LineLemmas.{after-blank, after-good, at-bad, at-end, no-bytes}
 use Rattle.registry_commands.proofs.lines.requests_in.Goals as goal
 use Rattle.registry_commands.proofs.lines.requests_in.Goals.{then-not-is_blank+in_ok-request+in-Ok+in_ok-push-in-Ok, else-not-is_blank}

@@ -1,6 +1,6 @@
 use Rattle.registry_commands.proofs.EndLemmas.{memory_is_clean}
-use Rattle.registry_commands.proofs.trial.found_trial.Goals as goal
+use Rattle.registry_commands.proofs.trials.found_trial.Goals as goal
 
-pub returns-in-Ok-found : goal.returns-in-Ok-found
-returns-in-Ok-found c =
+pub returns-in-Ok-found-clause-ok : goal.returns-in-Ok-found-clause-ok
+returns-in-Ok-found-clause-ok c =
     (c.in-Ok.founding, c.in-Ok.ensures, c.in-Ok-found.ensures.stands (memory_is_clean c.in-Ok-found.registry))

@@ -1,7 +1,7 @@
 use Rattle.std.proofs.Common.{rules, ◌≡◌, ◌∷◌, [], subst}
 use Rattle.std.specs.Prelude.{codes, List, ℕ}
 use Rattle.registry_rules.specs.Texts.{AreInOrder}
-use Rattle.registry_commands.proofs.trial.licences.Goals as goal
+use Rattle.registry_commands.proofs.trials.licences.Goals as goal
 
 pub returns : goal.returns
 returns c =

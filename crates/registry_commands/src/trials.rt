@@ -1,12 +1,13 @@
 //! A registry in memory, founded anew each time.
 
-ghost use Rattle.std.specs.Prelude.{◌≡◌, ◌&&◌, ◌∷◌, [], ℕ, List, nat_le, codes, IfOk};
+ghost use Rattle.std.specs.Prelude.{◌≡◌, ◌⊎◌, ◌&&◌, ◌∷◌, [], ℕ, List, nat_le, codes, IfErr, IfOk};
 ghost use Rattle.usbids_text.specs.Ends.{MayGive};
 ghost use Rattle.usbnum_core.specs.Spans.{spans_have};
 ghost use Rattle.registry_rules.specs.Texts.{AreInOrder};
 ghost use Rattle.registry_rules.specs.declared.founding.Founding.{Founding};
 ghost use Rattle.registry_rules.specs.History.{founded};
 ghost use Rattle.registry_store.specs.Promise.{Stands};
+ghost use Rattle.registry_commands.specs.Failures.{IsOfInput, IsOfOutput};
 ghost use Rattle.registry_commands.specs.Lines.{requests_in};
 ghost use Rattle.registry_commands.specs.Trial.{IsTrial, IsTrialOf};
 
@@ -81,7 +82,8 @@ pub fn trial_founding(alloc: Global) -> Result<Founding, NoMemory>
 
 /// Founds the registry of a trial in memory.
 fn found_trial(alloc: Global) -> Result<Registry<MemStore>, Failure>
-    ensures { IfOk result (λ it. (founding : Founding) × IsTrial founding × Stands it (founded founding)) }
+    ensures ok { IfOk result (λ it. (founding : Founding) × IsTrial founding × Stands it (founded founding)) }
+    ensures err { IfErr result (λ failure. (failure ≡ Failure.Store) ⊎ (failure ≡ Failure.Memory)) }
 {
     let Ok(founding) = trial_founding(alloc) else {
         return Err(Failure::Memory);
@@ -107,7 +109,8 @@ pub fn trial<R: Source, W: Sink, E: Sink>(
     errors: &mut E,
 ) -> u8
     ensures { (bytes : List ℕ) × MayGive (R.remaining source.old) bytes
-        × IsTrialOf (requests_in bytes) (W.contents output.old) (W.contents output.new) (E.contents errors.old) (E.contents errors.new) result }
+        × IsTrialOf (IsOfInput (R.failures source.old) (R.failures source.new) bytes) (IsOfOutput (W.failures output.old) (W.failures output.new))
+        (requests_in bytes) (W.contents output.old) (W.contents output.new) (E.contents errors.old) (E.contents errors.new) result }
 {
     let mut registry = match found_trial(alloc) {
         Ok(registry) => registry,

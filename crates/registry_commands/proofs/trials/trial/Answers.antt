@@ -1,0 +1,22 @@
+use Rattle.registry_commands.specs.Failures.{IsOfInput, IsOfOutput}
+use Rattle.registry_commands.specs.Lines.{requests_in}
+use Rattle.registry_commands.proofs.ApplyLemmas.{some_bytes}
+use Rattle.registry_commands.proofs.EndLemmas.{of_start, trial_fails, tried}
+use Rattle.registry_commands.proofs.trials.trial.Goals as goal
+
+pub returns-in-Err : goal.returns-in-Err
+returns-in-Err g c =
+    let bytes = some_bytes (g.R.Source.remaining c.args.source.now) in
+    let before = g.R.Source.failures c.args.source.now in
+    let count = g.W.Sink.failures c.args.output.now in (
+      bytes.0,
+      bytes.1,
+      trial_fails (IsOfInput before before bytes.0) (IsOfOutput count count) (requests_in bytes.0) _ _ _ c.fail.result c.fail.ensures.status
+          (c.in-Err.failure, of_start before bytes.0 c.in-Err.failure c.in-Err.ensures.err, c.fail.ensures.told),
+    )
+
+pub returns : goal.returns
+returns g c =
+    let done = c.apply_lines-status.ensures in
+    let it = c.in-Ok.ensures.ok in
+    (done.0, done.1, tried _ _ c.in-Ok.registry c.apply_lines-status.new.registry it.0 it.1 it.2 (requests_in done.0) _ _ _ _ _ done.2)
