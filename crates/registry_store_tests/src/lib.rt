@@ -1,5 +1,9 @@
-//! A registry by example, over disks that stop in the middle of a write.
+//! A registry by example: over disks that stop in the middle of a write, and what it answers without acting.
 #![tactic(auto)]
 
+#[cfg(test)]
+mod memory;
+#[cfg(test)]
+mod queries;
 #[cfg(test)]
 mod stops;
