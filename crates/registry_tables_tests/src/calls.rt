@@ -6,7 +6,8 @@ use registry_rules::{
     Totals,
 };
 use registry_tables::{
-    TableFault, facts_for, has_meta, keep_reply, list_numbers, list_orgs, list_petitions, totals,
+    TableFault, facts_for, has_meta, keep_reply, list_numbers, list_orgs, list_petitions,
+    list_vendors, totals,
 };
 use sqlite::{Connection, MemStore};
 use std::alloc::Global;
@@ -29,7 +30,10 @@ fn counts_in(alloc: Global, conn: &mut Connection<MemStore>) -> Option<Counts> {
     let orgs = list_orgs(alloc, conn).ok()?.len();
     let petitions = list_petitions(alloc, conn).ok()?.len();
     let numbers = list_numbers(alloc, conn).ok()?.len();
-    let vendors = totals(alloc, conn).ok()?.vendors().len();
+    let vendors = list_vendors(alloc, conn).ok()?.len();
+    if totals(alloc, conn).ok()?.vendors().len() != vendors {
+        return None;
+    }
     Some(Counts {
         orgs,
         petitions,
