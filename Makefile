@@ -3,8 +3,9 @@
 # test:    the gate. Proves every crate and its tests from nothing, tries the
 #          must-fail edits, runs the tests and, as two compilers make it, each program.
 # install: puts the program that `make trial` built into PREFIX/bin.
-# bench:   reads and writes lists beside plain readers, and prints ratios. Not part
-#          of the gate; it says which packages are missing.
+# bench:   reads and writes lists beside plain readers, and acts on requests beside plain
+#          registries, and prints ratios. Not part of the gate; it says which packages
+#          are missing.
 
 PREFIX ?= /usr/local
 
@@ -21,3 +22,4 @@ install:
 
 bench:
 	bench/run.sh
+	bench/registry.py
