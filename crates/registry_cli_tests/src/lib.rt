@@ -6,4 +6,8 @@ mod lines;
 #[cfg(test)]
 mod runs;
 #[cfg(test)]
+mod shared;
+#[cfg(test)]
+mod transcripts;
+#[cfg(test)]
 mod words;

@@ -1,73 +1,16 @@
 //! Request lines over registries in memory: what is written, and the status.
 
+use crate::shared::{
+    ASK, ASK_ANY, ASKED, BOLT_ASKS, ENROL, ENROL_BOLT, ENROLLED, GRANT, GRANT_ANY, GRANT_OTHER,
+    GRANT_SECOND, GRANTED, Written, joined, tried,
+};
 use registry_commands::{apply_lines, found_registry, trial, trial_founding};
 use registry_store::Registry;
 use sqlite::{Connection, MemStore};
-use std::alloc::Global;
 use std::io;
 use std::process::Abort;
 use std::test::Fail;
 use usbids_text::{Inlet, Outlet};
-
-const ENROL: &str =
-    r#"{"caller":"ann","key":"k1","order":"enrol","org":"acme","title":"Acme Tools","site":"https://acme.example/"}"#;
-
-const ENROL_BOLT: &str =
-    r#"{"caller":"bob","key":"b2","order":"enrol","org":"bolt","title":"Bolt","site":"https://bolt.example/"}"#;
-
-const ASK: &str =
-    r#"{"caller":"ann","key":"k2","order":"ask","org":"acme","number":"0011","title":"Blinker","licence":"MIT","site":"https://acme.example/blinker","source":"https://acme.example/src"}"#;
-
-const ASK_ANY: &str =
-    r#"{"caller":"ann","key":"k2","order":"ask","org":"acme","title":"Blinker","licence":"MIT","site":"https://acme.example/blinker","source":"https://acme.example/src"}"#;
-
-const BOLT_ASKS: &str =
-    r#"{"caller":"bob","key":"b1","order":"ask","org":"bolt","title":"Lamp","licence":"MIT","site":"https://bolt.example/lamp","source":"https://bolt.example/src"}"#;
-
-const GRANT: &str = r#"{"caller":"cora","key":"k3","order":"grant","petition":1,"number":"0011"}"#;
-
-const GRANT_ANY: &str = r#"{"caller":"cora","key":"k3","order":"grant","petition":1}"#;
-
-const GRANT_OTHER: &str =
-    r#"{"caller":"cora","key":"k3","order":"grant","petition":1,"number":"0012"}"#;
-
-const GRANT_SECOND: &str = r#"{"caller":"cora","key":"k5","order":"grant","petition":2}"#;
-
-const ENROLLED: &str = r#"{"done":"enrolled acme"}"#;
-
-const ASKED: &str = r#"{"done":"petition 1"}"#;
-
-const GRANTED: &str = r#"{"done":"granted 0011 to acme by petition 1"}"#;
-
-/// What a command wrote, and its status.
-#[derive(Drop)]
-struct Written {
-    status: u8,
-    output: Vec<u8>,
-    errors: Vec<u8>,
-}
-
-/// The lines, each with a line feed.
-fn joined(alloc: Global, lines: &[&str]) -> Result<String, Fail> {
-    let mut text = String::new(alloc);
-    for line in lines {
-        text.push_str(line)?;
-        text.push_str("\n")?;
-    }
-    Ok(text)
-}
-
-fn tried(alloc: Global, text: &str) -> Written {
-    let mut output = Outlet::new(Vec::new(alloc));
-    let mut errors = Outlet::new(Vec::new(alloc));
-    let mut source = Inlet::new(text.as_bytes());
-    let status = trial(alloc, &mut source, &mut output, &mut errors);
-    Written {
-        status,
-        output: output.into_inner(),
-        errors: errors.into_inner(),
-    }
-}
 
 /// A trial over the lines, which are all requests, gives these reply lines.
 fn replies<R: AllocGlobal + Abort>(rt: &R, lines: &[&str], wanted: &[&str]) -> Result<(), Fail> {
@@ -145,6 +88,14 @@ fn bad_lines(rt: HostRuntime) -> Result<(), Fail> {
         (
             "{enrol}\n \t\r\n\n{}\n[]",
             "line 4: {\"detail\":\"caller\",\"name\":\"BadField\",\"refused\":28}\n",
+        ),
+        (
+            r#"{"caller":"ann","key":"k1","order":"reserve","first":"0020","last":"0010"}"#,
+            "line 1: {\"detail\":\"last\",\"name\":\"BadField\",\"refused\":28}\n",
+        ),
+        (
+            "\n\n{\"caller\":\"ann\",\"key\":\"k1\",\"order\":\"import\"}",
+            "line 3: {\"detail\":\"order\",\"name\":\"BadField\",\"refused\":28}\n",
         ),
     ];
     for (text, told) in cases {
