@@ -1,10 +1,10 @@
 #!/usr/bin/env python3
 """Refuses each allocation of `usbreg` in turn, and looks at what it answers.
 
-A trial of the three lines of examples/first.jsonl, and the same lines applied to a store in a file: each run
-prints the whole answers, or a beginning of them and `fault: memory` or `fault: store` with status 1. A store
-is opened again then, the run goes on with `--answered`, and the replies and the tables end as those of a run
-in which nothing was refused.
+Trials of examples/first.jsonl and of examples/orders.jsonl, which has all orders of request lines, and the
+first of these applied to a store in a file: each run prints the whole answers, or a beginning of them and
+`fault: memory` or `fault: store` with status 1. A store is opened again then, the run goes on with
+`--answered`, and the replies and the tables end as those of a run in which nothing was refused.
 
 Usage: scripts/refuse_allocations.py [PROGRAM], by default the one that `make trial` builds. Wants cc.
 The status is 0 where all of this held."""
@@ -59,7 +59,7 @@ def trials(program, shim, room, lines):
     count, whole = asked_in(words, shim, room, lines), 0
     for number in range(1, count + 1):
         whole += look(f"a trial without allocation {number}", run(words, shim, number, lines=lines), wanted)[1]
-    print(f"trial: each of {count} allocations refused; {whole} runs did without it, the others said so")
+    print(f"trial of {os.path.basename(lines)}: each of {count} allocations refused; {whole} runs did without it, the others said so", flush=True)
 
 
 def stores(program, shim, room, lines):
@@ -88,7 +88,7 @@ def stores(program, shim, room, lines):
         status, rest, errors = run([*words, "--answered", str(done)])
         if (status, rest.splitlines(), errors) != (0, replies[done:], b"") or tables(store) != end:
             sys.exit(f"apply after allocation {number} was refused does not go on as it should: {errors!r}")
-    print(f"apply: each of {count} allocations refused; {whole} runs did without it, the others said so and went on")
+    print(f"apply: each of {count} allocations refused; {whole} runs did without it, the others said so and went on", flush=True)
 
 
 def main():
@@ -97,12 +97,13 @@ def main():
         sys.exit("the program is not there: `make trial` builds it")
     if not shutil.which("cc"):
         sys.exit("no C compiler: apt-get install gcc")
-    lines = f"{HERE}/../examples/first.jsonl"
+    first, orders = (f"{HERE}/../examples/{it}.jsonl" for it in ("first", "orders"))
     with tempfile.TemporaryDirectory() as room:
         shim = f"{room}/refuse.so"
         subprocess.run(["cc", "-O2", "-shared", "-fPIC", "-o", shim, f"{HERE}/refuse.c", "-ldl"], check=True)
-        trials(program, shim, room, lines)
-        stores(program, shim, room, lines)
+        trials(program, shim, room, first)
+        stores(program, shim, room, first)
+        trials(program, shim, room, orders)
 
 
 if __name__ == "__main__":
