@@ -26,11 +26,17 @@ def made_up(room, *words):
     return path
 
 
-def timed(words, lines=None):
+def content(path):
+    with open(path, "rb") as file:
+        return file.read()
+
+
+def timed(words, lines=os.devnull):
     """Seconds, and what was printed."""
-    began = time.perf_counter()
-    ran = subprocess.run(words, stdin=open(lines, "rb") if lines else subprocess.DEVNULL, stdout=subprocess.PIPE, check=True)
-    return time.perf_counter() - began, ran.stdout
+    with open(lines, "rb") as given:
+        began = time.perf_counter()
+        ran = subprocess.run(words, stdin=given, stdout=subprocess.PIPE, check=True)
+        return time.perf_counter() - began, ran.stdout
 
 
 class Usbreg:
@@ -75,8 +81,7 @@ def programs(room):
 
 def side_by_side(all_programs, lines, run, title, runs):
     """Each program in turn, so many times; all must print the same."""
-    with open(lines, "rb") as file:
-        count = sum(1 for _ in file)
+    count = content(lines).count(b"\n")
     taken = {it.name: [] for it in all_programs}
     for _ in range(runs):
         printed = set()
@@ -104,23 +109,23 @@ def new_store(room, it):
 
 def on_a_full_store(all_programs, room):
     """What a request costs on a full store over an empty one, opening left out."""
-    full, few, none = made_up(room, 1, 60000, 40000), (60001, 61000), f"{room}/none.jsonl"
+    full, few, none = made_up(room, 1, 60000, 40000), (60001, 65000), f"{room}/none.jsonl"
     open(none, "wb").close()
     for it in all_programs:
         empty, filled = [], []
         store = new_store(room, it)
         it.in_file(store, full)
-        kept = {end: open(store + end, "rb").read() for end in ("", "-wal") if os.path.exists(store + end)}
+        kept = {end: content(store + end) for end in ("", "-wal") if os.path.exists(store + end)}
         for _ in range(RUNS):
-            for end, content in kept.items():
+            for end, bytes_there in kept.items():
                 with open(store + end, "wb") as file:
-                    file.write(content)
+                    file.write(bytes_there)
             opening, _ = it.in_file(store, none)
             seconds, _ = it.in_file(store, granted_after(room, *few))
             filled.append(seconds - opening)
             fresh = new_store(room, it)
             opening, _ = it.in_file(fresh, none)
-            seconds, _ = it.in_file(fresh, made_up(room, 1, 1000))
+            seconds, _ = it.in_file(fresh, made_up(room, 1, 5000))
             empty.append(seconds - opening)
             os.remove(fresh)
         print(f"  {it.name:16} a request with 60,000 entries and 100,000 petitions costs {min(filled) / min(empty):5.2f} of one on an empty store (best), {statistics.median(filled) / statistics.median(empty):5.2f} (median)")

@@ -20,6 +20,11 @@ HERE = os.path.dirname(os.path.abspath(__file__))
 FAULTS = {b"fault: memory\n", b"fault: store\n"}
 
 
+def content(path):
+    with open(path, "rb") as file:
+        return file.read()
+
+
 def run(words, shim=None, refused=0, counted=None, lines=None):
     """Status, output and errors."""
     extra = {"LD_PRELOAD": shim, "REFUSED": str(refused)} if shim else {}
@@ -66,7 +71,7 @@ def stores(program, shim, room, lines):
     founding, store, other = f"{HERE}/../examples/founding.toml", f"{room}/store.db", f"{room}/other.db"
     for it in (store, other):
         run([program, "found", it, founding])
-    founded = {end: open(store + end, "rb").read() for end in ("", "-wal") if os.path.exists(store + end)}
+    founded = {end: content(store + end) for end in ("", "-wal") if os.path.exists(store + end)}
     wanted = run([program, "apply", other, lines])[1]
     replies, end = wanted.splitlines(), tables(other)
     words = [program, "apply", store, lines]
@@ -75,9 +80,9 @@ def stores(program, shim, room, lines):
         for ending in ("", "-wal", "-shm"):
             if os.path.exists(store + ending):
                 os.remove(store + ending)
-        for ending, content in founded.items():
+        for ending, bytes_there in founded.items():
             with open(store + ending, "wb") as file:
-                file.write(content)
+                file.write(bytes_there)
 
     fresh()
     count, whole = asked_in(words, shim, room), 0
