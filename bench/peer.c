@@ -124,14 +124,22 @@ static int ask(const char *line, const char *caller, char *reply) {
     return 0;
 }
 
-static int grant(const char *line, const char *caller, char *reply) {
+// Finds the open petition that a curator decides on: its row is that of PETITION then.
+static int open_petition(const char *line, const char *caller, long long *id) {
     char digits[TEXT];
     if (!finds(ready(CURATOR, caller, NULL))) return 2;
-    long long id = atoll(field(line, "petition", digits));
-    sqlite3_stmt *petition = ready(PETITION, NULL, NULL);
-    sqlite3_bind_int64(petition, 1, id);
-    if (!finds(petition)) return 6;
-    if (sqlite3_column_int(petition, 0)) return 7;
+    *id = atoll(field(line, "petition", digits));
+    sqlite3_stmt *it = ready(PETITION, NULL, NULL);
+    sqlite3_bind_int64(it, 1, *id);
+    if (!finds(it)) return 6;
+    return sqlite3_column_int(it, 0) ? 7 : 0;
+}
+
+static int grant(const char *line, const char *caller, char *reply) {
+    long long id = 0;
+    int refused = open_petition(line, caller, &id);
+    if (refused) return refused;
+    sqlite3_stmt *petition = made[PETITION];
     if (reaches(FIXED, least) || reaches(SPAN, least)) return 8;
     sqlite3_stmt *it = ready(OWNER, NULL, NULL);
     sqlite3_bind_int(it, 1, least);
@@ -153,15 +161,11 @@ static int grant(const char *line, const char *caller, char *reply) {
 }
 
 static int decline(const char *line, const char *caller, char *reply) {
-    char digits[TEXT];
-    if (!finds(ready(CURATOR, caller, NULL))) return 2;
-    long long id = atoll(field(line, "petition", digits));
-    sqlite3_stmt *it = ready(PETITION, NULL, NULL);
-    sqlite3_bind_int64(it, 1, id);
-    if (!finds(it)) return 6;
-    if (sqlite3_column_int(it, 0)) return 7;
-    sqlite3_reset(it);
-    it = ready(DECLINE, NULL, NULL);
+    long long id = 0;
+    int refused = open_petition(line, caller, &id);
+    if (refused) return refused;
+    sqlite3_reset(made[PETITION]);
+    sqlite3_stmt *it = ready(DECLINE, NULL, NULL);
     sqlite3_bind_int64(it, 1, id);
     does(it);
     sprintf(reply, "declined petition %lld", id);
