@@ -1,3 +1,4 @@
 pub mod Texts
 pub mod Schema
 pub mod Meta
+pub mod Version
