@@ -17,3 +17,4 @@ pub mod AscendLemmas
 pub mod CallLemmas
 pub mod ListLemmas
 pub mod OpeningLemmas
+pub mod NewestLemmas

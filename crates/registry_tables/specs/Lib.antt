@@ -4,3 +4,4 @@ pub mod Calls
 pub mod Changed
 pub mod Reserved
 pub mod Finds
+pub mod Version

@@ -1,12 +1,13 @@
 //! What is kept in memory of a history.
 
-ghost use Rattle.std.specs.Prelude.{◌≡◌, ◌≢◌, false, IsTrue, IfOk, Err};
+ghost use Rattle.std.specs.Prelude.{◌≡◌, ◌≢◌, false, IsTrue, IfOk, OnOk, MatchResult, Err};
 ghost use Rattle.sqlite.specs.State.{HasCleanDisk, Survives};
 ghost use Rattle.sqlite.specs.Held.{state};
 ghost use Rattle.usbnum_core.specs.Spans.{IsSpread};
 ghost use Rattle.registry_rules.specs.FactsOf.{IsFoundingOf, AreVendorsOf};
 ghost use Rattle.registry_rules.specs.TotalsOf.{AreTotalsOf};
-ghost use Rattle.registry_tables.specs.Rows.{meta_of};
+ghost use Rattle.registry_tables.specs.Rows.{newest, meta_of};
+ghost use Rattle.registry_tables.specs.Version.{SaysNewest};
 ghost use Rattle.registry_tables.specs.Lists.{AreAllowed};
 ghost use Rattle.registry_tables.specs.Calls.{Lists, KeepsAll, IsForeign};
 ghost use Rattle.registry_tables.specs.Finds.{Finds};
@@ -21,16 +22,28 @@ use sqlite::{Alter, Connection, Transaction};
 use std::alloc::Global;
 use usbnum_core::{Span, Spans};
 
+// What the store is, where it says that it is of the newest schema.
+fn of_newest(meta: Meta) -> Result<Meta, TableFault>
+    ensures { MatchResult result (λ same. (same ≡ meta) × (meta.version ≡ newest)) (λ fault. (fault ≡ TableFault.Foreign) × (meta.version ≢ newest)) }
+{
+    if meta.version == 3 {
+        Ok(meta)
+    } else {
+        Err(TableFault::Foreign)
+    }
+}
+
 // What the store is.
 fn meta_in<S: Alter>(alloc: Global, tx: &mut Transaction<'_, S>) -> Result<Meta, TableFault>
     ensures same_reference { tx.new.conn.ghost_name ≡ tx.old.conn.ghost_name }
     ensures told { HasCleanDisk (state S.Store tx.new.conn.now) → IsTrue (state S.Store tx.old.conn.now).in_transaction
         → Finds (state S.Store tx.old.conn.now) (state S.Store tx.new.conn.now) result (λ h meta. meta ≡ meta_of h) }
+    ensures newest { HasCleanDisk (state S.Store tx.new.conn.now) → IsTrue (state S.Store tx.old.conn.now).in_transaction → OnOk result (SaysNewest (state S.Store tx.old.conn.now).now) }
     ensures survives { Survives (state S.Store tx.old.conn.now) (state S.Store tx.new.conn.now) (λ _. ⊥) }
 {
     let mut metas = list_metas(alloc, tx)?;
     match metas.pop() {
-        Some(meta) => Ok(meta),
+        Some(meta) => of_newest(meta),
         None => Err(TableFault::Foreign),
     }
 }
@@ -92,6 +105,7 @@ fn founding_in<S: Alter>(alloc: Global, tx: &mut Transaction<'_, S>) -> Result<F
     ensures same_reference { tx.new.conn.ghost_name ≡ tx.old.conn.ghost_name }
     ensures told { HasCleanDisk (state S.Store tx.new.conn.now) → IsTrue (state S.Store tx.old.conn.now).in_transaction
         → Finds (state S.Store tx.old.conn.now) (state S.Store tx.new.conn.now) result (IsFoundingOf) }
+    ensures newest { HasCleanDisk (state S.Store tx.new.conn.now) → IsTrue (state S.Store tx.old.conn.now).in_transaction → OnOk result (SaysNewest (state S.Store tx.old.conn.now).now) }
     ensures survives { Survives (state S.Store tx.old.conn.now) (state S.Store tx.new.conn.now) (λ _. ⊥) }
 {
     let meta = meta_in(alloc, tx)?;
@@ -123,6 +137,7 @@ fn totals_in<S: Alter>(alloc: Global, tx: &mut Transaction<'_, S>) -> Result<Tot
     ensures same_reference { tx.new.conn.ghost_name ≡ tx.old.conn.ghost_name }
     ensures told { HasCleanDisk (state S.Store tx.new.conn.now) → IsTrue (state S.Store tx.old.conn.now).in_transaction
         → Finds (state S.Store tx.old.conn.now) (state S.Store tx.new.conn.now) result (AreTotalsOf) }
+    ensures newest { HasCleanDisk (state S.Store tx.new.conn.now) → IsTrue (state S.Store tx.old.conn.now).in_transaction → OnOk result (SaysNewest (state S.Store tx.old.conn.now).now) }
     ensures survives { Survives (state S.Store tx.old.conn.now) (state S.Store tx.new.conn.now) (λ _. ⊥) }
 {
     let founding = founding_in(alloc, tx)?;
@@ -141,12 +156,14 @@ fn totals_in<S: Alter>(alloc: Global, tx: &mut Transaction<'_, S>) -> Result<Tot
 
 /// The totals of the history whose rows the store has. Each table is read once, and nothing is written.
 ///
-/// `TableFault::Foreign` comes only where the tables are those of no history, `TableFault::NoMemory` where the rows or the
+/// `TableFault::Foreign` comes only where the tables are those of no history, as where the store says that it is of
+/// another schema than the newest. `TableFault::NoMemory` comes where the rows or the
 /// totals find no room, `TableFault::Store` where the store refuses or fails.
 pub fn totals<S: Alter>(alloc: Global, conn: &mut Connection<S>) -> Result<Totals, TableFault>
     requires { conn.old.in_transaction ≡ false }
     ensures idle { conn.new.in_transaction ≡ false }
     ensures answer { HasCleanDisk (state S.Store conn.new) → IfOk result (Lists (state S.Store conn.old) (state S.Store conn.new) AreTotalsOf) }
+    ensures newest { HasCleanDisk (state S.Store conn.new) → OnOk result (SaysNewest (state S.Store conn.old).now) }
     ensures same { HasCleanDisk (state S.Store conn.new) → KeepsAll (state S.Store conn.old) (state S.Store conn.new) }
     ensures foreign { HasCleanDisk (state S.Store conn.new) → IsForeign (state S.Store conn.old) (state S.Store conn.new) result }
     ensures survives { Survives (state S.Store conn.old) (state S.Store conn.new) (λ _. ⊥) }

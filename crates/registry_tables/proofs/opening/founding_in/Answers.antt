@@ -91,3 +91,13 @@ returns-clause-told g c clean inside =
       allowed = it.0.1.each;
       allowed_count = it.0.1.count;
     }) told4
+
+pub returns-clause-newest : goal.returns-clause-newest
+returns-clause-newest g c clean inside =
+    let s1 = state g.S.Store c.meta_in.new.tx.conn.now in
+    let s2 = state g.S.Store c.curators_in.new.tx.conn.now in
+    let s3 = state g.S.Store c.licences_in.new.tx.conn.now in
+    let c3 : HasCleanDisk s3 = omega (arith, c.fixed_in.ensures.survives.clean) in
+    let c2 : HasCleanDisk s2 = omega (arith, c.licences_in.ensures.survives.clean) in
+    let c1 : HasCleanDisk s1 = omega (arith, c.curators_in.ensures.survives.clean) in
+    c.in_ok-meta.ensures.newest c1 inside

@@ -161,3 +161,17 @@ returns-in-Ok-clause-told g c clean inside =
       entries_are = it.0.1.each;
       spans_are = it.1;
     })) told6
+
+pub returns-in-Ok-clause-newest : goal.returns-in-Ok-clause-newest
+returns-in-Ok-clause-newest g c clean inside =
+    let s1 = state g.S.Store c.founding_in.new.tx.conn.now in
+    let s2 = state g.S.Store c.vendors_in.new.tx.conn.now in
+    let s3 = state g.S.Store c.list_orgs.new.tx.conn.now in
+    let s4 = state g.S.Store c.list_petitions.new.tx.conn.now in
+    let s5 = state g.S.Store c.list_entries.new.tx.conn.now in
+    let c5 : HasCleanDisk s5 = omega (arith, c.list_spans.ensures.survives.clean) in
+    let c4 : HasCleanDisk s4 = omega (arith, c.list_entries.ensures.survives.clean) in
+    let c3 : HasCleanDisk s3 = omega (arith, c.list_petitions.ensures.survives.clean) in
+    let c2 : HasCleanDisk s2 = omega (arith, c.list_orgs.ensures.survives.clean) in
+    let c1 : HasCleanDisk s1 = omega (arith, c.vendors_in.ensures.survives.clean) in
+    c.in_ok-founding.ensures.newest c1 inside
