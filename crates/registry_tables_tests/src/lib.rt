@@ -1,9 +1,16 @@
-//! The tables of a registry by example: each call once with ample memory, and the rows of spans.
+//! The tables of a registry by example, over a store in memory and over one of files: each call once with ample memory,
+//! and the rows of spans.
 #![tactic(auto)]
 
 #[cfg(test)]
-mod calls;
+mod foundings;
+#[cfg(test)]
+mod lists;
+#[cfg(test)]
+mod lookups;
 #[cfg(test)]
 mod spans;
 #[cfg(test)]
 mod stores;
+#[cfg(test)]
+mod values;

@@ -1,11 +1,12 @@
 //! The reserved numbers by the rows that stand.
 
-use crate::stores::{create_in, founding, make, vendor};
+use crate::stores::{Calls, add_answer, create_in, make, over_files, over_memory};
+use crate::values::{founding, span};
 use registry_rules::{Change, Founding};
-use sqlite::{Connection, MemStore, Row};
+use sqlite::{Alter, Connection};
 use std::alloc::Global;
 use std::test::Fail;
-use usbnum_core::{Pid, Span};
+use usbnum_core::Vid;
 
 #[derive(Clone, Copy, Debug)]
 enum Step {
@@ -13,12 +14,8 @@ enum Step {
     Release(u16, u16),
 }
 
-fn span(first: u16, last: u16) -> Option<Span> {
-    Span::new(Pid::new(first)?, Pid::new(last)?)
-}
-
 fn change_of(step: Step) -> Option<Change> {
-    let vid = vendor()?;
+    let vid = Vid::new(0x1209)?;
     match step {
         Step::Reserve(first, last) => Some(Change::ReserveSpan {
             vid,
@@ -39,39 +36,18 @@ fn changes_of(alloc: Global, steps: &[Step]) -> Option<Vec<Change>> {
     Some(changes)
 }
 
-fn ends_of(alloc: Global, rows: &[Row]) -> Option<Vec<(u32, u32)>> {
-    let mut ends = Vec::new(alloc);
-    for row in rows {
-        ends.push((row.get(0).ok()?, row.get(1).ok()?)).ok()?;
-    }
-    Some(ends)
+// A founding, and changes of spans.
+#[derive(Clone, Copy)]
+struct Changed<'a> {
+    founding: &'a Founding,
+    changes: &'a [Change],
 }
 
-fn rows_in(alloc: Global, conn: &mut Connection<MemStore>) -> Option<Vec<(u32, u32)>> {
-    let rows = conn
-        .query_all("SELECT lo, hi FROM spans3 ORDER BY vid, lo", &[])
-        .ok()?;
-    ends_of(alloc, &rows)
-}
-
-fn rows_by(
-    alloc: Global,
-    conn: &mut Connection<MemStore>,
-    founding: &Founding,
-    changes: &[Change],
-) -> Option<Vec<(u32, u32)>> {
-    if create_in(conn, founding).is_ok() && make(alloc, conn, changes) {
-        rows_in(alloc, conn)
-    } else {
-        None
-    }
-}
-
-// The rows of a new store after the changes.
-fn rows_after(alloc: Global, founding: &Founding, changes: &[Change]) -> Option<Vec<(u32, u32)>> {
-    match Connection::open_in_memory(alloc) {
-        Ok(mut conn) => rows_by(alloc, &mut conn, founding, changes),
-        Err(_) => None,
+impl Calls for Changed<'_> {
+    fn tell<S: Alter>(&self, alloc: Global, conn: &mut Connection<S>, text: &mut String) -> bool {
+        create_in(conn, self.founding).is_ok()
+            && make(alloc, conn, self.changes)
+            && add_answer(conn, "SELECT lo, hi FROM spans3 ORDER BY vid, lo", text)
     }
 }
 
@@ -79,11 +55,11 @@ fn rows_after(alloc: Global, founding: &Founding, changes: &[Change]) -> Option<
 fn spans_are_kept_maximal(rt: HostRuntime) -> Result<(), Fail> {
     let alloc = rt.alloc();
     let founding = founding(alloc)?;
-    let cases: [(&[Step], &[(u32, u32)]); 6] = [
-        (&[Step::Reserve(0x2000, 0x20ff)], &[(0x2000, 0x20ff)]),
+    let cases: [(&[Step], &str); 6] = [
+        (&[Step::Reserve(0x2000, 0x20ff)], "8192|8447|\n"),
         (
             &[Step::Reserve(0x2000, 0x20ff), Step::Release(0x2010, 0x201f)],
-            &[(0x2000, 0x200f), (0x2020, 0x20ff)],
+            "8192|8207|\n8224|8447|\n",
         ),
         (
             &[
@@ -91,22 +67,27 @@ fn spans_are_kept_maximal(rt: HostRuntime) -> Result<(), Fail> {
                 Step::Release(0x2010, 0x201f),
                 Step::Reserve(0x2010, 0x201f),
             ],
-            &[(0x2000, 0x20ff)],
+            "8192|8447|\n",
         ),
         (
             &[Step::Reserve(0x2010, 0x201f), Step::Reserve(0x2000, 0x200f)],
-            &[(0x2000, 0x201f)],
+            "8192|8223|\n",
         ),
         (
             &[Step::Reserve(0x2000, 0x200e), Step::Reserve(0x2010, 0x201f)],
-            &[(0x2000, 0x200e), (0x2010, 0x201f)],
+            "8192|8206|\n8208|8223|\n",
         ),
-        (&[Step::Reserve(1, 0xffff), Step::Release(1, 0xffff)], &[]),
+        (&[Step::Reserve(1, 0xffff), Step::Release(1, 0xffff)], ""),
     ];
     for (steps, rows) in cases {
         let changes = changes_of(alloc, steps).ok_or("no changes")?;
-        let found = rows_after(alloc, &founding, &changes).ok_or("no rows")?;
-        assert_eq!(rt; found.as_slice(), rows, "after {steps:?}");
+        let changed = Changed {
+            founding: &founding,
+            changes: &changes,
+        };
+        for told in [over_memory(alloc, &changed), over_files(alloc, &changed)] {
+            assert_eq!(rt; told.ok_or("no rows")?.as_str(), rows, "after {steps:?}");
+        }
     }
     Ok(())
 }

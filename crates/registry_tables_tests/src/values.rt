@@ -1,11 +1,11 @@
-//! Stores in memory, and what they are founded with.
+//! What stores are founded with, and what is put in.
 
-use registry_rules::{Change, Curators, Founding, Licences};
-use registry_tables::{TableFault, create, store};
-use sqlite::{Connection, MemStore};
+use registry_rules::{
+    Card, Change, Curators, Entry, Founding, Licences, Org, Petition, PetitionState, Terms,
+};
 use std::alloc::Global;
 use std::test::Fail;
-use usbnum_core::{Link, Slug, Spans, Title, Vid};
+use usbnum_core::{Link, Number, Pid, Slug, Span, Spans, Title, Vid};
 
 pub fn slug(alloc: Global, text: &str) -> Result<Slug, Fail> {
     Ok(Slug::new(alloc, text.as_bytes())?.ok_or("no slug")?)
@@ -15,42 +15,91 @@ pub fn title(alloc: Global, text: &str) -> Result<Title, Fail> {
     Ok(Title::new(alloc, text.as_bytes())?.ok_or("no title")?)
 }
 
-pub fn site(alloc: Global) -> Result<Link, Fail> {
+fn site(alloc: Global) -> Result<Link, Fail> {
     Ok(Link::new(alloc, b"https://acme.example/")?.ok_or("no link")?)
 }
 
-pub fn vendor() -> Option<Vid> {
-    Vid::new(0x1209)
+pub fn span(first: u16, last: u16) -> Option<Span> {
+    Span::new(Pid::new(first)?, Pid::new(last)?)
 }
 
-pub fn founding(alloc: Global) -> Result<Founding, Fail> {
-    let curators = vec![in alloc; slug(alloc, "cora")?]?;
-    let licences = vec![in alloc; title(alloc, "MIT")?]?;
-    Ok(Founding {
-        vendor: vendor().ok_or("no vendor")?,
-        name: title(alloc, "InterBiometrics")?,
-        curators: Curators::new(curators).ok_or("no curators")?,
-        licences: Licences::new(licences).ok_or("no licences")?,
-        fixed: Spans::new(alloc),
+/// The number 0011 of the vendor.
+pub fn a_number(vid: u16) -> Option<Number> {
+    Some(Number {
+        vid: Vid::new(vid)?,
+        pid: Pid::new(0x11)?,
     })
 }
 
-pub fn create_in(conn: &mut Connection<MemStore>, founding: &Founding) -> Result<(), TableFault> {
-    if conn.is_autocommit() {
-        create(conn, founding)
-    } else {
-        Err(TableFault::Store)
-    }
+/// The vendor 1209, whose numbers up to 0010 are fixed.
+pub fn founding(alloc: Global) -> Result<Founding, Fail> {
+    let curators = vec![in alloc; slug(alloc, "cora")?]?;
+    let licences = vec![in alloc; title(alloc, "MIT")?]?;
+    let mut fixed = Spans::new(alloc);
+    fixed.add(span(1, 16).ok_or("no span")?)?;
+    Ok(Founding {
+        vendor: Vid::new(0x1209).ok_or("no vendor")?,
+        name: title(alloc, "InterBiometrics")?,
+        curators: Curators::new(curators).ok_or("no curators")?,
+        licences: Licences::new(licences).ok_or("no licences")?,
+        fixed,
+    })
 }
 
-/// Makes the changes in a transaction of their own.
-pub fn make(alloc: Global, conn: &mut Connection<MemStore>, changes: &[Change]) -> bool {
-    if !conn.is_autocommit() {
-        return false;
-    }
-    let mut tx = conn.transaction();
-    match store(alloc, &mut tx, changes) {
-        Ok(()) => tx.commit().is_ok(),
-        Err(_) => false,
-    }
+fn terms(alloc: Global) -> Result<Terms, Fail> {
+    Ok(Terms {
+        licence: title(alloc, "MIT")?,
+        site: site(alloc)?,
+        source: site(alloc)?,
+    })
+}
+
+fn card(alloc: Global, text: &str) -> Result<Card, Fail> {
+    Ok(Card {
+        title: title(alloc, text)?,
+        terms: Some(terms(alloc)?),
+    })
+}
+
+/// The organisation acme, by this title.
+pub fn put_org(alloc: Global, text: &str) -> Result<Change, Fail> {
+    Ok(Change::PutOrg(Org {
+        slug: slug(alloc, "acme")?,
+        title: title(alloc, text)?,
+        site: site(alloc)?,
+        keeper: slug(alloc, "ann")?,
+    }))
+}
+
+/// A petition of acme for any number of the vendor 1209, in this state.
+pub fn put_petition(alloc: Global, id: u32, state: PetitionState) -> Result<Change, Fail> {
+    let petition = Petition {
+        vid: Vid::new(0x1209).ok_or("no vendor")?,
+        org: slug(alloc, "acme")?,
+        want: None,
+        title: title(alloc, "Probe")?,
+        terms: terms(alloc)?,
+        state,
+    };
+    Ok(Change::PutPetition { id, petition })
+}
+
+/// The number, held by acme, under this title.
+pub fn put_entry(alloc: Global, number: Number, text: &str) -> Result<Change, Fail> {
+    let entry = Entry {
+        org: slug(alloc, "acme")?,
+        held: true,
+        card: card(alloc, text)?,
+    };
+    Ok(Change::PutEntry { number, entry })
+}
+
+pub fn set_card(alloc: Global, number: Number, text: &str) -> Result<Change, Fail> {
+    let card = card(alloc, text)?;
+    Ok(Change::SetCard { number, card })
+}
+
+pub fn put_vendor(alloc: Global, vid: Vid, text: &str) -> Result<Change, Fail> {
+    let name = title(alloc, text)?;
+    Ok(Change::PutVendor { vid, name })
 }

@@ -1,0 +1,149 @@
+//! What is looked up for a request, and the reply that is kept of one.
+
+use crate::stores::{Calls, add_answer, create_in, make, over_files, over_memory};
+use crate::values::{a_number, founding, put_entry, put_org, put_petition, slug};
+use registry_rules::{Change, Facts, Founding, Order, PetitionState, Request, Text, Totals};
+use registry_tables::{facts_for, keep_reply, totals};
+use sqlite::{Alter, Connection};
+use std::alloc::Global;
+use std::test::Fail;
+use usbnum_core::{Key, Pid};
+
+// A founding and changes, a request that is accepted then with its reply, and the requests that facts are looked up for.
+#[derive(Drop)]
+struct Lookups {
+    founding: Founding,
+    changes: Vec<Change>,
+    accepted: Request,
+    reply: Text,
+    requests: Vec<Request>,
+}
+
+fn keep<S: Alter>(
+    alloc: Global,
+    conn: &mut Connection<S>,
+    request: &Request,
+    reply: &Text,
+) -> bool {
+    if !conn.is_autocommit() {
+        return false;
+    }
+    let mut tx = conn.transaction();
+    match keep_reply(alloc, &mut tx, request, reply) {
+        Ok(()) => tx.commit().is_ok(),
+        Err(_) => false,
+    }
+}
+
+// What was found under keys.
+fn describe(facts: &Facts<'_>, text: &mut String) -> bool {
+    let kept = facts.kept.as_ref().map(|kept| kept.reply.as_str());
+    let org = facts.org.as_ref().map(|org| org.title.as_str());
+    let state = facts.petition.as_ref().map(|petition| petition.state);
+    writeln!(text, "{kept:?} {org:?} {state:?}").is_ok()
+        && writeln!(text, "{:?}", facts.holdings.as_slice()).is_ok()
+}
+
+fn add_facts<S: Alter>(
+    alloc: Global,
+    conn: &mut Connection<S>,
+    totals: &Totals,
+    request: &Request,
+    text: &mut String,
+) -> bool {
+    if !conn.is_autocommit() {
+        return false;
+    }
+    let mut tx = conn.transaction();
+    match facts_for(alloc, &mut tx, totals, request) {
+        Ok(facts) => describe(&facts, text),
+        Err(_) => false,
+    }
+}
+
+fn add_all_facts<S: Alter>(
+    alloc: Global,
+    conn: &mut Connection<S>,
+    requests: &[Request],
+    text: &mut String,
+) -> bool {
+    if !conn.is_autocommit() {
+        return false;
+    }
+    match totals(alloc, conn) {
+        Ok(totals) => requests
+            .iter()
+            .all(|request| add_facts(alloc, conn, &totals, request, text)),
+        Err(_) => false,
+    }
+}
+
+impl Calls for Lookups {
+    fn tell<S: Alter>(&self, alloc: Global, conn: &mut Connection<S>, text: &mut String) -> bool {
+        create_in(conn, &self.founding).is_ok()
+            && make(alloc, conn, &self.changes)
+            && keep(alloc, conn, &self.accepted, &self.reply)
+            && add_answer(conn, "SELECT * FROM kept", text)
+            && add_all_facts(alloc, conn, &self.requests, text)
+    }
+}
+
+fn changes(alloc: Global) -> Result<Vec<Change>, Fail> {
+    let number = a_number(0x1209).ok_or("no number")?;
+    let granted = PetitionState::Granted(number.pid);
+    let mut all = Vec::new(alloc);
+    all.push(put_org(alloc, "Acme")?)?;
+    all.push(put_petition(alloc, 1, granted)?)?;
+    all.push(put_entry(alloc, number, "Probe")?)?;
+    Ok(all)
+}
+
+fn request(alloc: Global, caller: &str, order: Order) -> Result<Request, Fail> {
+    Ok(Request {
+        caller: slug(alloc, caller)?,
+        key: Key::new(alloc, b"k1")?.ok_or("no key")?,
+        order,
+    })
+}
+
+fn withdrawal() -> Order {
+    Order::Withdraw { petition: 1 }
+}
+
+// The request that was accepted, the same of another caller, and one on a number.
+fn requests(alloc: Global) -> Result<Vec<Request>, Fail> {
+    let returned = Order::Return {
+        number: Pid::new(0x11).ok_or("no number")?,
+        vendor: None,
+    };
+    let mut all = Vec::new(alloc);
+    all.push(request(alloc, "ann", withdrawal())?)?;
+    all.push(request(alloc, "bob", withdrawal())?)?;
+    all.push(request(alloc, "bob", returned)?)?;
+    Ok(all)
+}
+
+const FACTS: &str = r#"ann|k1|"withdraw\t1"|withdrawn petition 1|
+Some("withdrawn petition 1") Some("Acme") Some(Granted(Pid { number: 17 }))
+[]
+None Some("Acme") Some(Granted(Pid { number: 17 }))
+[]
+None Some("Acme") None
+[Holding { number: Number { vid: Vid { number: 4617 }, pid: Pid { number: 17 } }, org: "acme", held: true }]
+"#;
+
+#[test]
+fn a_request_finds_what_it_needs(rt: HostRuntime) -> Result<(), Fail> {
+    let alloc = rt.alloc();
+    let lookups = Lookups {
+        founding: founding(alloc)?,
+        changes: changes(alloc)?,
+        accepted: request(alloc, "ann", withdrawal())?,
+        reply: Text::new(format!(in alloc; "withdrawn petition 1")?),
+        requests: requests(alloc)?,
+    };
+    for told in [over_memory(alloc, &lookups), over_files(alloc, &lookups)] {
+        assert_eq!(rt; told.ok_or("a call failed")?.as_str(), FACTS);
+    }
+    Ok(())
+}

@@ -1,0 +1,113 @@
+//! The two stores that calls are made over, and their rows as lines.
+
+use registry_rules::{Change, Founding};
+use registry_tables::{TableFault, create, store};
+use sqlite::types::ValueRef;
+use sqlite::{Alter, Connection, Files, Options, Row};
+use sqlite_disk::Memory;
+use std::alloc::Global;
+
+/// Calls that are made over a store.
+pub trait Calls {
+    /// Makes them, and adds what they tell; false where one fails.
+    fn tell<S: Alter>(&self, alloc: Global, conn: &mut Connection<S>, text: &mut String) -> bool;
+}
+
+fn told<S: Alter, C: Calls>(alloc: Global, conn: &mut Connection<S>, calls: &C) -> Option<String> {
+    let mut text = String::new(alloc);
+    if calls.tell(alloc, conn, &mut text) {
+        Some(text)
+    } else {
+        None
+    }
+}
+
+/// What the calls tell over a new store in memory.
+pub fn over_memory<C: Calls>(alloc: Global, calls: &C) -> Option<String> {
+    match Connection::open_in_memory(alloc) {
+        Ok(mut conn) => told(alloc, &mut conn, calls),
+        Err(_) => None,
+    }
+}
+
+/// The same over a new store of a file and its log.
+pub fn over_files<C: Calls>(alloc: Global, calls: &C) -> Option<String> {
+    let log = Memory::new(alloc);
+    let db = Memory::new(alloc);
+    match Connection::open_files(alloc, Files { log, db }, Options::new(1)) {
+        Ok(mut conn) => told(alloc, &mut conn, calls),
+        Err(_) => None,
+    }
+}
+
+pub fn create_in<S: Alter>(
+    conn: &mut Connection<S>,
+    founding: &Founding,
+) -> Result<(), TableFault> {
+    if conn.is_autocommit() {
+        create(conn, founding)
+    } else {
+        Err(TableFault::Store)
+    }
+}
+
+/// Makes the changes in a transaction of their own.
+pub fn make<S: Alter>(alloc: Global, conn: &mut Connection<S>, changes: &[Change]) -> bool {
+    if !conn.is_autocommit() {
+        return false;
+    }
+    let mut tx = conn.transaction();
+    match store(alloc, &mut tx, changes) {
+        Ok(()) => tx.commit().is_ok(),
+        Err(_) => false,
+    }
+}
+
+fn add_text(bytes: &[u8], text: &mut String) -> bool {
+    match std::str::from_utf8(bytes) {
+        Ok(part) => text.push_str(part).is_ok(),
+        Err(_) => false,
+    }
+}
+
+// In quotes, and a tab as \t.
+fn add_quoted(bytes: &[u8], text: &mut String) -> bool {
+    match std::str::from_utf8(bytes) {
+        Ok(part) => write!(text, "{part:?}").is_ok(),
+        Err(_) => false,
+    }
+}
+
+fn add_value(value: ValueRef<'_>, text: &mut String) -> bool {
+    match value {
+        ValueRef::Null => text.push_str("NULL").is_ok(),
+        ValueRef::Int(number) => write!(text, "{number}").is_ok(),
+        ValueRef::Real(_) => false,
+        ValueRef::Text(bytes) => add_text(bytes, text),
+        ValueRef::Blob(bytes) => add_quoted(bytes, text),
+    }
+}
+
+fn add_row(row: &Row, text: &mut String) -> bool {
+    for at in 0..row.column_count() {
+        let Ok(value) = row.get_ref(at) else {
+            return false;
+        };
+        if !add_value(value, text) || text.push('|').is_err() {
+            return false;
+        }
+    }
+    text.push('\n').is_ok()
+}
+
+fn add_rows(rows: &[Row], text: &mut String) -> bool {
+    rows.iter().all(|row| add_row(row, text))
+}
+
+/// Adds a line for each row that the query answers.
+pub fn add_answer<S: Alter>(conn: &mut Connection<S>, query: &str, text: &mut String) -> bool {
+    match conn.query_all(query, &[]) {
+        Ok(rows) => add_rows(&rows, text),
+        Err(_) => false,
+    }
+}
