@@ -1,6 +1,6 @@
 //! A store is founded once, and is read only where it says that it is of the newest schema.
 
-use crate::stores::{Calls, create_in, over_files, over_memory};
+use crate::stores::{Calls, check, create_in};
 use crate::values::founding;
 use registry_rules::Founding;
 use registry_schema::{is_empty, version_of};
@@ -65,11 +65,6 @@ fn a_store_is_founded_once(rt: HostRuntime) -> Result<(), Fail> {
     let foundings = Foundings {
         founding: &founding,
     };
-    for told in [
-        over_memory(alloc, &foundings),
-        over_files(alloc, &foundings),
-    ] {
-        assert_eq!(rt; told.ok_or("not told")?.as_str(), STATES);
-    }
+    check(&rt, alloc, &foundings, STATES);
     Ok(())
 }

@@ -1,6 +1,6 @@
 //! Each change, and what the rows and the lists are then.
 
-use crate::stores::{Calls, add_answer, create_in, make, over_files, over_memory};
+use crate::stores::{Calls, add_answer, check, create_in, make};
 use crate::values::{
     a_number, founding, put_entry, put_org, put_petition, put_vendor, set_card, span, title,
 };
@@ -11,44 +11,71 @@ use std::alloc::Global;
 use std::test::Fail;
 use usbnum_core::{Number, Vid};
 
-fn spans_and_vendors(alloc: Global, number: Number, other: Number) -> Result<Vec<Change>, Fail> {
-    let vid = number.vid;
-    let mut all = Vec::new(alloc);
-    all.push(put_vendor(alloc, other.vid, "Cafe")?)?;
-    all.push(put_vendor(alloc, other.vid, "Cafe boards")?)?;
+fn add_vendors_and_licences(
+    alloc: Global,
+    number: Number,
+    all: &mut Vec<Change>,
+) -> Result<(), Fail> {
+    all.push(put_vendor(alloc, number.vid, "Cafe")?)?;
+    all.push(put_vendor(alloc, number.vid, "Cafe boards")?)?;
     all.push(Change::PutLicence(title(alloc, "BSD")?))?;
+    Ok(())
+}
+
+fn add_spans(vid: Vid, all: &mut Vec<Change>) -> Result<(), Fail> {
+    let reserved = span(0x2000, 0x20ff).ok_or("no span")?;
+    let released = span(0x2010, 0x201f).ok_or("no span")?;
     all.push(Change::ReserveSpan {
         vid,
-        span: span(0x2000, 0x20ff).ok_or("no span")?,
+        span: reserved,
     })?;
     all.push(Change::ReleaseSpan {
         vid,
-        span: span(0x2010, 0x201f).ok_or("no span")?,
+        span: released,
     })?;
-    Ok(all)
+    Ok(())
 }
 
-// Each kind of change, and records that are put in the place of others.
-fn changes(alloc: Global) -> Result<Vec<Change>, Fail> {
-    let number = a_number(0x1209).ok_or("no number")?;
-    let other = a_number(0xcafe).ok_or("no number")?;
-    let granted = PetitionState::Granted(number.pid);
-    let mut all = spans_and_vendors(alloc, number, other)?;
-    all.push(put_org(alloc, "Acme")?)?;
-    all.push(put_org(alloc, "Acme Tools")?)?;
-    all.push(put_petition(alloc, 1, PetitionState::Open)?)?;
-    all.push(put_petition(alloc, 1, granted)?)?;
-    all.push(put_petition(alloc, 2, PetitionState::Declined)?)?;
-    all.push(put_petition(alloc, 3, PetitionState::Withdrawn)?)?;
-    all.push(put_petition(alloc, 4, PetitionState::Open)?)?;
-    all.push(put_entry(alloc, number, "Probe")?)?;
-    all.push(put_entry(alloc, other, "Lamp")?)?;
-    all.push(put_entry(alloc, other, "Blinker")?)?;
+fn add_petitions(alloc: Global, number: Number, all: &mut Vec<Change>) -> Result<(), Fail> {
+    let states = [
+        (1, PetitionState::Open),
+        (1, PetitionState::Granted(number.pid)),
+        (2, PetitionState::Declined),
+        (3, PetitionState::Withdrawn),
+        (4, PetitionState::Open),
+    ];
+    for (id, state) in states {
+        all.push(put_petition(alloc, id, state)?)?;
+    }
+    Ok(())
+}
+
+fn add_entries(
+    alloc: Global,
+    number: Number,
+    other: Number,
+    all: &mut Vec<Change>,
+) -> Result<(), Fail> {
+    for (number, text) in [(number, "Probe"), (other, "Lamp"), (other, "Blinker")] {
+        all.push(put_entry(alloc, number, text)?)?;
+    }
     all.push(Change::SetHeld {
         number: other,
         held: false,
     })?;
     all.push(set_card(alloc, number, "Tester")?)?;
+    Ok(())
+}
+
+// Each kind of change, and records that are put in the place of others.
+fn changes(alloc: Global, number: Number, other: Number) -> Result<Vec<Change>, Fail> {
+    let mut all = Vec::new(alloc);
+    add_vendors_and_licences(alloc, other, &mut all)?;
+    add_spans(number.vid, &mut all)?;
+    all.push(put_org(alloc, "Acme")?)?;
+    all.push(put_org(alloc, "Acme Tools")?)?;
+    add_petitions(alloc, number, &mut all)?;
+    add_entries(alloc, number, other, &mut all)?;
     Ok(all)
 }
 
@@ -96,13 +123,13 @@ InterBiometrics ["cora"] ["BSD", "MIT"]
 "#;
 
 // A founding, and changes of all kinds.
-#[derive(Drop)]
-struct Changed {
-    founding: Founding,
-    changes: Vec<Change>,
+#[derive(Clone, Copy)]
+struct Changed<'a> {
+    founding: &'a Founding,
+    changes: &'a [Change],
 }
 
-fn add_rows<S: Alter>(conn: &mut Connection<S>, text: &mut String) -> bool {
+fn tell_rows<S: Alter>(conn: &mut Connection<S>, text: &mut String) -> bool {
     for query in QUERIES {
         if !add_answer(conn, query, text) {
             return false;
@@ -111,7 +138,7 @@ fn add_rows<S: Alter>(conn: &mut Connection<S>, text: &mut String) -> bool {
     true
 }
 
-fn add_orgs<S: Alter>(alloc: Global, conn: &mut Connection<S>, text: &mut String) -> bool {
+fn tell_orgs<S: Alter>(alloc: Global, conn: &mut Connection<S>, text: &mut String) -> bool {
     if !conn.is_autocommit() {
         return false;
     }
@@ -121,7 +148,7 @@ fn add_orgs<S: Alter>(alloc: Global, conn: &mut Connection<S>, text: &mut String
     }
 }
 
-fn add_petitions<S: Alter>(alloc: Global, conn: &mut Connection<S>, text: &mut String) -> bool {
+fn tell_petitions<S: Alter>(alloc: Global, conn: &mut Connection<S>, text: &mut String) -> bool {
     if !conn.is_autocommit() {
         return false;
     }
@@ -131,7 +158,7 @@ fn add_petitions<S: Alter>(alloc: Global, conn: &mut Connection<S>, text: &mut S
     }
 }
 
-fn add_numbers<S: Alter>(alloc: Global, conn: &mut Connection<S>, text: &mut String) -> bool {
+fn tell_numbers<S: Alter>(alloc: Global, conn: &mut Connection<S>, text: &mut String) -> bool {
     if !conn.is_autocommit() {
         return false;
     }
@@ -141,7 +168,7 @@ fn add_numbers<S: Alter>(alloc: Global, conn: &mut Connection<S>, text: &mut Str
     }
 }
 
-fn add_vendors<S: Alter>(alloc: Global, conn: &mut Connection<S>, text: &mut String) -> bool {
+fn tell_vendors<S: Alter>(alloc: Global, conn: &mut Connection<S>, text: &mut String) -> bool {
     if !conn.is_autocommit() {
         return false;
     }
@@ -169,7 +196,7 @@ fn describe(totals: &Totals, vid: Vid, text: &mut String) -> bool {
         .is_ok()
 }
 
-fn add_totals<S: Alter>(
+fn tell_totals<S: Alter>(
     alloc: Global,
     conn: &mut Connection<S>,
     vid: Vid,
@@ -184,28 +211,30 @@ fn add_totals<S: Alter>(
     }
 }
 
-impl Calls for Changed {
+impl Calls for Changed<'_> {
     fn tell<S: Alter>(&self, alloc: Global, conn: &mut Connection<S>, text: &mut String) -> bool {
-        create_in(conn, &self.founding).is_ok()
-            && make(alloc, conn, &self.changes)
-            && add_rows(conn, text)
-            && add_orgs(alloc, conn, text)
-            && add_petitions(alloc, conn, text)
-            && add_numbers(alloc, conn, text)
-            && add_vendors(alloc, conn, text)
-            && add_totals(alloc, conn, self.founding.vendor, text)
+        create_in(conn, self.founding).is_ok()
+            && make(alloc, conn, self.changes)
+            && tell_rows(conn, text)
+            && tell_orgs(alloc, conn, text)
+            && tell_petitions(alloc, conn, text)
+            && tell_numbers(alloc, conn, text)
+            && tell_vendors(alloc, conn, text)
+            && tell_totals(alloc, conn, self.founding.vendor, text)
     }
 }
 
 #[test]
 fn a_store_has_what_was_put_in(rt: HostRuntime) -> Result<(), Fail> {
     let alloc = rt.alloc();
+    let number = a_number(0x1209).ok_or("no number")?;
+    let other = a_number(0xcafe).ok_or("no number")?;
+    let founding = founding(alloc)?;
+    let changes = changes(alloc, number, other)?;
     let changed = Changed {
-        founding: founding(alloc)?,
-        changes: changes(alloc)?,
+        founding: &founding,
+        changes: &changes,
     };
-    for told in [over_memory(alloc, &changed), over_files(alloc, &changed)] {
-        assert_eq!(rt; told.ok_or("a call failed")?.as_str(), ANSWERS);
-    }
+    check(&rt, alloc, &changed, ANSWERS);
     Ok(())
 }

@@ -1,6 +1,6 @@
 //! What is looked up for a request, and the reply that is kept of one.
 
-use crate::stores::{Calls, add_answer, create_in, make, over_files, over_memory};
+use crate::stores::{Calls, add_answer, check, create_in, make};
 use crate::values::{a_number, founding, put_entry, put_org, put_petition, slug};
 use registry_rules::{Change, Facts, Founding, Order, PetitionState, Request, Text, Totals};
 use registry_tables::{facts_for, keep_reply, totals};
@@ -9,14 +9,14 @@ use std::alloc::Global;
 use std::test::Fail;
 use usbnum_core::{Key, Pid};
 
-// A founding and changes, a request that is accepted then with its reply, and the requests that facts are looked up for.
-#[derive(Drop)]
-struct Lookups {
-    founding: Founding,
-    changes: Vec<Change>,
-    accepted: Request,
-    reply: Text,
-    requests: Vec<Request>,
+// A founding and changes, a reply, the request that it is kept of and the others that facts are looked up for.
+#[derive(Clone, Copy)]
+struct Lookups<'a> {
+    founding: &'a Founding,
+    changes: &'a [Change],
+    reply: &'a Text,
+    accepted: &'a Request,
+    others: &'a [Request],
 }
 
 fn keep<S: Alter>(
@@ -64,27 +64,31 @@ fn add_facts<S: Alter>(
 fn add_all_facts<S: Alter>(
     alloc: Global,
     conn: &mut Connection<S>,
-    requests: &[Request],
+    lookups: &Lookups<'_>,
     text: &mut String,
 ) -> bool {
     if !conn.is_autocommit() {
         return false;
     }
     match totals(alloc, conn) {
-        Ok(totals) => requests
-            .iter()
-            .all(|request| add_facts(alloc, conn, &totals, request, text)),
+        Ok(totals) => {
+            add_facts(alloc, conn, &totals, lookups.accepted, text)
+                && lookups
+                    .others
+                    .iter()
+                    .all(|request| add_facts(alloc, conn, &totals, request, text))
+        }
         Err(_) => false,
     }
 }
 
-impl Calls for Lookups {
+impl Calls for Lookups<'_> {
     fn tell<S: Alter>(&self, alloc: Global, conn: &mut Connection<S>, text: &mut String) -> bool {
-        create_in(conn, &self.founding).is_ok()
-            && make(alloc, conn, &self.changes)
-            && keep(alloc, conn, &self.accepted, &self.reply)
+        create_in(conn, self.founding).is_ok()
+            && make(alloc, conn, self.changes)
+            && keep(alloc, conn, self.accepted, self.reply)
             && add_answer(conn, "SELECT * FROM kept", text)
-            && add_all_facts(alloc, conn, &self.requests, text)
+            && add_all_facts(alloc, conn, self, text)
     }
 }
 
@@ -106,20 +110,21 @@ fn request(alloc: Global, caller: &str, order: Order) -> Result<Request, Fail> {
     })
 }
 
-fn withdrawal() -> Order {
-    Order::Withdraw { petition: 1 }
+fn withdrawal(alloc: Global, caller: &str) -> Result<Request, Fail> {
+    request(alloc, caller, Order::Withdraw { petition: 1 })
 }
 
-// The request that was accepted, the same of another caller, and one on a number.
-fn requests(alloc: Global) -> Result<Vec<Request>, Fail> {
+// The same of another caller, and one on a number.
+fn others(alloc: Global) -> Result<Vec<Request>, Fail> {
+    let number = Pid::new(0x11).ok_or("no number")?;
     let returned = Order::Return {
-        number: Pid::new(0x11).ok_or("no number")?,
+        number,
         vendor: None,
     };
+    let returned = request(alloc, "bob", returned)?;
     let mut all = Vec::new(alloc);
-    all.push(request(alloc, "ann", withdrawal())?)?;
-    all.push(request(alloc, "bob", withdrawal())?)?;
-    all.push(request(alloc, "bob", returned)?)?;
+    all.push(withdrawal(alloc, "bob")?)?;
+    all.push(returned)?;
     Ok(all)
 }
 
@@ -135,15 +140,18 @@ None Some("Acme") None
 #[test]
 fn a_request_finds_what_it_needs(rt: HostRuntime) -> Result<(), Fail> {
     let alloc = rt.alloc();
+    let founding = founding(alloc)?;
+    let changes = changes(alloc)?;
+    let accepted = withdrawal(alloc, "ann")?;
+    let others = others(alloc)?;
+    let reply = Text::new(format!(in alloc; "withdrawn petition 1")?);
     let lookups = Lookups {
-        founding: founding(alloc)?,
-        changes: changes(alloc)?,
-        accepted: request(alloc, "ann", withdrawal())?,
-        reply: Text::new(format!(in alloc; "withdrawn petition 1")?),
-        requests: requests(alloc)?,
+        founding: &founding,
+        changes: &changes,
+        reply: &reply,
+        accepted: &accepted,
+        others: &others,
     };
-    for told in [over_memory(alloc, &lookups), over_files(alloc, &lookups)] {
-        assert_eq!(rt; told.ok_or("a call failed")?.as_str(), FACTS);
-    }
+    check(&rt, alloc, &lookups, FACTS);
     Ok(())
 }

@@ -1,6 +1,6 @@
 //! The reserved numbers by the rows that stand.
 
-use crate::stores::{Calls, add_answer, create_in, make, over_files, over_memory};
+use crate::stores::{Calls, add_answer, check, create_in, make};
 use crate::values::{founding, span};
 use registry_rules::{Change, Founding};
 use sqlite::{Alter, Connection};
@@ -85,9 +85,7 @@ fn spans_are_kept_maximal(rt: HostRuntime) -> Result<(), Fail> {
             founding: &founding,
             changes: &changes,
         };
-        for told in [over_memory(alloc, &changed), over_files(alloc, &changed)] {
-            assert_eq!(rt; told.ok_or("no rows")?.as_str(), rows, "after {steps:?}");
-        }
+        check(&rt, alloc, &changed, rows);
     }
     Ok(())
 }

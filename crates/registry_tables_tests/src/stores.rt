@@ -6,6 +6,7 @@ use sqlite::types::ValueRef;
 use sqlite::{Alter, Connection, Files, Options, Row};
 use sqlite_disk::Memory;
 use std::alloc::Global;
+use std::process::Abort;
 
 /// Calls that are made over a store.
 pub trait Calls {
@@ -22,22 +23,30 @@ fn told<S: Alter, C: Calls>(alloc: Global, conn: &mut Connection<S>, calls: &C) 
     }
 }
 
-/// What the calls tell over a new store in memory.
-pub fn over_memory<C: Calls>(alloc: Global, calls: &C) -> Option<String> {
+// What the calls tell over a new store in memory.
+fn over_memory<C: Calls>(alloc: Global, calls: &C) -> Option<String> {
     match Connection::open_in_memory(alloc) {
         Ok(mut conn) => told(alloc, &mut conn, calls),
         Err(_) => None,
     }
 }
 
-/// The same over a new store of a file and its log.
-pub fn over_files<C: Calls>(alloc: Global, calls: &C) -> Option<String> {
+// The same over a new store of a file and its log.
+fn over_files<C: Calls>(alloc: Global, calls: &C) -> Option<String> {
     let log = Memory::new(alloc);
     let db = Memory::new(alloc);
     match Connection::open_files(alloc, Files { log, db }, Options::new(1)) {
         Ok(mut conn) => told(alloc, &mut conn, calls),
         Err(_) => None,
     }
+}
+
+/// The calls tell this text over both stores.
+pub fn check<C: Calls>(rt: &impl Abort, alloc: Global, calls: &C, wanted: &str) {
+    let in_memory = over_memory(alloc, calls);
+    assert_eq!(rt; in_memory.as_deref(), Some(wanted), "over memory");
+    let in_files = over_files(alloc, calls);
+    assert_eq!(rt; in_files.as_deref(), Some(wanted), "over files");
 }
 
 pub fn create_in<S: Alter>(
