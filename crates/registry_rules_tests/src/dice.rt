@@ -1,9 +1,6 @@
-//! Requests made up by chance, the same ones in each run.
+//! Lines of requests made up by chance, the same ones in each run.
 
-use registry_rules::{Item, Items, Order, Request, Terms};
-use std::alloc::Global;
-use std::test::Fail;
-use usbnum_core::{Key, Link, Pid, Slug, Span, Title, Vid};
+use std::alloc::{AllocError, Global};
 
 /// Numbers that look thrown, the same in each run.
 #[derive(Drop)]
@@ -29,160 +26,137 @@ impl Dice {
     }
 
     // Ann, who is the curator, comes twice as often as each of the others.
-    fn slug(&mut self, alloc: Global) -> Result<Slug, Fail> {
-        let text: &[u8] = match self.roll(4) {
-            0..=1 => b"ann",
-            2 => b"bob",
-            _ => b"cora",
-        };
-        Ok(Slug::new(alloc, text)?.ok_or("no slug")?)
+    fn slug(&mut self) -> &'static str {
+        match self.roll(4) {
+            0..=1 => "ann",
+            2 => "bob",
+            _ => "cora",
+        }
     }
 
-    fn pid(&mut self) -> Result<Pid, Fail> {
-        Ok(Pid::new(self.roll(9).saturating_add(1)).ok_or("no number")?)
+    fn pid(&mut self) -> u16 {
+        self.roll(9).saturating_add(1)
     }
 
-    fn vendor(&mut self) -> Option<Vid> {
+    fn want(&mut self, alloc: Global) -> Result<String, AllocError> {
+        match self.roll(3) {
+            0 => format!(in alloc; "{:04x}", self.pid()),
+            _ => String::from_str(alloc, "-"),
+        }
+    }
+
+    fn vendor(&mut self) -> &'static str {
         match self.roll(8) {
-            0 => Vid::new(0x1209),
-            1 => Vid::new(0xcafe),
-            2 => Vid::new(0xbeef),
-            _ => None,
+            0 => "\t1209",
+            1 => "\tcafe",
+            2 => "\tbeef",
+            _ => "",
         }
     }
 
-    fn span(&mut self) -> Result<Span, Fail> {
-        let first = self.roll(9).saturating_add(1);
-        let last = first.saturating_add(self.roll(3));
-        let first = Pid::new(first).ok_or("no number")?;
-        let last = Pid::new(last).ok_or("no number")?;
-        Ok(Span::new(first, last).ok_or("no span")?)
+    // A vendor that is to be added.
+    fn added(&mut self) -> &'static str {
+        match self.roll(8) {
+            0 => "1209",
+            1 => "beef",
+            _ => "cafe",
+        }
     }
 
-    fn title(&mut self, alloc: Global) -> Result<Title, Fail> {
-        let text: &[u8] = match self.roll(4) {
-            0 => b"MIT",
-            1 => b"Apache-2.0",
-            2 => b"CERN-OHL-S-2.0",
-            _ => b"Blinker",
-        };
-        Ok(Title::new(alloc, text)?.ok_or("no title")?)
+    fn title(&mut self) -> &'static str {
+        match self.roll(4) {
+            0 => "MIT",
+            1 => "Apache-2.0",
+            2 => "CERN-OHL-S-2.0",
+            _ => "Blinker",
+        }
     }
 
-    fn terms(&mut self, alloc: Global) -> Result<Terms, Fail> {
-        Ok(Terms {
-            licence: self.title(alloc)?,
-            site: link(alloc)?,
-            source: link(alloc)?,
-        })
+    // A licence; one of them is never added.
+    fn licence(&mut self) -> &'static str {
+        match self.roll(6) {
+            0 => "Zlib",
+            _ => self.title(),
+        }
     }
 
-    fn items(&mut self, alloc: Global) -> Result<Items, Fail> {
-        let mut items = Vec::new(alloc);
+    // The title of an item, or none.
+    fn name(&mut self) -> &'static str {
+        match self.roll(3) {
+            0 => "",
+            _ => self.title(),
+        }
+    }
+
+    fn card(&mut self, alloc: Global) -> Result<String, AllocError> {
+        let (title, licence) = (self.title(), self.licence());
+        format!(in alloc; "{title}\t{licence}\thttp://a.example/\thttp://b.example/")
+    }
+
+    fn import(&mut self, alloc: Global) -> Result<String, AllocError> {
+        let (org, vendor) = (self.slug(), self.vendor());
+        let mut text = format!(in alloc; "import\t{org}{vendor}")?;
         for _ in 0..self.roll(4) {
-            let title = match self.roll(3) {
-                0 => None,
-                _ => Some(self.title(alloc)?),
-            };
-            let code = self.roll(14);
-            items.push(Item { code, title })?;
+            let (code, name) = (self.roll(14), self.name());
+            text.push_str(format!(in alloc; "\t{code:04x}={name}")?.as_str())?;
         }
-        Ok(Items::new(items))
+        Ok(text)
     }
 
-    fn order(&mut self, alloc: Global) -> Result<Order, Fail> {
-        let org = self.slug(alloc)?;
-        let title = self.title(alloc)?;
-        let petition = u32::from(self.roll(30));
+    fn span(&mut self, alloc: Global, word: &str) -> Result<String, AllocError> {
+        let (first, vendor) = (self.pid(), self.vendor());
+        let last = first.saturating_add(self.roll(3));
+        format!(in alloc; "{word}\t{first:04x}\t{last:04x}{vendor}")
+    }
+
+    fn ask(&mut self, alloc: Global) -> Result<String, AllocError> {
+        let (want, card) = (self.want(alloc)?, self.card(alloc)?);
+        let (org, vendor) = (self.slug(), self.vendor());
+        format!(in alloc; "ask\t{org}\t{want}\t{card}{vendor}")
+    }
+
+    fn amend(&mut self, alloc: Global) -> Result<String, AllocError> {
+        let card = self.card(alloc)?;
+        let (pid, vendor) = (self.pid(), self.vendor());
+        format!(in alloc; "amend\t{pid:04x}\t{card}{vendor}")
+    }
+
+    fn describe(&mut self, alloc: Global, word: &str) -> Result<String, AllocError> {
+        let (org, title) = (self.slug(), self.title());
+        format!(in alloc; "{word}\t{org}\t{title}\thttp://a.example/")
+    }
+
+    // An order on what is there before any number is.
+    fn order(&mut self, alloc: Global) -> Result<String, AllocError> {
+        let petition = self.roll(30);
         match self.roll(22) {
-            0 => Ok(Order::Enrol {
-                org,
-                title,
-                site: link(alloc)?,
-            }),
-            1 => Ok(Order::AmendOrg {
-                org,
-                title,
-                site: link(alloc)?,
-            }),
-            2 => Ok(Order::Grant {
-                petition,
-                number: Some(self.pid()?),
-            }),
-            3..=4 => Ok(Order::Grant {
-                petition,
-                number: None,
-            }),
-            5 => Ok(Order::Decline { petition }),
-            6 => Ok(Order::Withdraw { petition }),
-            _ => self.further(alloc, org, title),
+            0 => self.describe(alloc, "enrol"),
+            1 => self.describe(alloc, "amend-org"),
+            2 => format!(in alloc; "grant\t{petition}\t{:04x}", self.pid()),
+            3..=4 => format!(in alloc; "grant\t{petition}\t-"),
+            5 => format!(in alloc; "decline\t{petition}"),
+            6 => format!(in alloc; "withdraw\t{petition}"),
+            _ => self.further(alloc),
         }
     }
 
-    fn further(&mut self, alloc: Global, org: Slug, title: Title) -> Result<Order, Fail> {
-        let vendor = self.vendor();
+    fn further(&mut self, alloc: Global) -> Result<String, AllocError> {
         match self.roll(14) {
-            0 => Ok(Order::Amend {
-                number: self.pid()?,
-                title,
-                terms: self.terms(alloc)?,
-                vendor,
-            }),
-            1 => Ok(Order::Return {
-                number: self.pid()?,
-                vendor,
-            }),
-            2 => Ok(Order::Reserve {
-                span: self.span()?,
-                vendor,
-            }),
-            3 => Ok(Order::Release {
-                span: self.span()?,
-                vendor,
-            }),
-            4 => Ok(Order::Import {
-                org,
-                items: self.items(alloc)?,
-                vendor,
-            }),
-            5 => Ok(Order::AddVendor {
-                vendor: vendor.or(Vid::new(0xcafe)).ok_or("no vendor")?,
-                name: title,
-            }),
-            6 => Ok(Order::AddLicence { licence: title }),
-            _ => {
-                let want = match self.roll(3) {
-                    0 => Some(self.pid()?),
-                    _ => None,
-                };
-                Ok(Order::Ask {
-                    org,
-                    want,
-                    title,
-                    terms: self.terms(alloc)?,
-                    vendor,
-                })
-            }
+            0 => self.amend(alloc),
+            1 => format!(in alloc; "return\t{:04x}{}", self.pid(), self.vendor()),
+            2 => self.span(alloc, "reserve"),
+            3 => self.span(alloc, "release"),
+            4 => self.import(alloc),
+            5 => format!(in alloc; "add-vendor\t{}\t{}", self.added(), self.title()),
+            6 => format!(in alloc; "add-licence\t{}", self.title()),
+            _ => self.ask(alloc),
         }
     }
 
     /// A request of a few callers, keys, organisations, vendors and numbers, so that they clash.
-    pub(crate) fn request(&mut self, alloc: Global) -> Result<Request, Fail> {
-        let key = [b'k', self.digit(), self.digit(), self.digit()];
-        Ok(Request {
-            caller: self.slug(alloc)?,
-            key: Key::new(alloc, &key)?.ok_or("no key")?,
-            order: self.order(alloc)?,
-        })
+    pub(crate) fn line(&mut self, alloc: Global) -> Result<String, AllocError> {
+        let order = self.order(alloc)?;
+        let (caller, key) = (self.slug(), self.roll(1000));
+        format!(in alloc; "{caller}\tk{key}\t{order}")
     }
-
-    fn digit(&mut self) -> u8 {
-        u8::try_from(self.roll(10))
-            .unwrap_or(0)
-            .saturating_add(b'0')
-    }
-}
-
-fn link(alloc: Global) -> Result<Link, Fail> {
-    Ok(Link::new(alloc, b"https://acme.example/")?.ok_or("no link")?)
 }

@@ -1,267 +1,225 @@
-//! Made-up requests, by which the judge and the totals are held against the plain history.
+//! The rows of each history, through the judge.
 
-use crate::dice::Dice;
-use crate::plain::Plain;
-use registry_rules::laws::is_legal_from_start;
-use registry_rules::{
-    Act, Card, Curators, Deed, Entry, Founding, Holdings, Kept, Licences, Order, Org, Petition,
-    Refusal, Request, Spelling, Totals, Vendor, Vendors, Verdict, changes, judge,
-    numbers_concerned, org_concerned, reply_text, request_bytes,
-};
-use std::alloc::Global;
+use crate::book::{Book, founding, judged, span, text};
+use crate::fields::title;
+use crate::orders::request;
+use crate::rows::{FROM_FOUNDING, FROM_GRANTED, GRANTED, LICENCES, Rows};
+use crate::shown::refusal_text;
+use registry_rules::{Licences, Verdict, reply_text};
 use std::process::Abort;
-use std::test::Fail;
-use usbnum_core::{Number, Pid, Slug, Span, Spans, Title, Vid};
 
-fn founding(alloc: Global) -> Result<Founding, Fail> {
-    let ann = Slug::new(alloc, b"ann")?.ok_or("no slug")?;
-    let mit = Title::new(alloc, b"MIT")?.ok_or("no title")?;
-    let seven = Pid::new(7).ok_or("no number")?;
-    let mut fixed = Spans::new(alloc);
-    fixed.add(Span::new(seven, seven).ok_or("no span")?)?;
-    Ok(Founding {
-        vendor: Vid::new(0x1209).ok_or("no vendor")?,
-        name: Title::new(alloc, b"First vendor")?.ok_or("no title")?,
-        curators: Curators::new(vec![in alloc; ann]?).ok_or("no curators")?,
-        licences: Licences::new(vec![in alloc; mit]?).ok_or("no licences")?,
-        fixed,
-    })
+fn tabbed(rt: &(impl AllocGlobal + Abort), row: &str) -> String {
+    row.replace(rt.alloc(), "|", "\t").expect(rt, "memory")
 }
 
-// The verdict of the judge, by the totals and what the plain history has under each key.
-fn judged(
-    alloc: Global,
-    plain: &Plain,
-    totals: &Totals,
-    request: &Request,
-) -> Result<Verdict, Fail> {
-    let vendor = plain.founding.vendor;
-    let petition = match &request.order {
-        Order::Grant { petition, .. }
-        | Order::Decline { petition }
-        | Order::Withdraw { petition } => plain.petition(*petition)?,
-        _ => None,
-    };
-    let least = match &petition {
-        Some(petition) => totals.least(petition.vid),
-        None => None,
-    };
-    let range = numbers_concerned(&request.order, vendor, petition.as_ref(), least);
-    let holdings = match &range {
-        Some(range) => plain.holdings(alloc, range)?,
-        None => Holdings::new(Vec::new(alloc)),
-    };
-    let org = match org_concerned(&request.order, vendor, petition.as_ref(), &holdings) {
-        Some(slug) => plain.org(slug)?,
-        None => None,
-    };
-    let facts = totals.facts(request, plain.kept(request)?, petition, org, holdings);
-    Ok(judge(alloc, &facts, request)?)
-}
-
-// The totals say what the plain history does.
-fn compare(rt: &impl Abort, alloc: Global, plain: &Plain, totals: &Totals) -> Result<(), Fail> {
-    assert_eq!(rt; totals.orgs(), plain.orgs());
-    assert_eq!(rt; totals.petitions(), plain.petitions());
-    let names: [&[u8]; 3] = [b"ann", b"bob", b"cora"];
-    for name in &names {
-        let slug = Slug::new(alloc, name)?.ok_or("no slug")?;
-        assert_eq!(rt; totals.open_count(&slug), plain.open_count(&slug));
-    }
-    for code in [0x1209_u16, 0xcafe, 0xbeef] {
-        let vid = Vid::new(code).ok_or("no vendor")?;
-        assert_eq!(rt; totals.vendors().contains(vid), plain.has_vendor(vid));
-        assert_eq!(rt; totals.least(vid), plain.least(vid));
-        for code in 1..=14_u16 {
-            let pid = Pid::new(code).ok_or("no number")?;
-            assert_eq!(rt;
-                totals.reserved(vid).contains(pid),
-                plain.is_reserved(vid, pid)
-            );
-        }
-    }
-    Ok(())
-}
-
-// One request: the judge answers as the plain rows do, and an accepted one is added to both.
-fn step(
-    rt: &impl Abort,
-    alloc: Global,
-    plain: &mut Plain,
-    totals: &mut Totals,
-    request: &Request,
-) -> Result<(), Fail> {
-    let order = request_bytes(alloc, request)?;
-    let verdict = judged(alloc, plain, totals, request)?;
-    if let Some(kept) = plain.kept(request)? {
-        match verdict {
-            Verdict::Kept(text) => {
-                assert_eq!(rt; text.as_str(), kept.reply.as_str());
-                assert_eq!(rt; order.as_bytes(), kept.order.as_bytes());
-            }
-            Verdict::Refused(refusal) => assert_eq!(rt; refusal.number(), 1),
-            Verdict::New(_) => return Err("a kept key is new".into()),
-        }
-        return Ok(());
-    }
-    let expected = plain.refusal(&request.caller, &request.order)?;
-    match verdict {
-        Verdict::Kept(_) => return Err("a new key is kept".into()),
-        Verdict::Refused(refusal) => assert_eq!(rt; refusal.number(), expected),
-        Verdict::New(deed) => {
-            assert_eq!(rt; 0, expected);
-            accept(alloc, plain, totals, deed, order)?;
-            compare(rt, alloc, plain, totals)?;
-        }
-    }
-    Ok(())
-}
-
-fn accept(
-    alloc: Global,
-    plain: &mut Plain,
-    totals: &mut Totals,
-    deed: Deed,
-    order: Spelling,
-) -> Result<(), Fail> {
-    let _changes = changes(alloc, &deed)?;
-    let reply = reply_text(alloc, &deed)?;
-    totals.carry(&deed)?;
-    plain.kept.push(Kept { order, reply })?;
-    plain.deeds.push(deed)?;
-    Ok(())
-}
-
-// The founding with the licences that were added since.
-fn founding_now(alloc: Global, plain: &Plain) -> Result<Founding, Fail> {
-    let mut now = founding(alloc)?;
-    let mut licences = now.licences.as_slice().to_vec(alloc)?;
-    for deed in &plain.deeds {
-        if let Act::LicenceAdded { licence } = &deed.act {
-            licences.push(licence.clone()?)?;
-        }
-    }
-    now.licences = Licences::new(licences).ok_or("no licences")?;
-    Ok(now)
-}
-
-fn vendors_now(alloc: Global, plain: &Plain) -> Result<Vendors, Fail> {
-    let mut vendors = Vec::new(alloc);
-    vendors.push(Vendor {
-        vid: plain.founding.vendor,
-        name: plain.founding.name.clone()?,
-    })?;
-    for deed in &plain.deeds {
-        if let Act::VendorAdded { vendor, name } = &deed.act {
-            vendors.push(Vendor {
-                vid: *vendor,
-                name: name.clone()?,
-            })?;
-        }
-    }
-    Ok(Vendors::new(vendors))
-}
-
-fn petitions_now(alloc: Global, plain: &Plain) -> Result<Vec<(u32, Petition)>, Fail> {
-    let mut petitions = Vec::new(alloc);
-    for id in 1..=plain.petitions() {
-        petitions.push((id, plain.petition(id)?.ok_or("no petition")?))?;
-    }
-    Ok(petitions)
-}
-
-// The totals made of the lists of all that is kept of the plain history.
-fn listed(alloc: Global, plain: &Plain) -> Result<Totals, Fail> {
-    let mut orgs: Vec<Org> = Vec::new(alloc);
-    let names: [&[u8]; 3] = [b"ann", b"bob", b"cora"];
-    for name in &names {
-        let slug = Slug::new(alloc, name)?.ok_or("no slug")?;
-        if let Some(org) = plain.org(&slug)? {
-            orgs.push(org)?;
-        }
-    }
-    let mut entries = Vec::new(alloc);
-    let mut spans = Vec::new(alloc);
-    for code in [0x1209_u16, 0xcafe, 0xbeef] {
-        let vid = Vid::new(code).ok_or("no vendor")?;
-        for code in 1..=14_u16 {
-            let pid = Pid::new(code).ok_or("no number")?;
-            let number = Number { vid, pid };
-            if let Some(org) = plain.owner(vid, pid) {
-                let title = plain.founding.name.clone()?;
-                let org = org.clone()?;
-                let held = plain.is_held(vid, pid);
-                let card = Card { title, terms: None };
-                entries.push((number, Entry { org, held, card }))?;
-            }
-            if plain.is_ordered(vid, pid) {
-                spans.push((vid, Span::new(pid, pid).ok_or("no span")?))?;
-            }
-        }
-    }
-    let founding = founding_now(alloc, plain)?;
-    let vendors = vendors_now(alloc, plain)?;
-    let petitions = petitions_now(alloc, plain)?;
-    Ok(Totals::of_lists(
-        alloc, founding, vendors, &orgs, &petitions, &entries, &spans,
-    )?)
-}
-
-#[test]
-fn the_judge_answers_as_the_plain_rows_do(rt: HostRuntime) -> Result<(), Fail> {
-    let alloc = rt.alloc();
-    let mut dice = Dice::new();
-    let mut totals = Totals::founded(alloc, &founding(alloc)?)?;
-    let mut plain = Plain {
-        founding: founding(alloc)?,
-        deeds: Vec::new(alloc),
-        kept: Vec::new(alloc),
-    };
-    let mut sent: Vec<Request> = Vec::new(alloc);
-    for _ in 0..3000_u16 {
-        let again = usize::from(dice.roll(3000));
-        let request = match sent.get(again) {
-            Some(request) if dice.roll(4) == 0 => request.clone()?,
-            _ => dice.request(alloc)?,
+fn expect_rows(rt: &(impl AllocGlobal + Abort), book: &mut Book, rows: Rows) {
+    for (row, answer) in rows {
+        let line = tabbed(rt, row);
+        let found = match line.as_str().strip_prefix("?") {
+            Some(question) => book.told(rt, question),
+            None => book.answer(rt, line.as_str()),
         };
-        step(&rt, alloc, &mut plain, &mut totals, &request)?;
-        sent.push(request)?;
+        assert_eq!(rt; found.as_str(), *answer, "{row}");
     }
-    compare(&rt, alloc, &plain, &listed(alloc, &plain)?)?;
-    assert!(rt; plain.deeds.len() >= 100, "too few were accepted");
-    Ok(())
+}
+
+// A registry with curator cora, licences GPL-3.0-only and MIT, and 0001 to 0010 fixed.
+fn founded(rt: &(impl AllocGlobal + Abort)) -> Book {
+    Book::new(rt, founding(rt, "cora", span(rt, 1, 16)))
 }
 
 #[test]
-fn a_founding_says_what_it_has(rt: HostRuntime) -> Result<(), Fail> {
-    let alloc = rt.alloc();
-    let founding = founding(alloc)?.clone()?;
-    assert_eq!(rt; founding.curators.len(), 1);
-    assert_eq!(rt; founding.curators.is_empty(), false);
-    assert_eq!(rt; founding.curators.as_slice().len(), 1);
-    assert_eq!(rt; founding.licences.len(), 1);
-    assert_eq!(rt; founding.licences.is_empty(), false);
-    is_legal_from_start(&founding);
-    let totals = Totals::founded(alloc, &founding)?;
-    assert_eq!(rt; totals.founding().vendor, founding.vendor);
-    let vendors = totals.vendors();
-    assert_eq!(rt; vendors.len(), 1);
-    assert_eq!(rt; vendors.is_empty(), false);
-    assert_eq!(rt; vendors.as_slice().len(), 1);
-    let name = vendors.of(founding.vendor).ok_or("no vendor")?;
-    assert_eq!(rt; name.name.as_str(), "First vendor");
-    assert_eq!(rt; Holdings::new(Vec::new(alloc)).as_slice().len(), 0);
-    Ok(())
+fn requests_are_answered(rt: HostRuntime) {
+    for rows in FROM_FOUNDING {
+        expect_rows(&rt, &mut founded(&rt), rows);
+    }
 }
 
 #[test]
-fn a_refusal_says_whose_the_number_is(rt: HostRuntime) -> Result<(), Fail> {
-    let alloc = rt.alloc();
-    let owner = Slug::new(alloc, b"bob")?.ok_or("no slug")?;
-    let refusal = Refusal::NumberOwned(owner);
-    assert_eq!(rt; refusal.number(), 9);
-    assert_eq!(rt; refusal.name(), "NumberOwned");
-    let detail = refusal.detail(alloc)?.ok_or("no detail")?;
-    assert_eq!(rt; detail.as_str(), "bob");
-    Ok(())
+fn requests_after_a_grant_are_answered(rt: HostRuntime) {
+    for rows in FROM_GRANTED {
+        let mut book = founded(&rt);
+        expect_rows(&rt, &mut book, GRANTED);
+        expect_rows(&rt, &mut book, rows);
+    }
+}
+
+#[test]
+fn licences_are_added(rt: HostRuntime) {
+    let mut book = founded(&rt);
+    expect_rows(&rt, &mut book, GRANTED);
+    expect_rows(&rt, &mut book, LICENCES);
+}
+
+// So many requests, whose key, number and answer end in a count from 1.
+fn repeat(rt: &(impl AllocGlobal + Abort), book: &mut Book, count: u16, row: (&str, &str)) {
+    for number in 1..=count {
+        let digits = format!(in rt.alloc(); "{:04x}", number.saturating_add(0x3000)).expect(
+            rt, "memory",
+        );
+        let count = format!(in rt.alloc(); "{number}").expect(rt, "memory");
+        let line = with(rt, row.0, digits.as_str(), count.as_str());
+        let answer = with(rt, row.1, digits.as_str(), count.as_str());
+        let found = book.answer(rt, tabbed(rt, line.as_str()).as_str());
+        assert_eq!(rt; found.as_str(), answer.as_str(), "{line}");
+    }
+}
+
+// The row with the digits and the count in their places.
+fn with(rt: &(impl AllocGlobal + Abort), row: &str, digits: &str, count: &str) -> String {
+    let row = row.replace(rt.alloc(), "NNNN", digits).expect(rt, "memory");
+    row.replace(rt.alloc(), "COUNT", count).expect(rt, "memory")
+}
+
+#[test]
+fn sixteen_petitions_may_be_open(rt: HostRuntime) {
+    let mut book = founded(&rt);
+    expect_rows(
+        &rt,
+        &mut book,
+        &[("ann|k|enrol|acme|Acme|http://a.example/", "enrolled acme")],
+    );
+    let asks = "ann|kCOUNT|ask|acme|-|Lamp|MIT|http://a.example/|http://b.example/";
+    repeat(&rt, &mut book, 16, (asks, "petition COUNT"));
+    expect_rows(
+        &rt,
+        &mut book,
+        &[
+            ("?open|acme", "16"),
+            (
+                "ann|k17|ask|acme|-|Lamp|MIT|http://a.example/|http://b.example/",
+                "14 TooManyOpen",
+            ),
+            ("ann|w|withdraw|5", "withdrawn petition 5"),
+            (
+                "ann|k17|ask|acme|-|Lamp|MIT|http://a.example/|http://b.example/",
+                "petition 17",
+            ),
+        ],
+    );
+}
+
+#[test]
+fn so_many_vendors_may_be_there(rt: HostRuntime) {
+    let mut book = founded(&rt);
+    let adds = "cora|kCOUNT|add-vendor|NNNN|Vendor COUNT";
+    repeat(&rt, &mut book, 255, (adds, "added vendor NNNN"));
+    expect_rows(
+        &rt,
+        &mut book,
+        &[
+            ("cora|k256|add-vendor|cafe|Vendor 257", "18 Full"),
+            ("cora|k256|add-vendor|3001|Vendor 2", "33 VendorTaken"),
+        ],
+    );
+}
+
+#[test]
+fn so_many_licences_may_be_allowed(rt: HostRuntime) {
+    let mut many = founding(&rt, "cora", span(&rt, 1, 16));
+    many.licences = licences(&rt, 1023);
+    let mut book = Book::new(&rt, many);
+    expect_rows(
+        &rt,
+        &mut book,
+        &[
+            ("cora|k1|add-licence|MIT", "added licence MIT"),
+            ("cora|k2|add-licence|GPL-3.0-only", "18 Full"),
+            ("cora|k2|add-licence|MIT", "35 LicenceTaken"),
+            ("cora|k2|add-licence|Licence 7", "35 LicenceTaken"),
+        ],
+    );
+}
+
+fn licences(rt: &(impl AllocGlobal + Abort), count: u16) -> Licences {
+    let mut titles = Vec::new(rt.alloc());
+    for number in 0..count {
+        let name = format!(in rt.alloc(); "Licence {number}").expect(rt, "memory");
+        titles.push(title(rt, name.as_str())).expect(rt, "memory");
+    }
+    Licences::new(titles).expect(rt, "licences")
+}
+
+#[test]
+fn no_number_is_free(rt: HostRuntime) {
+    let mut book = Book::new(&rt, founding(&rt, "cora", span(&rt, 1, 65535)));
+    expect_rows(
+        &rt,
+        &mut book,
+        &[
+            ("ann|k1|enrol|acme|Acme|http://a.example/", "enrolled acme"),
+            (
+                "ann|k2|ask|acme|-|Lamp|MIT|http://a.example/|http://b.example/",
+                "petition 1",
+            ),
+            ("cora|k3|grant|1|-", "12 NoneFree"),
+        ],
+    );
+}
+
+#[test]
+fn so_many_items_may_be_imported(rt: HostRuntime) {
+    let mut book = founded(&rt);
+    expect_rows(
+        &rt,
+        &mut book,
+        &[("ann|k1|enrol|acme|Acme|http://a.example/", "enrolled acme")],
+    );
+    let mut line = tabbed(&rt, "cora|i|import|acme");
+    for _ in 0..8192_u16 {
+        line.push_str("\t0000=Zero").expect(&rt, "memory");
+    }
+    let full = text(&rt, line.as_str());
+    line.push_str("\t0000=Zero").expect(&rt, "memory");
+    let refused = book.answer(&rt, line.as_str());
+    let imported = book.answer(&rt, full.as_str());
+    assert_eq!(rt; refused.as_str(), "19 ImportTooLong");
+    assert_eq!(rt;
+        imported.as_str(),
+        "imported fresh 0, owned 0, reserved 0, doubled 0, untitled 0, zero 8192"
+    );
+}
+
+// What is answered where the facts say that there are so many organisations and petitions.
+fn answer_at(
+    rt: &(impl AllocGlobal + Abort),
+    book: &Book,
+    row: &str,
+    orgs: u32,
+    petitions: u32,
+) -> String {
+    let request = request(rt, tabbed(rt, row).as_str());
+    let mut facts = book.facts(rt, &request);
+    facts.orgs = orgs;
+    facts.petitions = petitions;
+    match judged(rt, &facts, &request) {
+        Verdict::New(deed) => {
+            let reply = reply_text(rt.alloc(), &deed).expect(rt, "memory");
+            text(rt, reply.as_str())
+        }
+        Verdict::Refused(refusal) => refusal_text(rt, &refusal),
+        Verdict::Kept(_) => text(rt, "kept"),
+    }
+}
+
+#[test]
+fn so_many_organisations_and_petitions_may_be_there(rt: HostRuntime) {
+    let mut book = founded(&rt);
+    expect_rows(
+        &rt,
+        &mut book,
+        &[("ann|k1|enrol|acme|Acme|http://a.example/", "enrolled acme")],
+    );
+    let asks = "ann|k2|ask|acme|-|Lamp|MIT|http://a.example/|http://b.example/";
+    let enrols = "ann|k3|enrol|bolt|Bolt|http://a.example/";
+    for (row, orgs, petitions, answer) in [
+        (asks, 1, 999_999, "petition 1000000"),
+        (asks, 1, 1_000_000, "18 Full"),
+        (enrols, 65_535, 0, "enrolled bolt"),
+        (enrols, 65_536, 0, "18 Full"),
+        (asks, 65_536, 0, "petition 1"),
+    ] {
+        let found = answer_at(&rt, &book, row, orgs, petitions);
+        assert_eq!(rt; found.as_str(), answer, "{row}");
+    }
 }

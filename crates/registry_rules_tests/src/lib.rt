@@ -2,16 +2,26 @@
 #![tactic(auto)]
 
 #[cfg(test)]
+mod book;
+#[cfg(test)]
 mod dice;
 #[cfg(test)]
+mod fields;
+#[cfg(test)]
+mod foundings;
+#[cfg(test)]
 mod judging;
+#[cfg(test)]
+mod lists;
+#[cfg(test)]
+mod made_up;
+#[cfg(test)]
+mod orders;
 #[cfg(test)]
 mod plain;
 #[cfg(test)]
 mod plain_rows;
 #[cfg(test)]
-mod replies;
+mod rows;
 #[cfg(test)]
-mod spellings;
-#[cfg(test)]
-mod values;
+mod shown;

@@ -5,7 +5,7 @@ use registry_rules::{
     Act, Deed, Founding, Holding, Holdings, Item, Items, Kept, Org, Petition, PetitionState,
     Request, VendorSpan,
 };
-use std::alloc::{AllocError, Global};
+use std::process::Abort;
 use usbnum_core::{Number, Pid, Slug, Span, Title, Vid};
 
 /// What was accepted, the oldest first, and what is kept of each deed.
@@ -124,38 +124,32 @@ impl Plain {
         self.is_fixed(vid, pid) || self.is_ordered(vid, pid)
     }
 
-    /// The organisation as it was described last.
-    pub(crate) fn org(&self, slug: &Slug) -> Result<Option<Org>, AllocError> {
-        let mut keeper = None;
-        let mut last = None;
+    /// The caller that enrolled the organisation.
+    pub(crate) fn keeper(&self, slug: &Slug) -> Option<&Slug> {
+        let mut found = None;
         for deed in &self.deeds {
-            match &deed.act {
-                Act::Enrolled(org) => {
-                    if org.slug == *slug {
-                        keeper = Some(&deed.caller);
-                        last = Some(org);
-                    }
+            if let Act::Enrolled(org) = &deed.act {
+                if org.slug == *slug {
+                    found = Some(&deed.caller);
                 }
-                Act::OrgAmended(org) => {
-                    if org.slug == *slug {
-                        last = Some(org);
-                    }
-                }
-                _ => {}
             }
         }
-        let Some(keeper) = keeper else {
-            return Ok(None);
-        };
-        let Some(last) = last else {
-            return Ok(None);
-        };
-        Ok(Some(Org {
-            slug: slug.clone()?,
-            title: last.title.clone()?,
-            site: last.site.clone()?,
-            keeper: keeper.clone()?,
-        }))
+        found
+    }
+
+    /// The organisation as it was described last.
+    pub(crate) fn org(&self, rt: &(impl AllocGlobal + Abort), slug: &Slug) -> Option<Org> {
+        let mut last = None;
+        for deed in &self.deeds {
+            if let Act::Enrolled(org) | Act::OrgAmended(org) = &deed.act {
+                if org.slug == *slug {
+                    last = Some(org);
+                }
+            }
+        }
+        let mut org = last?.clone().expect(rt, "memory");
+        org.keeper = self.keeper(slug)?.clone().expect(rt, "memory");
+        Some(org)
     }
 
     /// How many organisations were enrolled.
@@ -205,20 +199,30 @@ impl Plain {
         state
     }
 
-    /// The petition of the number, in its state.
-    pub(crate) fn petition(&self, id: u32) -> Result<Option<Petition>, AllocError> {
+    /// The petition of the number, as it was asked.
+    pub(crate) fn petition(&self, id: u32) -> Option<&Petition> {
+        let mut asked = None;
         let mut count = 0_u32;
         for deed in &self.deeds {
             if let Act::Asked { petition, .. } = &deed.act {
                 count = count.saturating_add(1);
                 if count == id {
-                    let mut found = petition.clone()?;
-                    found.state = self.state(id);
-                    return Ok(Some(found));
+                    asked = Some(petition);
                 }
             }
         }
-        Ok(None)
+        asked
+    }
+
+    /// The petition of the number, in its state.
+    pub(crate) fn petition_now(
+        &self,
+        rt: &(impl AllocGlobal + Abort),
+        id: u32,
+    ) -> Option<Petition> {
+        let mut petition = self.petition(id)?.clone().expect(rt, "memory");
+        petition.state = self.state(id);
+        Some(petition)
     }
 
     /// How many petitions of the organisation are open.
@@ -231,6 +235,28 @@ impl Plain {
                 if petition.org == *org && self.state(id) == PetitionState::Open {
                     count = count.saturating_add(1);
                 }
+            }
+        }
+        count
+    }
+
+    /// How many vendors there are.
+    pub(crate) fn vendors(&self) -> u32 {
+        let mut count = 1_u32;
+        for deed in &self.deeds {
+            if let Act::VendorAdded { .. } = &deed.act {
+                count = count.saturating_add(1);
+            }
+        }
+        count
+    }
+
+    /// How many licences are allowed.
+    pub(crate) fn licences(&self) -> usize {
+        let mut count = self.founding.licences.len();
+        for deed in &self.deeds {
+            if let Act::LicenceAdded { .. } = &deed.act {
+                count = count.saturating_add(1);
             }
         }
         count
@@ -271,42 +297,55 @@ impl Plain {
         None
     }
 
-    /// What is kept under the request's caller and key.
-    pub(crate) fn kept(&self, request: &Request) -> Result<Option<Kept>, AllocError> {
-        for (deed, kept) in self.deeds.iter().zip(self.kept.iter()) {
-            if deed.caller == request.caller && deed.key == request.key {
-                return Ok(Some(kept.clone()?));
+    /// How many numbers of the vendor are free, reserved, held and returned.
+    pub(crate) fn states(&self, vid: Vid) -> (u16, u16, u16, u16) {
+        let (mut free, mut reserved, mut held, mut returned) = (0_u16, 0_u16, 0_u16, 0_u16);
+        for code in 1..=65535_u16 {
+            if let Some(pid) = Pid::new(code) {
+                if self.is_reserved(vid, pid) {
+                    reserved = reserved.saturating_add(1);
+                } else if self.owner(vid, pid).is_none() {
+                    free = free.saturating_add(1);
+                } else if self.is_held(vid, pid) {
+                    held = held.saturating_add(1);
+                } else {
+                    returned = returned.saturating_add(1);
+                }
             }
         }
-        Ok(None)
+        (free, reserved, held, returned)
     }
 
-    fn holding(&self, vid: Vid, code: u16) -> Result<Option<Holding>, AllocError> {
-        let Some(pid) = Pid::new(code) else {
-            return Ok(None);
-        };
-        let Some(org) = self.owner(vid, pid) else {
-            return Ok(None);
-        };
-        Ok(Some(Holding {
-            number: Number { vid, pid },
-            org: org.clone()?,
-            held: self.is_held(vid, pid),
-        }))
+    /// What is kept under the request's caller and key.
+    pub(crate) fn kept(&self, request: &Request) -> Option<&Kept> {
+        let mut found = None;
+        for (deed, kept) in self.deeds.iter().zip(self.kept.iter()) {
+            if deed.caller == request.caller && deed.key == request.key {
+                found = Some(kept);
+            }
+        }
+        found
+    }
+
+    fn holding(&self, rt: &(impl AllocGlobal + Abort), number: Number) -> Option<Holding> {
+        let org = self.owner(number.vid, number.pid)?;
+        Some(Holding {
+            number,
+            org: org.clone().expect(rt, "memory"),
+            held: self.is_held(number.vid, number.pid),
+        })
     }
 
     /// The owned ones of the numbers.
-    pub(crate) fn holdings(
-        &self,
-        alloc: Global,
-        range: &VendorSpan,
-    ) -> Result<Holdings, AllocError> {
-        let mut items = Vec::new(alloc);
+    pub(crate) fn holdings(&self, rt: &(impl AllocGlobal + Abort), range: &VendorSpan) -> Holdings {
+        let vid = range.vid;
+        let mut items = Vec::new(rt.alloc());
         for code in range.span.first().get()..=range.span.last().get() {
-            if let Some(holding) = self.holding(range.vid, code)? {
-                items.push(holding)?;
+            let pid = Pid::new(code).expect(rt, "a number");
+            if let Some(holding) = self.holding(rt, Number { vid, pid }) {
+                items.push(holding).expect(rt, "memory");
             }
         }
-        Ok(Holdings::new(items))
+        Holdings::new(items)
     }
 }

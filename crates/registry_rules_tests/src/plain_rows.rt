@@ -2,8 +2,7 @@
 //! first that fails counts.
 
 use crate::plain::Plain;
-use registry_rules::{Order, Petition, PetitionState};
-use std::alloc::AllocError;
+use registry_rules::{Order, Petition, PetitionState, Request};
 use usbnum_core::{Pid, Slug, Span, Title, Vid};
 
 // The refusal of the first test that fails, or 0.
@@ -21,13 +20,10 @@ impl Plain {
         vendor.unwrap_or(self.founding.vendor)
     }
 
-    fn keeps(&self, slug: Option<&Slug>, caller: &Slug) -> Result<bool, AllocError> {
-        let Some(slug) = slug else {
-            return Ok(false);
-        };
-        match self.org(slug)? {
-            Some(org) => Ok(org.keeper == *caller),
-            None => Ok(false),
+    fn keeps(&self, slug: Option<&Slug>, caller: &Slug) -> bool {
+        match slug {
+            Some(slug) => self.keeper(slug) == Some(caller),
+            None => false,
         }
     }
 
@@ -50,14 +46,14 @@ impl Plain {
     }
 
     /// The number of the refusal, under a key that nothing is kept under; 0 where there is none.
-    pub(crate) fn refusal(&self, caller: &Slug, order: &Order) -> Result<u8, AllocError> {
-        let stranger = !self.founding.curators.contains(caller);
-        match order {
-            Order::Enrol { org, .. } => Ok(first(&[(self.org(org)?.is_some(), 5)])),
-            Order::AmendOrg { org, .. } => Ok(first(&[
-                (self.org(org)?.is_none(), 4),
-                (!self.keeps(Some(org), caller)?, 3),
-            ])),
+    pub(crate) fn refusal(&self, request: &Request) -> u8 {
+        let caller = &request.caller;
+        match &request.order {
+            Order::Enrol { org, .. } => {
+                let full = self.orgs() >= 65_536;
+                first(&[(self.keeper(org).is_some(), 5), (full, 18)])
+            }
+            Order::AmendOrg { org, .. } => self.org_refusal(caller, org),
             Order::Ask {
                 org,
                 want,
@@ -65,14 +61,6 @@ impl Plain {
                 vendor,
                 ..
             } => self.ask_refusal(caller, org, *want, &terms.licence, self.meant(*vendor)),
-            Order::Grant { petition, number } => {
-                self.grant_refusal(stranger, *petition, *number)
-            }
-            Order::Decline { petition } => Ok(first(&[
-                (stranger, 2),
-                (self.petition(*petition)?.is_none(), 6),
-                (self.state(*petition) != PetitionState::Open, 7),
-            ])),
             Order::Withdraw { petition } => self.withdraw_refusal(caller, *petition),
             Order::Amend {
                 number,
@@ -80,32 +68,48 @@ impl Plain {
                 vendor,
                 ..
             } => {
-                let vid = self.meant(*vendor);
-                let held = self.held_refusal(caller, vid, *number)?;
-                Ok(first(&[(held != 0, held), (!self.allows(&terms.licence), 13)]))
+                let held = self.held_refusal(caller, self.meant(*vendor), *number);
+                first(&[(held != 0, held), (!self.allows(&terms.licence), 13)])
             }
             Order::Return { number, vendor } => {
-                let vid = self.meant(*vendor);
-                self.held_refusal(caller, vid, *number)
+                self.held_refusal(caller, self.meant(*vendor), *number)
             }
-            Order::Reserve { span, vendor } => {
-                Ok(self.span_refusal(stranger, span, self.meant(*vendor), true))
-            }
-            Order::Release { span, vendor } => {
-                Ok(self.span_refusal(stranger, span, self.meant(*vendor), false))
-            }
-            Order::Import { org, vendor, .. } => Ok(first(&[
-                (stranger, 2),
-                (self.org(org)?.is_none(), 4),
-                (!self.has_vendor(self.meant(*vendor)), 34),
-            ])),
-            Order::AddVendor { vendor, .. } => {
-                Ok(first(&[(stranger, 2), (self.has_vendor(*vendor), 33)]))
-            }
-            Order::AddLicence { licence } => {
-                Ok(first(&[(stranger, 2), (self.allows(licence), 35)]))
+            order => {
+                let stranger = !self.founding.curators.contains(caller);
+                first(&[(stranger, 2), (!stranger, self.curator_refusal(order))])
             }
         }
+    }
+
+    // The same of an order of a curator.
+    fn curator_refusal(&self, order: &Order) -> u8 {
+        match order {
+            Order::Grant { petition, number } => self.grant_refusal(*petition, *number),
+            Order::Decline { petition } => self.petition_refusal(*petition),
+            Order::Reserve { span, vendor } => self.span_refusal(span, self.meant(*vendor), true),
+            Order::Release { span, vendor } => self.span_refusal(span, self.meant(*vendor), false),
+            Order::Import { org, items, vendor } => first(&[
+                (self.keeper(org).is_none(), 4),
+                (!self.has_vendor(self.meant(*vendor)), 34),
+                (items.as_slice().len() > 8192, 19),
+            ]),
+            Order::AddVendor { vendor, .. } => first(&[
+                (self.has_vendor(*vendor), 33),
+                (self.vendors() >= 256, 18),
+            ]),
+            Order::AddLicence { licence } => first(&[
+                (self.allows(licence), 35),
+                (self.licences() >= 1024, 18),
+            ]),
+            _ => 0,
+        }
+    }
+
+    fn org_refusal(&self, caller: &Slug, org: &Slug) -> u8 {
+        first(&[
+            (self.keeper(org).is_none(), 4),
+            (!self.keeps(Some(org), caller), 3),
+        ])
     }
 
     fn ask_refusal(
@@ -115,54 +119,59 @@ impl Plain {
         want: Option<Pid>,
         licence: &Title,
         vid: Vid,
-    ) -> Result<u8, AllocError> {
+    ) -> u8 {
+        let kept = self.org_refusal(caller, org);
         let wanted = match want {
             Some(pid) => self.given(vid, pid, org),
             None => 0,
         };
-        Ok(first(&[
-            (self.org(org)?.is_none(), 4),
-            (!self.keeps(Some(org), caller)?, 3),
+        first(&[
+            (kept != 0, kept),
             (!self.has_vendor(vid), 34),
             (!self.allows(licence), 13),
             (self.open_count(org) >= 16, 14),
+            (self.petitions() >= 1_000_000, 18),
             (wanted != 0, wanted),
-        ]))
+        ])
     }
 
-    fn grant_refusal(&self, stranger: bool, id: u32, named: Option<Pid>) -> Result<u8, AllocError> {
-        let Some(petition) = self.petition(id)? else {
-            return Ok(first(&[(stranger, 2), (true, 6)]));
+    fn petition_refusal(&self, id: u32) -> u8 {
+        first(&[
+            (self.petition(id).is_none(), 6),
+            (self.state(id) != PetitionState::Open, 7),
+        ])
+    }
+
+    fn grant_refusal(&self, id: u32, named: Option<Pid>) -> u8 {
+        let Some(petition) = self.petition(id) else {
+            return 6;
         };
-        let given = match self.chosen(&petition, named) {
+        let given = match self.chosen(petition, named) {
             Some(pid) => self.given(petition.vid, pid, &petition.org),
             None => 12,
         };
-        Ok(first(&[
-            (stranger, 2),
-            (petition.state != PetitionState::Open, 7),
-            (given != 0, given),
-        ]))
+        let closed = self.petition_refusal(id);
+        first(&[(closed != 0, closed), (given != 0, given)])
     }
 
-    fn withdraw_refusal(&self, caller: &Slug, id: u32) -> Result<u8, AllocError> {
-        let Some(petition) = self.petition(id)? else {
-            return Ok(6);
+    fn withdraw_refusal(&self, caller: &Slug, id: u32) -> u8 {
+        let Some(petition) = self.petition(id) else {
+            return 6;
         };
-        Ok(first(&[
-            (!self.keeps(Some(&petition.org), caller)?, 3),
-            (petition.state != PetitionState::Open, 7),
-        ]))
+        first(&[
+            (!self.keeps(Some(&petition.org), caller), 3),
+            (self.state(id) != PetitionState::Open, 7),
+        ])
     }
 
-    fn held_refusal(&self, caller: &Slug, vid: Vid, pid: Pid) -> Result<u8, AllocError> {
-        Ok(first(&[
+    fn held_refusal(&self, caller: &Slug, vid: Vid, pid: Pid) -> u8 {
+        first(&[
             (!self.is_held(vid, pid), 11),
-            (!self.keeps(self.owner(vid, pid), caller)?, 3),
-        ]))
+            (!self.keeps(self.owner(vid, pid), caller), 3),
+        ])
     }
 
-    fn span_refusal(&self, stranger: bool, span: &Span, vid: Vid, reserves: bool) -> u8 {
+    fn span_refusal(&self, span: &Span, vid: Vid, reserves: bool) -> u8 {
         let mut fixed = false;
         let mut owned = false;
         let mut bare = false;
@@ -174,7 +183,6 @@ impl Plain {
             }
         }
         first(&[
-            (stranger, 2),
             (!self.has_vendor(vid), 34),
             (fixed, 16),
             (reserves && owned, 15),

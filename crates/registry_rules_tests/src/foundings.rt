@@ -1,0 +1,88 @@
+//! What a founding and the values beside it say of themselves.
+
+use crate::book::{founding, span};
+use crate::fields::{slug, title};
+use registry_rules::laws::{
+    has_four_states, has_one_organisation, has_own_spelling, is_kept_for_good, is_legal_from_start,
+    is_owned_or_reserved, may_be_repeated, stays_legal,
+};
+use registry_rules::{Curators, Holdings, Licences, Spelling, Text, Totals};
+
+#[test]
+fn a_founding_says_what_it_has(rt: HostRuntime) {
+    let founding = founding(&rt, "ann", span(&rt, 7, 7))
+        .clone()
+        .expect(&rt, "memory");
+    let (curators, licences) = (&founding.curators, &founding.licences);
+    assert_eq!(rt;
+        (
+            curators.len(),
+            curators.as_slice().len(),
+            curators.is_empty()
+        ),
+        (1, 1, false)
+    );
+    assert_eq!(rt;
+        (
+            licences.len(),
+            licences.as_slice().len(),
+            licences.is_empty()
+        ),
+        (2, 2, false)
+    );
+    assert!(rt; curators.contains(&slug(&rt, "ann")) && !curators.contains(&slug(&rt, "bob")));
+    assert!(rt; licences.contains(&title(&rt, "MIT")) && !licences.contains(&title(&rt, "BSD")));
+    let totals = Totals::founded(rt.alloc(), &founding).expect(&rt, "memory");
+    assert_eq!(rt; totals.founding().vendor, founding.vendor);
+    let vendors = totals.vendors();
+    assert_eq!(rt;
+        (vendors.len(), vendors.as_slice().len(), vendors.is_empty()),
+        (1, 1, false)
+    );
+    let vendor = vendors.of(founding.vendor).expect(&rt, "a vendor");
+    assert_eq!(rt; vendor.name.as_str(), "Shared products");
+}
+
+// So many texts are counted, repeats too, and each is kept once.
+#[test]
+fn lists_are_counted(rt: HostRuntime) {
+    for (count, fits) in [(0_u16, false), (1, true), (64, true), (65, false)] {
+        let mut slugs = Vec::new(rt.alloc());
+        for _ in 0..count {
+            slugs.push(slug(&rt, "ann")).expect(&rt, "memory");
+        }
+        let kept = Curators::new(slugs).map(|curators| curators.len());
+        assert_eq!(rt; kept == Some(1), fits, "{count} curators");
+    }
+    for (count, fits) in [(0_u16, false), (1, true), (1024, true), (1025, false)] {
+        let mut titles = Vec::new(rt.alloc());
+        for _ in 0..count {
+            titles.push(title(&rt, "MIT")).expect(&rt, "memory");
+        }
+        let kept = Licences::new(titles).map(|licences| licences.len());
+        assert_eq!(rt; kept == Some(1), fits, "{count} licences");
+    }
+}
+
+#[test]
+fn texts_say_what_they_are(rt: HostRuntime) {
+    let bytes = b"grant".as_slice().to_vec(rt.alloc()).expect(&rt, "memory");
+    let spelling = Spelling::new(bytes).clone().expect(&rt, "memory");
+    assert_eq!(rt; spelling.as_bytes(), b"grant".as_slice());
+    let text = String::from_str(rt.alloc(), "petition 1").expect(&rt, "memory");
+    let text = Text::new(text).clone().expect(&rt, "memory");
+    assert_eq!(rt; text.as_str(), "petition 1");
+    assert_eq!(rt; Holdings::new(Vec::new(rt.alloc())).as_slice().len(), 0);
+}
+
+#[test]
+fn laws_may_be_cited(rt: HostRuntime) {
+    is_legal_from_start(&founding(&rt, "ann", span(&rt, 7, 7)));
+    stays_legal();
+    may_be_repeated();
+    is_kept_for_good();
+    has_one_organisation();
+    is_owned_or_reserved();
+    has_four_states();
+    has_own_spelling();
+}
