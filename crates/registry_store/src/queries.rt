@@ -10,7 +10,7 @@ use sqlite::Alter;
 use usbnum_core::{Number, Spans, Vid};
 
 impl<S: Alter> Registry<S> {
-    ghost use Rattle.std.specs.Prelude.{◌≡◌, ◌⊎◌, ℕ, true, false, IfOk, IfErr, Err};
+    ghost use Rattle.std.specs.Prelude.{◌≡◌, ◌⊎◌, ℕ, true, false, IfOk, IfErr, OnOk, OnErr, Err};
     ghost use Rattle.sqlite.specs.State.{HasCleanDisk, Survives};
     ghost use Rattle.usbnum_core.specs.Spans.{spans_have};
     ghost use Rattle.registry_rules.specs.History.{History};
@@ -18,6 +18,18 @@ impl<S: Alter> Registry<S> {
     ghost use Rattle.registry_rules.specs.Query.{is_reserved};
     ghost use Rattle.registry_tables.specs.Lists.{IsOrgList, IsPetitionList, IsNumberList, IsVendorList};
     ghost use Rattle.registry_store.specs.Promise.{Stands, is_spent, state_of};
+
+    // Whether it answers at all.
+    fn standing(&self) -> Result<(), Fault>
+        ensures stands { OnOk result (is_spent self.now ≡ false) }
+        ensures spent { OnErr result (is_spent self.now ≡ true) }
+        ensures kind { IfErr result (λ e. e ≡ Fault.Spent) }
+    {
+        if self.spent {
+            return Err(Fault::Spent);
+        }
+        Ok(())
+    }
 
     /// All numbers that have an owner, by vendor and then by product, each with its owner, its card and whether it is held.
     ///
@@ -34,9 +46,7 @@ impl<S: Alter> Registry<S> {
         ensures spends_nothing { is_spent self.new ≡ is_spent self.old }
         ensures survives { Survives (state_of self.old) (state_of self.new) (λ _. ⊥) }
     {
-        if self.spent {
-            return Err(Fault::Spent);
-        }
+        self.standing()?;
         match list_numbers(self.alloc, &mut self.conn) {
             Ok(numbers) => Ok(numbers),
             Err(fault) => Err(fault_of(fault)),
@@ -58,9 +68,7 @@ impl<S: Alter> Registry<S> {
         ensures spends_nothing { is_spent self.new ≡ is_spent self.old }
         ensures survives { Survives (state_of self.old) (state_of self.new) (λ _. ⊥) }
     {
-        if self.spent {
-            return Err(Fault::Spent);
-        }
+        self.standing()?;
         match list_petitions(self.alloc, &mut self.conn) {
             Ok(petitions) => Ok(petitions),
             Err(fault) => Err(fault_of(fault)),
@@ -82,9 +90,7 @@ impl<S: Alter> Registry<S> {
         ensures spends_nothing { is_spent self.new ≡ is_spent self.old }
         ensures survives { Survives (state_of self.old) (state_of self.new) (λ _. ⊥) }
     {
-        if self.spent {
-            return Err(Fault::Spent);
-        }
+        self.standing()?;
         match list_orgs(self.alloc, &mut self.conn) {
             Ok(orgs) => Ok(orgs),
             Err(fault) => Err(fault_of(fault)),
@@ -106,9 +112,7 @@ impl<S: Alter> Registry<S> {
         ensures spends_nothing { is_spent self.new ≡ is_spent self.old }
         ensures survives { Survives (state_of self.old) (state_of self.new) (λ _. ⊥) }
     {
-        if self.spent {
-            return Err(Fault::Spent);
-        }
+        self.standing()?;
         match list_vendors(self.alloc, &mut self.conn) {
             Ok(vendors) => Ok(vendors),
             Err(fault) => Err(fault_of(fault)),
@@ -123,9 +127,7 @@ impl<S: Alter> Registry<S> {
         ensures answered { (h : History) → Stands self.now h → IfOk result (λ spans. (pid : ℕ) → spans_have spans pid ≡ is_reserved h (number vid pid)) }
         ensures kind { is_spent self.now ≡ false → IfErr result (λ e. e ≡ Fault.NoMemory) }
     {
-        if self.spent {
-            return Err(Fault::Spent);
-        }
+        self.standing()?;
         match self.totals.reserved(vid).clone() {
             Ok(spans) => Ok(spans),
             Err(_) => Err(Fault::NoMemory),

@@ -1,4 +1,4 @@
-//! A registry by example: over disks that stop in the middle of a write, and what it answers without acting.
+//! A registry by example: what it answers, over disks that stop in the middle of a write, and closed and opened again.
 #![tactic(auto)]
 
 #[cfg(test)]
@@ -6,4 +6,10 @@ mod memory;
 #[cfg(test)]
 mod queries;
 #[cfg(test)]
+mod reopening;
+#[cfg(test)]
 mod stops;
+#[cfg(test)]
+mod transcripts;
+#[cfg(test)]
+mod values;

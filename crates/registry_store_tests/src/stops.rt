@@ -1,74 +1,44 @@
-//! A registry over disks that stop in the middle of a write, and one that is there already.
+//! A registry over disks that stop in the middle of a write.
 
-use registry_rules::{Curators, Founding, Licences, Order, Request};
+use crate::values::{founding, lines_of, request};
+use registry_rules::{Founding, Org, Reply, Request};
 use registry_store::{Fault, Registry, RunEnd, crash_and_open};
-use registry_tables::list_orgs;
-use sqlite::{Alter, Connection, FileStore, Files, Options};
+use sqlite::{Connection, FileStore, Files, Options};
 use sqlite_disk::{Fuse, Memory};
 use std::alloc::Global;
+use std::process::Abort;
 use std::test::Fail;
-use usbnum_core::{Key, Link, Slug, Spans, Title, Vid};
 
-fn slug(alloc: Global, text: &str) -> Result<Slug, Fail> {
-    Ok(Slug::new(alloc, text.as_bytes())?.ok_or("no slug")?)
-}
+type Fused = Registry<FileStore<Fuse<Memory>>>;
 
-fn title(alloc: Global, text: &str) -> Result<Title, Fail> {
-    Ok(Title::new(alloc, text.as_bytes())?.ok_or("no title")?)
-}
+// What a spent registry is asked.
+const ENROL: &str =
+    r#"{"caller":"ann","key":"e","order":"enrol","org":"acme","title":"A","site":"https://a.example"}"#;
 
-fn founding(alloc: Global) -> Result<Founding, Fail> {
-    let curators = vec![in alloc; slug(alloc, "cora")?]?;
-    let licences = vec![in alloc; title(alloc, "MIT")?]?;
-    Ok(Founding {
-        vendor: Vid::new(0x1209).ok_or("no vendor")?,
-        name: title(alloc, "InterBiometrics")?,
-        curators: Curators::new(curators).ok_or("no curators")?,
-        licences: Licences::new(licences).ok_or("no licences")?,
-        fixed: Spans::new(alloc),
-    })
-}
-
-// The enrolment of an organisation by ann, under its name as the key.
-fn enrolment(alloc: Global, name: &str) -> Result<Request, Fail> {
-    Ok(Request {
-        caller: slug(alloc, "ann")?,
-        key: Key::new(alloc, name.as_bytes())?.ok_or("no key")?,
-        order: Order::Enrol {
-            org: slug(alloc, name)?,
-            title: title(alloc, name)?,
-            site: Link::new(alloc, b"https://acme.example/")?.ok_or("no link")?,
-        },
-    })
-}
-
-const NAMES: [&str; 10] = ["o1", "o2", "o3", "o4", "o5", "o6", "o7", "o8", "o9", "o10"];
-
+// The enrolments of o1 to o10.
 fn ten(alloc: Global) -> Result<Vec<Request>, Fail> {
     let mut requests = Vec::new(alloc);
-    for name in NAMES {
-        requests.push(enrolment(alloc, name)?)?;
+    for number in 1..=10u8 {
+        let line = format!(in alloc;
+            "{{\"caller\":\"ann\",\"key\":\"k{number}\",\"order\":\"enrol\",\"org\":\"o{number}\",\"title\":\"O\",\"site\":\"https://o.example\"}}"
+        )?;
+        requests.push(request(alloc, line.as_str())?)?;
     }
     Ok(requests)
 }
 
-// How many organisations a store has.
-fn organisations<S: Alter>(alloc: Global, conn: &mut Connection<S>) -> Option<usize> {
-    if !conn.is_autocommit() {
-        return None;
+// The replies to them from one on.
+fn enrolled_from(alloc: Global, first: u8) -> Result<String, Fail> {
+    let mut text = String::new(alloc);
+    for number in first..=10u8 {
+        let line = format!(in alloc; "{{\"done\":\"enrolled o{number}\"}}\n")?;
+        text.push_str(line.as_str())?;
     }
-    match list_orgs(alloc, conn) {
-        Ok(orgs) => Some(orgs.len()),
-        Err(_) => None,
-    }
+    Ok(text)
 }
 
 // A registry whose log fails after so many calls, if it is founded before.
-fn fused(
-    alloc: Global,
-    calls: u64,
-    founding: &Founding,
-) -> Option<Registry<FileStore<Fuse<Memory>>>> {
+fn fused(alloc: Global, calls: u64, founding: &Founding) -> Option<Fused> {
     let log = Fuse::new(Memory::new(alloc), calls);
     let db = Fuse::new(Memory::new(alloc), u64::MAX);
     match Connection::open_files(alloc, Files { log, db }, Options::new(1)) {
@@ -80,119 +50,161 @@ fn fused(
     }
 }
 
-// What was there after a stop, how many replies came then, and what was there in the end.
+// A run until the log fails, and what the registry tells then.
+#[derive(Drop)]
+struct Stopped {
+    end: RunEnd,
+    next: Result<Reply, Fault>,
+    run: RunEnd,
+    orgs: Result<Vec<Org>, Fault>,
+}
+
+fn run(mut registry: Fused, requests: &[Request], next: &Request) -> (Stopped, Fused) {
+    let end = registry.run_from(requests, 0);
+    let next = registry.act(next);
+    let run = registry.run_from(requests, 0);
+    let orgs = registry.orgs();
+    (
+        Stopped {
+            end,
+            next,
+            run,
+            orgs,
+        },
+        registry,
+    )
+}
+
+// What is there after a stop, what going on from the seventh request gives, and what all requests give then.
 #[derive(Drop)]
 struct Resumed {
-    found: usize,
-    replies: usize,
-    kept: usize,
+    found: Result<Vec<Org>, Fault>,
+    rest: RunEnd,
+    kept: Result<Vec<Org>, Fault>,
+    all: RunEnd,
 }
 
-fn go_on<S: Alter + Drop>(
+fn go_on(mut registry: Fused, requests: &[Request]) -> Resumed {
+    let found = registry.orgs();
+    let rest = registry.run_from(requests, usize::min(6, requests.len()));
+    let kept = registry.orgs();
+    let all = registry.run_from(requests, 0);
+    let _conn = registry.close();
+    Resumed {
+        found,
+        rest,
+        kept,
+        all,
+    }
+}
+
+fn stop_and_go_on(
     alloc: Global,
-    conn: Connection<S>,
+    calls: u64,
+    founding: &Founding,
     requests: &[Request],
-) -> Option<Resumed> {
-    let mut conn = conn;
-    let found = organisations(alloc, &mut conn)?;
-    match Registry::open(alloc, conn) {
-        Ok(mut registry) => {
-            let answered = usize::min(6, requests.len());
-            let end = registry.run_from(requests, answered);
-            let replies = end.replies.len();
-            let kept = organisations(alloc, &mut registry.close())?;
-            Some(Resumed {
-                found,
-                replies,
-                kept,
-            })
+    next: &Request,
+) -> Option<(Stopped, Resumed)> {
+    match fused(alloc, calls, founding) {
+        Some(registry) => {
+            let (stopped, registry) = run(registry, requests, next);
+            match crash_and_open(alloc, registry, Options::new(1)) {
+                Some(registry) => Some((stopped, go_on(registry, requests))),
+                None => None,
+            }
         }
-        Err(_) => None,
-    }
-}
-
-// Whether the registry is spent: it answers nothing more.
-fn is_spent(registry: &mut Registry<FileStore<Fuse<Memory>>>, requests: &[Request]) -> bool {
-    match requests.last() {
-        Some(request) => matches!(registry.act(request), Err(Fault::Spent)),
-        None => false,
-    }
-}
-
-fn crashed(
-    alloc: Global,
-    stopped: Registry<FileStore<Fuse<Memory>>>,
-    requests: &[Request],
-) -> Option<Resumed> {
-    match crash_and_open(alloc, stopped, Options::new(1)) {
-        Some(registry) => go_on(alloc, registry.close(), requests),
         None => None,
     }
 }
 
-// The first run, and where it stopped after six replies, what followed.
-fn run(
-    alloc: Global,
-    registry: Registry<FileStore<Fuse<Memory>>>,
-    requests: &[Request],
-) -> (RunEnd, Option<Resumed>) {
-    let mut registry = registry;
+fn replies_of(mut registry: Fused, requests: &[Request]) -> usize {
     let end = registry.run_from(requests, 0);
-    let resumed = if end.replies.len() == 6 && is_spent(&mut registry, requests) {
-        crashed(alloc, registry, requests)
-    } else {
-        let _conn = registry.close();
-        None
-    };
-    (end, resumed)
+    let _conn = registry.close();
+    end.replies.len()
 }
 
 // How many replies come before a log that fails after so many calls.
 fn replies_by(alloc: Global, calls: u64, founding: &Founding, requests: &[Request]) -> usize {
     match fused(alloc, calls, founding) {
-        Some(registry) => {
-            let mut registry = registry;
-            let end = registry.run_from(requests, 0);
-            let _conn = registry.close();
-            end.replies.len()
-        }
+        Some(registry) => replies_of(registry, requests),
         None => 0,
     }
+}
+
+// A number of calls after which the log fails before the seventh reply, and not before the sixth.
+fn calls_to_six(alloc: Global, founding: &Founding, requests: &[Request]) -> Option<u64> {
+    let mut few: u64 = 0;
+    for step in [128, 64, 32, 16, 8, 4, 2, 1] {
+        let calls = few.saturating_add(step);
+        let replies = replies_by(alloc, calls, founding, requests);
+        if replies == 6 {
+            return Some(calls);
+        }
+        if replies < 6 {
+            few = calls;
+        }
+    }
+    None
+}
+
+// The names of the organisations, each with a space.
+fn names(alloc: Global, orgs: Result<Vec<Org>, Fault>) -> Result<String, Fail> {
+    let mut text = String::new(alloc);
+    for org in orgs? {
+        text.push_str(org.slug.as_str())?;
+        text.push_str(" ")?;
+    }
+    Ok(text)
+}
+
+// Each reply that came before the stop is kept, at most one request more is acted on, and the rest goes on as without a stop.
+fn loses_nothing(rt: &impl Abort, alloc: Global, resumed: Resumed) -> Result<(), Fail> {
+    let found = names(alloc, resumed.found)?;
+    assert!(rt;
+        matches!(
+            found.as_str(),
+            "o1 o2 o3 o4 o5 o6 " | "o1 o2 o3 o4 o5 o6 o7 "
+        )
+    );
+    let rest = lines_of(alloc, resumed.rest.replies.as_slice())?;
+    assert_eq!(rt; rest.as_str(), enrolled_from(alloc, 7)?.as_str());
+    let kept = names(alloc, resumed.kept)?;
+    assert_eq!(rt; kept.as_str(), "o1 o10 o2 o3 o4 o5 o6 o7 o8 o9 ");
+    let all = lines_of(alloc, resumed.all.replies.as_slice())?;
+    assert_eq!(rt; all.as_str(), enrolled_from(alloc, 1)?.as_str());
+    Ok(())
+}
+
+// Such a registry is spent.
+fn answers_no_more(rt: &impl Abort, stopped: &Stopped) {
+    assert_eq!(rt; stopped.end.fault, Some(Fault::Store));
+    assert!(rt; matches!(stopped.next, Err(Fault::Spent)));
+    assert_eq!(rt; stopped.run.fault, Some(Fault::Spent));
+    assert!(rt; matches!(stopped.orgs, Err(Fault::Spent)));
 }
 
 #[test]
 fn a_stop_within_the_seventh_commit_loses_no_reply(rt: HostRuntime) -> Result<(), Fail> {
     let alloc = rt.alloc();
     let requests = ten(alloc)?;
+    let next = request(alloc, ENROL)?;
     let founding = founding(alloc)?;
-    // The greatest number of calls that is too few for the sixth reply.
-    let mut few: u64 = 0;
-    for step in [256, 128, 64, 32, 16, 8, 4, 2, 1] {
-        if replies_by(
+    let six = calls_to_six(alloc, &founding, requests.as_slice()).ok_or("no stop")?;
+    let mut stops: u32 = 0;
+    for calls in six.saturating_sub(2)..=six.saturating_add(2) {
+        let (stopped, resumed) = stop_and_go_on(
             alloc,
-            few.saturating_add(step),
+            calls,
             &founding,
             requests.as_slice(),
-        ) < 6
-        {
-            few = few.saturating_add(step);
+            &next,
+        ).ok_or("not opened")?;
+        if stopped.end.replies.len() == 6 {
+            answers_no_more(&rt, &stopped);
+            loses_nothing(&rt, alloc, resumed)?;
+            stops = stops.saturating_add(1);
         }
     }
-    let mut stopped = false;
-    for more in 1..6 {
-        let Some(registry) = fused(alloc, few.saturating_add(more), &founding) else {
-            continue;
-        };
-        let (end, resumed) = run(alloc, registry, requests.as_slice());
-        if end.replies.len() == 6 {
-            assert_eq!(rt; end.fault, Some(Fault::Store));
-            let resumed = resumed.ok_or("not opened again")?;
-            assert!(rt; resumed.found == 6 || resumed.found == 7);
-            assert_eq!(rt; resumed.replies, 4);
-            assert_eq!(rt; resumed.kept, 10);
-            stopped = true;
-        }
-    }
-    assert!(rt; stopped);
+    assert!(rt; stops > 0);
     Ok(())
 }

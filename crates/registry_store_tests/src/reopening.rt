@@ -1,0 +1,154 @@
+//! A registry in files in memory, which is closed and opened again. Each time another is founded first, in vain.
+
+use crate::transcripts::{ASK, ENROL, GRANT, Step, read};
+use crate::values::{founding, lines_of};
+use registry_rules::{Founding, Request};
+use registry_store::{Fault, Registry, RunEnd};
+use sqlite::{Connection, FileStore, Files, Options};
+use sqlite_disk::{Disk, Memory};
+use std::alloc::Global;
+use std::process::Abort;
+use std::test::Fail;
+
+// What came of one opening of the files.
+#[derive(Drop)]
+struct Outcome {
+    was_there: bool,
+    licences: usize,
+    end: RunEnd,
+    files: Files<Memory>,
+}
+
+// Acts on the requests, and closes the files.
+fn act(
+    mut registry: Registry<FileStore<Memory>>,
+    was_there: bool,
+    requests: &[Request],
+) -> Outcome {
+    let end = registry.run_from(requests, 0);
+    let licences = registry.founding().licences.len();
+    let files = registry.close().into_store().close();
+    Outcome {
+        was_there,
+        licences,
+        end,
+        files,
+    }
+}
+
+fn open_and_act(
+    alloc: Global,
+    conn: Connection<FileStore<Memory>>,
+    requests: &[Request],
+) -> Option<Outcome> {
+    match Registry::open(alloc, conn) {
+        Ok(registry) => Some(act(registry, true, requests)),
+        Err(_) => None,
+    }
+}
+
+// Founds a registry over the files, or opens the one that is there, and acts on the requests.
+fn visit(
+    alloc: Global,
+    files: Files<Memory>,
+    founding: &Founding,
+    requests: &[Request],
+) -> Option<Outcome> {
+    if !(files.log.may_be_used() && files.db.may_be_used()) {
+        return None;
+    }
+    match Connection::open_files(alloc, files, Options::new(1)) {
+        Ok(conn) => match Registry::found(alloc, conn, founding) {
+            Ok(registry) => Some(act(registry, false, requests)),
+            Err((Fault::Taken, conn)) => open_and_act(alloc, conn, requests),
+            Err(_) => None,
+        },
+        Err(_) => None,
+    }
+}
+
+// The bytes of both files.
+fn bytes_of(alloc: Global, files: &Files<Memory>) -> Result<Vec<u8>, Fail> {
+    let mut bytes = Vec::new(alloc);
+    bytes.extend_from_slice(files.log.bytes())?;
+    bytes.extend_from_slice(files.db.bytes())?;
+    Ok(bytes)
+}
+
+const ADD_LICENCE: &str =
+    r#"{"caller":"cora","key":"l1","order":"add-licence","licence":"CERN-OHL-S-2.0"}"#;
+
+// An opening of the files, whether it found a registry and left other bytes, and how many licences there are then.
+#[derive(Clone, Copy)]
+struct Opening {
+    steps: &'static [Step],
+    finds: bool,
+    writes: bool,
+    licences: usize,
+}
+
+// Repeats and refusals write nothing, and neither does opening.
+const OPENINGS: [Opening; 4] = [
+    Opening {
+        steps: &[
+            ENROL,
+            ASK,
+            GRANT,
+            (ADD_LICENCE, r#"{"done":"added licence CERN-OHL-S-2.0"}"#),
+        ],
+        finds: false,
+        writes: true,
+        licences: 3,
+    },
+    Opening {
+        steps: &[
+            GRANT,
+            (ADD_LICENCE, r#"{"done":"added licence CERN-OHL-S-2.0"}"#),
+            (
+                r#"{"caller":"cora","key":"l2","order":"add-licence","licence":"CERN-OHL-S-2.0"}"#,
+                r#"{"name":"LicenceTaken","refused":35}"#,
+            ),
+        ],
+        finds: true,
+        writes: false,
+        licences: 3,
+    },
+    Opening {
+        steps: &[(
+            r#"{"caller":"ann","key":"k4","order":"ask","org":"acme","title":"Lamp","licence":"CERN-OHL-S-2.0","site":"https://a.example","source":"https://a.example"}"#,
+            r#"{"done":"petition 2"}"#,
+        )],
+        finds: true,
+        writes: true,
+        licences: 3,
+    },
+    Opening {
+        steps: &[],
+        finds: true,
+        writes: false,
+        licences: 3,
+    },
+];
+
+#[test]
+fn goes_on_where_it_was_closed(rt: HostRuntime) -> Result<(), Fail> {
+    let alloc = rt.alloc();
+    let founding = founding(alloc)?;
+    let mut files = Files {
+        log: Memory::new(alloc),
+        db: Memory::new(alloc),
+    };
+    for opening in OPENINGS {
+        let (requests, wanted) = read(alloc, opening.steps)?;
+        let before = bytes_of(alloc, &files)?;
+        let outcome = visit(alloc, files, &founding, requests.as_slice()).ok_or("not opened")?;
+        let replies = lines_of(alloc, outcome.end.replies.as_slice())?;
+        let after = bytes_of(alloc, &outcome.files)?;
+        files = outcome.files;
+        assert_eq!(rt; replies.as_str(), wanted.as_str());
+        assert_eq!(rt; outcome.was_there, opening.finds);
+        assert_eq!(rt; outcome.licences, opening.licences);
+        assert_eq!(rt; before.as_slice() != after.as_slice(), opening.writes);
+    }
+    Ok(())
+}
