@@ -1,7 +1,8 @@
 # trial:   proves and builds the program usbreg, and acts on three request lines over
 #          a registry in memory.
 # test:    the gate. Proves every crate and its tests from nothing, tries the
-#          must-fail edits, runs the tests and, as two compilers make it, each program.
+#          must-fail edits, runs the tests and, as two compilers make it, each program;
+#          then the scripts that try the program over files.
 # install: puts the program that `make trial` built into PREFIX/bin.
 # bench:   reads and writes lists beside plain readers, and acts on requests beside plain
 #          registries, and prints ratios. Not part of the gate; it says which packages
@@ -16,6 +17,7 @@ trial:
 
 test:
 	rt ci
+	@scripts/try_the_program.sh
 
 install:
 	install -D crates/registry_cli/out/registry_cli "$(DESTDIR)$(PREFIX)/bin/usbreg"

@@ -8,6 +8,8 @@ mod runs;
 #[cfg(test)]
 mod shared;
 #[cfg(test)]
+mod ten;
+#[cfg(test)]
 mod transcripts;
 #[cfg(test)]
 mod words;

@@ -8,9 +8,9 @@ use usbids_text::Inlet;
 
 /// A reader of one byte a read, whose reads fail once so many are done.
 #[derive(Drop)]
-struct Stumbling<'a> {
-    rest: &'a [u8],
-    good: u32,
+pub(crate) struct Stumbling<'a> {
+    pub(crate) rest: &'a [u8],
+    pub(crate) good: u32,
 }
 
 impl io::Read for Stumbling<'_> {

@@ -1,5 +1,6 @@
 //! Request lines over registries in memory: what is written, and the status.
 
+use crate::lines::Stumbling;
 use crate::shared::{
     ASK, ASK_ANY, ASKED, BOLT_ASKS, ENROL, ENROL_BOLT, ENROLLED, GRANT, GRANT_ANY, GRANT_OTHER,
     GRANT_SECOND, GRANTED, Written, joined, tried,
@@ -109,7 +110,7 @@ fn bad_lines(rt: HostRuntime) -> Result<(), Fail> {
 }
 
 /// A registry in memory that a founding file founded.
-fn founded<R: AllocGlobal + Abort>(rt: &R, file: &str) -> Registry<MemStore> {
+pub(crate) fn founded<R: AllocGlobal + Abort>(rt: &R, file: &str) -> Registry<MemStore> {
     let conn = Connection::open_in_memory(rt.alloc()).expect(rt, "memory");
     let mut errors = Outlet::new(Vec::new(rt.alloc()));
     let (status, conn) = found_registry(
@@ -133,7 +134,7 @@ const ALL_FIXED: &str = "vendor = \"1209\"\nname = \"Shared products\"\ncurators
                          licences = [\"MIT\"]\nfixed = [\"0001-ffff\"]\n";
 
 /// The lines over a registry, of which the first are answered.
-fn applied<R: AllocGlobal>(
+pub(crate) fn applied<R: AllocGlobal>(
     rt: &R,
     registry: &mut Registry<MemStore>,
     text: &str,
@@ -262,7 +263,7 @@ impl io::Write for Narrow {
 fn an_output_that_fails(rt: HostRuntime) -> Result<(), Fail> {
     let text = joined(rt.alloc(), &[ENROL, ENROL])?;
     let whole = joined(rt.alloc(), &[ENROLLED, ENROLLED])?;
-    for most in [0, 1, 24, 25, 26, 49, 50] {
+    for most in 0..51 {
         let mut output = Outlet::new(Narrow {
             bytes: Vec::new(rt.alloc()),
             most,
@@ -280,6 +281,36 @@ fn an_output_that_fails(rt: HostRuntime) -> Result<(), Fail> {
             "at {most}"
         );
         assert_eq!(rt; status == 0, most == 50);
+    }
+    Ok(())
+}
+
+// An input that fails at any of its reads is no list of requests: nothing is acted on.
+#[test]
+fn an_input_that_fails(rt: HostRuntime) -> Result<(), Fail> {
+    let whole = joined(rt.alloc(), &[ENROLLED])?;
+    // A byte a read, and one read more that finds the end.
+    for good in 0..=109 {
+        let mut output = Outlet::new(Vec::new(rt.alloc()));
+        let mut errors = Outlet::new(Vec::new(rt.alloc()));
+        let mut source = Inlet::new(Stumbling {
+            rest: ENROL.as_bytes(),
+            good,
+        });
+        let status = trial(rt.alloc(), &mut source, &mut output, &mut errors);
+        let written = Written {
+            status,
+            output: output.into_inner(),
+            errors: errors.into_inner(),
+        };
+        let (wanted, told, output) = if good == 109 {
+            (0, "", whole.as_str())
+        } else {
+            (1, "fault: file\n", "")
+        };
+        assert_eq!(rt; written.status, wanted, "after {good} reads");
+        assert_eq!(rt; written.errors.as_slice(), told.as_bytes());
+        assert_eq!(rt; written.output.as_slice(), output.as_bytes());
     }
     Ok(())
 }

@@ -1,13 +1,10 @@
 -- Replies and refusals as JSON.
 use Rattle.std.specs.Prelude.{ℕ, List, ◌++◌, codes, Option, Some, None}
-use Rattle.std.specs.Fmt.{decimal}
 use Rattle.serde_json.specs.Data.{Data, string, number, unsigned, object, Members, member, no_members}
 use Rattle.registry_rules.specs.declared.verdict.Reply.{Reply}
 use Rattle.registry_rules.specs.declared.verdict.Reply.TheVariants.{Done, Refused}
 use Rattle.registry_rules.specs.Reply.{refusal_number, refusal_name, refusal_detail}
-use Rattle.usbids_text.specs.declared.fault.LineFault.{LineFault}
-use Rattle.usbids_text.specs.declared.line.Why.{Why}
-use Rattle.usbids_text.specs.declared.line.Why.TheVariants.{BadTop, BadCode, NoParent, LineTooLong}
+use Rattle.usbids_text.specs.Faults.{line_fault_text}
 use Rattle.registry_wire.specs.declared.refusal.WireRefusal.{WireRefusal}
 use Rattle.registry_wire.specs.declared.refusal.WireRefusal.TheVariants.{BadJson, BadField, BadList, BadFounding}
 use Rattle.registry_wire.specs.Fields as fields
@@ -26,22 +23,11 @@ name_of (BadField field) = codes "BadField"
 name_of (BadList fault) = codes "BadList"
 name_of (BadFounding fault) = codes "BadFounding"
 
--- what is wrong with a line of a list
-abbrev pub why_name : Why → List ℕ
-why_name BadTop = codes "BadTop"
-why_name BadCode = codes "BadCode"
-why_name NoParent = codes "NoParent"
-why_name LineTooLong = codes "LineTooLong"
-
--- line 2: NoParent
-abbrev pub line_text : LineFault → List ℕ
-line_text fault = codes "line " ++ decimal fault.line ++ codes ": " ++ why_name fault.why
-
 -- the name of the bad field, the faulty line of a list, or the bad key of a founding file
 abbrev pub detail_of : WireRefusal → Option (List ℕ)
 detail_of BadJson = None
 detail_of (BadField field) = Some (fields.name_of field)
-detail_of (BadList fault) = Some (line_text fault)
+detail_of (BadList fault) = Some (line_fault_text fault)
 detail_of (BadFounding fault) = Some (fields.fault_name fault)
 
 abbrev pub with_detail : Option (List ℕ) → Members → Members

@@ -1,10 +1,9 @@
 ghost use Rattle.std.specs.Prelude.{◌≡◌, IfOk};
-ghost use Rattle.registry_wire.specs.Replies.{why_name, line_text};
 
 use crate::Field;
 use registry_rules::Text;
 use std::alloc::Global;
-use usbids_text::{LineFault, Why};
+use usbids_text::LineFault;
 use usbnum_core::NoMemory;
 
 /// Why what came from outside is no request.
@@ -87,7 +86,7 @@ impl WireRefusal {
         Ok(match self {
             WireRefusal::BadJson => None,
             WireRefusal::BadField(field) => Some(text_of(alloc, field.name())?),
-            WireRefusal::BadList(fault) => Some(line_text(alloc, fault)?),
+            WireRefusal::BadList(fault) => Some(Text::new(format!(in alloc; "{fault}")?)),
             WireRefusal::BadFounding(fault) => Some(text_of(alloc, fault.name())?),
         })
     }
@@ -97,23 +96,4 @@ fn text_of(alloc: Global, text: &str) -> Result<Text, NoMemory>
     ensures { IfOk result (λ copy. copy ≡ text.now) }
 {
     Ok(Text::new(String::from_str(alloc, text)?))
-}
-
-fn why_name(why: Why) -> &'static str
-    ensures { result.now ≡ why_name why }
-{
-    match why {
-        Why::BadTop => "BadTop",
-        Why::BadCode => "BadCode",
-        Why::NoParent => "NoParent",
-        Why::LineTooLong => "LineTooLong",
-    }
-}
-
-fn line_text(alloc: Global, fault: LineFault) -> Result<Text, NoMemory>
-    ensures { IfOk result (λ text. text ≡ line_text fault) }
-{
-    let line = fault.line;
-    let why = why_name(fault.why);
-    Ok(Text::new(format!(in alloc; "line {line}: {why}")?))
 }

@@ -26,85 +26,15 @@ fn refused_value(
     }
 }
 
-// The number of a refusal by the rules.
-fn rule_number(refusal: &Refusal) -> u16
-    ensures { result ≡ refusal_number refusal.now }
-{
-    match refusal {
-        Refusal::KeyReused => 1,
-        Refusal::NotCurator => 2,
-        Refusal::NotKeeper => 3,
-        Refusal::NoOrg => 4,
-        Refusal::OrgTaken => 5,
-        Refusal::NoPetition => 6,
-        Refusal::PetitionClosed => 7,
-        Refusal::NumberReserved => 8,
-        Refusal::NumberOwned(_) => 9,
-        Refusal::NumberHeld => 10,
-        Refusal::NumberNotHeld => 11,
-        Refusal::NoneFree => 12,
-        Refusal::LicenceUnknown => 13,
-        Refusal::TooManyOpen => 14,
-        Refusal::RangeOwned(_) => 15,
-        Refusal::RangeFixed => 16,
-        Refusal::RangeNotReserved => 17,
-        Refusal::Full => 18,
-        Refusal::ImportTooLong => 19,
-        Refusal::VendorTaken => 33,
-        Refusal::NoVendor => 34,
-        Refusal::LicenceTaken => 35,
-    }
-}
-
-// Its name.
-fn rule_name(refusal: &Refusal) -> &'static str
-    ensures { result.now ≡ refusal_name refusal.now }
-{
-    match refusal {
-        Refusal::KeyReused => "KeyReused",
-        Refusal::NotCurator => "NotCurator",
-        Refusal::NotKeeper => "NotKeeper",
-        Refusal::NoOrg => "NoOrg",
-        Refusal::OrgTaken => "OrgTaken",
-        Refusal::NoPetition => "NoPetition",
-        Refusal::PetitionClosed => "PetitionClosed",
-        Refusal::NumberReserved => "NumberReserved",
-        Refusal::NumberOwned(_) => "NumberOwned",
-        Refusal::NumberHeld => "NumberHeld",
-        Refusal::NumberNotHeld => "NumberNotHeld",
-        Refusal::NoneFree => "NoneFree",
-        Refusal::LicenceUnknown => "LicenceUnknown",
-        Refusal::TooManyOpen => "TooManyOpen",
-        Refusal::RangeOwned(_) => "RangeOwned",
-        Refusal::RangeFixed => "RangeFixed",
-        Refusal::RangeNotReserved => "RangeNotReserved",
-        Refusal::Full => "Full",
-        Refusal::ImportTooLong => "ImportTooLong",
-        Refusal::VendorTaken => "VendorTaken",
-        Refusal::NoVendor => "NoVendor",
-        Refusal::LicenceTaken => "LicenceTaken",
-    }
-}
-
-// What stands in the way, where the refusal names it.
-fn rule_detail(alloc: Global, refusal: &Refusal) -> Result<Option<Text>, NoMemory>
-    ensures { IfOk result (λ detail. detail ≡ refusal_detail refusal.now) }
-{
-    match refusal {
-        Refusal::NumberOwned(owner) => Ok(Some(Text::new(String::from_str(
-            alloc,
-            owner.as_str(),
-        )?))),
-        Refusal::RangeOwned(number) => Ok(Some(Text::new(format!(in alloc; "{number}")?))),
-        _ => Ok(None),
-    }
-}
-
 fn rule_value(alloc: Global, refusal: &Refusal) -> Result<Value, NoMemory>
     ensures { IfOk result (λ value. view value ≡ refused_data (refusal_number refusal.now) (refusal_name refusal.now) (refusal_detail refusal.now)) }
 {
-    let detail = rule_detail(alloc, refusal)?;
-    refused_for(alloc, rule_number(refusal), rule_name(refusal), detail)
+    refused_for(
+        alloc,
+        u16::from(refusal.number()),
+        refusal.name(),
+        refusal.detail(alloc)?,
+    )
 }
 
 fn reply_value(alloc: Global, reply: &Reply) -> Result<Value, NoMemory>

@@ -12,6 +12,7 @@ pub mod Outcome
 pub mod Reading
 pub mod Held
 pub mod Readers
+pub mod Faults
 pub mod Finding
 pub mod Moments
 pub mod Writing

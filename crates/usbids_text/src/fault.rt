@@ -1,4 +1,7 @@
 //! Why a text is not read.
+ghost use Rattle.std.specs.Prelude.{Some};
+ghost use Rattle.usbids_text.specs.Faults.{line_fault_text, read_fault_text};
+
 use crate::line::Why;
 use std::error::Error;
 use std::fmt;
@@ -18,12 +21,16 @@ pub enum ReadFault {
 }
 
 impl fmt::Display for LineFault {
+    ghost output = { λ fault. Some (line_fault_text fault) };
+
     fn fmt<W: fmt::Write>(&self, f: &mut fmt::Formatter<W>) -> fmt::Result {
         write!(f, "line {}: {}", self.line, self.why)
     }
 }
 
 impl fmt::Display for ReadFault {
+    ghost output = { λ fault. Some (read_fault_text fault) };
+
     fn fmt<W: fmt::Write>(&self, f: &mut fmt::Formatter<W>) -> fmt::Result {
         match self {
             ReadFault::Line(fault) => write!(f, "{fault}"),

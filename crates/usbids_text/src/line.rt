@@ -1,5 +1,6 @@
 //! What a line is: an entry, no entry, or faulty.
-ghost use Rattle.std.specs.Prelude.{◌≡◌, ◌≤◌, ℕ, MatchResult, Ok, Err, Option, length};
+ghost use Rattle.std.specs.Prelude.{◌≡◌, ◌≤◌, ℕ, MatchResult, Ok, Err, Option, Some, length};
+ghost use Rattle.usbids_text.specs.Faults.{why_text};
 ghost use Rattle.usbids_text.specs.Lines.{rows, short_enough, below, tagged, top, after_tab, by_tabs, is_comment, class_of, row_of};
 
 use crate::kind::{Depth, Kind};
@@ -22,6 +23,8 @@ pub enum Why {
 }
 
 impl fmt::Display for Why {
+    ghost output = { λ why. Some (why_text why) };
+
     fn fmt<W: fmt::Write>(&self, f: &mut fmt::Formatter<W>) -> fmt::Result {
         f.write_str(match self {
             Why::BadTop => "BadTop",

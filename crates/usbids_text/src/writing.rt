@@ -1,5 +1,5 @@
 //! A document as its one text.
-ghost use Rattle.std.specs.Prelude.{◌≡◌, ◌<◌, ◌-◌, ◌∷◌, [], ◌++◌, drop, Some};
+ghost use Rattle.std.specs.Prelude.{◌≡◌, ◌<◌, ◌-◌, ◌∷◌, [], ◌++◌, codes, drop, Some};
 ghost use Rattle.usbnum_core.specs.Number.{lower_hex_digit, digits_of};
 ghost use Rattle.usbids_text.specs.Ends.{Writes};
 ghost use Rattle.usbids_text.specs.Gathering.{Gathers};
@@ -21,6 +21,8 @@ use std::fmt;
 pub struct WriteFault;
 
 impl fmt::Display for WriteFault {
+    ghost output = { λ fault. Some (codes "the list could not be written") };
+
     fn fmt<W: fmt::Write>(&self, f: &mut fmt::Formatter<W>) -> fmt::Result {
         f.write_str("the list could not be written")
     }

@@ -1,0 +1,18 @@
+#!/usr/bin/env bash
+# Runs the scripts that try the built program: cases over stores in files, each allocation refused in turn,
+# and kills at random moments. What a script prints is shown only where it fails. Wants python3 and cc.
+cd "$(dirname "$0")" || exit 1
+for needed in python3 cc; do
+    if ! command -v "$needed" > /dev/null; then
+        echo "the scripts are skipped: there is no $needed" >&2
+        exit 0
+    fi
+done
+failed=0
+for script in apply_in_files.py refuse_allocations.py stop_and_go_on.py; do
+    if ! said=$("./$script" 2>&1); then
+        echo "$script: $said" >&2
+        failed=1
+    fi
+done
+exit "$failed"
