@@ -1,6 +1,7 @@
 #!/usr/bin/env bash
-# Runs the scripts that try the built program: cases over stores in files, each allocation refused in turn,
-# and kills at random moments. What a script prints is shown only where it fails. Wants python3 and cc.
+# Runs the scripts that try the built program: cases over stores in files, what sqlite3 sees of a store,
+# each allocation refused in turn, and kills at random moments. What a script prints is shown only where it
+# fails or is skipped. Wants python3 and cc.
 cd "$(dirname "$0")" || exit 1
 for needed in python3 cc; do
     if ! command -v "$needed" > /dev/null; then
@@ -9,10 +10,12 @@ for needed in python3 cc; do
     fi
 done
 failed=0
-for script in apply_in_files.py refuse_allocations.py stop_and_go_on.py; do
+for script in apply_in_files.py look_into_a_store.py refuse_allocations.py stop_and_go_on.py; do
     if ! said=$("./$script" 2>&1); then
         echo "$script: $said" >&2
         failed=1
+    elif [[ $said == skipped* ]]; then
+        echo "$script: $said" >&2
     fi
 done
 exit "$failed"

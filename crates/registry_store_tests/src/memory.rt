@@ -1,44 +1,15 @@
 //! A registry that finds no memory while it acts: it is spent, and right again once it is opened.
 
-use registry_rules::{Curators, Founding, Licences, Order, Reply, Request};
+use crate::values::{founding, request};
+use registry_rules::{Founding, Reply, Request};
 use registry_store::{Fault, Registry, crash_and_open};
 use sqlite::{Connection, FileStore, Files, Options};
 use sqlite_disk::Memory;
 use std::alloc::Global;
 use std::test::Fail;
-use usbnum_core::{Key, Link, Slug, Spans, Title, Vid};
 
-fn slug(alloc: Global, text: &str) -> Result<Slug, Fail> {
-    Ok(Slug::new(alloc, text.as_bytes())?.ok_or("no slug")?)
-}
-
-fn title(alloc: Global, text: &str) -> Result<Title, Fail> {
-    Ok(Title::new(alloc, text.as_bytes())?.ok_or("no title")?)
-}
-
-fn founding(alloc: Global) -> Result<Founding, Fail> {
-    let curators = vec![in alloc; slug(alloc, "cora")?]?;
-    let licences = vec![in alloc; title(alloc, "MIT")?]?;
-    Ok(Founding {
-        vendor: Vid::new(0x1209).ok_or("no vendor")?,
-        name: title(alloc, "InterBiometrics")?,
-        curators: Curators::new(curators).ok_or("no curators")?,
-        licences: Licences::new(licences).ok_or("no licences")?,
-        fixed: Spans::new(alloc),
-    })
-}
-
-fn enrolment(alloc: Global) -> Result<Request, Fail> {
-    Ok(Request {
-        caller: slug(alloc, "ann")?,
-        key: Key::new(alloc, b"k1")?.ok_or("no key")?,
-        order: Order::Enrol {
-            org: slug(alloc, "acme")?,
-            title: title(alloc, "Acme Tools")?,
-            site: Link::new(alloc, b"https://acme.example/")?.ok_or("no link")?,
-        },
-    })
-}
+const ENROL: &str =
+    r#"{"caller":"ann","key":"k1","order":"enrol","org":"acme","title":"Acme Tools","site":"https://acme.example/"}"#;
 
 type InMemory = Registry<FileStore<Memory>>;
 
@@ -154,7 +125,7 @@ fn act_around_a_crash(alloc: Global, mut registry: InMemory, request: &Request) 
 fn want_of_memory_spends_a_registry_and_loses_nothing(rt: HostRuntime) -> Result<(), Fail> {
     let alloc = rt.alloc();
     let founding = founding(alloc)?;
-    let request = enrolment(alloc)?;
+    let request = request(alloc, ENROL)?;
     let registry = founded(alloc, &founding).ok_or("not founded")?;
     let told = act_around_a_crash(alloc, registry, &request);
     assert_eq!(rt; told.starved.0, Answer::Fault(Fault::NoMemory));
