@@ -3,7 +3,10 @@
 use crate::book::{Book, founding, judged, span, text};
 use crate::fields::title;
 use crate::orders::request;
-use crate::rows::{FROM_FOUNDING, FROM_GRANTED, GRANTED, LICENCES, Rows};
+use crate::rows::{
+    ALL_FIXED, ALL_ZERO, ENROLLED, FROM_FOUNDING, FROM_GRANTED, GRANTED, LICENCES, LICENCES_FULL,
+    LIMITS, Rows, SIXTEEN_OPEN, VENDORS_FULL,
+};
 use crate::shown::refusal_text;
 use registry_rules::{Licences, Verdict, reply_text};
 use std::process::Abort;
@@ -74,29 +77,10 @@ fn with(rt: &(impl AllocGlobal + Abort), row: &str, digits: &str, count: &str) -
 #[test]
 fn sixteen_petitions_may_be_open(rt: HostRuntime) {
     let mut book = founded(&rt);
-    expect_rows(
-        &rt,
-        &mut book,
-        &[("ann|k|enrol|acme|Acme|http://a.example/", "enrolled acme")],
-    );
+    expect_rows(&rt, &mut book, ENROLLED);
     let asks = "ann|kCOUNT|ask|acme|-|Lamp|MIT|http://a.example/|http://b.example/";
     repeat(&rt, &mut book, 16, (asks, "petition COUNT"));
-    expect_rows(
-        &rt,
-        &mut book,
-        &[
-            ("?open|acme", "16"),
-            (
-                "ann|k17|ask|acme|-|Lamp|MIT|http://a.example/|http://b.example/",
-                "14 TooManyOpen",
-            ),
-            ("ann|w|withdraw|5", "withdrawn petition 5"),
-            (
-                "ann|k17|ask|acme|-|Lamp|MIT|http://a.example/|http://b.example/",
-                "petition 17",
-            ),
-        ],
-    );
+    expect_rows(&rt, &mut book, SIXTEEN_OPEN);
 }
 
 #[test]
@@ -104,14 +88,7 @@ fn so_many_vendors_may_be_there(rt: HostRuntime) {
     let mut book = founded(&rt);
     let adds = "cora|kCOUNT|add-vendor|NNNN|Vendor COUNT";
     repeat(&rt, &mut book, 255, (adds, "added vendor NNNN"));
-    expect_rows(
-        &rt,
-        &mut book,
-        &[
-            ("cora|k256|add-vendor|cafe|Vendor 257", "18 Full"),
-            ("cora|k256|add-vendor|3001|Vendor 2", "33 VendorTaken"),
-        ],
-    );
+    expect_rows(&rt, &mut book, VENDORS_FULL);
 }
 
 #[test]
@@ -119,16 +96,7 @@ fn so_many_licences_may_be_allowed(rt: HostRuntime) {
     let mut many = founding(&rt, "cora", span(&rt, 1, 16));
     many.licences = licences(&rt, 1023);
     let mut book = Book::new(&rt, many);
-    expect_rows(
-        &rt,
-        &mut book,
-        &[
-            ("cora|k1|add-licence|MIT", "added licence MIT"),
-            ("cora|k2|add-licence|GPL-3.0-only", "18 Full"),
-            ("cora|k2|add-licence|MIT", "35 LicenceTaken"),
-            ("cora|k2|add-licence|Licence 7", "35 LicenceTaken"),
-        ],
-    );
+    expect_rows(&rt, &mut book, LICENCES_FULL);
 }
 
 fn licences(rt: &(impl AllocGlobal + Abort), count: u16) -> Licences {
@@ -143,41 +111,30 @@ fn licences(rt: &(impl AllocGlobal + Abort), count: u16) -> Licences {
 #[test]
 fn no_number_is_free(rt: HostRuntime) {
     let mut book = Book::new(&rt, founding(&rt, "cora", span(&rt, 1, 65535)));
-    expect_rows(
-        &rt,
-        &mut book,
-        &[
-            ("ann|k1|enrol|acme|Acme|http://a.example/", "enrolled acme"),
-            (
-                "ann|k2|ask|acme|-|Lamp|MIT|http://a.example/|http://b.example/",
-                "petition 1",
-            ),
-            ("cora|k3|grant|1|-", "12 NoneFree"),
-        ],
-    );
+    expect_rows(&rt, &mut book, ALL_FIXED);
+}
+
+// An import of so many items without a number.
+fn import_of(rt: &(impl AllocGlobal + Abort), count: u16) -> String {
+    let mut line = tabbed(rt, "cora|i|import|acme");
+    for _ in 0..count {
+        line.push_str("\t0000=Zero").expect(rt, "memory");
+    }
+    line
+}
+
+fn import_answer(rt: &(impl AllocGlobal + Abort), count: u16) -> String {
+    let mut book = founded(rt);
+    expect_rows(rt, &mut book, ENROLLED);
+    book.answer(rt, import_of(rt, count).as_str())
 }
 
 #[test]
 fn so_many_items_may_be_imported(rt: HostRuntime) {
-    let mut book = founded(&rt);
-    expect_rows(
-        &rt,
-        &mut book,
-        &[("ann|k1|enrol|acme|Acme|http://a.example/", "enrolled acme")],
-    );
-    let mut line = tabbed(&rt, "cora|i|import|acme");
-    for _ in 0..8192_u16 {
-        line.push_str("\t0000=Zero").expect(&rt, "memory");
-    }
-    let full = text(&rt, line.as_str());
-    line.push_str("\t0000=Zero").expect(&rt, "memory");
-    let refused = book.answer(&rt, line.as_str());
-    let imported = book.answer(&rt, full.as_str());
-    assert_eq!(rt; refused.as_str(), "19 ImportTooLong");
-    assert_eq!(rt;
-        imported.as_str(),
-        "imported fresh 0, owned 0, reserved 0, doubled 0, untitled 0, zero 8192"
-    );
+    let most = import_answer(&rt, 8192);
+    assert_eq!(rt; most.as_str(), ALL_ZERO);
+    let more = import_answer(&rt, 8193);
+    assert_eq!(rt; more.as_str(), "19 ImportTooLong");
 }
 
 // What is answered where the facts say that there are so many organisations and petitions.
@@ -205,21 +162,9 @@ fn answer_at(
 #[test]
 fn so_many_organisations_and_petitions_may_be_there(rt: HostRuntime) {
     let mut book = founded(&rt);
-    expect_rows(
-        &rt,
-        &mut book,
-        &[("ann|k1|enrol|acme|Acme|http://a.example/", "enrolled acme")],
-    );
-    let asks = "ann|k2|ask|acme|-|Lamp|MIT|http://a.example/|http://b.example/";
-    let enrols = "ann|k3|enrol|bolt|Bolt|http://a.example/";
-    for (row, orgs, petitions, answer) in [
-        (asks, 1, 999_999, "petition 1000000"),
-        (asks, 1, 1_000_000, "18 Full"),
-        (enrols, 65_535, 0, "enrolled bolt"),
-        (enrols, 65_536, 0, "18 Full"),
-        (asks, 65_536, 0, "petition 1"),
-    ] {
-        let found = answer_at(&rt, &book, row, orgs, petitions);
-        assert_eq!(rt; found.as_str(), answer, "{row}");
+    expect_rows(&rt, &mut book, ENROLLED);
+    for (row, orgs, petitions, answer) in LIMITS {
+        let found = answer_at(&rt, &book, row, *orgs, *petitions);
+        assert_eq!(rt; found.as_str(), *answer, "{row}");
     }
 }

@@ -113,15 +113,42 @@ fn spans_now(rt: &(impl AllocGlobal + Abort), plain: &Plain) -> Vec<(Vid, Span)>
     spans
 }
 
-pub(crate) fn listed(rt: &(impl AllocGlobal + Abort), plain: &Plain) -> Totals {
+// The lists two by two, so that no function holds many at once.
+fn with_numbers(
+    rt: &(impl AllocGlobal + Abort),
+    plain: &Plain,
+    orgs: &[Org],
+    petitions: &[(u32, Petition)],
+) -> Totals {
+    let entries = entries_now(rt, plain);
+    let spans = spans_now(rt, plain);
+    with_all(rt, plain, orgs, petitions, &entries, &spans)
+}
+
+fn with_all(
+    rt: &(impl AllocGlobal + Abort),
+    plain: &Plain,
+    orgs: &[Org],
+    petitions: &[(u32, Petition)],
+    entries: &[(Number, Entry)],
+    spans: &[(Vid, Span)],
+) -> Totals {
+    let founding = founding_now(rt, plain);
+    let vendors = vendors_now(rt, plain);
     Totals::of_lists(
         rt.alloc(),
-        founding_now(rt, plain),
-        vendors_now(rt, plain),
-        &orgs_now(rt, plain),
-        &petitions_now(rt, plain),
-        &entries_now(rt, plain),
-        &spans_now(rt, plain),
+        founding,
+        vendors,
+        orgs,
+        petitions,
+        entries,
+        spans,
     )
     .expect(rt, "memory")
+}
+
+pub(crate) fn listed(rt: &(impl AllocGlobal + Abort), plain: &Plain) -> Totals {
+    let orgs = orgs_now(rt, plain);
+    let petitions = petitions_now(rt, plain);
+    with_numbers(rt, plain, &orgs, &petitions)
 }

@@ -6,6 +6,7 @@ use registry_rules::{Change, Facts, Founding, Order, PetitionState, Request, Tex
 use registry_tables::{facts_for, keep_reply, totals};
 use sqlite::{Alter, Connection};
 use std::alloc::Global;
+use std::process::Abort;
 use std::test::Fail;
 use usbnum_core::{Key, Pid};
 
@@ -137,21 +138,30 @@ None Some("Acme") None
 [Holding { number: Number { vid: Vid { number: 4617 }, pid: Pid { number: 17 } }, org: "acme", held: true }]
 "#;
 
+fn look_up(
+    rt: &impl Abort,
+    alloc: Global,
+    founding: &Founding,
+    changes: &[Change],
+) -> Result<(), Fail> {
+    let accepted = withdrawal(alloc, "ann")?;
+    let others = others(alloc)?;
+    let reply = Text::new(format!(in alloc; "withdrawn petition 1")?);
+    let lookups = Lookups {
+        founding,
+        changes,
+        reply: &reply,
+        accepted: &accepted,
+        others: &others,
+    };
+    check(rt, alloc, &lookups, FACTS);
+    Ok(())
+}
+
 #[test]
 fn a_request_finds_what_it_needs(rt: HostRuntime) -> Result<(), Fail> {
     let alloc = rt.alloc();
     let founding = founding(alloc)?;
     let changes = changes(alloc)?;
-    let accepted = withdrawal(alloc, "ann")?;
-    let others = others(alloc)?;
-    let reply = Text::new(format!(in alloc; "withdrawn petition 1")?);
-    let lookups = Lookups {
-        founding: &founding,
-        changes: &changes,
-        reply: &reply,
-        accepted: &accepted,
-        others: &others,
-    };
-    check(&rt, alloc, &lookups, FACTS);
-    Ok(())
+    look_up(&rt, alloc, &founding, &changes)
 }
