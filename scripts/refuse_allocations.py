@@ -4,9 +4,13 @@
 Trials of examples/first.jsonl and of examples/orders.jsonl, which has all orders of request lines, and the
 first of these applied to a store in a file: each run prints the whole answers, or a beginning of them and
 `fault: memory` or `fault: store` with status 1. A store is opened again then, the run goes on with
-`--answered`, and the replies and the tables end as those of a run in which nothing was refused.
+`--answered`, and the replies and the tables end as those of a run in which nothing was refused. A store is
+founded in the same way: where that fails it can be founded again, or was founded already, and is whole.
 
-Usage: scripts/refuse_allocations.py [PROGRAM], by default the one that `make trial` builds. Wants cc.
+The same with `usbids_bench` and a list that it reads, writes and reads again: it says so, or that there is
+no memory, and never counts other entries or names a fault of a line.
+
+Usage: scripts/refuse_allocations.py [PROGRAM [BENCH]], by default those that `make test` builds. Wants cc.
 The status is 0 where all of this held."""
 
 import os
@@ -18,6 +22,16 @@ import tempfile
 
 HERE = os.path.dirname(os.path.abspath(__file__))
 FAULTS = {b"fault: memory\n", b"fault: store\n"}
+LIST = b"""# a list
+1209  Shared products
+\t0011  Blinker
+\t\t07  Port
+\t0012
+C 00  (Defined at Interface level)
+HID 21  HID
+BIAS 0  Not Applicable
+L 0001  Arabic
+"""
 
 
 def content(path):
@@ -96,10 +110,49 @@ def stores(program, shim, room, lines):
     print(f"apply: each of {count} allocations refused; {whole} runs did without it, the others said so and went on", flush=True)
 
 
+def foundings(program, shim, room, lines):
+    founding, store, other = f"{HERE}/../examples/founding.toml", f"{room}/new.db", f"{room}/whole.db"
+    run([program, "found", other, founding])
+    wanted = run([program, "apply", other, lines])[1]
+    words, end = [program, "found", store, founding], tables(other)
+    count, whole, there = asked_in(words, shim, room), 0, 0
+    for number in range(1, count + 1):
+        for ending in ("", "-wal", "-shm"):
+            if os.path.exists(store + ending):
+                os.remove(store + ending)
+        whole += look(f"found without allocation {number}", run(words, shim, number), b"")[1]
+        again = run(words)
+        if again not in ((0, b"", b""), (1, b"", b"fault: taken\n")):
+            sys.exit(f"found again after allocation {number} was refused: {again}")
+        there += again[0]
+        if run([program, "apply", store, lines]) != (0, wanted, b"") or tables(store) != end:
+            sys.exit(f"what was founded after allocation {number} was refused is not whole")
+    print(f"found: each of {count} allocations refused; {whole} runs did without it, {there} had founded, the others could be run again", flush=True)
+
+
+def lists(program, shim, room):
+    path = f"{room}/usb.ids"
+    with open(path, "wb") as file:
+        file.write(LIST)
+    words = [program, path]
+    wanted = run(words)
+    counts = wanted[1].splitlines(keepends=True)[0]
+    cut = {(0, b"out of memory\n"), (0, counts + b"written and read again: another\n"), (1, b""), (1, counts)}
+    count, whole = asked_in(words, shim, room), 0
+    for number in range(1, count + 1):
+        ran = run(words, shim, number)
+        whole += ran == wanted
+        if ran != wanted and ran[:2] not in cut:
+            sys.exit(f"a list without allocation {number}: {ran}")
+    print(f"a list: each of {count} allocations refused; {whole} runs did without it, the others said so", flush=True)
+
+
 def main():
-    program = os.path.abspath(sys.argv[1] if len(sys.argv) > 1 else f"{HERE}/../crates/registry_cli/out/registry_cli")
-    if not os.path.exists(program):
-        sys.exit("the program is not there: `make trial` builds it")
+    built = [f"{HERE}/../crates/{it}/out/{it}" for it in ("registry_cli", "usbids_bench")]
+    program, bench = (os.path.abspath(it) for it in [*sys.argv[1:], *built[len(sys.argv) - 1 :]])
+    for it in (program, bench):
+        if not os.path.exists(it):
+            sys.exit(f"{it} is not there: `make test` builds it")
     if not shutil.which("cc"):
         sys.exit("no C compiler: apt-get install gcc")
     first, orders = (f"{HERE}/../examples/{it}.jsonl" for it in ("first", "orders"))
@@ -107,8 +160,10 @@ def main():
         shim = f"{room}/refuse.so"
         subprocess.run(["cc", "-O2", "-shared", "-fPIC", "-o", shim, f"{HERE}/refuse.c", "-ldl"], check=True)
         trials(program, shim, room, first)
+        foundings(program, shim, room, first)
         stores(program, shim, room, first)
         trials(program, shim, room, orders)
+        lists(bench, shim, room)
 
 
 if __name__ == "__main__":
