@@ -2,11 +2,11 @@
 
 use crate::book::{Book, founding, judged, span, text};
 use crate::fields::title;
-use crate::orders::request;
-use crate::rows::{
-    ALL_FIXED, ALL_ZERO, ENROLLED, FROM_FOUNDING, FROM_GRANTED, GRANTED, LICENCES, LICENCES_FULL,
-    LIMITS, Rows, SIXTEEN_OPEN, VENDORS_FULL,
+use crate::limit_rows::{
+    ALL_FIXED, ALL_ZERO, ENROLLED, LICENCES_FULL, LIMITS, SIXTEEN_OPEN, VENDORS_FULL,
 };
+use crate::orders::request;
+use crate::rows::{FROM_FOUNDING, FROM_GRANTED, GRANTED, LICENCES, Rows};
 use crate::shown::refusal_text;
 use registry_rules::{Licences, Verdict, reply_text};
 use std::process::Abort;

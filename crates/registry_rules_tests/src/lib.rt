@@ -12,6 +12,8 @@ mod foundings;
 #[cfg(test)]
 mod judging;
 #[cfg(test)]
+mod limit_rows;
+#[cfg(test)]
 mod lists;
 #[cfg(test)]
 mod made_up;
