@@ -4,6 +4,7 @@
 Usage: scripts/apply_in_files.py [PROGRAM], by default the one that `make trial` builds. The status is 0 where
 every case is as it should be."""
 
+import contextlib
 import os
 import sqlite3
 import subprocess
@@ -42,7 +43,7 @@ class Room:
 
 
 def tables(store):
-    with sqlite3.connect(store) as opened:
+    with contextlib.closing(sqlite3.connect(store)) as opened:
         return list(opened.iterdump())
 
 
@@ -84,8 +85,10 @@ def what_is_not_acted_on(room):
     if os.path.exists(missing):
         sys.exit("a store was made by apply")
     other = f"{room.folder}/other.db"
-    with sqlite3.connect(other) as opened:
-        opened.execute("CREATE TABLE songs (title TEXT)")
+    with contextlib.closing(sqlite3.connect(other)) as opened:
+        opened.execute("PRAGMA journal_mode = WAL")
+        opened.execute("CREATE TABLE songs (title TEXT NOT NULL) STRICT")
+        opened.commit()
     before = tables(other)
     room.case(["apply", other, TEN], 1, errors="fault: foreign\n")
     if tables(other) != before:

@@ -13,6 +13,7 @@ no memory, and never counts other entries or names a fault of a line.
 Usage: scripts/refuse_allocations.py [PROGRAM [BENCH]], by default those that `make test` builds. Wants cc.
 The status is 0 where all of this held."""
 
+import contextlib
 import os
 import shutil
 import sqlite3
@@ -68,7 +69,7 @@ def look(what, ran, wanted):
 
 
 def tables(store):
-    with sqlite3.connect(store) as opened:
+    with contextlib.closing(sqlite3.connect(store)) as opened:
         return list(opened.iterdump())
 
 

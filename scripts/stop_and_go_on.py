@@ -10,6 +10,7 @@ Usage: scripts/stop_and_go_on.py [STOPS [PROGRAM]], by default 100 stops of the 
 builds. The status is 0 where all of this held.
 """
 
+import contextlib
 import json
 import os
 import random
@@ -63,7 +64,7 @@ def kept(store, room):
             os.remove(copy + end)
         if os.path.exists(store + end):
             shutil.copyfile(store + end, copy + end)
-    with sqlite3.connect(copy) as opened:
+    with contextlib.closing(sqlite3.connect(copy)) as opened:
         if opened.execute("PRAGMA integrity_check").fetchone() != ("ok",):
             sys.exit("the store that a stop left is not sound")
         return {(caller, key): reply for caller, key, reply in opened.execute("SELECT caller, request_key, reply FROM kept")}
@@ -83,7 +84,7 @@ def look(store, room, asked, replies):
 
 
 def tables(store):
-    with sqlite3.connect(store) as opened:
+    with contextlib.closing(sqlite3.connect(store)) as opened:
         return list(opened.iterdump())
 
 
