@@ -47,6 +47,14 @@ def tables(store):
         return list(opened.iterdump())
 
 
+def written(store, change):
+    """What another program writes to a store."""
+    with contextlib.closing(sqlite3.connect(store)) as opened:
+        opened.execute("PRAGMA journal_mode = WAL")
+        opened.execute(change)
+        opened.commit()
+
+
 def same_tables(what, store, other):
     if tables(store) != tables(other):
         sys.exit(f"{what}: the tables are not as they should be")
@@ -84,15 +92,21 @@ def what_is_not_acted_on(room):
     room.case(["apply", missing, TEN], 1, errors="fault: file\n")
     if os.path.exists(missing):
         sys.exit("a store was made by apply")
-    other = f"{room.folder}/other.db"
-    with contextlib.closing(sqlite3.connect(other)) as opened:
-        opened.execute("PRAGMA journal_mode = WAL")
-        opened.execute("CREATE TABLE songs (title TEXT NOT NULL) STRICT")
-        opened.commit()
-    before = tables(other)
-    room.case(["apply", other, TEN], 1, errors="fault: foreign\n")
-    if tables(other) != before:
-        sys.exit("another program's tables were changed")
+    empty = room.file("empty.db", "")
+    room.case(["apply", empty, TEN], 1, errors="fault: foreign\n")
+    room.case(["found", empty, FOUNDING])
+    room.case(["apply", empty, TEN], output="".join(REPLIES))
+    changed = room.founded("changed")
+    for store, change in (
+        (f"{room.folder}/other.db", "CREATE TABLE songs (title TEXT NOT NULL) STRICT"),
+        (changed, "UPDATE meta SET version = 4"),
+    ):
+        written(store, change)
+        before = tables(store)
+        room.case(["apply", store, TEN], 1, errors="fault: foreign\n")
+        if tables(store) != before:
+            sys.exit(f"a store was changed that is foreign: {change}")
+    room.case(["found", changed, FOUNDING], 1, errors="fault: taken\n")
     bare = room.file("bare.toml", 'vendor = "0000"\n')
     room.case(["found", f"{room.folder}/bare.db", bare], 2, errors='{"detail":"vendor","name":"BadFounding","refused":32}\n')
 

@@ -2,6 +2,7 @@
 
 use registry_commands::{Failure, apply_lines, fail, failure_of, found_registry, trial};
 use registry_store::Registry;
+use registry_tables::has_meta;
 use sqlite::{Connection, Error, ErrorCode, FileFrom, FileStore, Wary};
 use std::fs;
 use std::fs::File;
@@ -35,7 +36,13 @@ fn open_registry(
         Ok(true) => {}
         _ => return Err(Failure::File),
     }
-    match Registry::open(rt.alloc(), open_or_make(rt, store)?) {
+    let conn = open_or_make(rt, store)?;
+    // A store without this table holds no registry, so none is read.
+    if !has_meta(&conn) {
+        let _ = conn.close();
+        return Err(Failure::Foreign);
+    }
+    match Registry::open(rt.alloc(), conn) {
         Ok(registry) => Ok(registry),
         Err((fault, conn)) => {
             let _ = conn.close();
