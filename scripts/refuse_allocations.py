@@ -157,7 +157,8 @@ def main():
     if not shutil.which("cc"):
         sys.exit("no C compiler: apt-get install gcc")
     first, orders = (f"{HERE}/../examples/{it}.jsonl" for it in ("first", "orders"))
-    with tempfile.TemporaryDirectory() as room:
+    # in memory where there is such a folder, since each store is synced many times
+    with tempfile.TemporaryDirectory(dir="/dev/shm" if os.path.isdir("/dev/shm") else None) as room:
         shim = f"{room}/refuse.so"
         subprocess.run(["cc", "-O2", "-shared", "-fPIC", "-o", shim, f"{HERE}/refuse.c", "-ldl"], check=True)
         trials(program, shim, room, first)
