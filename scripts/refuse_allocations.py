@@ -10,9 +10,11 @@ founded in the same way: where that fails it can be founded again, or was founde
 The same with `usbids_bench` and a list that it reads, writes and reads again: it says so, or that there is
 no memory, and never counts other entries or names a fault of a line.
 
-Usage: scripts/refuse_allocations.py [PROGRAM [BENCH]], by default those that `make test` builds. Wants cc.
-The status is 0 where all of this held."""
+Usage: scripts/refuse_allocations.py [--trial] [PROGRAM [BENCH]], by default the programs that `make test`
+builds; with --trial the first trial alone, which is part of `make test`. Wants cc. The status is 0 where all
+of this held."""
 
+import concurrent.futures
 import contextlib
 import os
 import shutil
@@ -22,6 +24,7 @@ import sys
 import tempfile
 
 HERE = os.path.dirname(os.path.abspath(__file__))
+FOUNDING = f"{HERE}/../examples/founding.toml"
 FAULTS = {b"fault: memory\n", b"fault: store\n"}
 LIST = b"""# a list
 1209  Shared products
@@ -73,62 +76,85 @@ def tables(store):
         return list(opened.iterdump())
 
 
+def each(count, room, attempt):
+    """What the attempts with each number give, summed. They run side by side, each row of them in a folder of its own."""
+    rows = os.cpu_count() or 1
+
+    def row(first):
+        folder = f"{room}/{first}"
+        os.makedirs(folder, exist_ok=True)
+        return [attempt(number, folder) for number in range(first, count + 1, rows)]
+
+    with concurrent.futures.ThreadPoolExecutor(rows) as pool:
+        return sum(it for given in pool.map(row, range(1, rows + 1)) for it in given)
+
+
+def remove(store):
+    for ending in ("", "-wal", "-shm"):
+        if os.path.exists(store + ending):
+            os.remove(store + ending)
+
+
 def trials(program, shim, room, lines):
     words = [program, "trial"]
     _, wanted, _ = run(words, lines=lines)
-    count, whole = asked_in(words, shim, room, lines), 0
-    for number in range(1, count + 1):
-        whole += look(f"a trial without allocation {number}", run(words, shim, number, lines=lines), wanted)[1]
+    count = asked_in(words, shim, room, lines)
+
+    def attempt(number, _):
+        return look(f"a trial without allocation {number}", run(words, shim, number, lines=lines), wanted)[1]
+
+    whole = each(count, room, attempt)
     print(f"trial of {os.path.basename(lines)}: each of {count} allocations refused; {whole} runs did without it, the others said so", flush=True)
 
 
 def stores(program, shim, room, lines):
-    founding, store, other = f"{HERE}/../examples/founding.toml", f"{room}/store.db", f"{room}/other.db"
-    for it in (store, other):
-        run([program, "found", it, founding])
-    founded = {end: content(store + end) for end in ("", "-wal") if os.path.exists(store + end)}
-    wanted = run([program, "apply", other, lines])[1]
-    replies, end = wanted.splitlines(), tables(other)
-    words = [program, "apply", store, lines]
+    other = f"{room}/other.db"
+    run([program, "found", other, FOUNDING])
+    founded = {end: content(other + end) for end in ("", "-wal") if os.path.exists(other + end)}
 
-    def fresh():
-        for ending in ("", "-wal", "-shm"):
-            if os.path.exists(store + ending):
-                os.remove(store + ending)
+    def fresh(store):
+        remove(store)
         for ending, bytes_there in founded.items():
             with open(store + ending, "wb") as file:
                 file.write(bytes_there)
+        return [program, "apply", store, lines]
 
-    fresh()
-    count, whole = asked_in(words, shim, room), 0
-    for number in range(1, count + 1):
-        fresh()
+    def attempt(number, folder):
+        words = fresh(f"{folder}/store.db")
         done, is_whole = look(f"apply without allocation {number}", run(words, shim, number), wanted)
-        whole += is_whole
         status, rest, errors = run([*words, "--answered", str(done)])
-        if (status, rest.splitlines(), errors) != (0, replies[done:], b"") or tables(store) != end:
+        if (status, rest.splitlines(), errors) != (0, replies[done:], b"") or tables(words[2]) != end:
             sys.exit(f"apply after allocation {number} was refused does not go on as it should: {errors!r}")
+        return is_whole
+
+    count = asked_in(fresh(f"{room}/counted.db"), shim, room)
+    wanted = run([program, "apply", other, lines])[1]
+    replies, end = wanted.splitlines(), tables(other)
+    whole = each(count, room, attempt)
     print(f"apply: each of {count} allocations refused; {whole} runs did without it, the others said so and went on", flush=True)
 
 
 def foundings(program, shim, room, lines):
-    founding, store, other = f"{HERE}/../examples/founding.toml", f"{room}/new.db", f"{room}/whole.db"
-    run([program, "found", other, founding])
+    other = f"{room}/whole.db"
+    run([program, "found", other, FOUNDING])
     wanted = run([program, "apply", other, lines])[1]
-    words, end = [program, "found", store, founding], tables(other)
-    count, whole, there = asked_in(words, shim, room), 0, 0
-    for number in range(1, count + 1):
-        for ending in ("", "-wal", "-shm"):
-            if os.path.exists(store + ending):
-                os.remove(store + ending)
-        whole += look(f"found without allocation {number}", run(words, shim, number), b"")[1]
+    end = tables(other)
+
+    def attempt(number, folder):
+        store = f"{folder}/new.db"
+        remove(store)
+        words = [program, "found", store, FOUNDING]
+        _, is_whole = look(f"found without allocation {number}", run(words, shim, number), b"")
         again = run(words)
         if again not in ((0, b"", b""), (1, b"", b"fault: taken\n")):
             sys.exit(f"found again after allocation {number} was refused: {again}")
-        there += again[0]
         if run([program, "apply", store, lines]) != (0, wanted, b"") or tables(store) != end:
             sys.exit(f"what was founded after allocation {number} was refused is not whole")
-    print(f"found: each of {count} allocations refused; {whole} runs did without it, {there} had founded, the others could be run again", flush=True)
+        return is_whole
+
+    count = asked_in([program, "found", f"{room}/counted.db", FOUNDING], shim, room)
+    whole = each(count, room, attempt)
+    print(f"found: each of {count} allocations refused; {whole} runs did without it, the others said so", flush=True)
 
 
 def lists(program, shim, room):
@@ -139,18 +165,23 @@ def lists(program, shim, room):
     wanted = run(words)
     counts = wanted[1].splitlines(keepends=True)[0]
     cut = {(0, b"out of memory\n"), (0, counts + b"written and read again: another\n"), (1, b""), (1, counts)}
-    count, whole = asked_in(words, shim, room), 0
-    for number in range(1, count + 1):
+
+    def attempt(number, _):
         ran = run(words, shim, number)
-        whole += ran == wanted
         if ran != wanted and ran[:2] not in cut:
             sys.exit(f"a list without allocation {number}: {ran}")
+        return ran == wanted
+
+    count = asked_in(words, shim, room)
+    whole = each(count, room, attempt)
     print(f"a list: each of {count} allocations refused; {whole} runs did without it, the others said so", flush=True)
 
 
 def main():
+    alone = "--trial" in sys.argv
+    given = [it for it in sys.argv[1:] if it != "--trial"]
     built = [f"{HERE}/../crates/{it}/out/{it}" for it in ("registry_cli", "usbids_bench")]
-    program, bench = (os.path.abspath(it) for it in [*sys.argv[1:], *built[len(sys.argv) - 1 :]])
+    program, bench = (os.path.abspath(it) for it in [*given, *built[len(given) :]])
     for it in (program, bench):
         if not os.path.exists(it):
             sys.exit(f"{it} is not there: `make test` builds it")
@@ -162,6 +193,8 @@ def main():
         shim = f"{room}/refuse.so"
         subprocess.run(["cc", "-O2", "-shared", "-fPIC", "-o", shim, f"{HERE}/refuse.c", "-ldl"], check=True)
         trials(program, shim, room, first)
+        if alone:
+            return
         foundings(program, shim, room, first)
         stores(program, shim, room, first)
         trials(program, shim, room, orders)

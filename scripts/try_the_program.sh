@@ -10,8 +10,9 @@ for needed in python3 cc; do
     fi
 done
 failed=0
-for script in apply_in_files.py look_into_a_store.py refuse_allocations.py stop_and_go_on.py; do
-    if ! said=$("./$script" 2>&1); then
+for script in apply_in_files.py look_into_a_store.py "refuse_allocations.py --trial" stop_and_go_on.py; do
+    # shellcheck disable=SC2086
+    if ! said=$(./$script 2>&1); then
         echo "$script: $said" >&2
         failed=1
     elif [[ $said == skipped* ]]; then
