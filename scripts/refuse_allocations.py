@@ -11,19 +11,16 @@ The same with `usbids_bench` and a list that it reads, writes and reads again: i
 no memory, and never counts other entries or names a fault of a line.
 
 Usage: scripts/refuse_allocations.py [--trial] [PROGRAM [BENCH]], by default the programs that `make test`
-builds; with --trial the first trial alone, which is part of `make test`. Wants cc. The status is 0 where all
+builds; with --trial the two trials alone, which are part of `make test`. Wants cc. The status is 0 where all
 of this held."""
 
-import concurrent.futures
 import contextlib
 import os
-import shutil
 import sqlite3
-import subprocess
 import sys
-import tempfile
 
-HERE = os.path.dirname(os.path.abspath(__file__))
+from refusing import HERE, asked_in, each, refusal, run
+
 FOUNDING = f"{HERE}/../examples/founding.toml"
 FAULTS = {b"fault: memory\n", b"fault: store\n"}
 LIST = b"""# a list
@@ -43,24 +40,6 @@ def content(path):
         return file.read()
 
 
-def run(words, shim=None, refused=0, counted=None, lines=None):
-    """Status, output and errors."""
-    extra = {"LD_PRELOAD": shim, "REFUSED": str(refused)} if shim else {}
-    if counted:
-        extra["COUNTED"] = counted
-    with open(lines or os.devnull, "rb") as given:
-        ran = subprocess.run(words, stdin=given, capture_output=True, env={**os.environ, **extra}, check=False)
-    return ran.returncode, ran.stdout, ran.stderr
-
-
-def asked_in(words, shim, room, lines=None):
-    """How many allocations a run asks for."""
-    path = f"{room}/counted"
-    run(words, shim, 0, path, lines)
-    with open(path, encoding="utf-8") as file:
-        return int(file.read())
-
-
 def look(what, ran, wanted):
     """The whole reply lines of a run that was refused an allocation, or that did without it."""
     status, output, errors = ran
@@ -74,19 +53,6 @@ def look(what, ran, wanted):
 def tables(store):
     with contextlib.closing(sqlite3.connect(store)) as opened:
         return list(opened.iterdump())
-
-
-def each(count, room, attempt):
-    """What the attempts with each number give, summed. They run side by side, each row of them in a folder of its own."""
-    rows = os.cpu_count() or 1
-
-    def row(first):
-        folder = f"{room}/{first}"
-        os.makedirs(folder, exist_ok=True)
-        return [attempt(number, folder) for number in range(first, count + 1, rows)]
-
-    with concurrent.futures.ThreadPoolExecutor(rows) as pool:
-        return sum(it for given in pool.map(row, range(1, rows + 1)) for it in given)
 
 
 def remove(store):
@@ -103,7 +69,7 @@ def trials(program, shim, room, lines):
     def attempt(number, _):
         return look(f"a trial without allocation {number}", run(words, shim, number, lines=lines), wanted)[1]
 
-    whole = each(count, room, attempt)
+    whole = sum(each(range(1, count + 1), room, attempt))
     print(f"trial of {os.path.basename(lines)}: each of {count} allocations refused; {whole} runs did without it, the others said so", flush=True)
 
 
@@ -130,7 +96,7 @@ def stores(program, shim, room, lines):
     count = asked_in(fresh(f"{room}/counted.db"), shim, room)
     wanted = run([program, "apply", other, lines])[1]
     replies, end = wanted.splitlines(), tables(other)
-    whole = each(count, room, attempt)
+    whole = sum(each(range(1, count + 1), room, attempt))
     print(f"apply: each of {count} allocations refused; {whole} runs did without it, the others said so and went on", flush=True)
 
 
@@ -153,7 +119,7 @@ def foundings(program, shim, room, lines):
         return is_whole
 
     count = asked_in([program, "found", f"{room}/counted.db", FOUNDING], shim, room)
-    whole = each(count, room, attempt)
+    whole = sum(each(range(1, count + 1), room, attempt))
     print(f"found: each of {count} allocations refused; {whole} runs did without it, the others said so", flush=True)
 
 
@@ -173,7 +139,7 @@ def lists(program, shim, room):
         return ran == wanted
 
     count = asked_in(words, shim, room)
-    whole = each(count, room, attempt)
+    whole = sum(each(range(1, count + 1), room, attempt))
     print(f"a list: each of {count} allocations refused; {whole} runs did without it, the others said so", flush=True)
 
 
@@ -185,19 +151,14 @@ def main():
     for it in (program, bench):
         if not os.path.exists(it):
             sys.exit(f"{it} is not there: `make test` builds it")
-    if not shutil.which("cc"):
-        sys.exit("no C compiler: apt-get install gcc")
     first, orders = (f"{HERE}/../examples/{it}.jsonl" for it in ("first", "orders"))
-    # in memory where there is such a folder, since each store is synced many times
-    with tempfile.TemporaryDirectory(dir="/dev/shm" if os.path.isdir("/dev/shm") else None) as room:
-        shim = f"{room}/refuse.so"
-        subprocess.run(["cc", "-O2", "-shared", "-fPIC", "-o", shim, f"{HERE}/refuse.c", "-ldl"], check=True)
+    with refusal() as (room, shim):
         trials(program, shim, room, first)
+        trials(program, shim, room, orders)
         if alone:
             return
         foundings(program, shim, room, first)
         stores(program, shim, room, first)
-        trials(program, shim, room, orders)
         lists(bench, shim, room)
 
 

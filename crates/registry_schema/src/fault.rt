@@ -1,6 +1,6 @@
 //! Why a call on the tables fails.
 
-ghost use Rattle.std.specs.Prelude.{◌≢◌};
+ghost use Rattle.std.specs.Prelude.{◌≡◌, ◌≢◌, ◌↔◌};
 
 use sqlite::{Error, ErrorCode};
 
@@ -15,9 +15,11 @@ pub enum TableFault {
     Foreign,
 }
 
-/// What an error of the store means for a call on the tables.
+/// What an error of the store means for a call on the tables: want of memory where it says so, and else a
+/// failure of the store.
 pub fn fault_of(error: Error) -> TableFault
-    ensures { result ≢ TableFault.Foreign }
+    ensures memory { (result ≡ TableFault.NoMemory) ↔ (error ≡ Error.SqliteFailure ErrorCode.OutOfMemory) }
+    ensures known { result ≢ TableFault.Foreign }
 {
     match error {
         Error::SqliteFailure(ErrorCode::OutOfMemory) => TableFault::NoMemory,
