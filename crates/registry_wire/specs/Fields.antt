@@ -4,6 +4,8 @@ use Rattle.registry_wire.specs.declared.field.Field.{Field}
 use Rattle.registry_wire.specs.declared.field.Field.TheVariants as fields
 use Rattle.registry_wire.specs.declared.refusal.FoundingFault.{FoundingFault}
 use Rattle.registry_wire.specs.declared.refusal.FoundingFault.TheVariants as faults
+use Rattle.registry_wire.specs.declared.refusal.Header.{Header}
+use Rattle.registry_wire.specs.declared.refusal.Header.TheVariants as headers
 use Rattle.registry_wire.specs.declared.kind.Kind.{Kind}
 use Rattle.registry_wire.specs.declared.kind.Kind.TheVariants.{Enrol, AmendOrg, Ask, Grant, Decline, Withdraw, Amend, Return, Reserve, Release, AddVendor, AddLicence}
 
@@ -32,6 +34,11 @@ fault_name faults.Name = codes "name"
 fault_name faults.Curators = codes "curators"
 fault_name faults.Licences = codes "licences"
 fault_name faults.Fixed = codes "fixed"
+
+-- the name of a header
+abbrev pub header_name : Header → List ℕ
+header_name headers.Caller = codes "registry-caller"
+header_name headers.Key = codes "registry-key"
 
 -- the kind of order that a name stands for
 abbrev pub kind_of : List ℕ → Option Kind

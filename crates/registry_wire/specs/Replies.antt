@@ -6,29 +6,48 @@ use Rattle.registry_rules.specs.declared.verdict.Reply.TheVariants.{Done, Refuse
 use Rattle.registry_rules.specs.Reply.{refusal_number, refusal_name, refusal_detail}
 use Rattle.usbids_text.specs.Faults.{line_fault_text}
 use Rattle.registry_wire.specs.declared.refusal.WireRefusal.{WireRefusal}
-use Rattle.registry_wire.specs.declared.refusal.WireRefusal.TheVariants.{BadJson, BadField, BadList, BadFounding}
+use Rattle.registry_wire.specs.declared.refusal.WireRefusal.TheVariants.{BadHead, BadLength, TooLarge, ShortBody, NoRoute, WrongMethod, BadHeader, BadJson, BadField, BadList, StoreFault, NoMemory, BadFounding}
 use Rattle.registry_wire.specs.Fields as fields
 
 -- the number of a refusal
 abbrev pub number_of : WireRefusal → ℕ
+number_of BadHead = 20
+number_of BadLength = 21
+number_of TooLarge = 22
+number_of ShortBody = 23
+number_of NoRoute = 24
+number_of WrongMethod = 25
+number_of (BadHeader header) = 26
 number_of BadJson = 27
 number_of (BadField field) = 28
 number_of (BadList fault) = 29
+number_of StoreFault = 30
+number_of NoMemory = 31
 number_of (BadFounding fault) = 32
 
 -- and its name
 abbrev pub name_of : WireRefusal → List ℕ
+name_of BadHead = codes "BadHead"
+name_of BadLength = codes "BadLength"
+name_of TooLarge = codes "TooLarge"
+name_of ShortBody = codes "ShortBody"
+name_of NoRoute = codes "NoRoute"
+name_of WrongMethod = codes "WrongMethod"
+name_of (BadHeader header) = codes "BadHeader"
 name_of BadJson = codes "BadJson"
 name_of (BadField field) = codes "BadField"
 name_of (BadList fault) = codes "BadList"
+name_of StoreFault = codes "StoreFault"
+name_of NoMemory = codes "NoMemory"
 name_of (BadFounding fault) = codes "BadFounding"
 
--- the name of the bad field, the faulty line of a list, or the bad key of a founding file
+-- the name of the bad header or field, the faulty line of a list, or the bad key of a founding file
 abbrev pub detail_of : WireRefusal → Option (List ℕ)
-detail_of BadJson = None
+detail_of (BadHeader header) = Some (fields.header_name header)
 detail_of (BadField field) = Some (fields.name_of field)
 detail_of (BadList fault) = Some (line_fault_text fault)
 detail_of (BadFounding fault) = Some (fields.fault_name fault)
+detail_of _ = None
 
 abbrev pub with_detail : Option (List ℕ) → Members → Members
 with_detail None others = others

@@ -4,7 +4,7 @@
 pub use field::Field;
 pub use founding::founding_from_toml;
 pub use import::import_request;
-pub use refusal::{FoundingFault, WireRefusal};
+pub use refusal::{FoundingFault, Header, WireRefusal};
 pub use reply::{refusal_json, reply_json};
 pub use request::{line_request, request_from_json};
 pub use stamp::stamp_from_text;

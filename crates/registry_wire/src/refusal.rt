@@ -6,17 +6,57 @@ use std::alloc::Global;
 use usbids_text::LineFault;
 use usbnum_core::NoMemory;
 
-/// Why what came from outside is no request.
+/// Why what came from outside is not acted on. The rules' own refusals are `registry_rules::Refusal`.
 #[derive(Clone, Copy, Debug, PartialEq, Eq)]
 pub enum WireRefusal {
+    /// An HTTP message has no head that can be read.
+    BadHead,
+    /// It does not say how long its body is.
+    BadLength,
+    /// Its body is longer than its route takes.
+    TooLarge,
+    /// Its body ends early.
+    ShortBody,
+    /// Its path is none that is served.
+    NoRoute,
+    /// Its path is served, but not by its method.
+    WrongMethod,
+    /// It does not name its caller, or its key, once.
+    BadHeader(Header),
     /// The bytes are no JSON object.
     BadJson,
     /// The first field that is missing, or no value of its kind.
     BadField(Field),
     /// A list of USB numbers has a faulty line, the first of which is named.
     BadList(LineFault),
+    /// The store failed.
+    StoreFault,
+    /// Memory is short.
+    NoMemory,
     /// A founding file is no TOML, or the first key that is missing or bad.
     BadFounding(FoundingFault),
+}
+
+/// A header of an HTTP message that says whose request it is, and under which key.
+#[derive(Clone, Copy, Debug, PartialEq, Eq)]
+pub enum Header {
+    Caller,
+    Key,
+}
+
+impl Header {
+    ghost use Rattle.std.specs.Prelude.{◌≡◌};
+    ghost use Rattle.registry_wire.specs.Fields.{header_name};
+
+    /// The header's name, in lower case.
+    pub fn name(self) -> &'static str
+        ensures { result.now ≡ header_name self }
+    {
+        match self {
+            Header::Caller => "registry-caller",
+            Header::Key => "registry-key",
+        }
+    }
 }
 
 /// What is wrong with a founding file.
@@ -59,9 +99,18 @@ impl WireRefusal {
         ensures { result ≡ number_of self }
     {
         match self {
+            WireRefusal::BadHead => 20,
+            WireRefusal::BadLength => 21,
+            WireRefusal::TooLarge => 22,
+            WireRefusal::ShortBody => 23,
+            WireRefusal::NoRoute => 24,
+            WireRefusal::WrongMethod => 25,
+            WireRefusal::BadHeader(_) => 26,
             WireRefusal::BadJson => 27,
             WireRefusal::BadField(_) => 28,
             WireRefusal::BadList(_) => 29,
+            WireRefusal::StoreFault => 30,
+            WireRefusal::NoMemory => 31,
             WireRefusal::BadFounding(_) => 32,
         }
     }
@@ -71,23 +120,33 @@ impl WireRefusal {
         ensures { result.now ≡ name_of self }
     {
         match self {
+            WireRefusal::BadHead => "BadHead",
+            WireRefusal::BadLength => "BadLength",
+            WireRefusal::TooLarge => "TooLarge",
+            WireRefusal::ShortBody => "ShortBody",
+            WireRefusal::NoRoute => "NoRoute",
+            WireRefusal::WrongMethod => "WrongMethod",
+            WireRefusal::BadHeader(_) => "BadHeader",
             WireRefusal::BadJson => "BadJson",
             WireRefusal::BadField(_) => "BadField",
             WireRefusal::BadList(_) => "BadList",
+            WireRefusal::StoreFault => "StoreFault",
+            WireRefusal::NoMemory => "NoMemory",
             WireRefusal::BadFounding(_) => "BadFounding",
         }
     }
 
-    /// What the refusal is about: the name of the bad field, the line of a list with its fault, as
-    /// `line 2: NoParent`, or the bad key of a founding file.
+    /// What the refusal is about: the name of the bad header or field, the line of a list with its fault,
+    /// as `line 2: NoParent`, or the bad key of a founding file.
     pub fn detail(self, alloc: Global) -> Result<Option<Text>, NoMemory>
         ensures { IfOk result (λ detail. detail ≡ detail_of self) }
     {
         Ok(match self {
-            WireRefusal::BadJson => None,
+            WireRefusal::BadHeader(header) => Some(text_of(alloc, header.name())?),
             WireRefusal::BadField(field) => Some(text_of(alloc, field.name())?),
             WireRefusal::BadList(fault) => Some(Text::new(format!(in alloc; "{fault}")?)),
             WireRefusal::BadFounding(fault) => Some(text_of(alloc, fault.name())?),
+            _ => None,
         })
     }
 }

@@ -1,5 +1,5 @@
 use registry_rules::{NumberName, Refusal, Reply, Text};
-use registry_wire::{FoundingFault, WireRefusal, refusal_json, reply_json};
+use registry_wire::{Field, FoundingFault, Header, WireRefusal, refusal_json, reply_json};
 use std::alloc::Global;
 use std::process::Abort;
 use std::test::Fail;
@@ -171,21 +171,59 @@ fn refused_by_the_rules(rt: HostRuntime) -> Result<(), Fail> {
     Ok(())
 }
 
+// What is refused past the rules, and its text.
+const BY_THE_WIRE: [(WireRefusal, &str); 14] = [
+    (WireRefusal::BadHead, r#"{"name":"BadHead","refused":20}"#),
+    (
+        WireRefusal::BadLength,
+        r#"{"name":"BadLength","refused":21}"#,
+    ),
+    (WireRefusal::TooLarge, r#"{"name":"TooLarge","refused":22}"#),
+    (
+        WireRefusal::ShortBody,
+        r#"{"name":"ShortBody","refused":23}"#,
+    ),
+    (WireRefusal::NoRoute, r#"{"name":"NoRoute","refused":24}"#),
+    (
+        WireRefusal::WrongMethod,
+        r#"{"name":"WrongMethod","refused":25}"#,
+    ),
+    (
+        WireRefusal::BadHeader(Header::Caller),
+        r#"{"detail":"registry-caller","name":"BadHeader","refused":26}"#,
+    ),
+    (
+        WireRefusal::BadHeader(Header::Key),
+        r#"{"detail":"registry-key","name":"BadHeader","refused":26}"#,
+    ),
+    (WireRefusal::BadJson, r#"{"name":"BadJson","refused":27}"#),
+    (
+        WireRefusal::BadField(Field::Title),
+        r#"{"detail":"title","name":"BadField","refused":28}"#,
+    ),
+    (
+        WireRefusal::BadList(LineFault {
+            line: 2,
+            why: Why::NoParent,
+        }),
+        r#"{"detail":"line 2: NoParent","name":"BadList","refused":29}"#,
+    ),
+    (
+        WireRefusal::StoreFault,
+        r#"{"name":"StoreFault","refused":30}"#,
+    ),
+    (WireRefusal::NoMemory, r#"{"name":"NoMemory","refused":31}"#),
+    (
+        WireRefusal::BadFounding(FoundingFault::Toml),
+        r#"{"detail":"toml","name":"BadFounding","refused":32}"#,
+    ),
+];
+
 #[test]
 fn refused_by_the_wire(rt: HostRuntime) -> Result<(), Fail> {
-    let fault = LineFault {
-        line: 2,
-        why: Why::NoParent,
-    };
-    let found = refusal_json(rt.alloc(), WireRefusal::BadList(fault))?;
-    assert_eq!(rt;
-        found.as_str(),
-        r#"{"detail":"line 2: NoParent","name":"BadList","refused":29}"#
-    );
-    let found = refusal_json(rt.alloc(), WireRefusal::BadFounding(FoundingFault::Toml))?;
-    assert_eq!(rt;
-        found.as_str(),
-        r#"{"detail":"toml","name":"BadFounding","refused":32}"#
-    );
+    for (refusal, wanted) in BY_THE_WIRE {
+        let found = refusal_json(rt.alloc(), refusal)?;
+        assert_eq!(rt; found.as_str(), wanted);
+    }
     Ok(())
 }
