@@ -24,7 +24,7 @@ MOST = 650
 SHORT = re.compile(
     r'^(error: (NoMemory|AllocError|WriteFault|Broken|"memory")'
     r"|memory: (NoMemory|AllocError|AllocFailed \{ \.\. \})"
-    r'|  left: (None|""|Some\(\[\]\)|Err\((NoMemory|WriteFault)\)))$',
+    r'|  left: (None|""|Some\(\[\]\)|Err\(WriteFault\)|.*NoMemory.*))$',
     re.MULTILINE,
 )
 
