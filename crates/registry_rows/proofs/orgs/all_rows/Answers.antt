@@ -13,4 +13,4 @@ returns-in-Ok-clause-rows g c clean inside =
 
 pub returns-in-Err-clause-rows : goal.returns-in-Err-clause-rows
 returns-in-Err-clause-rows g c clean inside =
-    (λ foreign. absurd (c.fault_of.ensures foreign), query_fails (state g.S.Store c.args.tx.now.conn.now) (state g.S.Store c.query_all-ran.new.self.conn.now) inside list_orgs_text _ _ (c.in-Err.ensures.err clean))
+    (λ foreign. absurd (c.fault_of.ensures.known foreign), query_fails (state g.S.Store c.args.tx.now.conn.now) (state g.S.Store c.query_all-ran.new.self.conn.now) inside list_orgs_text _ _ (c.in-Err.ensures.err clean))
