@@ -4,12 +4,12 @@
 Usage: scripts/apply_in_files.py [PROGRAM], by default the one that `make trial` builds. The status is 0 where
 every case is as it should be."""
 
-import contextlib
 import os
-import sqlite3
 import subprocess
 import sys
 import tempfile
+
+from stores import opened, tables
 
 HERE = os.path.dirname(os.path.abspath(__file__))
 EXAMPLES = f"{HERE}/../examples"
@@ -42,17 +42,12 @@ class Room:
         return store
 
 
-def tables(store):
-    with contextlib.closing(sqlite3.connect(store)) as opened:
-        return list(opened.iterdump())
-
-
 def written(store, change):
     """What another program writes to a store."""
-    with contextlib.closing(sqlite3.connect(store)) as opened:
-        opened.execute("PRAGMA journal_mode = WAL")
-        opened.execute(change)
-        opened.commit()
+    with opened(store) as connection:
+        connection.execute("PRAGMA journal_mode = WAL")
+        connection.execute(change)
+        connection.commit()
 
 
 def same_tables(what, store, other):

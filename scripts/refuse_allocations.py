@@ -14,12 +14,11 @@ Usage: scripts/refuse_allocations.py [--trial] [PROGRAM [BENCH]], by default the
 builds; with --trial the two trials alone, which are part of `make test`. Wants cc. The status is 0 where all
 of this held."""
 
-import contextlib
 import os
-import sqlite3
 import sys
 
 from refusing import HERE, asked_in, each, refusal, run
+from stores import remove, tables
 
 FOUNDING = f"{HERE}/../examples/founding.toml"
 FAULTS = {b"fault: memory\n", b"fault: store\n"}
@@ -48,17 +47,6 @@ def look(what, ran, wanted):
     if not is_whole and not is_cut:
         sys.exit(f"{what}: status {status}, printed {output!r} and {errors!r}")
     return output.count(b"\n"), is_whole
-
-
-def tables(store):
-    with contextlib.closing(sqlite3.connect(store)) as opened:
-        return list(opened.iterdump())
-
-
-def remove(store):
-    for ending in ("", "-wal", "-shm"):
-        if os.path.exists(store + ending):
-            os.remove(store + ending)
 
 
 def trials(program, shim, room, lines):

@@ -10,16 +10,16 @@ Usage: scripts/stop_and_go_on.py [STOPS [PROGRAM]], by default 100 stops of the 
 builds. The status is 0 where all of this held.
 """
 
-import contextlib
 import json
 import os
 import random
 import shutil
-import sqlite3
 import subprocess
 import sys
 import tempfile
 import time
+
+from stores import opened, remove, tables
 
 FOUNDING = """vendor = "1209"
 name = "Shared products"
@@ -59,15 +59,14 @@ def apply(program, store, lines, answered, seconds=None):
 def kept(store, room):
     """The caller, the key and the reply of each order that a copy of the store keeps, in the order of commits."""
     copy = f"{room}/copy.db"
-    for end in ("", "-wal", "-shm", "-journal"):
-        if os.path.exists(copy + end):
-            os.remove(copy + end)
+    remove(copy)
+    for end in ("", "-wal", "-shm"):
         if os.path.exists(store + end):
             shutil.copyfile(store + end, copy + end)
-    with contextlib.closing(sqlite3.connect(copy)) as opened:
-        if opened.execute("PRAGMA integrity_check").fetchone() != ("ok",):
+    with opened(copy) as connection:
+        if connection.execute("PRAGMA integrity_check").fetchone() != ("ok",):
             sys.exit("the store that a stop left is not sound")
-        return {(caller, key): reply for caller, key, reply in opened.execute("SELECT caller, request_key, reply FROM kept")}
+        return {(caller, key): reply for caller, key, reply in connection.execute("SELECT caller, request_key, reply FROM kept")}
 
 
 def look(store, room, asked, replies):
@@ -81,11 +80,6 @@ def look(store, room, asked, replies):
     more = asked[: len(there)]
     if any((it["caller"], it["key"]) not in there for it in more):
         sys.exit("the orders that are kept are not the first of the requests")
-
-
-def tables(store):
-    with contextlib.closing(sqlite3.connect(store)) as opened:
-        return list(opened.iterdump())
 
 
 def main():
