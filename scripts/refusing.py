@@ -30,7 +30,7 @@ def run(words, shim=None, refused=0, counted=None, lines=None):
     if counted:
         extra["COUNTED"] = counted
     with open(lines or os.devnull, "rb") as given:
-        ran = subprocess.run(words, stdin=given, capture_output=True, env={**os.environ, **extra}, check=False)
+        ran = subprocess.run(words, stdin=given, capture_output=True, env={**os.environ, **extra}, check=False, timeout=120)
     return ran.returncode, ran.stdout, ran.stderr
 
 
