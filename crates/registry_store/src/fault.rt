@@ -1,6 +1,6 @@
 //! Why a call of a registry gives up.
 
-ghost use Rattle.std.specs.Prelude.{◌≡◌, ◌≢◌};
+ghost use Rattle.std.specs.Prelude.{◌≡◌, ◌≢◌, ◌↔◌};
 
 use registry_tables::TableFault;
 
@@ -24,6 +24,7 @@ pub(crate) fn fault_of(fault: TableFault) -> Fault
     ensures unspent { result ≢ Fault.Spent }
     ensures found { result ≢ Fault.Taken }
     ensures foreign { result ≡ Fault.Foreign → fault ≡ TableFault.Foreign }
+    ensures memory { (result ≡ Fault.NoMemory) ↔ (fault ≡ TableFault.NoMemory) }
 {
     match fault {
         TableFault::Store => Fault::Store,
