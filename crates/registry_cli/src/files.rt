@@ -1,29 +1,22 @@
 //! The commands on files: they open what the words name, and hand it on.
 
-use registry_commands::{Failure, apply_lines, fail, failure_of, found_registry, trial};
+use registry_commands::{
+    Failure, apply_lines, close_store, fail, failure_of, found_registry, store_failure, trial,
+};
 use registry_store::Registry;
 use registry_tables::has_meta;
-use sqlite::{Connection, Error, ErrorCode, FileFrom, FileStore, Wary};
+use sqlite::{Connection, FileFrom, FileStore, Wary};
 use std::fs;
 use std::fs::File;
-use std::io::{Stderr, Stdout};
 use usbids_text::{Inlet, Outlet};
 
 type Stored = Connection<FileStore<FileFrom<Wary>>>;
-
-/// The failure that an error of the store is.
-fn store_failure(error: &Error) -> Failure {
-    match error {
-        Error::SqliteFailure(ErrorCode::OutOfMemory) => Failure::Memory,
-        _ => Failure::Store,
-    }
-}
 
 /// Opens a store, and makes it where there is none.
 fn open_or_make(rt: &HostRuntime, store: &str) -> Result<Stored, Failure> {
     match Connection::open_from(rt, store, false, Wary) {
         Ok(conn) => Ok(conn),
-        Err((error, _)) => Err(store_failure(&error)),
+        Err((error, _)) => Err(store_failure(error)),
     }
 }
 
@@ -58,15 +51,6 @@ fn open_input(rt: &HostRuntime, file: &str) -> Result<Inlet<File>, Failure> {
     }
 }
 
-/// Closes the store, which takes its log into its file. The status is that of the command, unless
-/// all went well before and closing fails.
-fn close(conn: Stored, errors: &mut Outlet<Stderr>, status: u8) -> u8 {
-    match conn.close() {
-        Err(error) if status == 0 => fail(errors, store_failure(&error)),
-        _ => status,
-    }
-}
-
 /// Runs the request lines of the standard input over a registry in memory.
 pub fn run_trial(rt: &HostRuntime) -> u8 {
     trial(
@@ -88,7 +72,7 @@ pub fn run_found(rt: &HostRuntime, store: &str, founding: &str) -> u8 {
         Ok(mut source) => found_registry(rt.alloc(), conn, &mut source, &mut errors),
         Err(failure) => (fail(&mut errors, failure), conn),
     };
-    close(conn, &mut errors, status)
+    close_store(conn, &mut errors, status)
 }
 
 /// Runs the request lines of a file, but for the first ones, over the registry in a file.
@@ -109,5 +93,5 @@ pub fn run_apply(rt: &HostRuntime, store: &str, file: &str, answered: u64) -> u8
         ),
         Err(failure) => fail(&mut errors, failure),
     };
-    close(registry.close(), &mut errors, status)
+    close_store(registry.close(), &mut errors, status)
 }

@@ -9,6 +9,10 @@ use Rattle.registry_commands.specs.Messages.{failure_line}
 abbrev pub TellsFailure : (Failure → Type 0) → Option (List ℕ) → Option (List ℕ) → Type 0
 TellsFailure May old new = (failure : Failure) × May failure × AppendsBeginning old new (failure_line failure)
 
+-- the store failed, or it had no memory
+abbrev pub IsOfStore : Failure → Type 0
+IsOfStore failure = (failure ≡ Store) ⊎ (failure ≡ Memory)
+
 -- there is no memory
 abbrev pub IsOfMemory : Failure → Type 0
 IsOfMemory failure = failure ≡ Memory

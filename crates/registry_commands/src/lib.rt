@@ -3,6 +3,7 @@
 #![tactic(auto)]
 
 mod apply;
+mod closing;
 mod found;
 mod input;
 mod lines;
@@ -10,8 +11,9 @@ mod messages;
 mod trials;
 
 pub use apply::apply_lines;
+pub use closing::close_store;
 pub use found::found_registry;
 pub use input::{InputFault, read_all};
 pub use lines::{BadLine, requests_in};
-pub use messages::{Failure, fail, failure_of};
+pub use messages::{Failure, fail, failure_of, store_failure};
 pub use trials::{trial, trial_founding};

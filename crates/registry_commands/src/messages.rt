@@ -1,9 +1,9 @@
 //! What the program writes: replies, and why it rejects an input or fails.
 
-ghost use Rattle.std.specs.Prelude.{◌≡◌, ◌⊎◌, ℕ, IfErr, IfOk, OnOk, OnErr};
+ghost use Rattle.std.specs.Prelude.{◌≡◌, ◌≢◌, ◌⊎◌, ℕ, IfErr, IfOk, OnOk, OnErr};
 ghost use Rattle.std.specs.String.{string_bytes};
 ghost use Rattle.std.specs.Io.KnownBytes.{Appends};
-ghost use Rattle.usbids_text.specs.Ends.{AppendsBeginning};
+ghost use Rattle.usbids_text.specs.Ends.{AppendsBeginning, HasFailed};
 ghost use Rattle.registry_commands.specs.Failures.{IsOfOutput};
 ghost use Rattle.registry_commands.specs.Messages.{bad_line_text, failure_line, failure_of, input_failure, refusal_line, reply_line};
 
@@ -12,6 +12,7 @@ use crate::lines::BadLine;
 use registry_rules::Reply;
 use registry_store::Fault;
 use registry_wire::{WireRefusal, refusal_json, reply_json};
+use sqlite::{Error, ErrorCode};
 use std::alloc::Global;
 use usbids_text::{Broken, Sink, put_all};
 use usbnum_core::NoMemory;
@@ -65,6 +66,17 @@ pub fn failure_of(fault: Fault) -> Failure
     }
 }
 
+/// The failure that an error of the store is: want of memory where it says so.
+pub fn store_failure(error: Error) -> Failure
+    ensures { ((result ≡ Failure.Memory) × (error ≡ Error.SqliteFailure ErrorCode.OutOfMemory))
+        ⊎ ((result ≡ Failure.Store) × (error ≢ Error.SqliteFailure ErrorCode.OutOfMemory)) }
+{
+    match error {
+        Error::SqliteFailure(ErrorCode::OutOfMemory) => Failure::Memory,
+        _ => Failure::Store,
+    }
+}
+
 /// The failure that an input's is.
 pub(crate) fn input_failure(fault: InputFault) -> Failure
     ensures { result ≡ input_failure fault }
@@ -105,17 +117,23 @@ pub(crate) fn bad_line_text(alloc: Global, bad: BadLine) -> Result<String, NoMem
     Ok(format!(in alloc; "line {number}: {line}")?)
 }
 
-/// Writes to the errors. If they fail, nothing else changes.
+/// Writes to the errors: all of the text, or a beginning of it where they fail.
 pub(crate) fn tell<E: Sink>(errors: &mut E, text: &str)
-    ensures { AppendsBeginning (E.contents errors.old) (E.contents errors.new) text.now }
+    ensures told { AppendsBeginning (E.contents errors.old) (E.contents errors.new) text.now }
+    ensures whole { HasFailed (E.failures errors.old) (E.failures errors.new) ⊎ Appends (E.contents errors.old) (E.contents errors.new) text.now }
 {
-    let _ = put_all(errors, text.as_bytes());
+    match put_all(errors, text.as_bytes()) {
+        Ok(()) => {}
+        Err(Broken) => {}
+    }
 }
 
-/// Tells why the command fails, and answers the status.
+/// Tells why the command fails, and answers the status. The errors get the whole line, or a
+/// beginning of it where they fail.
 pub fn fail<E: Sink>(errors: &mut E, failure: Failure) -> u8
     ensures status { result ≡ 1 }
     ensures told { AppendsBeginning (E.contents errors.old) (E.contents errors.new) (failure_line failure) }
+    ensures whole { HasFailed (E.failures errors.old) (E.failures errors.new) ⊎ Appends (E.contents errors.old) (E.contents errors.new) (failure_line failure) }
 {
     tell(errors, failure.line());
     1
