@@ -1,7 +1,7 @@
 #!/usr/bin/env bash
 # Compares the reader with a plain one in Python and a plain one in C, on the lists given, or on
 # Debian's list (package usb.ids) and a made-up one of 50 MB. Prints megabytes a second, their
-# ratios, and how much memory reading takes as a multiple of the text.
+# ratios, and how much memory reading in pieces takes as a multiple of the text.
 set -eu
 here=$(cd "$(dirname "$0")" && pwd)
 work=$(mktemp -d)
@@ -35,12 +35,12 @@ for list in "${lists[@]}"; do
     written=$(best write < "$work/ours")
     plain_c=$("$work/plain_reader" "$list" "$times" | best read)
     plain_python=$(python3 "$here/plain_reader.py" "$list" 2 | best read)
-    memory=$("$work/peak" "$program" "$list" 0)
+    memory=$("$work/peak" "$program" "$list" 0 | tail -n 1)
     awk -v list="$list" -v bytes="$bytes" -v ours="$ours" -v written="$written" -v c="$plain_c" -v py="$plain_python" -v memory="$memory" 'BEGIN {
         printf "%s: %d bytes\n", list, bytes
         printf "  read %.0f MB/s, %.2f of C, %.1f times Python\n", bytes / ours, c / ours, py / ours
         printf "  C %.0f MB/s, Python %.1f MB/s\n", bytes / c, bytes / py
         printf "  write %.0f MB/s\n", bytes / written
-        printf "  at most %.1f times the text in memory, the text itself included\n", memory / bytes
+        printf "  read in pieces: at most %.1f times the text in memory\n", memory / bytes
     }'
 done

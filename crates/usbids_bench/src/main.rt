@@ -1,8 +1,8 @@
 //! Reads a list of USB numbers, writes it, and reads again what was written.
 //!
 //! `usbids_bench FILE [TIMES]` says how many entries the list has and whether what was written is
-//! read as the same document. With TIMES it also prints the microseconds of that many reads and
-//! writes; with 0 it reads once.
+//! read as the same document. With TIMES it prints the microseconds of that many reads and writes;
+//! with 0 it reads once, in pieces, and keeps no text.
 #![tactic(auto)]
 
 ghost use Rattle.std.specs.Prelude.{◌≡◌, length, IfOk, None};
@@ -12,7 +12,9 @@ ghost use Rattle.usbids_bench.specs.Counts.{counted, leaves_below, mids_in, leav
 use std::alloc::{AllocError, Global};
 use std::time::Instant;
 use std::{fs, io};
-use usbids_text::{Document, Mid, Outlet, ReadFault, WriteFault, read_all, write};
+use usbids_text::{
+    Broken, Document, Inlet, Mid, Outlet, ReadFault, Reader, Source, WriteFault, read_all, write,
+};
 
 /// What a list has.
 #[derive(Clone, Copy, Debug, PartialEq, Eq)]
@@ -117,6 +119,36 @@ fn time(rt: &HostRuntime, bytes: &[u8], times: u32) -> io::Result<()> {
     Ok(())
 }
 
+// Feeds the next piece of a list, and answers whether there was one. A fault of the list is told at
+// its end too.
+fn feed_next<R: Source>(source: &mut R, reader: &mut Reader) -> Result<bool, Broken> {
+    let mut piece = [0u8; 8192];
+    match source.take(&mut piece) {
+        Ok(count) => {
+            let _ = reader.feed(&piece[..count]);
+            Ok(count > 0)
+        }
+        Err(broken) => Err(broken),
+    }
+}
+
+// Reads a list in pieces.
+fn read_in_pieces(rt: &HostRuntime, path: &str) -> io::Result<()> {
+    let mut source = Inlet::new(fs::open(rt, path)?);
+    let mut reader = Reader::new(rt.alloc());
+    for _ in 0..u64::MAX {
+        match feed_next(&mut source, &mut reader) {
+            Ok(true) => {}
+            Ok(false) => break,
+            Err(Broken) => return println!(rt; "the list could not be read"),
+        }
+    }
+    match reader.finish() {
+        Ok(document) => println!(rt; "{} tops", document.tops().len()),
+        Err(fault) => println!(rt; "{fault}"),
+    }
+}
+
 fn look_at(rt: &HostRuntime, bytes: &[u8]) -> io::Result<()> {
     match read_all(rt.alloc(), bytes) {
         Ok(document) => report(rt, &document),
@@ -133,9 +165,13 @@ fn main(rt: HostRuntime) -> io::Result<()> {
     let Some(path) = words.get(1) else {
         return println!(&rt; "usage: usbids_bench FILE [TIMES]");
     };
+    let times = words.get(2).map(|times| times.parse().unwrap_or(1));
+    if times == Some(0) {
+        return read_in_pieces(&rt, path.as_str());
+    }
     let bytes = fs::read(&rt, path.as_str())?;
-    match words.get(2) {
-        Some(times) => time(&rt, &bytes, times.parse().unwrap_or(1)),
+    match times {
+        Some(times) => time(&rt, &bytes, times),
         None => look_at(&rt, &bytes),
     }
 }

@@ -48,7 +48,8 @@ impl Builder {
             None => Ok(None),
             Some(mut top) => match mid {
                 None => Ok(Some(top)),
-                Some(mid) => {
+                Some(mut mid) => {
+                    mid.shrink();
                     top.push(mid)?;
                     Ok(Some(top))
                 }
@@ -60,7 +61,10 @@ impl Builder {
         ensures { OnOk result (open_of self.new ≡ none_open (whole (open_of self.old))) }
     {
         match self.close_mid()? {
-            Some(top) => self.tops.push(top),
+            Some(mut top) => {
+                top.shrink();
+                self.tops.push(top)
+            }
             None => Ok(()),
         }
     }

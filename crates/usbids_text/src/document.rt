@@ -186,6 +186,13 @@ impl Mid {
         Ok(())
     }
 
+    // Gives back the memory that was kept for more entries below it.
+    pub(crate) fn shrink(&mut self)
+        ensures { self.new ≡ self.old }
+    {
+        self.leaves.shrink_to_fit();
+    }
+
     pub fn code(&self) -> u16
         ensures { result ≡ self.now.code }
     {
@@ -260,6 +267,13 @@ impl Top {
         let _ = &mid.name;
         self.mids.push(mid)?;
         Ok(())
+    }
+
+    // Gives back the memory that was kept for more entries below it.
+    pub(crate) fn shrink(&mut self)
+        ensures { self.new ≡ self.old }
+    {
+        self.mids.shrink_to_fit();
     }
 
     pub fn kind(&self) -> &Kind
