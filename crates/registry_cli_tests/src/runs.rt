@@ -5,9 +5,11 @@ use crate::shared::{
     ASK, ASK_ANY, ASKED, BOLT_ASKS, ENROL, ENROL_BOLT, ENROLLED, GRANT, GRANT_ANY, GRANT_OTHER,
     GRANT_SECOND, GRANTED, Written, joined, tried,
 };
-use registry_commands::{apply_lines, found_registry, trial, trial_founding};
+use registry_commands::{
+    Failure, apply_lines, found_registry, store_failure, trial, trial_founding,
+};
 use registry_store::Registry;
-use sqlite::{Connection, MemStore};
+use sqlite::{Alter, Connection, Error, ErrorCode, MemStore};
 use std::io;
 use std::process::Abort;
 use std::test::Fail;
@@ -18,9 +20,7 @@ fn replies<R: AllocGlobal + Abort>(rt: &R, lines: &[&str], wanted: &[&str]) -> R
     let text = joined(rt.alloc(), lines)?;
     let wanted = joined(rt.alloc(), wanted)?;
     let written = tried(rt.alloc(), text.as_str());
-    assert_eq!(rt; written.status, 0, "at {text}");
-    assert_eq!(rt; written.output.as_slice(), wanted.as_bytes());
-    assert!(rt; written.errors.is_empty());
+    wrote(rt, &written, 0, wanted.as_str(), "");
     Ok(())
 }
 
@@ -102,15 +102,13 @@ fn bad_lines(rt: HostRuntime) -> Result<(), Fail> {
     for (text, told) in cases {
         let text = text.replace(rt.alloc(), "{enrol}", ENROL)?;
         let written = tried(rt.alloc(), text.as_str());
-        assert_eq!(rt; written.status, 2, "at {text}");
-        assert_eq!(rt; written.errors.as_slice(), told.as_bytes());
-        assert!(rt; written.output.is_empty());
+        wrote(&rt, &written, 2, "", told);
     }
     Ok(())
 }
 
 /// A registry in memory that a founding file founded.
-pub(crate) fn founded<R: AllocGlobal + Abort>(rt: &R, file: &str) -> Registry<MemStore> {
+fn founded<R: AllocGlobal + Abort>(rt: &R, file: &str) -> Registry<MemStore> {
     let conn = Connection::open_in_memory(rt.alloc()).expect(rt, "memory");
     let mut errors = Outlet::new(Vec::new(rt.alloc()));
     let (status, conn) = found_registry(
@@ -134,9 +132,9 @@ const ALL_FIXED: &str = "vendor = \"1209\"\nname = \"Shared products\"\ncurators
                          licences = [\"MIT\"]\nfixed = [\"0001-ffff\"]\n";
 
 /// The lines over a registry, of which the first are answered.
-pub(crate) fn applied<R: AllocGlobal>(
+fn applied<R: AllocGlobal, S: Alter>(
     rt: &R,
-    registry: &mut Registry<MemStore>,
+    registry: &mut Registry<S>,
     text: &str,
     answered: u64,
 ) -> Written {
@@ -158,6 +156,42 @@ pub(crate) fn applied<R: AllocGlobal>(
     }
 }
 
+/// What runs over one registry write, one after the other.
+fn applied_in_turn<R: AllocGlobal + Abort, S: Alter + Drop>(
+    rt: &R,
+    mut registry: Registry<S>,
+    runs: &[(&str, u64)],
+) -> Vec<Written> {
+    let mut all = Vec::new(rt.alloc());
+    for (text, answered) in runs {
+        let written = applied(rt, &mut registry, text, *answered);
+        all.push(written).expect(rt, "memory");
+    }
+    let _conn = registry.close();
+    all
+}
+
+/// That a run has this status, and wrote this to the output and that to the errors.
+fn wrote(rt: &impl Abort, run: &Written, status: u8, output: &str, errors: &str) {
+    assert_eq!(rt; run.status, status);
+    assert_eq!(rt; run.output.as_slice(), output.as_bytes());
+    assert_eq!(rt; run.errors.as_slice(), errors.as_bytes());
+}
+
+/// The same of the runs over a new registry in memory: what each wrote, in turn.
+pub(crate) fn runs_write<R: AllocGlobal + Abort>(
+    rt: &R,
+    file: &str,
+    runs: &[(&str, u64)],
+    wanted: &[(u8, &str, &str)],
+) {
+    let all = applied_in_turn(rt, founded(rt, file), runs);
+    assert_eq!(rt; all.len(), wanted.len());
+    for (run, (status, output, errors)) in all.iter().zip(wanted) {
+        wrote(rt, run, *status, output, errors);
+    }
+}
+
 #[test]
 fn no_number_is_free(rt: HostRuntime) -> Result<(), Fail> {
     let text = joined(rt.alloc(), &[ENROL, ASK_ANY, GRANT_ANY])?;
@@ -165,11 +199,12 @@ fn no_number_is_free(rt: HostRuntime) -> Result<(), Fail> {
         rt.alloc(),
         &[ENROLLED, ASKED, r#"{"name":"NoneFree","refused":12}"#],
     )?;
-    let mut registry = founded(&rt, ALL_FIXED);
-    let written = applied(&rt, &mut registry, text.as_str(), 0);
-    drop(registry.close().into_store());
-    assert_eq!(rt; written.status, 0);
-    assert_eq!(rt; written.output.as_slice(), wanted.as_bytes());
+    runs_write(
+        &rt,
+        ALL_FIXED,
+        &[(text.as_str(), 0)],
+        &[(0, wanted.as_str(), "")],
+    );
     Ok(())
 }
 
@@ -179,23 +214,21 @@ fn goes_on_from_the_first_unanswered(rt: HostRuntime) -> Result<(), Fail> {
     let two = joined(rt.alloc(), &[ENROL, ASK_ANY])?;
     let enrolled = joined(rt.alloc(), &[ENROLLED])?;
     let asked = joined(rt.alloc(), &[ASKED])?;
-    let mut registry = founded(&rt, ALL_FIXED);
-    let exceeds = applied(&rt, &mut registry, three.as_str(), 4);
-    let none = applied(&rt, &mut registry, three.as_str(), 3);
-    let first = applied(&rt, &mut registry, ENROL, 0);
-    let rest = applied(&rt, &mut registry, two.as_str(), 1);
-    let again = applied(&rt, &mut registry, two.as_str(), 1);
-    drop(registry.close().into_store());
-    let told = b"answered exceeds requests\n".as_slice();
-    assert_eq!(rt; (exceeds.status, exceeds.output.len()), (2, 0));
-    assert_eq!(rt; exceeds.errors.as_slice(), told);
-    assert_eq!(rt;
-        (none.status, none.output.len(), none.errors.len()),
-        (0, 0, 0)
-    );
-    assert_eq!(rt; first.output.as_slice(), enrolled.as_bytes());
-    assert_eq!(rt; rest.output.as_slice(), asked.as_bytes());
-    assert_eq!(rt; again.output.as_slice(), asked.as_bytes());
+    let runs = [
+        (three.as_str(), 4),
+        (three.as_str(), 3),
+        (ENROL, 0),
+        (two.as_str(), 1),
+        (two.as_str(), 1),
+    ];
+    let wanted = [
+        (2, "", "answered exceeds requests\n"),
+        (0, "", ""),
+        (0, enrolled.as_str(), ""),
+        (0, asked.as_str(), ""),
+        (0, asked.as_str(), ""),
+    ];
+    runs_write(&rt, ALL_FIXED, &runs, &wanted);
     Ok(())
 }
 
@@ -233,6 +266,13 @@ fn founds_the_trial(rt: HostRuntime) -> Result<(), Fail> {
     assert_eq!(rt; founding.fixed.count(), 16);
     assert_eq!(rt; founding.licences.len(), 2);
     Ok(())
+}
+
+#[test]
+fn tells_want_of_memory_from_a_failure(rt: HostRuntime) {
+    let memory = store_failure(Error::SqliteFailure(ErrorCode::OutOfMemory));
+    assert_eq!(rt; memory, Failure::Memory);
+    assert_eq!(rt; store_failure(Error::InvalidQuery), Failure::Store);
 }
 
 /// A writer of one byte a write, which fails once it has so many.
@@ -308,9 +348,7 @@ fn an_input_that_fails(rt: HostRuntime) -> Result<(), Fail> {
         } else {
             (1, "fault: file\n", "")
         };
-        assert_eq!(rt; written.status, wanted, "after {good} reads");
-        assert_eq!(rt; written.errors.as_slice(), told.as_bytes());
-        assert_eq!(rt; written.output.as_slice(), output.as_bytes());
+        wrote(&rt, &written, wanted, output, told);
     }
     Ok(())
 }

@@ -1,9 +1,7 @@
 //! Ten enrolments: a run that comes after their first replies goes on from there.
 
-use crate::runs::{applied, founded};
-use crate::shared::Written;
+use crate::runs::runs_write;
 use std::alloc::Global;
-use std::process::Abort;
 use std::test::Fail;
 
 const FOUNDING: &str = "vendor = \"1209\"\nname = \"Shared products\"\ncurators = [\"cora\"]\n\
@@ -31,32 +29,16 @@ fn replies(alloc: Global, first: u8, last: u8) -> Result<String, Fail> {
     Ok(text)
 }
 
-/// What a run over some lines writes, and after it, over the same registry, a run of which so many
-/// requests are answered.
-fn two_runs<R: AllocGlobal + Abort>(
-    rt: &R,
-    before: &str,
-    text: &str,
-    answered: u64,
-) -> (Written, Written) {
-    let mut registry = founded(rt, FOUNDING);
-    let first = applied(rt, &mut registry, before, 0);
-    let rest = applied(rt, &mut registry, text, answered);
-    drop(registry.close().into_store());
-    (first, rest)
-}
-
 #[test]
 fn goes_on_after_the_answered_ones(rt: HostRuntime) -> Result<(), Fail> {
     let whole = lines(rt.alloc(), 10)?;
     for answered in [0, 6, 10] {
         let before = lines(rt.alloc(), answered)?;
-        let wanted_before = replies(rt.alloc(), 1, answered)?;
-        let wanted = replies(rt.alloc(), answered + 1, 10)?;
-        let (first, rest) = two_runs(&rt, before.as_str(), whole.as_str(), u64::from(answered));
-        assert_eq!(rt; first.output.as_slice(), wanted_before.as_bytes());
-        assert_eq!(rt; rest.output.as_slice(), wanted.as_bytes(), "at {answered}");
-        assert_eq!(rt; (rest.status, rest.errors.len()), (0, 0));
+        let first = replies(rt.alloc(), 1, answered)?;
+        let rest = replies(rt.alloc(), answered + 1, 10)?;
+        let runs = [(before.as_str(), 0), (whole.as_str(), u64::from(answered))];
+        let wanted = [(0, first.as_str(), ""), (0, rest.as_str(), "")];
+        runs_write(&rt, FOUNDING, &runs, &wanted);
     }
     Ok(())
 }
@@ -64,10 +46,12 @@ fn goes_on_after_the_answered_ones(rt: HostRuntime) -> Result<(), Fail> {
 #[test]
 fn no_more_are_answered_than_there_are(rt: HostRuntime) -> Result<(), Fail> {
     let whole = lines(rt.alloc(), 10)?;
-    let (first, rest) = two_runs(&rt, whole.as_str(), whole.as_str(), 11);
-    assert_eq!(rt; first.status, 0);
-    assert_eq!(rt; (rest.status, rest.output.len()), (2, 0));
-    let told = b"answered exceeds requests\n".as_slice();
-    assert_eq!(rt; rest.errors.as_slice(), told);
+    let replies = replies(rt.alloc(), 1, 10)?;
+    let runs = [(whole.as_str(), 0), (whole.as_str(), 11)];
+    let wanted = [
+        (0, replies.as_str(), ""),
+        (2, "", "answered exceeds requests\n"),
+    ];
+    runs_write(&rt, FOUNDING, &runs, &wanted);
     Ok(())
 }

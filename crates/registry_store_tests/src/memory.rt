@@ -1,29 +1,13 @@
 //! A registry that finds no memory while it acts: it is spent, and right again once it is opened.
 
-use crate::values::{founding, request};
+use crate::transcripts::ENROL;
+use crate::values::{connect, founded, founding, request};
 use registry_rules::{Founding, Reply, Request};
 use registry_store::{Fault, Registry, crash_and_open};
-use sqlite::{Connection, FileStore, Files, Options};
-use sqlite_disk::Memory;
+use sqlite::{Alter, FileStore, Files, Options};
+use sqlite_disk::{Crash, Memory};
 use std::alloc::Global;
 use std::test::Fail;
-
-const ENROL: &str =
-    r#"{"caller":"ann","key":"k1","order":"enrol","org":"acme","title":"Acme Tools","site":"https://acme.example/"}"#;
-
-type InMemory = Registry<FileStore<Memory>>;
-
-fn founded(alloc: Global, founding: &Founding) -> Option<InMemory> {
-    let log = Memory::new(alloc);
-    let db = Memory::new(alloc);
-    match Connection::open_files(alloc, Files { log, db }, Options::new(1)) {
-        Ok(conn) => match Registry::found(alloc, conn, founding) {
-            Ok(registry) => Some(registry),
-            Err(_) => None,
-        },
-        Err(_) => None,
-    }
-}
 
 // All memory that there is, in blocks that get smaller, and not touched.
 fn all_memory(alloc: Global) -> Vec<Vec<u8>> {
@@ -60,7 +44,7 @@ fn is_enrolled(reply: &Reply) -> bool {
     }
 }
 
-fn act_on(registry: &mut InMemory, request: &Request) -> Answer {
+fn act_on<S: Alter>(registry: &mut Registry<S>, request: &Request) -> Answer {
     match registry.act(request) {
         Ok(reply) => {
             if is_enrolled(&reply) {
@@ -73,21 +57,25 @@ fn act_on(registry: &mut InMemory, request: &Request) -> Answer {
     }
 }
 
-// The answers to a request that comes twice where no memory is left.
-fn act_without_memory(
+// The answers to a request that comes twice where no memory is left, and once more when there is
+// memory again.
+fn act_without_memory<S: Alter>(
     alloc: Global,
-    registry: &mut InMemory,
+    registry: &mut Registry<S>,
     request: &Request,
-) -> (Answer, Answer) {
+) -> (Answer, Answer, Answer) {
     let blocks = all_memory(alloc);
     let first = act_on(registry, request);
     let again = act_on(registry, request);
     drop(blocks);
-    (first, again)
+    (first, again, act_on(registry, request))
 }
 
 // The answers to a request that comes twice, and how many organisations there are then.
-fn act_twice(mut registry: InMemory, request: &Request) -> (Answer, Answer, usize) {
+fn act_twice<S: Alter + Drop>(
+    mut registry: Registry<S>,
+    request: &Request,
+) -> (Answer, Answer, usize) {
     let first = act_on(&mut registry, request);
     let again = act_on(&mut registry, request);
     let orgs = match registry.orgs() {
@@ -98,40 +86,37 @@ fn act_twice(mut registry: InMemory, request: &Request) -> (Answer, Answer, usiz
     (first, again, orgs)
 }
 
-// The answers where no memory is left, the one when there is memory again, and those when the
-// registry was opened again after a crash.
-#[derive(Drop)]
-struct Told {
-    starved: (Answer, Answer),
-    spent: Answer,
-    opened: Option<(Answer, Answer, usize)>,
+// The answers before and after a crash.
+type Told = ((Answer, Answer, Answer), (Answer, Answer, usize));
+
+fn act_around_a_crash<D: Crash + Drop>(
+    alloc: Global,
+    mut registry: Registry<FileStore<D>>,
+    request: &Request,
+) -> Option<Told> {
+    let before = act_without_memory(alloc, &mut registry, request);
+    let registry = crash_and_open(alloc, registry, Options::new(1))?;
+    Some((before, act_twice(registry, request)))
 }
 
-fn act_around_a_crash(alloc: Global, mut registry: InMemory, request: &Request) -> Told {
-    let starved = act_without_memory(alloc, &mut registry, request);
-    let spent = act_on(&mut registry, request);
-    let opened = match crash_and_open(alloc, registry, Options::new(1)) {
-        Some(registry) => Some(act_twice(registry, request)),
-        None => None,
-    };
-    Told {
-        starved,
-        spent,
-        opened,
-    }
+// The same of a new registry in files in memory.
+fn starve(alloc: Global, founding: &Founding, request: &Request) -> Option<Told> {
+    let log = Memory::new(alloc);
+    let db = Memory::new(alloc);
+    let conn = connect(alloc, Files { log, db })?;
+    let registry = founded(alloc, conn, founding)?;
+    act_around_a_crash(alloc, registry, request)
 }
 
 #[test]
 fn want_of_memory_spends_a_registry_and_loses_nothing(rt: HostRuntime) -> Result<(), Fail> {
     let alloc = rt.alloc();
     let founding = founding(alloc)?;
-    let request = request(alloc, ENROL)?;
-    let registry = founded(alloc, &founding).ok_or("not founded")?;
-    let told = act_around_a_crash(alloc, registry, &request);
-    assert_eq!(rt; told.starved.0, Answer::Fault(Fault::NoMemory));
-    assert_eq!(rt; told.starved.1, Answer::Fault(Fault::Spent));
-    assert_eq!(rt; told.spent, Answer::Fault(Fault::Spent));
-    let opened = Some((Answer::Enrolled, Answer::Enrolled, 1));
-    assert_eq!(rt; told.opened, opened);
+    let (enrol, _) = ENROL;
+    let request = request(alloc, enrol)?;
+    let (before, after) = starve(alloc, &founding, &request).ok_or("not opened")?;
+    let (starved, spent) = (Answer::Fault(Fault::NoMemory), Answer::Fault(Fault::Spent));
+    assert_eq!(rt; before, (starved, spent, spent));
+    assert_eq!(rt; after, (Answer::Enrolled, Answer::Enrolled, 1));
     Ok(())
 }

@@ -1,11 +1,12 @@
 //! What a registry answers of its history.
 
 use crate::transcripts::{ASK, ENROL, ENROL_BOLT, GRANT, Step, read};
-use crate::values::{founding, lines_of};
+use crate::values::{founded, founding, lines_of};
 use registry_rules::{Entry, Founding, Org, Petition, PetitionState, Request, Vendor};
 use registry_store::{Fault, Registry, RunEnd};
-use sqlite::{Connection, MemStore};
+use sqlite::{Alter, Connection};
 use std::alloc::Global;
+use std::fmt::Write;
 use std::process::Abort;
 use std::test::Fail;
 use usbnum_core::{Number, Spans, Vid};
@@ -42,6 +43,11 @@ const STEPS: &[Step] = &[
     ),
 ];
 
+const NUMBERS: &str =
+    "1000:0001 acme Lamp, terms, returned\n1209:0011 acme Blinker, terms, held\n1209:0012 acme New board, no terms, held\n";
+
+const PETITIONS: &str = "1 1209 acme Blinker, granted 17\n2 1000 acme Lamp, granted 1\n";
+
 // What a registry answered.
 #[derive(Drop)]
 struct Answers {
@@ -54,7 +60,7 @@ struct Answers {
 }
 
 // Acts on the requests, and asks for each list.
-fn ask(mut registry: Registry<MemStore>, requests: &[Request], vid: Vid) -> Answers {
+fn ask<S: Alter + Drop>(mut registry: Registry<S>, requests: &[Request], vid: Vid) -> Answers {
     let end = registry.run_from(requests, 0);
     let numbers = registry.numbers();
     let petitions = registry.petitions();
@@ -74,58 +80,55 @@ fn ask(mut registry: Registry<MemStore>, requests: &[Request], vid: Vid) -> Answ
 
 // The same of a new registry in memory.
 fn answers_after(alloc: Global, founding: &Founding, requests: &[Request]) -> Option<Answers> {
-    match Connection::open_in_memory(alloc) {
-        Ok(conn) => match Registry::found(alloc, conn, founding) {
-            Ok(registry) => Some(ask(registry, requests, founding.vendor)),
-            Err(_) => None,
-        },
-        Err(_) => None,
-    }
+    let conn = Connection::open_in_memory(alloc).ok()?;
+    let registry = founded(alloc, conn, founding)?;
+    Some(ask(registry, requests, founding.vendor))
 }
 
-fn numbers_are(rt: &impl Abort, numbers: &[(Number, Entry)]) {
-    let wanted = [
-        (0x1000, 1, "Lamp", true, false),
-        (0x1209, 17, "Blinker", true, true),
-        (0x1209, 18, "New board", false, true),
-    ];
-    assert_eq!(rt; numbers.len(), wanted.len());
-    for ((number, entry), (vid, pid, title, has_terms, is_held)) in numbers.iter().zip(wanted) {
-        assert_eq!(rt; (number.vid.get(), number.pid.get()), (vid, pid));
-        assert_eq!(rt; entry.org.as_str(), "acme");
-        assert_eq!(rt; entry.card.title.as_str(), title);
-        assert_eq!(rt; entry.card.terms.is_some(), has_terms);
-        assert_eq!(rt; entry.held, is_held);
+fn numbers_text(alloc: Global, numbers: &[(Number, Entry)]) -> Result<String, Fail> {
+    let mut text = String::new(alloc);
+    for (number, entry) in numbers {
+        let (vid, pid, org, title) = (number.vid, number.pid, &entry.org, &entry.card.title);
+        let terms = if entry.card.terms.is_some() {
+            "terms"
+        } else {
+            "no terms"
+        };
+        let held = if entry.held { "held" } else { "returned" };
+        write!(&mut text, "{vid}:{pid} {org} {title}, {terms}, {held}\n")?;
     }
+    Ok(text)
 }
 
-fn petitions_are(rt: &impl Abort, petitions: &[(u32, Petition)]) {
-    let wanted = [(1, 0x1209, "Blinker", 17), (2, 0x1000, "Lamp", 1)];
-    assert_eq!(rt; petitions.len(), wanted.len());
-    for ((id, petition), (number, vid, title, pid)) in petitions.iter().zip(wanted) {
-        assert_eq!(rt; (*id, petition.vid.get()), (number, vid));
-        assert_eq!(rt; petition.title.as_str(), title);
-        assert!(rt;
-            matches!(petition.state, PetitionState::Granted(granted) if granted.get() == pid)
-        );
+fn petitions_text(alloc: Global, petitions: &[(u32, Petition)]) -> Result<String, Fail> {
+    let mut text = String::new(alloc);
+    for (id, petition) in petitions {
+        let (vid, org, title) = (petition.vid, &petition.org, &petition.title);
+        let granted = match petition.state {
+            PetitionState::Granted(pid) => pid.get(),
+            _ => 0,
+        };
+        write!(&mut text, "{id} {vid} {org} {title}, granted {granted}\n")?;
     }
+    Ok(text)
 }
 
-fn orgs_are(rt: &impl Abort, orgs: &[Org]) {
-    assert_eq!(rt; orgs.len(), 2);
-    for (org, (slug, keeper)) in orgs.iter().zip([("acme", "ann"), ("bolt", "bob")]) {
-        assert_eq!(rt; org.slug.as_str(), slug);
-        assert_eq!(rt; org.keeper.as_str(), keeper);
+fn orgs_text(alloc: Global, orgs: &[Org]) -> Result<String, Fail> {
+    let mut text = String::new(alloc);
+    for org in orgs {
+        let (slug, keeper) = (&org.slug, &org.keeper);
+        write!(&mut text, "{slug} {keeper}\n")?;
     }
+    Ok(text)
 }
 
-fn vendors_are(rt: &impl Abort, vendors: &[Vendor]) {
-    assert_eq!(rt; vendors.len(), 2);
-    let wanted = [(0x1000, "Further"), (0x1209, "Shared products")];
-    for (vendor, (vid, name)) in vendors.iter().zip(wanted) {
-        assert_eq!(rt; vendor.vid.get(), vid);
-        assert_eq!(rt; vendor.name.as_str(), name);
+fn vendors_text(alloc: Global, vendors: &[Vendor]) -> Result<String, Fail> {
+    let mut text = String::new(alloc);
+    for vendor in vendors {
+        let (vid, name) = (vendor.vid, &vendor.name);
+        write!(&mut text, "{vid} {name}\n")?;
     }
+    Ok(text)
 }
 
 #[test]
@@ -136,10 +139,14 @@ fn answers_what_it_was_asked_to_do(rt: HostRuntime) -> Result<(), Fail> {
     let answers = answers_after(alloc, &founding, requests.as_slice()).ok_or("no answers")?;
     let replies = lines_of(alloc, answers.end.replies.as_slice())?;
     assert_eq!(rt; replies.as_str(), wanted.as_str());
-    numbers_are(&rt, answers.numbers?.as_slice());
-    petitions_are(&rt, answers.petitions?.as_slice());
-    orgs_are(&rt, answers.orgs?.as_slice());
-    vendors_are(&rt, answers.vendors?.as_slice());
+    let numbers = numbers_text(alloc, answers.numbers?.as_slice())?;
+    assert_eq!(rt; numbers.as_str(), NUMBERS);
+    let petitions = petitions_text(alloc, answers.petitions?.as_slice())?;
+    assert_eq!(rt; petitions.as_str(), PETITIONS);
+    let orgs = orgs_text(alloc, answers.orgs?.as_slice())?;
+    assert_eq!(rt; orgs.as_str(), "acme ann\nbolt bob\n");
+    let vendors = vendors_text(alloc, answers.vendors?.as_slice())?;
+    assert_eq!(rt; vendors.as_str(), "1000 Further\n1209 Shared products\n");
     assert_eq!(rt; answers.reserved?.count(), 16 + 256);
     Ok(())
 }

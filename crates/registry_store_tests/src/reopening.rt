@@ -1,10 +1,10 @@
 //! A registry in files in memory, which is closed and opened again. Each time another is founded first, in vain.
 
 use crate::transcripts::{ASK, ENROL, GRANT, Step, read};
-use crate::values::{founding, lines_of};
+use crate::values::{connect, founding, lines_of};
 use registry_rules::{Founding, Request};
 use registry_store::{Fault, Registry, RunEnd};
-use sqlite::{Connection, FileStore, Files, Options};
+use sqlite::{Alter, FileStore, Files};
 use sqlite_disk::{Disk, Memory};
 use std::alloc::Global;
 use std::process::Abort;
@@ -16,54 +16,43 @@ struct Outcome {
     was_there: bool,
     licences: usize,
     end: RunEnd,
-    files: Files<Memory>,
 }
 
-// Acts on the requests, and closes the files.
-fn act(
-    mut registry: Registry<FileStore<Memory>>,
-    was_there: bool,
-    requests: &[Request],
-) -> Outcome {
+// What comes of the requests, and how many licences there are then.
+fn run<S: Alter>(registry: &mut Registry<S>, was_there: bool, requests: &[Request]) -> Outcome {
     let end = registry.run_from(requests, 0);
     let licences = registry.founding().licences.len();
-    let files = registry.close().into_store().close();
     Outcome {
         was_there,
         licences,
         end,
-        files,
     }
 }
 
-fn open_and_act(
-    alloc: Global,
-    conn: Connection<FileStore<Memory>>,
+// Acts on the requests, and closes the files.
+fn act<D: Disk + Drop>(
+    mut registry: Registry<FileStore<D>>,
+    was_there: bool,
     requests: &[Request],
-) -> Option<Outcome> {
-    match Registry::open(alloc, conn) {
-        Ok(registry) => Some(act(registry, true, requests)),
-        Err(_) => None,
-    }
+) -> (Outcome, Files<D>) {
+    let outcome = run(&mut registry, was_there, requests);
+    (outcome, registry.close().into_store().close())
 }
 
 // Founds a registry over the files, or opens the one that is there, and acts on the requests.
-fn visit(
+fn visit<D: Disk + Drop>(
     alloc: Global,
-    files: Files<Memory>,
+    files: Files<D>,
     founding: &Founding,
     requests: &[Request],
-) -> Option<Outcome> {
-    if !(files.log.may_be_used() && files.db.may_be_used()) {
-        return None;
-    }
-    match Connection::open_files(alloc, files, Options::new(1)) {
-        Ok(conn) => match Registry::found(alloc, conn, founding) {
-            Ok(registry) => Some(act(registry, false, requests)),
-            Err((Fault::Taken, conn)) => open_and_act(alloc, conn, requests),
-            Err(_) => None,
-        },
-        Err(_) => None,
+) -> Option<(Outcome, Files<D>)> {
+    let conn = connect(alloc, files)?;
+    match Registry::found(alloc, conn, founding) {
+        Ok(registry) => Some(act(registry, false, requests)),
+        Err((fault, conn)) => {
+            let registry = Registry::open(alloc, conn).ok()?;
+            Some(act(registry, fault == Fault::Taken, requests))
+        }
     }
 }
 
@@ -141,10 +130,12 @@ fn goes_on_where_it_was_closed(rt: HostRuntime) -> Result<(), Fail> {
     for opening in OPENINGS {
         let (requests, wanted) = read(alloc, opening.steps)?;
         let before = bytes_of(alloc, &files)?;
-        let outcome = visit(alloc, files, &founding, requests.as_slice()).ok_or("not opened")?;
+        let (outcome, left) = visit(alloc, files, &founding, requests.as_slice()).ok_or(
+            "not opened",
+        )?;
         let replies = lines_of(alloc, outcome.end.replies.as_slice())?;
-        let after = bytes_of(alloc, &outcome.files)?;
-        files = outcome.files;
+        let after = bytes_of(alloc, &left)?;
+        files = left;
         assert_eq!(rt; replies.as_str(), wanted.as_str());
         assert_eq!(rt; outcome.was_there, opening.finds);
         assert_eq!(rt; outcome.licences, opening.licences);

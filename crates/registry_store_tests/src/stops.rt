@@ -1,19 +1,14 @@
 //! A registry over disks that stop in the middle of a write.
 
-use crate::values::{founding, lines_of, request};
+use crate::transcripts::{self, ENROL};
+use crate::values::{connect, founded, founding, lines_of, request};
 use registry_rules::{Founding, Org, Reply, Request};
 use registry_store::{Fault, Registry, RunEnd, crash_and_open};
-use sqlite::{Connection, FileStore, Files, Options};
-use sqlite_disk::{Fuse, Memory};
+use sqlite::{Alter, FileStore, Files, Options};
+use sqlite_disk::{Crash, Fuse, Memory};
 use std::alloc::Global;
 use std::process::Abort;
 use std::test::Fail;
-
-type Fused = Registry<FileStore<Fuse<Memory>>>;
-
-// What a spent registry is asked.
-const ENROL: &str =
-    r#"{"caller":"ann","key":"e","order":"enrol","org":"acme","title":"A","site":"https://a.example"}"#;
 
 // The enrolments of o1 to o10.
 fn ten(alloc: Global) -> Result<Vec<Request>, Fail> {
@@ -37,17 +32,11 @@ fn enrolled_from(alloc: Global, first: u8) -> Result<String, Fail> {
     Ok(text)
 }
 
-// A registry whose log fails after so many calls, if it is founded before.
-fn fused(alloc: Global, calls: u64, founding: &Founding) -> Option<Fused> {
+// New files, of which the log fails after so many calls.
+fn fused(alloc: Global, calls: u64) -> Files<Fuse<Memory>> {
     let log = Fuse::new(Memory::new(alloc), calls);
     let db = Fuse::new(Memory::new(alloc), u64::MAX);
-    match Connection::open_files(alloc, Files { log, db }, Options::new(1)) {
-        Ok(conn) => match Registry::found(alloc, conn, founding) {
-            Ok(registry) => Some(registry),
-            Err(_) => None,
-        },
-        Err(_) => None,
-    }
+    Files { log, db }
 }
 
 // A run until the log fails, and what the registry tells then.
@@ -59,7 +48,11 @@ struct Stopped {
     orgs: Result<Vec<Org>, Fault>,
 }
 
-fn run(mut registry: Fused, requests: &[Request], next: &Request) -> (Stopped, Fused) {
+fn run<S: Alter + Drop>(
+    mut registry: Registry<S>,
+    requests: &[Request],
+    next: &Request,
+) -> (Stopped, Registry<S>) {
     let end = registry.run_from(requests, 0);
     let next = registry.act(next);
     let run = registry.run_from(requests, 0);
@@ -84,7 +77,7 @@ struct Resumed {
     all: RunEnd,
 }
 
-fn go_on(mut registry: Fused, requests: &[Request]) -> Resumed {
+fn go_on<S: Alter + Drop>(mut registry: Registry<S>, requests: &[Request]) -> Resumed {
     let found = registry.orgs();
     let rest = registry.run_from(requests, usize::min(6, requests.len()));
     let kept = registry.orgs();
@@ -98,37 +91,40 @@ fn go_on(mut registry: Fused, requests: &[Request]) -> Resumed {
     }
 }
 
-fn stop_and_go_on(
+fn stop_and_go_on<D: Crash + Drop>(
+    alloc: Global,
+    registry: Registry<FileStore<D>>,
+    requests: &[Request],
+    next: &Request,
+) -> Option<(Stopped, Resumed)> {
+    let (stopped, registry) = run(registry, requests, next);
+    let registry = crash_and_open(alloc, registry, Options::new(1))?;
+    Some((stopped, go_on(registry, requests)))
+}
+
+// The same of a new registry whose log fails after so many calls.
+fn stop_after(
     alloc: Global,
     calls: u64,
     founding: &Founding,
     requests: &[Request],
     next: &Request,
 ) -> Option<(Stopped, Resumed)> {
-    match fused(alloc, calls, founding) {
-        Some(registry) => {
-            let (stopped, registry) = run(registry, requests, next);
-            match crash_and_open(alloc, registry, Options::new(1)) {
-                Some(registry) => Some((stopped, go_on(registry, requests))),
-                None => None,
-            }
-        }
-        None => None,
-    }
+    let conn = connect(alloc, fused(alloc, calls))?;
+    let registry = founded(alloc, conn, founding)?;
+    stop_and_go_on(alloc, registry, requests, next)
 }
 
-fn replies_of(mut registry: Fused, requests: &[Request]) -> usize {
-    let end = registry.run_from(requests, 0);
-    let _conn = registry.close();
-    end.replies.len()
-}
-
-// How many replies come before a log that fails after so many calls.
-fn replies_by(alloc: Global, calls: u64, founding: &Founding, requests: &[Request]) -> usize {
-    match fused(alloc, calls, founding) {
-        Some(registry) => replies_of(registry, requests),
-        None => 0,
-    }
+// How many replies come before a log that fails after so many calls, if the registry is founded before.
+fn replies_by(
+    alloc: Global,
+    calls: u64,
+    founding: &Founding,
+    requests: &[Request],
+) -> Option<usize> {
+    let conn = connect(alloc, fused(alloc, calls))?;
+    let registry = founded(alloc, conn, founding)?;
+    Some(transcripts::run(registry, requests).replies.len())
 }
 
 // A number of calls after which the log fails before the seventh reply, and not before the sixth.
@@ -136,7 +132,7 @@ fn calls_to_six(alloc: Global, founding: &Founding, requests: &[Request]) -> Opt
     let mut few: u64 = 0;
     for step in [128, 64, 32, 16, 8, 4, 2, 1] {
         let calls = few.saturating_add(step);
-        let replies = replies_by(alloc, calls, founding, requests);
+        let replies = replies_by(alloc, calls, founding, requests).unwrap_or(0);
         if replies == 6 {
             return Some(calls);
         }
@@ -187,12 +183,13 @@ fn answers_no_more(rt: &impl Abort, stopped: &Stopped) {
 fn a_stop_within_the_seventh_commit_loses_no_reply(rt: HostRuntime) -> Result<(), Fail> {
     let alloc = rt.alloc();
     let requests = ten(alloc)?;
-    let next = request(alloc, ENROL)?;
+    let (enrol, _) = ENROL;
+    let next = request(alloc, enrol)?;
     let founding = founding(alloc)?;
     let six = calls_to_six(alloc, &founding, requests.as_slice()).ok_or("no stop")?;
     let mut stops: u32 = 0;
     for calls in six.saturating_sub(2)..=six.saturating_add(2) {
-        let (stopped, resumed) = stop_and_go_on(
+        let (stopped, resumed) = stop_after(
             alloc,
             calls,
             &founding,

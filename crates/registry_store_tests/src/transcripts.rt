@@ -1,9 +1,9 @@
 //! Requests and what they are answered, each list over a registry of its own.
 
-use crate::values::{founding, lines_of, request};
+use crate::values::{founded, founding, lines_of, request};
 use registry_rules::{Founding, Request};
 use registry_store::{Registry, RunEnd};
-use sqlite::{Connection, MemStore};
+use sqlite::{Alter, Connection};
 use std::alloc::Global;
 use std::process::Abort;
 use std::test::Fail;
@@ -198,8 +198,8 @@ const UNTITLED: &[Step] = &[
     ),
 ];
 
-// What a registry answers to the requests.
-fn run(mut registry: Registry<MemStore>, requests: &[Request]) -> RunEnd {
+/// What a registry answers to the requests.
+pub fn run<S: Alter + Drop>(mut registry: Registry<S>, requests: &[Request]) -> RunEnd {
     let end = registry.run_from(requests, 0);
     let _conn = registry.close();
     end
@@ -207,16 +207,12 @@ fn run(mut registry: Registry<MemStore>, requests: &[Request]) -> RunEnd {
 
 // The same of a new one over memory.
 fn run_anew(alloc: Global, founding: &Founding, requests: &[Request]) -> Option<RunEnd> {
-    match Connection::open_in_memory(alloc) {
-        Ok(conn) => match Registry::found(alloc, conn, founding) {
-            Ok(registry) => Some(run(registry, requests)),
-            Err(_) => None,
-        },
-        Err(_) => None,
-    }
+    let conn = Connection::open_in_memory(alloc).ok()?;
+    let registry = founded(alloc, conn, founding)?;
+    Some(run(registry, requests))
 }
 
-/// The replies of a new registry over memory, as lines.
+// The replies of a new registry over memory, as lines.
 fn replies_to(alloc: Global, requests: &[Request]) -> Result<String, Fail> {
     let founding = founding(alloc)?;
     let end = run_anew(alloc, &founding, requests).ok_or("not founded")?;
@@ -262,7 +258,9 @@ fn import_of(alloc: Global, count: u32) -> Result<String, Fail> {
         list.push_str("\t0000\n")?;
     }
     let (enrol, _) = ENROL;
-    let requests = vec![in alloc; request(alloc, enrol)?, request(alloc, list.as_str())?]?;
+    let mut requests = Vec::new(alloc);
+    requests.push(request(alloc, enrol)?)?;
+    requests.push(request(alloc, list.as_str())?)?;
     replies_to(alloc, requests.as_slice())
 }
 

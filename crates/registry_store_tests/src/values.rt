@@ -1,7 +1,10 @@
-//! Values that the examples share. Foundings and requests are read as the program reads them.
+//! What the examples share. Foundings and requests are read as the program reads them.
 
 use registry_rules::{Founding, Reply, Request};
+use registry_store::Registry;
 use registry_wire::{founding_from_toml, import_request, line_request, reply_json};
+use sqlite::{Alter, Connection, FileStore, Files, Options};
+use sqlite_disk::Disk;
 use std::alloc::Global;
 use std::test::Fail;
 use usbids_text::read_all;
@@ -34,6 +37,23 @@ fn import(alloc: Global, text: &str, list: &str) -> Result<Request, Fail> {
     let (caller, org) = (slug(alloc, "cora")?, slug(alloc, "acme")?);
     let key = key(alloc, text)?;
     Ok(import_request(alloc, caller, key, org, vendor, None, &list)?)
+}
+
+/// A connection to the files.
+pub fn connect<D: Disk + Drop>(alloc: Global, files: Files<D>) -> Option<Connection<FileStore<D>>> {
+    if !(files.log.may_be_used() && files.db.may_be_used()) {
+        return None;
+    }
+    Connection::open_files(alloc, files, Options::new(1)).ok()
+}
+
+/// A new registry over a connection.
+pub fn founded<S: Alter + Drop>(
+    alloc: Global,
+    conn: Connection<S>,
+    founding: &Founding,
+) -> Option<Registry<S>> {
+    Registry::found(alloc, conn, founding).ok()
 }
 
 /// The request that a text is: one line of JSON, or for an import its key and then, from the next line on, its list.

@@ -1,17 +1,33 @@
-use registry_rules::{Founding, Order, Request};
+use crate::lines::spelled;
+use registry_rules::Founding;
 use registry_wire::{
     FoundingFault, WireRefusal, founding_from_toml, import_request, stamp_from_text,
 };
 use std::alloc::Global;
+use std::fmt::Write;
 use std::process::Abort;
 use std::test::Fail;
 use usbids_text::read_all;
 use usbnum_core::{Key, NoMemory, Slug, Vid};
 
-const FIRST: &str =
-    "vendor = \"1209\"\nname = \"Shared products\"\ncurators = [\"cora\"]\nlicences = [\"MIT\", \"GPL-3.0-only\"]\nfixed = [\"0001-0010\"]\n";
-
-const FAULTS: [(&str, &str); 22] = [
+// Founding files, and what they are read as.
+const FOUNDINGS: [(&str, &str); 26] = [
+    (
+        "vendor = \"1209\"\nname = \"Shared products\"\ncurators = [\"cora\"]\nlicences = [\"MIT\", \"GPL-3.0-only\"]\nfixed = [\"0001-0010\"]\n",
+        "1209 Shared products|cora/GPL-3.0-only/MIT 0001-0010",
+    ),
+    (
+        "fixed = []\nother = 1\nlicences = [\"b\", \"a\", \"b\"]\ncurators = [\"z\", \"a\", \"z\"]\nname = \"n\"\nvendor = \"CAFE\"",
+        "cafe n|a|z/a/b",
+    ),
+    (
+        "vendor = \"cafe\"\nname = \"n\"\ncurators = [\"a\"]\nlicences = [\"b\"]\nfixed = [\"0003\", \"0001-0002\", \"00FF-ffff\", \"0100\"]",
+        "cafe n|a/b 0001-0003 00ff-ffff",
+    ),
+    (
+        "vendor = \"cafe\"\nname = \"n\"\ncurators = [\"a\"]\nlicences = [\"b\"]",
+        "cafe n|a/b",
+    ),
     ("vendor", "toml"),
     ("vendor = \"1209\"\nvendor = \"1209\"\n", "toml"),
     ("", "vendor"),
@@ -82,19 +98,16 @@ fn read(alloc: Global, bytes: &[u8]) -> Result<String, NoMemory> {
 }
 
 fn shown(alloc: Global, founding: &Founding) -> Result<String, NoMemory> {
-    let (vendor, name) = (founding.vendor.get(), founding.name.as_str());
+    let (vendor, name) = (founding.vendor, &founding.name);
     let mut text = format!(in alloc; "{vendor} {name}")?;
     for curator in founding.curators.as_slice() {
-        let curator = curator.as_str();
-        text.push_str(&format!(in alloc; "|{curator}")?)?;
+        write!(&mut text, "|{curator}")?;
     }
     for licence in founding.licences.as_slice() {
-        let licence = licence.as_str();
-        text.push_str(&format!(in alloc; "/{licence}")?)?;
+        write!(&mut text, "/{licence}")?;
     }
     for span in founding.fixed.parts() {
-        let (first, last) = (span.first().get(), span.last().get());
-        text.push_str(&format!(in alloc; " {first}-{last}")?)?;
+        write!(&mut text, " {span}")?;
     }
     Ok(text)
 }
@@ -102,27 +115,7 @@ fn shown(alloc: Global, founding: &Founding) -> Result<String, NoMemory> {
 #[test]
 fn foundings(rt: HostRuntime) -> Result<(), Fail> {
     let alloc = rt.alloc();
-    let found = read(alloc, FIRST.as_bytes())?;
-    assert_eq!(rt;
-        found.as_str(),
-        "4617 Shared products|cora/GPL-3.0-only/MIT 1-16"
-    );
-    let found = read(
-        alloc,
-        b"fixed = []\nother = 1\nlicences = [\"b\", \"a\", \"b\"]\ncurators = [\"z\", \"a\", \"z\"]\nname = \"n\"\nvendor = \"CAFE\"",
-    )?;
-    assert_eq!(rt; found.as_str(), "51966 n|a|z/a/b");
-    let found = read(
-        alloc,
-        b"vendor = \"cafe\"\nname = \"n\"\ncurators = [\"a\"]\nlicences = [\"b\"]\nfixed = [\"0003\", \"0001-0002\", \"00FF-ffff\", \"0100\"]",
-    )?;
-    assert_eq!(rt; found.as_str(), "51966 n|a/b 1-3 255-65535");
-    let found = read(
-        alloc,
-        b"vendor = \"cafe\"\nname = \"n\"\ncurators = [\"a\"]\nlicences = [\"b\"]",
-    )?;
-    assert_eq!(rt; found.as_str(), "51966 n|a/b");
-    for (text, wanted) in FAULTS {
+    for (text, wanted) in FOUNDINGS {
         let found = read(alloc, text.as_bytes())?;
         assert_eq!(rt; found.as_str(), wanted, "{text}");
     }
@@ -148,48 +141,25 @@ fn repeated(alloc: Global, curators: u32, licences: u32) -> Result<String, NoMem
 #[test]
 fn counts(rt: HostRuntime) -> Result<(), Fail> {
     let alloc = rt.alloc();
-    assert_eq!(rt; repeated(alloc, 64, 1024)?.as_str(), "4617 n|a/b");
+    assert_eq!(rt; repeated(alloc, 64, 1024)?.as_str(), "1209 n|a/b");
     assert_eq!(rt; repeated(alloc, 65, 1)?.as_str(), "curators");
     assert_eq!(rt; repeated(alloc, 1, 1025)?.as_str(), "licences");
     Ok(())
 }
 
+// What cora imports for acme from a list.
 fn imported(
     alloc: Global,
     founding: Vid,
     named: Option<Vid>,
     list: &[u8],
-) -> Result<String, NoMemory> {
-    let mut text = String::new(alloc);
-    let Ok(list) = read_all(alloc, list) else {
-        return Ok(text);
-    };
-    let (caller, key, org) = (
-        Slug::new(alloc, b"cora")?,
-        Key::new(alloc, b"i1")?,
-        Slug::new(alloc, b"acme")?,
-    );
-    let (Some(caller), Some(key), Some(org)) = (caller, key, org) else {
-        return Ok(text);
-    };
+) -> Result<Vec<u8>, Fail> {
+    let list = read_all(alloc, list)?;
+    let caller = Slug::new(alloc, b"cora")?.ok_or("no caller")?;
+    let key = Key::new(alloc, b"i1")?.ok_or("no key")?;
+    let org = Slug::new(alloc, b"acme")?.ok_or("no organisation")?;
     let request = import_request(alloc, caller, key, org, founding, named, &list)?;
-    let (caller, key) = (request.caller.as_str(), request.key.as_str());
-    text.push_str(&format!(in alloc; "{caller}/{key}")?)?;
-    if let Order::Import { org, items, vendor } = &request.order {
-        let (org, vendor) = (org.as_str(), vendor.is_some());
-        text.push_str(&format!(in alloc; " {org} {vendor}")?)?;
-        for item in items.as_slice() {
-            let code = item.code;
-            match &item.title {
-                Some(title) => {
-                    let title = title.as_str();
-                    text.push_str(&format!(in alloc; "|{code}={title}")?)?;
-                }
-                None => text.push_str(&format!(in alloc; "|{code}")?)?,
-            }
-        }
-    }
-    Ok(text)
+    Ok(spelled(alloc, &request)?)
 }
 
 #[test]
@@ -199,12 +169,11 @@ fn imports(rt: HostRuntime) -> Result<(), Fail> {
     let list =
         b"1209  x\n\t0000  Zero\n\t0001  Fixed\n\t0011\nHID 1209  tagged\n\t22  no item\ncafe  y\n\t0033  Other\n\t\t0044  below\n1209  again\n\t0012  New \xe9\n\t0012  New board\n";
     let found = imported(alloc, founding, None, list)?;
-    assert_eq!(rt;
-        found.as_str(),
-        "cora/i1 acme false|0=Zero|1=Fixed|17|18|18=New board"
-    );
+    let wanted = b"cora\ti1\timport\tacme\t0000=Zero\t0001=Fixed\t0011=\t0012=\t0012=New board";
+    assert_eq!(rt; found.as_slice(), wanted.as_slice());
     let found = imported(alloc, founding, other, list)?;
-    assert_eq!(rt; found.as_str(), "cora/i1 acme true|51=Other");
+    let wanted = b"cora\ti1\timport\tacme\tcafe\t0033=Other";
+    assert_eq!(rt; found.as_slice(), wanted.as_slice());
     Ok(())
 }
 
