@@ -4,7 +4,7 @@ use crate::transcripts::{ASK, ENROL, GRANT, Step, read};
 use crate::values::{connect, founding, lines_of};
 use registry_rules::{Founding, Request};
 use registry_store::{Fault, Registry, RunEnd};
-use sqlite::{Alter, FileStore, Files};
+use sqlite::{Alter, Connection, FileStore, Files};
 use sqlite_disk::{Disk, Memory};
 use std::alloc::Global;
 use std::process::Abort;
@@ -39,6 +39,28 @@ fn act<D: Disk + Drop>(
     (outcome, registry.close().into_store().close())
 }
 
+// A registry that is there already, and whether it was told to be there.
+fn opened<S: Alter + Drop>(
+    alloc: Global,
+    conn: Connection<S>,
+    fault: Fault,
+) -> Option<(bool, Registry<S>)> {
+    let registry = Registry::open(alloc, conn).ok()?;
+    Some((fault == Fault::Taken, registry))
+}
+
+// A new registry, or the one that is there.
+fn founded_or_opened<S: Alter + Drop>(
+    alloc: Global,
+    conn: Connection<S>,
+    founding: &Founding,
+) -> Option<(bool, Registry<S>)> {
+    match Registry::found(alloc, conn, founding) {
+        Ok(registry) => Some((false, registry)),
+        Err((fault, conn)) => opened(alloc, conn, fault),
+    }
+}
+
 // Founds a registry over the files, or opens the one that is there, and acts on the requests.
 fn visit<D: Disk + Drop>(
     alloc: Global,
@@ -47,13 +69,8 @@ fn visit<D: Disk + Drop>(
     requests: &[Request],
 ) -> Option<(Outcome, Files<D>)> {
     let conn = connect(alloc, files)?;
-    match Registry::found(alloc, conn, founding) {
-        Ok(registry) => Some(act(registry, false, requests)),
-        Err((fault, conn)) => {
-            let registry = Registry::open(alloc, conn).ok()?;
-            Some(act(registry, fault == Fault::Taken, requests))
-        }
-    }
+    let (was_there, registry) = founded_or_opened(alloc, conn, founding)?;
+    Some(act(registry, was_there, requests))
 }
 
 // The bytes of both files.

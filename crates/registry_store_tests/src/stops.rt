@@ -5,7 +5,7 @@ use crate::values::{connect, founded, founding, lines_of, request};
 use registry_rules::{Founding, Org, Reply, Request};
 use registry_store::{Fault, Registry, RunEnd, crash_and_open};
 use sqlite::{Alter, FileStore, Files, Options};
-use sqlite_disk::{Crash, Fuse, Memory};
+use sqlite_disk::{Crash, Disk, Fuse, Memory};
 use std::alloc::Global;
 use std::process::Abort;
 use std::test::Fail;
@@ -102,27 +102,27 @@ fn stop_and_go_on<D: Crash + Drop>(
     Some((stopped, go_on(registry, requests)))
 }
 
-// The same of a new registry whose log fails after so many calls.
-fn stop_after(
+// The same of a new registry in the files.
+fn stop_in<D: Crash + Drop>(
     alloc: Global,
-    calls: u64,
+    files: Files<D>,
     founding: &Founding,
     requests: &[Request],
     next: &Request,
 ) -> Option<(Stopped, Resumed)> {
-    let conn = connect(alloc, fused(alloc, calls))?;
+    let conn = connect(alloc, files)?;
     let registry = founded(alloc, conn, founding)?;
     stop_and_go_on(alloc, registry, requests, next)
 }
 
-// How many replies come before a log that fails after so many calls, if the registry is founded before.
-fn replies_by(
+// How many replies a new registry in the files gives, if it is founded.
+fn replies_in<D: Disk + Drop>(
     alloc: Global,
-    calls: u64,
+    files: Files<D>,
     founding: &Founding,
     requests: &[Request],
 ) -> Option<usize> {
-    let conn = connect(alloc, fused(alloc, calls))?;
+    let conn = connect(alloc, files)?;
     let registry = founded(alloc, conn, founding)?;
     Some(transcripts::run(registry, requests).replies.len())
 }
@@ -132,7 +132,8 @@ fn calls_to_six(alloc: Global, founding: &Founding, requests: &[Request]) -> Opt
     let mut few: u64 = 0;
     for step in [128, 64, 32, 16, 8, 4, 2, 1] {
         let calls = few.saturating_add(step);
-        let replies = replies_by(alloc, calls, founding, requests).unwrap_or(0);
+        let files = fused(alloc, calls);
+        let replies = replies_in(alloc, files, founding, requests).unwrap_or(0);
         if replies == 6 {
             return Some(calls);
         }
@@ -189,13 +190,10 @@ fn a_stop_within_the_seventh_commit_loses_no_reply(rt: HostRuntime) -> Result<()
     let six = calls_to_six(alloc, &founding, requests.as_slice()).ok_or("no stop")?;
     let mut stops: u32 = 0;
     for calls in six.saturating_sub(2)..=six.saturating_add(2) {
-        let (stopped, resumed) = stop_after(
-            alloc,
-            calls,
-            &founding,
-            requests.as_slice(),
-            &next,
-        ).ok_or("not opened")?;
+        let files = fused(alloc, calls);
+        let (stopped, resumed) = stop_in(alloc, files, &founding, requests.as_slice(), &next).ok_or(
+            "not opened",
+        )?;
         if stopped.end.replies.len() == 6 {
             answers_no_more(&rt, &stopped);
             loses_nothing(&rt, alloc, resumed)?;
