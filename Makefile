@@ -1,8 +1,10 @@
 # trial:   proves and builds the program usbreg, and acts on three request lines over
 #          a registry in memory.
-# test:    the gate. Proves every crate and its tests from nothing, tries the
-#          must-fail edits, runs the tests and, as two compilers make it, each program;
-#          then the scripts that try the program over files.
+# test:    the gate. Proves every crate and its tests from nothing, runs the tests and,
+#          as two compilers make it, each program; tries the must-fail edits, many in one
+#          check; then the scripts that try the program over files.
+# gate:    the same with each edit in a check of its own, as `rt ci` does it: twice the
+#          time, for a release.
 # install: puts the program that `make trial` built into PREFIX/bin.
 # bench:   reads and writes lists beside plain readers, and acts on requests beside plain
 #          registries, and prints ratios. Not part of the gate; it says which packages
@@ -10,12 +12,15 @@
 
 PREFIX ?= /usr/local
 
-.PHONY: trial test install bench
+.PHONY: trial test gate install bench
 
 trial:
 	@cd crates/registry_cli && rt run -- trial < ../../examples/first.jsonl
 
 test:
+	@scripts/gate.py
+
+gate:
 	rt ci
 	@scripts/try_the_program.sh
 

@@ -1,0 +1,255 @@
+"""Must-fail edits, and the functions whose bodies they change.
+
+An edit is a file of lines `file: PATH`, `old: TEXT` and `new: TEXT`; each text is a part of one line, and the old one
+stands in the file exactly once. So an edit changes whole lines, and edits of different lines can be put in together."""
+
+import os
+import re
+
+HEADER = re.compile(r"( *)(?:pub(?:\([a-z]+\))? )?(?:const )?(?:unsafe )?fn (\w+)")
+ITEM = re.compile(r"(?:pub(?:\([a-z]+\))? )?(?:const|static|struct|enum) (\w+)")
+CYCLE = re.compile(r" *#\[cycle\((\w+)\)\]")
+
+
+class BadEdit(Exception):
+    """Why an edit cannot be tried."""
+
+
+class Function:
+    """A function of a source file: its name as a check prints it, its lines, counted from 1, and those of its body."""
+
+    def __init__(self, module, block, name, lines):
+        self.module = module
+        self.inner = [*([block] if block else []), name]
+        self.first, self.body, self.last = lines
+        self.cycle = None
+
+    @property
+    def path(self):
+        return "::".join([*self.module, *self.inner])
+
+    @property
+    def closures(self):
+        """How the names begin of the closures in its body."""
+        return "::".join([*self.module, "fn", *self.inner, ""])
+
+    def owns(self, path):
+        """Whether what a check prints under this name is the function or a closure in it."""
+        return path == self.path or path.startswith(self.closures)
+
+
+def bracket_end(text):
+    """Where the bracket ends that the text begins with."""
+    depth = 0
+    for at, letter in enumerate(text):
+        depth += (letter == "<") - (letter == ">")
+        if not depth:
+            return at + 1
+    return len(text)
+
+
+def arguments(inside):
+    """The types of a bracket, without lifetimes and type parameters."""
+    parts, depth = [""], 0
+    for letter in inside:
+        depth += (letter in "<(") - (letter in ">)")
+        parts += [""] if letter == "," and not depth else []
+        parts[-1] += letter if letter != "," or depth else ""
+    return [it.strip() for it in parts if not re.fullmatch(r"\s*('\w+|[A-Z]|)\s*", it)]
+
+
+def short(path):
+    """The name of a type or trait in the name of an impl: its last part, and those of its arguments that are types."""
+    outer, bracket, inner = re.fullmatch(r"([^<(]*)([<(]?)(.*?)[>)]?", path.strip(" &")).groups()
+    parts = arguments(inner) if bracket else []
+    own = outer.split("::")[-1].strip() or f"Tuple{len(parts)}"
+    return own[0].upper() + own[1:] + "".join(short(it) for it in parts)
+
+
+def block_name(line):
+    """How a check names the impl or trait that begins with this line, if one does: the type, then the trait."""
+    found = re.match(r" *(?:pub(?:\([a-z]+\))? )?(impl|trait)\b(.*)", line)
+    if not found:
+        return None
+    rest = found[2].strip(" {").partition(" where ")[0]
+    if found[1] == "trait":
+        return short(rest.partition(":")[0])
+    rest = rest[bracket_end(rest) :] if rest.startswith("<") else rest
+    first, is_of_trait, second = rest.partition(" for ")
+    own = second or first
+    own = short(own if own.startswith("(") else own.partition("<")[0])
+    return own + short(first) if is_of_trait else own
+
+
+def block_above(lines, at, indent):
+    """The name of the impl or trait that the line stands in, if any."""
+    while indent and at >= 0:
+        text = lines[at]
+        if text.strip() and len(text) - len(text.lstrip()) < indent and block_name(text):
+            return block_name(text)
+        at -= 1
+    return None
+
+
+def extent(lines, at, indent):
+    """The lines, counted from 0, on which the body of the function begins and ends, if it has one of several lines."""
+    begins = None
+    for now in range(at, len(lines)):
+        text = lines[now].removeprefix(indent)
+        is_outer = text and lines[now].startswith(indent) and not text.startswith(" ")
+        if begins is not None:
+            if is_outer and text.startswith("}"):
+                return begins, now
+        elif now == at or is_outer and text.startswith((")", ">", "{", "where")):
+            begins = now if text.endswith("{") else None
+            if text.endswith((";", "}")):
+                return None
+        elif is_outer or text.endswith(";") or text and not lines[now].startswith(indent):
+            return None
+    return None
+
+
+def module_of(crate, path):
+    """The names from the crate down to the module of the source file, as src/a/b.rt is of `crate::a::b`."""
+    parts = path.removeprefix("src/").removesuffix(".rt").split("/")
+    return [crate, *(it for it in parts if it not in ("lib", "main"))]
+
+
+def functions_of(crate, path, text):
+    """The functions with bodies of a source file that `rt fmt` has laid out."""
+    lines, found = text.split("\n"), []
+    for at, line in enumerate(lines):
+        header = HEADER.match(line)
+        body = extent(lines, at, header[1]) if header else None
+        if body:
+            block = block_above(lines, at, len(header[1]))
+            made = Function(module_of(crate, path), block, header[2], (at + 1, body[0] + 1, body[1] + 1))
+            made.cycle = cycle_above(lines, at)
+            found.append(made)
+    return found
+
+
+def cycle_above(lines, at):
+    """The cycle of calls that an attribute above the function names, if one does."""
+    while at and re.match(r" *(#\[|///)", lines[at - 1]):
+        at -= 1
+        cycle = CYCLE.match(lines[at])
+        if cycle:
+            return cycle[1]
+    return None
+
+
+def pairs(text):
+    """The triples of a file, an old and a new text that the edit's lines spell."""
+    path = old = None
+    for line in text.split("\n"):
+        word, colon, rest = line.partition(":")
+        rest = rest.removeprefix(" ")
+        if word == "file" and colon:
+            path = rest.strip()
+        elif word == "old" and colon:
+            old = rest
+        elif word == "new" and colon:
+            if not path or not old:
+                raise BadEdit("a 'new:' line stands before any 'file:' or 'old:' line")
+            yield path, old, rest
+            old = None
+
+
+class Sources:
+    """The source files of a crate, as they stand, and their functions."""
+
+    def __init__(self, crate):
+        self.crate, self.texts, self.found = crate, {}, {}
+
+    def text(self, path):
+        if path not in self.texts:
+            if not re.fullmatch(r"src/[\w/]+\.rt", path) or not os.path.isfile(f"{self.crate.folder}/{path}"):
+                raise BadEdit(f"there is no source file {path}")
+            with open(f"{self.crate.folder}/{path}", encoding="utf-8") as it:
+                self.texts[path] = it.read()
+        return self.texts[path]
+
+    def functions(self, path):
+        if path not in self.found:
+            self.found[path] = functions_of(self.crate.name, path, self.text(path))
+        return self.found[path]
+
+    def around(self, path, line):
+        """The innermost function with this line, counted from 1."""
+        held = [it for it in self.functions(path) if it.first <= line <= it.last]
+        return min(held, key=lambda it: it.last - it.first, default=None)
+
+    def users(self, path, line):
+        """The functions of the crate that name the constant or type that the line is a part of, with their files."""
+        above = self.text(path).split("\n")[:line]
+        named = next((found[1] for found in map(ITEM.match, reversed(above)) if found), None)
+        if not named:
+            raise BadEdit("it changes no function, constant or type")
+        for folder, _, names in sorted(os.walk(f"{self.crate.folder}/src")):
+            for name in sorted(names):
+                file = os.path.relpath(f"{folder}/{name}", self.crate.folder)
+                lines = self.text(file).split("\n")
+                for it in self.functions(file):
+                    if re.search(rf"\b{named}\b", "\n".join(lines[it.body - 1 : it.last])):
+                        yield file, it
+
+
+def name_of(file):
+    """The name of the edit in this file."""
+    return os.path.basename(file).removesuffix(".edit")
+
+
+class Edit:
+    """An edit: the lines that it changes, as file, number and new text, and the functions that it is judged by."""
+
+    def __init__(self, file, sources):
+        self.name = name_of(file)
+        self.lines, self.functions, self.is_alone = {}, [], False
+        if not os.path.isfile(file) or not file.endswith(".edit"):
+            raise BadEdit("it is no file whose name ends in .edit")
+        with open(file, encoding="utf-8") as it:
+            self.lines = self.changes(it.read(), sources)
+        for path, line in sorted(self.lines):
+            function = sources.around(path, line)
+            if function and line < function.body:
+                raise BadEdit(f"it changes the contract of {function.path}, and not its body")
+            self.is_alone |= not function
+            for held in [(path, function)] if function else sources.users(path, line):
+                self.functions += [held] if held not in self.functions else []
+        if not self.functions:
+            raise BadEdit("no function names what it changes")
+
+    @staticmethod
+    def changes(text, sources):
+        made = {}
+        for path, old, new in pairs(text):
+            now = made.get(path) or sources.text(path)
+            if now.count(old) != 1:
+                raise BadEdit(f"an 'old:' text is in {path} {now.count(old)} times, and not once")
+            made[path] = now.replace(old, new)
+        lines = {}
+        for path, now in made.items():
+            for number, (before, after) in enumerate(zip(sources.text(path).split("\n"), now.split("\n")), 1):
+                if before != after:
+                    lines[path, number] = after
+        if not lines:
+            raise BadEdit("it changes nothing")
+        return lines
+
+    def keys(self):
+        """What no two edits of one check may share: functions, or the cycle of calls that has one proof for several."""
+        return {it.cycle or it.path for _, it in self.functions}
+
+
+def rounds_of(edits):
+    """The edits in as few checks as can be: two of one function apart, and alone what is in no body."""
+    rounds = []
+    for edit in edits:
+        clash = lambda other: edit.is_alone or other.is_alone or other.keys() & edit.keys()
+        free = next((it for it in rounds if not any(map(clash, it))), None)
+        if free is None:
+            rounds.append([edit])
+        else:
+            free.append(edit)
+    return rounds

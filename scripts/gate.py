@@ -1,0 +1,80 @@
+#!/usr/bin/env python3
+"""The gate: `rt ci` over a copy of the repository without its must-fail edits, then these edits, as many in one check
+as can be, over what `rt ci` built there, then the scripts that try the program that it built.
+
+The copy has the files as they stand, committed or not, and lies in a temporary folder. What `rt ci` would say of each
+edit by itself `make gate` shows, which takes longer. The last line counts what passed and failed over all parts, a
+script that failed as one; the status is 0 where nothing did."""
+
+import os
+import re
+import shutil
+import subprocess
+import sys
+import tempfile
+import time
+
+from crates import TOP
+
+EDITS = re.compile(r"crates/[^/]+/must-fail/")
+NAMES = re.compile(r"(rt: )?FAILED: ")
+COUNT = re.compile(r"(\d+) passed, (\d+) failed\n?")
+
+
+def files():
+    """The files of the repository, but those that git ignores."""
+    words = ["git", "ls-files", "-z", "--cached", "--others", "--exclude-standard"]
+    listed = subprocess.run(words, cwd=TOP, stdout=subprocess.PIPE, check=True)
+    names = {it for it in os.fsdecode(listed.stdout).split("\0") if it}
+    return sorted(it for it in names if os.path.lexists(f"{TOP}/{it}"))
+
+
+def copy(names, to):
+    for name in names:
+        os.makedirs(os.path.dirname(f"{to}/{name}"), exist_ok=True)
+        shutil.copy2(f"{TOP}/{name}", f"{to}/{name}", follow_symlinks=False)
+
+
+class Part:
+    """A part of the gate that has run: how much passed and failed, by its last line and status, and what it names."""
+
+    def __init__(self, words, at):
+        name = " ".join(words)
+        print(f"== {name}", flush=True)
+        begun, last, self.named = time.monotonic(), "", []
+        how = {"stdin": subprocess.DEVNULL, "stdout": subprocess.PIPE, "stderr": subprocess.STDOUT}
+        with subprocess.Popen(words, cwd=at, text=True, errors="replace", **how) as ran:
+            for line in ran.stdout:
+                print(line, end="", flush=True)
+                last = line
+                self.named += [line.rstrip()] if NAMES.match(line) else []
+        print(f"== {name}: {(time.monotonic() - begun) / 60:.1f} minutes", flush=True)
+        count = COUNT.fullmatch(last)
+        self.passed, self.failed = (int(it) for it in count.groups()) if count else (0, 0)
+        if ran.returncode and not self.failed:
+            self.failed = 1
+        if self.failed and not self.named:
+            self.named = [f"FAILED: {name}"]
+
+
+def main():
+    names = files()
+    with tempfile.TemporaryDirectory(prefix="usbreg-gate-") as room:
+        # the top of a repository, as `rt ci` wants it
+        subprocess.run(["git", "init", "--quiet", room], check=True)
+        copy([it for it in names if not EDITS.match(it)], room)
+        parts = [Part(["rt", "ci"], room)]
+        copy([it for it in names if EDITS.match(it)], room)
+        parts += [Part(["scripts/wrong_bodies.py", "--as-built"], room)]
+        scripts = [Part([it], room) for it in ("scripts/test_wrong_bodies.py", "scripts/try_the_program.sh")]
+    for part in [*parts, *scripts]:
+        print("".join(f"{it}\n" for it in part.named), end="")
+    if parts[0].failed:
+        print("A crate alone: rt check, rt test or rt run in its folder; all of rt ci: make gate")
+    failed = sum(it.failed for it in [*parts, *scripts])
+    print(f"{sum(it.passed for it in parts)} passed, {failed} failed")
+    return 1 if failed else 0
+
+
+if __name__ == "__main__":
+    sys.exit(main())

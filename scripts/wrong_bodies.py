@@ -1,0 +1,281 @@
+#!/usr/bin/env python3
+"""Tries the must-fail edits of crates, as many in one check as can be: a wrong body may break only the goals of its
+own function, since all others see its contract alone. So each edit is judged by the goals of the functions that it
+changes, and by nothing else that the check says.
+
+An edit counts as refused where a function that it changes is not proved, and a goal of that function itself failed.
+That it calls one that is not proved says nothing, nor does an answer that names what the edit took away. Two bodies
+of one function are tried in two checks, and alone what is in no body, as a constant is. An edit whose text is gone,
+or that the compiler or the borrow checker refuses for its form, is a bad edit, and the others are tried again
+without it. What is not refused beside others is tried alone.
+
+Usage: scripts/wrong_bodies.py [--as-built] [NAME | NAME/EDIT ..], by default all crates. With --as-built it takes the
+libraries that `rt ci` built just before, and leaves out crates that it did not prove; without, it runs `rt check` in
+each crate first, and works over what that kept. The last line counts the edits, and the status is 0 where all were
+refused."""
+
+import concurrent.futures
+import os
+import re
+import shutil
+import subprocess
+import sys
+import tempfile
+
+from crates import crates_of, kit
+from edits import BadEdit, Edit, Sources, name_of, rounds_of
+
+# How a check is run: what it prints is one text.
+HEARD = {"stdin": subprocess.DEVNULL, "stdout": subprocess.PIPE, "stderr": subprocess.STDOUT, "errors": "replace"}
+
+PARTS = ("src", "specs", "proofs")
+
+# What one check takes at most, in bytes, with room to spare.
+NEED = 3_000_000_000
+
+# Errors of an answers file that follow from another declaration, or from a name that the edited body has no more.
+FOLLOWS = re.compile(r"has no field|has no `|is not in scope|is no name|was not admitted|depends? on")
+UNCOVERED = "the borrow checker does not cover this function"
+
+
+VERDICT = re.compile(r"^fn (\S+): (.*)$", re.MULTILINE)
+ENDED = re.compile(r"^only=\d+ proved=\d+$", re.MULTILINE)
+GOAL = re.compile(r"^note: (?:\./)?((src/\S+?):(\d+):\d+: it is not proved that .*)$", re.MULTILINE)
+ANSWER = re.compile(r"^(?:\./)?(proofs/(\S+)/(?:Answers|Invariants|Proof)\.antt:\d+:\d+: error: .*)$", re.MULTILINE)
+REJECTED = re.compile(r"^(?:\./)?((src/\S+?):(\d+):\d+: error\b.*)$", re.MULTILINE)
+UNKNOWN = re.compile(r"^rattle: error: `\S+` has no function `(\S+)`", re.MULTILINE)
+SEVERAL = re.compile(r"^rattle: error: several functions are named `\S+`: help: write one of (.*)$", re.MULTILINE)
+
+
+class Said:
+    """What a check printed."""
+
+    def __init__(self, text, crate):
+        self.text, self.crate = text, crate
+        self.verdicts = dict(VERDICT.findall(text))
+        self.has_ended = bool(ENDED.search(text))
+        self.goals, self.answers, self.rejected = GOAL.findall(text), ANSWER.findall(text), REJECTED.findall(text)
+
+    def stands(self, function):
+        """What is said of the function and of the closures in it, where they are not proved."""
+        own = [said for path, said in self.verdicts.items() if function.owns(path)]
+        return [it for it in own if it.startswith(("no proof", "not proved"))]
+
+    def own_failure(self, path, function):
+        """The goal of the function that failed, in a few words, or None."""
+        stands = self.stands(function)
+        if not stands:
+            return None
+        for goal, file, line in self.goals:
+            if file == path and function.first <= int(line) <= function.last:
+                return goal
+        for error, folder in self.answers:
+            if function.owns("::".join([self.crate.name, *folder.split("/")])) and not FOLLOWS.search(error):
+                return error
+        return next((it for it in stands if "`search` did not prove" in it), None)
+
+    def misfit(self, edit):
+        """Why the edit's text is refused for its form, or None."""
+        for whole, path, line in self.rejected:
+            if (path, int(line)) in edit.lines:
+                return f"the compiler refuses it: {whole}"
+        for path, function in edit.functions:
+            for whole, file, line in self.rejected:
+                if file == path and function.body <= int(line) <= function.last:
+                    return f"the compiler refuses it: {whole}"
+            uncovered = next((it for it in self.stands(function) if UNCOVERED in it), None)
+            if uncovered:
+                return f"the borrow checker does not cover it, so no contract was tried: {uncovered}"
+        return None
+
+    def refusal(self, edit):
+        """The goal by which the edit is refused, or None."""
+        return next(filter(None, (self.own_failure(*it) for it in edit.functions)), None)
+
+
+class Trial:
+    """The trial of a crate's edits, in a folder of its own, over the work that each of its checks keeps."""
+
+    def __init__(self, crate, at, room):
+        self.crate, self.at, self.room = crate, at, room
+        self.refused, self.failed = [], {}
+
+    def tell(self, text):
+        print(f"{self.crate.name}: {text}", flush=True)
+
+    def fail(self, edit_name, why):
+        self.failed[f"{self.crate.name}/{edit_name}"] = why
+        print(f"{self.crate.name}/{edit_name}: FAILED: {why[:600]}", flush=True)
+
+    def check(self, edits):
+        """What a check says of the functions of these edits, with all of them put in."""
+        copy = f"{self.room}/copy"
+        shutil.rmtree(copy, ignore_errors=True)
+        for part in PARTS:
+            if os.path.isdir(f"{self.crate.folder}/{part}"):
+                shutil.copytree(f"{self.crate.folder}/{part}", f"{copy}/{part}")
+        for edit in edits:
+            for (path, number), text in edit.lines.items():
+                put_line(f"{copy}/{path}", number, text)
+        said = None
+        while said is None or self.rename(said, functions):
+            functions = {it.path: it for edit in edits for _, it in edit.functions}
+            said = self.rattle(sorted(functions))
+        return said
+
+    def rattle(self, names):
+        """What a check of the functions of these names says of the copy."""
+        only = [word for it in names for word in ("--only", it)]
+        words = [f"{self.at}/bin/rattle", "check", *only, *self.crate.flags(self.at)]
+        words += ["--incremental", f"{self.room}/kept"]
+        return Said(subprocess.run(words, cwd=f"{self.room}/copy", check=False, **HEARD).stdout, self.crate)
+
+    def rename(self, said, functions):
+        """Finds what a check calls a function that it does not know by the name that the source gave it."""
+        unknown = UNKNOWN.search(said.text)
+        function = functions.get(unknown[1]) if unknown else None
+        if not function:
+            return False
+        listed = self.rattle([function.inner[-1]])
+        several = SEVERAL.search(listed.text)
+        names = re.findall(r"`([^`]+)`", several[1]) if several else [*listed.verdicts]
+        begins, ends = "::".join([*function.module, ""]), f"::{function.inner[-1]}"
+        names = [it for it in names if it.startswith(begins) and it.endswith(ends) and it != function.path]
+        if names:
+            best = max(names, key=lambda it: len(os.path.commonprefix([it, function.path])))
+            function.inner = best.split("::")[len(function.module) :]
+        return bool(names)
+
+    def judge(self, edits):
+        """Tries edits in one check, again without misfits. Returns those that were not refused, and what was said."""
+        left = list(edits)
+        while left:
+            self.tell(f"{len(left)} wrong bodies in one check" if len(left) > 1 else f"{left[0].name} alone")
+            said = self.check(left)
+            misfits = [(it, said.misfit(it)) for it in left]
+            for edit, why in misfits:
+                if why:
+                    self.fail(edit.name, f"a bad edit: {why}")
+            fitting = [it for it, why in misfits if not why]
+            if len(fitting) == len(left):
+                break
+            left = fitting
+        else:
+            return [], None
+        shown = [(it, said.refusal(it) if said.has_ended else None) for it in left]
+        for edit, goal in shown:
+            if goal:
+                self.refused.append(edit.name)
+                print(f"{self.crate.name}/{edit.name}: refused: {goal[:200]}", flush=True)
+        return [it for it, goal in shown if not goal], said
+
+    def read(self, files):
+        """The edits of these files that can be put in."""
+        sources = Sources(self.crate)
+        for file in files:
+            try:
+                yield Edit(file, sources)
+            except (BadEdit, UnicodeDecodeError) as why:
+                self.fail(name_of(file), f"a bad edit: {why}")
+
+    def run(self, files):
+        """Tries the edits of these files."""
+        for together in rounds_of([*self.read(files)]):
+            left, said = self.judge(together)
+            for edit in left:
+                again = ([edit], said) if len(together) == 1 else self.judge([edit])
+                if again[0]:
+                    self.fail(edit.name, f"not refused: {self.last_words(edit, again[1])}")
+
+    @staticmethod
+    def last_words(edit, said):
+        """What the check said of the edited functions, or at its end."""
+        owns = [function.owns for _, function in edit.functions]
+        verdicts = [f"fn {path}: {it}" for path, it in said.verdicts.items() if any(own(path) for own in owns)]
+        return "; ".join(verdicts) if said.has_ended and verdicts else said.text[-400:].strip().replace("\n", " | ")
+
+
+def put_line(file, number, text):
+    """Puts the text in place of the file's line with this number, counted from 1."""
+    with open(file, encoding="utf-8") as it:
+        lines = it.read().split("\n")
+    lines[number - 1] = text
+    with open(file, "w", encoding="utf-8") as it:
+        it.write("\n".join(lines))
+
+
+def is_ready(crate, as_built):
+    """Whether the crate is proved, and the libraries below it are built."""
+    if as_built:
+        return all(it.is_built() for it in [crate, *crate.below()])
+    ran = subprocess.run(["rt", "check", "--jobs", "1"], cwd=crate.folder, check=False, **HEARD)
+    print(ran.stdout[-900:] if ran.returncode else f"{crate.name}: proved", flush=True)
+    return ran.returncode == 0
+
+
+def try_crate(crate, files, at, as_built):
+    """Tries edits of the crate, and returns its trial."""
+    with tempfile.TemporaryDirectory(prefix="wrong-bodies-") as room:
+        trial = Trial(crate, at, room)
+        if is_ready(crate, as_built):
+            kept = f"{crate.folder}/out/incremental"
+            if not as_built and os.path.isdir(kept):
+                shutil.copytree(kept, f"{room}/kept")
+            trial.run(files)
+        else:
+            for file in files:
+                trial.fail(name_of(file), "not tried, since the crate is not proved")
+        trial.tell(f"{len(trial.refused)} of {len(files)} wrong bodies refused")
+        return trial
+
+
+def asked(names):
+    """The crates that are asked for, each with the files of its edits, those with the most work first."""
+    crates = crates_of()
+    found = {}
+    for name in names or crates:
+        crate, _, edit = name.rstrip("/").partition("/")
+        if crate not in crates:
+            sys.exit(f"crates.txt names no crate {crate}")
+        files = [it for it in crates[crate].edits() if edit in ("", name_of(it))]
+        if edit and not files:
+            sys.exit(f"there is no edit {name}")
+        found.setdefault(crate, []).extend(files)
+    work = {it: len(files) * (1 + len(crates[it].below())) for it, files in found.items() if files}
+    return [(crates[it], found[it]) for it in sorted(work, key=lambda it: -work[it])]
+
+
+def number_in(file, pattern):
+    """The number that the pattern finds in a file of the system, or None."""
+    try:
+        with open(file, encoding="ascii") as it:
+            found = re.search(pattern, it.read())
+    except OSError:
+        return None
+    return int(found[1]) if found else None
+
+
+def lanes():
+    """How many crates to try side by side: one a processor, as many as memory holds, also by the control group."""
+    free = [1024 * number_in("/proc/meminfo", r"MemAvailable:\s+(\d+)")]
+    free.append(number_in("/sys/fs/cgroup/memory.max", r"^(\d+)"))
+    quota, period = (number_in("/sys/fs/cgroup/cpu.max", it) for it in (r"^(\d+)", r" (\d+)"))
+    processors = [len(os.sched_getaffinity(0)), *([quota // period] if quota and period else [])]
+    return max(1, min([*processors, *(it // NEED for it in free if it)]))
+
+
+def main():
+    as_built = "--as-built" in sys.argv
+    work, at = asked([it for it in sys.argv[1:] if it != "--as-built"]), kit()
+    with concurrent.futures.ThreadPoolExecutor(lanes()) as pool:
+        trials = [*pool.map(lambda it: try_crate(*it, at, as_built), work)]
+    refused = sum(len(it.refused) for it in trials)
+    failed = [it for trial in trials for it in trial.failed]
+    for name in failed:
+        print(f"FAILED: {name}: alone with scripts/wrong_bodies.py {name}")
+    print(f"{refused} passed, {len(failed)} failed")
+    return 1 if failed else 0
+
+
+if __name__ == "__main__":
+    sys.exit(main())
