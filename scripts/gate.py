@@ -16,17 +16,18 @@ import time
 
 from crates import TOP
 
+LEFT_OUT = {".git", "out", "__pycache__"}
 EDITS = re.compile(r"crates/[^/]+/must-fail/")
 NAMES = re.compile(r"(rt: )?FAILED: ")
 COUNT = re.compile(r"(\d+) passed, (\d+) failed\n?")
 
 
 def files():
-    """The files of the repository, but those that git ignores."""
-    words = ["git", "ls-files", "-z", "--cached", "--others", "--exclude-standard"]
-    listed = subprocess.run(words, cwd=TOP, stdout=subprocess.PIPE, check=True)
-    names = {it for it in os.fsdecode(listed.stdout).split("\0") if it}
-    return sorted(it for it in names if os.path.lexists(f"{TOP}/{it}"))
+    """The files of the repository, as they stand, but those that git ignores."""
+    for folder, below, names in os.walk(TOP):
+        below[:] = sorted(set(below) - LEFT_OUT)
+        for name in sorted(names):
+            yield os.path.relpath(f"{folder}/{name}", TOP)
 
 
 def copy(names, to):
@@ -58,10 +59,10 @@ class Part:
 
 
 def main():
-    names = files()
+    names = [*files()]
     with tempfile.TemporaryDirectory(prefix="usbreg-gate-") as room:
-        # the top of a repository, as `rt ci` wants it
-        subprocess.run(["git", "init", "--quiet", room], check=True)
+        # so that it is the top of a repository, as `rt ci` wants it, wherever the folder lies
+        os.mkdir(f"{room}/.git")
         copy([it for it in names if not EDITS.match(it)], room)
         parts = [Part(["rt", "ci"], room)]
         copy([it for it in names if EDITS.match(it)], room)
