@@ -147,27 +147,36 @@ class Trial:
         return bool(names)
 
     def judge(self, edits):
-        """Tries edits in one check, again without misfits. Returns those that were not refused, and what was said."""
-        left = list(edits)
-        while left:
-            self.tell(f"{len(left)} wrong bodies in one check" if len(left) > 1 else f"{left[0].name} alone")
-            said = self.check(left)
-            misfits = [(it, said.misfit(it)) for it in left]
-            for edit, why in misfits:
-                if why:
-                    self.fail(edit.name, f"a bad edit: {why}")
-            fitting = [it for it, why in misfits if not why]
-            if len(fitting) == len(left):
-                break
-            left = fitting
-        else:
-            return [], None
-        shown = [(it, said.refusal(it) if said.has_ended else None) for it in left]
-        for edit, goal in shown:
+        """Tries edits in one check, and returns those that were not refused, each with what was said."""
+        left, said = self.fitting(edits)
+        if left and not said.has_ended and len(left) > 1:
+            half = len(left) // 2
+            return self.judge(left[:half]) + self.judge(left[half:])
+        missed = []
+        for edit in left:
+            goal = said.refusal(edit) if said.has_ended else None
             if goal:
                 self.refused.append(edit.name)
                 print(f"{self.crate.name}/{edit.name}: refused: {goal[:200]}", flush=True)
-        return [it for it, goal in shown if not goal], said
+            else:
+                missed.append((edit, said))
+        return missed
+
+    def fitting(self, edits):
+        """Checks edits together, again without those whose form is refused. Returns the others, and what was said."""
+        while True:
+            self.tell(f"{len(edits)} wrong bodies in one check" if len(edits) > 1 else f"{edits[0].name} alone")
+            said = self.check(edits)
+            left = []
+            for edit in edits:
+                why = said.misfit(edit)
+                if why:
+                    self.fail(edit.name, f"a bad edit: {why}")
+                else:
+                    left.append(edit)
+            if not left or len(left) == len(edits):
+                return left, said
+            edits = left
 
     def read(self, files):
         """The edits of these files that can be put in."""
@@ -181,11 +190,11 @@ class Trial:
     def run(self, files):
         """Tries the edits of these files."""
         for together in rounds_of([*self.read(files)]):
-            left, said = self.judge(together)
-            for edit in left:
-                again = ([edit], said) if len(together) == 1 else self.judge([edit])
-                if again[0]:
-                    self.fail(edit.name, f"not refused: {self.last_words(edit, again[1])}")
+            missed = self.judge(together)
+            if len(together) > 1:
+                missed = [it for edit, _ in missed for it in self.judge([edit])]
+            for edit, said in missed:
+                self.fail(edit.name, f"not refused: {self.last_words(edit, said)}")
 
     @staticmethod
     def last_words(edit, said):
