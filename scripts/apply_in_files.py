@@ -7,9 +7,8 @@ case is as it should be."""
 import os
 import subprocess
 import sys
-import tempfile
 
-from usbreg import EXAMPLES, FOUNDING, content, opened, program, run, tables, write
+from usbreg import EXAMPLES, FOUNDING, content, folder, opened, program, run, tables, write
 
 TEN = f"{EXAMPLES}/ten.jsonl"
 REPLIES = [f'{{"done":"enrolled o{number}"}}\n' for number in range(1, 11)]
@@ -18,8 +17,8 @@ REPLIES = [f'{{"done":"enrolled o{number}"}}\n' for number in range(1, 11)]
 class Room:
     """A folder with a program, and how many of its cases were seen."""
 
-    def __init__(self, usbreg, folder):
-        self.program, self.folder, self.seen = usbreg, folder, 0
+    def __init__(self, usbreg, made):
+        self.program, self.folder, self.seen = usbreg, made, 0
 
     def file(self, name, text):
         return write(f"{self.folder}/{name}", text)
@@ -129,8 +128,8 @@ def words(room):
 
 
 def main():
-    with tempfile.TemporaryDirectory() as folder:
-        room = Room(program(*sys.argv[1:2]), folder)
+    with folder() as made:
+        room = Room(program(*sys.argv[1:2]), made)
         for cases in (ten_enrolments, what_is_not_acted_on, outputs_that_fail, words):
             cases(room)
         print(f"stores in files: {room.seen} cases are as they should be")

@@ -13,9 +13,8 @@ examples/orders.rows. The status is 0 where all of this held.
 import difflib
 import re
 import sys
-import tempfile
 
-from usbreg import EXAMPLES, TOP, apply, content, found, opened, program
+from usbreg import EXAMPLES, TOP, apply, content, folder, found, opened, program
 
 TEXTS = "SELECT sql FROM sqlite_schema WHERE sql IS NOT NULL ORDER BY rowid"
 TABLES = "SELECT name FROM sqlite_schema WHERE type = 'table' ORDER BY name"
@@ -59,7 +58,7 @@ def statements(rows):
 def main():
     usbreg = program(*sys.argv[1:2])
     rows = sys.argv[2] if len(sys.argv) > 2 else f"{EXAMPLES}/orders.rows"
-    with tempfile.TemporaryDirectory() as room:
+    with folder() as room:
         store = found(usbreg, f"{room}/store.db")
         apply(usbreg, store, f"{EXAMPLES}/orders.jsonl")
         with opened(store) as connection:

@@ -7,18 +7,16 @@ import os
 import shutil
 import subprocess
 import sys
-import tempfile
 
-from usbreg import TOP, content, run
+from usbreg import TOP, content, folder, run
 
 
 @contextlib.contextmanager
 def refusal():
-    """A folder for files of the run, and the library. The folder is in memory where there is such a one, since each
-    store is synced many times."""
+    """A folder for files of the run, and the library."""
     if not shutil.which("cc"):
         sys.exit("no C compiler: apt-get install gcc")
-    with tempfile.TemporaryDirectory(dir="/dev/shm" if os.path.isdir("/dev/shm") else None) as room:
+    with folder() as room:
         shim = f"{room}/refuse.so"
         subprocess.run(["cc", "-O2", "-shared", "-fPIC", "-o", shim, f"{TOP}/scripts/refuse.c", "-ldl"], check=True)
         yield room, shim

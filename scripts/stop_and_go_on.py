@@ -17,7 +17,7 @@ import sys
 import tempfile
 import time
 
-from usbreg import copy, found, opened, program, rounds, tables, write_requests
+from usbreg import copy, folder, found, opened, program, rounds, tables, write_requests
 
 ENROLMENTS = 1500
 
@@ -65,7 +65,7 @@ def main():
     usbreg = program(*sys.argv[2:3])
     seed = int(time.time())
     random.seed(seed)
-    with tempfile.TemporaryDirectory() as room:
+    with folder() as room:
         asked = list(rounds(1, ENROLMENTS))
         lines = write_requests(f"{room}/requests.jsonl", asked)
         store, other = (found(usbreg, f"{room}/{it}.db") for it in ("store", "other"))

@@ -7,12 +7,18 @@ import shutil
 import sqlite3
 import subprocess
 import sys
+import tempfile
 
 TOP = os.path.dirname(os.path.dirname(os.path.abspath(__file__)))
 EXAMPLES = f"{TOP}/examples"
 FOUNDING = f"{EXAMPLES}/founding.toml"
 # A store is its file, its log while it is open, and the index that other programs make of the log.
 ENDINGS = ("", "-wal", "-shm")
+
+
+def folder():
+    """A folder for a `with`, in memory where there is such a one, since each store is synced many times."""
+    return tempfile.TemporaryDirectory(dir="/dev/shm" if os.path.isdir("/dev/shm") else None)
 
 
 def program(given=None, crate="registry_cli", name=None):
