@@ -24,10 +24,11 @@ def section(text, name):
 
 
 def help_of_command(usbreg, command):
-    """Its usage line, and its arguments and options. The page writes STORE where the help writes <STORE>."""
+    """Its usage line, and its arguments and options. The page writes STORE where the help writes <STORE>, and usbreg
+    where the help has the name of the file that was run."""
     text = re.sub(r"<(\w+)>", r"\1", done([usbreg, command, "--help"]).decode())
-    usage = re.search(r"^Usage: (.*)$", text, re.MULTILINE)[1]
-    return usage, {*section(text, "Arguments"), *section(text, "Options")} - COMMON
+    usage = re.search(r"^Usage: \S+ (.*)$", text, re.MULTILINE)[1]
+    return f"usbreg {usage}", {*section(text, "Arguments"), *section(text, "Options")} - COMMON
 
 
 def helped(usbreg):
