@@ -10,9 +10,9 @@ founded in the same way: where that fails it can be founded again, or was founde
 The same with `usbids_bench` and a list that it reads, writes and reads again: it says so, or that there is
 no memory, and never counts other entries or names a fault of a line.
 
-Usage: scripts/refuse_allocations.py [--trial] [PROGRAM [BENCH]], by default the programs that `make test`
-builds; with --trial the two trials alone, which are part of `make test`. Wants cc. The status is 0 where all
-of this held."""
+Usage: scripts/refuse_allocations.py [--trial] [PROGRAM [BENCH]], by default the one that `make` builds, and the one
+that `rt run` builds in crates/usbids_bench; with --trial the two trials alone, which are part of `make test`. Wants cc.
+The status is 0 where all of this held."""
 
 import os
 import sys

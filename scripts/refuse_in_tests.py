@@ -8,8 +8,8 @@ right one fails here: want of memory has changed an answer.
 Of a test that asks for many allocations some hundred are refused, evenly spread, but for two that make the tables and
 each statement on them once; with --all it is each of them.
 
-Usage: scripts/refuse_in_tests.py [--all] [PROGRAM..], by default the test programs that `make test` builds of the
-crates below the store. Wants cc. The status is 0 where all of this held."""
+Usage: scripts/refuse_in_tests.py [--all] [PROGRAM..], by default the test programs of the crates below the store, as
+`rt test` builds them. Wants cc. The status is 0 where all of this held."""
 
 import itertools
 import re
