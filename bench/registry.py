@@ -39,7 +39,58 @@ class Usbreg:
     def in_memory(self, lines):
         return timed([self.path, "trial"], lines)
 
-    def new_store(room, it):
+    def new_store(self, store):
+        return found(self.path, store)
+
+    def in_file(self, store, lines):
+        return timed([self.path, "apply", store, lines])
+
+
+class Peer:
+    def __init__(self, name, words, last):
+        self.name, self.words, self.last = name, words, last
+
+    def in_memory(self, lines):
+        return timed([*self.words, ":memory:", lines, *self.last])
+
+    def new_store(self, store):
+        remove(store)
+        return store
+
+    def in_file(self, store, lines):
+        return timed([*self.words, store, lines, *self.last])
+
+
+def programs(room):
+    yield Usbreg()
+    if shutil.which("cc") and os.path.exists("/usr/include/sqlite3.h"):
+        subprocess.run(["cc", "-O2", "-o", f"{room}/peer", f"{HERE}/peer.c", "-lsqlite3"], check=True)
+        yield Peer("C, libsqlite3", [f"{room}/peer"], [f"{HERE}/tables.sql"])
+    else:
+        print("no peer in C: apt-get install gcc libsqlite3-dev")
+    yield Peer("Python, sqlite3", [sys.executable, f"{HERE}/peer.py"], [])
+
+
+def side_by_side(all_programs, lines, run, title, runs):
+    """Each program in turn, so many times; all must print the same."""
+    count = content(lines).count(b"\n")
+    taken = {it.name: [] for it in all_programs}
+    for _ in range(runs):
+        printed = set()
+        for it in all_programs:
+            seconds, out = run(it, lines)
+            taken[it.name].append(seconds)
+            printed.add(out)
+        if len(printed) != 1:
+            sys.exit(f"{title}: the programs do not print the same")
+    ours = taken[all_programs[0].name]
+    print(f"{title}, {count} requests, runs: {runs}:")
+    for name, seconds in taken.items():
+        best, middle = min(seconds), statistics.median(seconds)
+        print(f"  {name:16} {count / best:9.0f} a second, usbreg has {min(seconds) / min(ours):5.2f} of its rate at best, {middle / statistics.median(ours):5.2f} at the median")
+
+
+def new_store(room, it):
     return it.new_store(f"{room}/{it.name.split(',')[0]}.db")
 
 
