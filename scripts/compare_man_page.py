@@ -1,0 +1,79 @@
+#!/usr/bin/env python3
+"""Compares man/usbreg.1 with what `usbreg` says of itself.
+
+The version, the commands, and of each command its usage line, its arguments and its options with their values are
+those of `usbreg --help` and of each command's own help, and nothing else.
+
+Usage: scripts/compare_man_page.py [PROGRAM [PAGE]], by default the program that `make` builds, and man/usbreg.1.
+The status is 0 where they agree.
+"""
+
+import re
+import sys
+
+from usbreg import TOP, content, done, program
+
+# What each command's help has, and the page says once.
+COMMON = {"-h, --help", "-V, --version"}
+
+
+def section(text, name):
+    """The first column of a section of a help text."""
+    there = re.search(rf"^{name}:\n((?:  .*\n)*)", text, re.MULTILINE)
+    return [re.split(r"  +", line.strip())[0] for line in there[1].splitlines()] if there else []
+
+
+def help_of_command(usbreg, command):
+    """Its usage line, and its arguments and options. The page writes STORE where the help writes <STORE>, and usbreg
+    where the help has the name of the file that was run."""
+    text = re.sub(r"<(\w+)>", r"\1", done([usbreg, command, "--help"]).decode())
+    usage = re.search(r"^Usage: \S+ (.*)$", text, re.MULTILINE)[1]
+    return f"usbreg {usage}", {*section(text, "Arguments"), *section(text, "Options")} - COMMON
+
+
+def helped(usbreg):
+    """What is said of each command, and of the program under no name."""
+    whole = done([usbreg, "--help"]).decode()
+    told = {"": ("", set(section(whole, "Options")))}
+    for command in section(whole, "Commands"):
+        told[command] = ("usbreg help [COMMAND]", set()) if command == "help" else help_of_command(usbreg, command)
+    return told
+
+
+def plain(line):
+    """A line of roff without its macro, its quotes and its escapes."""
+    return re.sub(r"^\.\w+ ", "", line).replace('"', "").replace("\\-", "-").replace("  ", " ").strip()
+
+
+def documented(page):
+    """The same of the man page: a command is a heading with its usage, and an argument or option a tag below it."""
+    told, command = {}, None
+    lines = page.splitlines()
+    for line, below in zip(lines, lines[1:]):
+        if line.startswith(".SS "):
+            command = plain(line).split()[1]
+            told[command] = (plain(line), set())
+        elif line.startswith(".SH "):
+            command = "" if line == ".SH OPTIONS" else None
+            if command == "":
+                told[command] = ("", set())
+        elif line == ".TP" and command is not None:
+            told[command][1].add(plain(below).replace(" ,", ","))
+    return told
+
+
+def main():
+    usbreg = program(*sys.argv[1:2])
+    page = content(sys.argv[2] if len(sys.argv) > 2 else f"{TOP}/man/usbreg.1").decode()
+    version = done([usbreg, "--version"]).decode().strip()
+    if f'"{version}"' not in page:
+        sys.exit(f"the page is not of the version {version}")
+    wanted, there = helped(usbreg), documented(page)
+    for command in [*wanted, *there]:
+        if wanted.get(command) != there.get(command):
+            sys.exit(f"usbreg {command}: the page has {there.get(command)}, the help {wanted.get(command)}")
+    print(f"the man page has the version, the {len(wanted) - 1} commands, and their arguments and options")
+
+
+if __name__ == "__main__":
+    main()

@@ -1,0 +1,117 @@
+"""What the scripts and the benches share: the program and how it is run, stores, their tables, and made-up requests."""
+
+import contextlib
+import json
+import os
+import shutil
+import sqlite3
+import subprocess
+import sys
+import tempfile
+
+TOP = os.path.dirname(os.path.dirname(os.path.abspath(__file__)))
+EXAMPLES = f"{TOP}/examples"
+FOUNDING = f"{EXAMPLES}/founding.toml"
+# A store is its file, its log while it is open, and the index that other programs make of the log.
+ENDINGS = ("", "-wal", "-shm")
+
+
+def folder():
+    """A folder for a `with`, in memory where there is such a one, since each store is synced many times."""
+    return tempfile.TemporaryDirectory(dir="/dev/shm" if os.path.isdir("/dev/shm") else None)
+
+
+def program(given=None, crate="registry_cli", name=None):
+    """The path of the given program, or else of the one that is built in a crate. It ends the script where there is none."""
+    path = os.path.abspath(given or f"{TOP}/crates/{crate}/out/{name or crate}")
+    if not os.path.exists(path):
+        sys.exit(f"{path} is not there: `make` builds usbreg, and in the folder of another crate `rt run` or `rt test` builds it")
+    return path
+
+
+def content(path):
+    with open(path, "rb") as file:
+        return file.read()
+
+
+def write(path, text):
+    """Writes a text to a file, and gives the file's path."""
+    with open(path, "w", encoding="utf-8") as file:
+        file.write(text)
+    return path
+
+
+def run(words, given=b"", env=None):
+    """Status, output and errors of a program that reads the given bytes."""
+    ran = subprocess.run(words, input=given, capture_output=True, env={**os.environ, **(env or {})}, check=False, timeout=120)
+    return ran.returncode, ran.stdout, ran.stderr
+
+
+def done(words):
+    """The output of a program. It ends the script where the program fails or says something on its standard error."""
+    status, output, errors = run(words)
+    if status or errors:
+        sys.exit(f"{' '.join(words)} ended with status {status}: {errors!r}")
+    return output
+
+
+def found(usbreg, store, founding=FOUNDING):
+    """Founds a registry in a new file, and gives the file's path."""
+    remove(store)
+    done([usbreg, "found", store, founding])
+    return store
+
+
+def apply(usbreg, store, lines):
+    """The reply lines of a run that all is well with."""
+    return done([usbreg, "apply", store, lines])
+
+
+def remove(store):
+    """Removes a store, where it is there."""
+    for ending in ENDINGS:
+        if os.path.exists(store + ending):
+            os.remove(store + ending)
+
+
+def copy(store, other):
+    """Makes the second store what the first one is."""
+    remove(other)
+    for ending in ENDINGS:
+        if os.path.exists(store + ending):
+            shutil.copyfile(store + ending, other + ending)
+    return other
+
+
+def opened(store):
+    """Another program's connection to the store, for a `with`: at its end it is closed, as sqlite3's own is not."""
+    return contextlib.closing(sqlite3.connect(store))
+
+
+def tables(store):
+    """All tables and rows, as statements."""
+    with opened(store) as connection:
+        return list(connection.iterdump())
+
+
+def rounds(first, last, others=0):
+    """Organisations that each enrol, ask for a number and are granted the least free one: the rounds from the first to
+    the last, over a store that had all rounds before them, and so many petitions more."""
+    for number in range(first, last + 1):
+        org, site = f"o{number}", f"https://o{number}.example/"
+        yield {"caller": "ann", "key": f"e{number}", "order": "enrol", "org": org, "title": f"Workshop {number}", "site": site}
+        yield {"caller": "ann", "key": f"a{number}", "order": "ask", "org": org, "title": "Lamp", "licence": "MIT", "site": site, "source": site}
+        yield {"caller": "cora", "key": f"g{number}", "order": "grant", "petition": number + others}
+
+
+def declined(before, count):
+    """So many petitions of the first organisation that are declined, over a store that had so many petitions before."""
+    site = "https://o1.example/"
+    for number in range(before + 1, before + count + 1):
+        yield {"caller": "ann", "key": f"p{number}", "order": "ask", "org": "o1", "title": "Lamp", "licence": "MIT", "site": site, "source": site}
+        yield {"caller": "cora", "key": f"d{number}", "order": "decline", "petition": number}
+
+
+def write_requests(path, requests):
+    """Writes the requests to a file, one a line, and gives the file's path."""
+    return write(path, "".join(json.dumps(it, separators=(",", ":")) + "\n" for it in requests))
