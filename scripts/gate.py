@@ -9,6 +9,7 @@ script that failed as one; the status is 0 where nothing did."""
 import os
 import re
 import shutil
+import signal
 import subprocess
 import sys
 import tempfile
@@ -43,28 +44,41 @@ class Part:
         name = " ".join(words)
         print(f"== {name}", flush=True)
         begun, last, self.named = time.monotonic(), "", []
-        how = {"stdin": subprocess.DEVNULL, "stdout": subprocess.PIPE, "stderr": subprocess.STDOUT}
-        with subprocess.Popen(words, cwd=at, text=True, errors="replace", **how) as ran:
-            for line in ran.stdout:
-                print(line, end="", flush=True)
-                last = line
-                self.named += [line.rstrip()] if NAMES.match(line) else []
+        for line in self.lines(words, at):
+            print(line, end="", flush=True)
+            last = line
+            self.named += [line.rstrip()] if NAMES.match(line) else []
         print(f"== {name}: {(time.monotonic() - begun) / 60:.1f} minutes", flush=True)
         count = COUNT.fullmatch(last)
         self.passed, self.failed = (int(it) for it in count.groups()) if count else (0, 0)
-        if ran.returncode and not self.failed:
+        if self.status and not self.failed:
             self.failed = 1
         if self.failed and not self.named:
             self.named = [f"FAILED: {name}"]
 
+    def lines(self, words, at):
+        """What the part prints, line by line. It ends, with all that it started, where the gate is stopped."""
+        how = {"stdin": subprocess.DEVNULL, "stdout": subprocess.PIPE, "stderr": subprocess.STDOUT}
+        with subprocess.Popen(words, cwd=at, text=True, errors="replace", start_new_session=True, **how) as ran:
+            try:
+                yield from ran.stdout
+            except BaseException:
+                os.killpg(ran.pid, signal.SIGTERM)
+                raise
+        self.status = ran.returncode
+
 
 def main():
+    # so that the folder is removed also where the gate is ended from outside
+    signal.signal(signal.SIGTERM, lambda *_: sys.exit(1))
     names = [*files()]
     with tempfile.TemporaryDirectory(prefix="usbreg-gate-") as room:
         # so that it is the top of a repository, as `rt ci` wants it, wherever the folder lies
         os.mkdir(f"{room}/.git")
         copy([it for it in names if not EDITS.match(it)], room)
         parts = [Part(["rt", "ci"], room)]
+        # what the scripts leave where they are stopped goes with the copy
+        os.environ["TMPDIR"] = room
         copy([it for it in names if EDITS.match(it)], room)
         parts += [Part(["scripts/wrong_bodies.py", "--as-built"], room)]
         scripts = [Part([it], room) for it in ("scripts/test_wrong_bodies.py", "scripts/try_the_program.sh")]
