@@ -10,7 +10,7 @@ fi
 failed=0
 for needed in python3 cc; do
     if ! command -v "$needed" > /dev/null; then
-        echo "there is no $needed, which the scripts that try the program need (SKIP=1 leaves them out)" >&2
+        echo "FAILED: there is no $needed, which the scripts that try the program need (SKIP=1 leaves them out)" >&2
         failed=1
     fi
 done
@@ -18,7 +18,7 @@ done
 for script in apply_in_files.py compare_man_page.py look_into_a_store.py "refuse_allocations.py --trial" refuse_in_tests.py stop_and_go_on.py; do
     # shellcheck disable=SC2086
     if ! said=$(./$script 2>&1); then
-        echo "$script: $said" >&2
+        printf 'FAILED: scripts/%s\n%s\n' "$script" "$said" >&2
         failed=1
     fi
 done
