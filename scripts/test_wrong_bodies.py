@@ -41,6 +41,14 @@ impl From<(u8, u16)> for Rope {
     }
 }
 
+impl From<[u8; 2]> for Rope {
+    fn from(_ends: [u8; 2]) -> Rope
+        ensures { result.length ≡ 2 }
+    {
+        Rope { length: 2 }
+    }
+}
+
 impl Rope {
     /// Its length, at most this much.
     pub fn at_most(&self, most: u32) -> u32
@@ -91,6 +99,7 @@ pub fn cut_to_nothing(rope: &mut Rope)
 EDITS = {
     "cuts_the_rope_shorter": ("self.length = length;", "self.length = length / 2;", "refused"),
     "makes_a_shorter_rope": ("        Rope { length }", "        Rope { length: length / 2 }", "refused"),
+    "an_impl_whose_name_is_looked_up": ("        Rope { length: 2 }", "        Rope { length: 3 }", "refused"),
     "takes_the_second_of_two": ("u32::from(length.0)", "u32::from(length.1)", "refused"),
     "lets_the_rope_be_longer": ("else { most }", "else { self.length }", "refused"),
     "always_gives_the_length": ("if self.length < most {", "if self.length > most {", "refused"),
@@ -125,7 +134,8 @@ def faults(refused, failed):
     """What became of an edit, where that is not what must."""
     for name, (_, _, wanted) in EDITS.items():
         why = failed.get(f"ropes/{name}", "")
-        if wanted == "refused" and (name not in refused or why) or wanted != "refused" and (name in refused or wanted not in why):
+        is_right = name in refused and not why if wanted == "refused" else name not in refused and wanted in why
+        if not is_right:
             yield f"{name}: {'refused' if name in refused else why or 'not tried'}, and not: {wanted}"
 
 
@@ -138,8 +148,8 @@ def main():
         os.mkdir(trial.room)
         trial.run(crate.edits())
     wrong = [*faults(trial.refused, trial.failed)]
-    if unproved.refused or len(unproved.failed) != len(EDITS):
-        wrong.append(f"of a crate that is not proved, {len(unproved.failed)} edits failed, and not {len(EDITS)}")
+    if unproved.refused or [*unproved.failed] != ["ropes"]:
+        wrong.append("a crate that is not proved is not named as what failed")
     print("\n".join([said.getvalue(), *wrong] if wrong else []), end="\n" if wrong else "")
     print(f"{len(EDITS) + 1 - len(wrong)} passed, {len(wrong)} failed")
     return 1 if wrong else 0

@@ -37,14 +37,13 @@ NEED = 3_000_000_000
 FOLLOWS = re.compile(r"has no field|has no `|is not in scope|is no name|was not admitted|depends? on")
 UNCOVERED = "the borrow checker does not cover this function"
 
-
 VERDICT = re.compile(r"^fn (\S+): (.*)$", re.MULTILINE)
 ENDED = re.compile(r"^only=\d+ proved=\d+$", re.MULTILINE)
 GOAL = re.compile(r"^note: (?:\./)?((src/\S+?):(\d+):\d+: it is not proved that .*)$", re.MULTILINE)
 ANSWER = re.compile(r"^(?:\./)?(proofs/(\S+)/(?:Answers|Invariants|Proof)\.antt:\d+:\d+: error: .*)$", re.MULTILINE)
 REJECTED = re.compile(r"^(?:\./)?((src/\S+?):(\d+):\d+: error\b.*)$", re.MULTILINE)
-UNKNOWN = re.compile(r"^rattle: error: `\S+` has no function `(\S+)`", re.MULTILINE)
-SEVERAL = re.compile(r"^rattle: error: several functions are named `\S+`: help: write one of (.*)$", re.MULTILINE)
+UNKNOWN = re.compile(r"^rattle: error: `\S+` has no function `([^`]+)`", re.MULTILINE)
+SEVERAL = re.compile(r"^rattle: error: several functions are named `[^`]+`: help: write one of (.*)$", re.MULTILINE)
 
 
 class Said:
@@ -232,8 +231,8 @@ def try_crate(crate, files, at, as_built):
                 shutil.copytree(kept, f"{room}/kept")
             trial.run(files)
         else:
-            for file in files:
-                trial.fail(name_of(file), "not tried, since the crate is not proved")
+            trial.failed[crate.name] = f"its {len(files)} edits were not tried, since it is not proved"
+            trial.tell(trial.failed[crate.name])
         trial.tell(f"{len(trial.refused)} of {len(files)} wrong bodies refused")
         return trial
 
