@@ -6,7 +6,13 @@ pub mod fault;
 mod queries;
 pub mod registry;
 pub mod reopen;
+pub mod replies;
+mod run;
 
 pub use fault::Fault;
 pub use registry::{Registry, RunEnd};
-pub use reopen::{crash_and_open, open_files, run_through, stop, take_up};
+pub use reopen::{
+    Closed, close_and_open, close_files, crash_and_open, leave, leave_and_open, leave_store,
+    open_files, run_in_memory, run_through, stop, take_up,
+};
+pub use replies::{Cut, Replies, RunStop};
