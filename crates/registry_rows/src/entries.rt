@@ -1,6 +1,6 @@
 //! The numbers that have an owner.
 
-ghost use Rattle.std.specs.Prelude.{◌≡◌, ◌≢◌, [], ◌∷◌, ◌++◌, map, filter, IsTrue, Err, IfSome};
+ghost use Rattle.std.specs.Prelude.{◌≡◌, ◌≢◌, [], ◌∷◌, ◌++◌, map, filter, find, IsTrue, Err, IfSome};
 ghost use Rattle.std.specs.Option.{option_map, option_copied};
 ghost use Rattle.usbnum_core.specs.Text.{IsTitle, IsLink};
 ghost use Rattle.sqlite.specs.State.{HasCleanDisk, Survives};
@@ -13,7 +13,7 @@ ghost use Rattle.registry_rows.specs.Steps.{Answers, Changes, Decodes};
 use crate::columns::{
     flag_at, link_or_null_at, pid_at, slug_at, title_at, title_or_null_at, vid_at,
 };
-use crate::decode::{FromRow, all_from};
+use crate::decode::{FromRow, all_from, first_from};
 use registry_rules::{Card, Entry, Terms};
 use registry_schema::{TableFault, fault_of};
 use sqlite::{Alter, Row, Transaction, params};
@@ -191,6 +191,38 @@ pub fn set_card<S: Alter>(
         Ok(_) => Ok(()),
         Err(error) => Err(fault_of(error)),
     }
+}
+
+fn entry_rows<S: Alter>(tx: &mut Transaction<'_, S>, number: Number) -> Result<Vec<Row>, TableFault>
+    ensures same_reference { tx.new.conn.ghost_name ≡ tx.old.conn.ghost_name }
+    ensures rows { HasCleanDisk (state S.Store tx.new.conn.now) → IsTrue (state S.Store tx.old.conn.now).in_transaction
+        → Answers (state S.Store tx.old.conn.now) (state S.Store tx.new.conn.now) result (λ t rows. rows.items ≡ map entry_row (filter (is_of number) t.entries)) }
+    ensures fault { result ≢ Err TableFault.Foreign }
+    ensures survives { Survives (state S.Store tx.old.conn.now) (state S.Store tx.new.conn.now) (λ _. ⊥) }
+{
+    let ran = tx.query_all(
+        "SELECT vid, pid, org, held, title, licence, site, source FROM entries3 WHERE vid = ?1 AND pid = ?2 ORDER BY rowid",
+        params![u32::from(number.vid.get()), u32::from(number.pid.get())],
+    );
+    match ran {
+        Ok(rows) => Ok(rows),
+        Err(error) => Err(fault_of(error)),
+    }
+}
+
+/// The number, with its entry, if it has one.
+pub fn find_entry<S: Alter>(
+    alloc: Global,
+    tx: &mut Transaction<'_, S>,
+    number: Number,
+) -> Result<Option<(Number, Entry)>, TableFault>
+    ensures same_reference { tx.new.conn.ghost_name ≡ tx.old.conn.ghost_name }
+    ensures found { HasCleanDisk (state S.Store tx.new.conn.now) → IsTrue (state S.Store tx.old.conn.now).in_transaction
+        → Answers (state S.Store tx.old.conn.now) (state S.Store tx.new.conn.now) result (λ t found. found ≡ find (is_of number) t.entries) }
+    ensures survives { Survives (state S.Store tx.old.conn.now) (state S.Store tx.new.conn.now) (λ _. ⊥) }
+{
+    let rows = entry_rows(tx, number)?;
+    first_from(alloc, &rows)
 }
 
 fn rows_between<S: Alter>(

@@ -1,13 +1,15 @@
 //! The rows of a registry's store as values, and each SQL statement as a change of them.
 #![tactic(auto)]
 
-pub use entries::{find_entries, list_entries, put_entry, set_card, set_held};
+pub use columns::pid_at;
+pub use decode::{FromRow, all_from};
+pub use entries::{find_entries, find_entry, list_entries, put_entry, set_card, set_held};
 pub use fixed::{list_fixed, put_fixed};
 pub use kept::{KeptRow, find_kept, put_kept};
 pub use meta::{Meta, list_metas, put_meta};
 pub use names::{list_curators, list_licences, put_curator, put_licence};
 pub use orgs::{find_org, list_orgs, put_org};
-pub use petitions::{find_petition, list_petitions, put_petition};
+pub use petitions::{find_petition, find_petitions, list_petitions, put_petition};
 pub use spans::{cut_spans, find_spans, list_spans, put_span};
 pub use vendors::{list_vendors, put_vendor};
 

@@ -8,7 +8,7 @@ ghost use Rattle.registry_schema.specs.Schema.{schema_3};
 
 use crate::TableFault;
 use crate::first::create_first;
-use crate::later::create_later;
+use crate::later::{add_second, add_third};
 use sqlite::{Alter, Transaction};
 
 /// Makes all tables, where there are none: those of the first schema, then what the second and the third add, so that
@@ -21,6 +21,7 @@ pub fn create_tables<S: Alter>(tx: &mut Transaction<'_, S>) -> Result<(), TableF
     ensures survives { Survives (state S.Store tx.old.conn.now) (state S.Store tx.new.conn.now) (λ _. ⊥) }
 {
     create_first(tx)?;
-    create_later(tx)?;
+    add_second(tx)?;
+    add_third(tx)?;
     Ok(())
 }

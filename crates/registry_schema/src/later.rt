@@ -1,19 +1,20 @@
-//! The tables of the second and third schemas.
+//! The tables that the second and third schemas add to a store, which may have rows.
 
-ghost use Rattle.std.specs.Prelude.{◌≡◌, ◌≢◌, IsTrue, OnOk};
+ghost use Rattle.std.specs.Prelude.{◌≡◌, ◌≢◌, [], ◌∷◌, IsTrue, OnOk, Err};
 ghost use Rattle.sqlite.specs.State.{HasCleanDisk, Survives};
 ghost use Rattle.sqlite.specs.Held.{state};
-ghost use Rattle.table_laws.specs.Making.{Adds};
-ghost use Rattle.registry_schema.specs.Schema.{schema_1, schema_2, past_vendors, past_spans3, past_entries3, schema_3};
+ghost use Rattle.registry_schema.specs.Schema.{schema_1, schema_2, past_vendors, past_spans3, past_entries3, spans, vendors, spans3, entries3, petitions3};
+ghost use Rattle.table_laws.specs.Making.{AddsTo};
 
 use crate::TableFault;
 use crate::fault::fault_of;
 use sqlite::{Alter, Transaction};
 
-fn create_spans<S: Alter>(tx: &mut Transaction<'_, S>) -> Result<(), TableFault>
+/// The table that the second schema adds.
+pub fn add_second<S: Alter>(tx: &mut Transaction<'_, S>) -> Result<(), TableFault>
     ensures same_reference { tx.new.conn.ghost_name ≡ tx.old.conn.ghost_name }
     ensures made { HasCleanDisk (state S.Store tx.new.conn.now) → IsTrue (state S.Store tx.old.conn.now).in_transaction
-        → OnOk result (Adds schema_1 schema_2 (state S.Store tx.old.conn.now) (state S.Store tx.new.conn.now)) }
+        → OnOk result (AddsTo schema_1 (spans ∷ []) (state S.Store tx.old.conn.now) (state S.Store tx.new.conn.now)) }
     ensures fault { result ≢ Err TableFault.Foreign }
     ensures survives { Survives (state S.Store tx.old.conn.now) (state S.Store tx.new.conn.now) (λ _. ⊥) }
 {
@@ -30,7 +31,7 @@ fn create_spans<S: Alter>(tx: &mut Transaction<'_, S>) -> Result<(), TableFault>
 fn create_vendors<S: Alter>(tx: &mut Transaction<'_, S>) -> Result<(), TableFault>
     ensures same_reference { tx.new.conn.ghost_name ≡ tx.old.conn.ghost_name }
     ensures made { HasCleanDisk (state S.Store tx.new.conn.now) → IsTrue (state S.Store tx.old.conn.now).in_transaction
-        → OnOk result (Adds schema_2 past_vendors (state S.Store tx.old.conn.now) (state S.Store tx.new.conn.now)) }
+        → OnOk result (AddsTo schema_2 (vendors ∷ []) (state S.Store tx.old.conn.now) (state S.Store tx.new.conn.now)) }
     ensures fault { result ≢ Err TableFault.Foreign }
     ensures survives { Survives (state S.Store tx.old.conn.now) (state S.Store tx.new.conn.now) (λ _. ⊥) }
 {
@@ -47,7 +48,7 @@ fn create_vendors<S: Alter>(tx: &mut Transaction<'_, S>) -> Result<(), TableFaul
 fn create_spans3<S: Alter>(tx: &mut Transaction<'_, S>) -> Result<(), TableFault>
     ensures same_reference { tx.new.conn.ghost_name ≡ tx.old.conn.ghost_name }
     ensures made { HasCleanDisk (state S.Store tx.new.conn.now) → IsTrue (state S.Store tx.old.conn.now).in_transaction
-        → OnOk result (Adds past_vendors past_spans3 (state S.Store tx.old.conn.now) (state S.Store tx.new.conn.now)) }
+        → OnOk result (AddsTo past_vendors (spans3 ∷ []) (state S.Store tx.old.conn.now) (state S.Store tx.new.conn.now)) }
     ensures fault { result ≢ Err TableFault.Foreign }
     ensures survives { Survives (state S.Store tx.old.conn.now) (state S.Store tx.new.conn.now) (λ _. ⊥) }
 {
@@ -64,7 +65,7 @@ fn create_spans3<S: Alter>(tx: &mut Transaction<'_, S>) -> Result<(), TableFault
 fn create_entries3<S: Alter>(tx: &mut Transaction<'_, S>) -> Result<(), TableFault>
     ensures same_reference { tx.new.conn.ghost_name ≡ tx.old.conn.ghost_name }
     ensures made { HasCleanDisk (state S.Store tx.new.conn.now) → IsTrue (state S.Store tx.old.conn.now).in_transaction
-        → OnOk result (Adds past_spans3 past_entries3 (state S.Store tx.old.conn.now) (state S.Store tx.new.conn.now)) }
+        → OnOk result (AddsTo past_spans3 (entries3 ∷ []) (state S.Store tx.old.conn.now) (state S.Store tx.new.conn.now)) }
     ensures fault { result ≢ Err TableFault.Foreign }
     ensures survives { Survives (state S.Store tx.old.conn.now) (state S.Store tx.new.conn.now) (λ _. ⊥) }
 {
@@ -81,7 +82,7 @@ fn create_entries3<S: Alter>(tx: &mut Transaction<'_, S>) -> Result<(), TableFau
 fn create_petitions3<S: Alter>(tx: &mut Transaction<'_, S>) -> Result<(), TableFault>
     ensures same_reference { tx.new.conn.ghost_name ≡ tx.old.conn.ghost_name }
     ensures made { HasCleanDisk (state S.Store tx.new.conn.now) → IsTrue (state S.Store tx.old.conn.now).in_transaction
-        → OnOk result (Adds past_entries3 schema_3 (state S.Store tx.old.conn.now) (state S.Store tx.new.conn.now)) }
+        → OnOk result (AddsTo past_entries3 (petitions3 ∷ []) (state S.Store tx.old.conn.now) (state S.Store tx.new.conn.now)) }
     ensures fault { result ≢ Err TableFault.Foreign }
     ensures survives { Survives (state S.Store tx.old.conn.now) (state S.Store tx.new.conn.now) (λ _. ⊥) }
 {
@@ -95,17 +96,17 @@ fn create_petitions3<S: Alter>(tx: &mut Transaction<'_, S>) -> Result<(), TableF
     }
 }
 
-/// The tables that the second and third schemas add.
-pub fn create_later<S: Alter>(tx: &mut Transaction<'_, S>) -> Result<(), TableFault>
+/// The tables that the third schema adds.
+pub fn add_third<S: Alter>(tx: &mut Transaction<'_, S>) -> Result<(), TableFault>
     ensures same_reference { tx.new.conn.ghost_name ≡ tx.old.conn.ghost_name }
     ensures made { HasCleanDisk (state S.Store tx.new.conn.now) → IsTrue (state S.Store tx.old.conn.now).in_transaction
-        → OnOk result (Adds schema_1 schema_3 (state S.Store tx.old.conn.now) (state S.Store tx.new.conn.now)) }
+        → OnOk result (AddsTo schema_2 (vendors ∷ spans3 ∷ entries3 ∷ petitions3 ∷ []) (state S.Store tx.old.conn.now) (state S.Store tx.new.conn.now)) }
     ensures fault { result ≢ Err TableFault.Foreign }
     ensures survives { Survives (state S.Store tx.old.conn.now) (state S.Store tx.new.conn.now) (λ _. ⊥) }
 {
-    create_spans(tx)?;
     create_vendors(tx)?;
     create_spans3(tx)?;
     create_entries3(tx)?;
-    create_petitions3(tx)
+    create_petitions3(tx)?;
+    Ok(())
 }

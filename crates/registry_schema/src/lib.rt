@@ -3,6 +3,7 @@
 
 pub use create::create_tables;
 pub use fault::{TableFault, fault_of};
+pub use later::{add_second, add_third};
 pub use version::{has_meta, is_empty, version_of};
 
 mod create;

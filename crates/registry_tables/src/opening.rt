@@ -1,6 +1,7 @@
 //! What is kept in memory of a history.
 
-ghost use Rattle.std.specs.Prelude.{◌≡◌, ◌≢◌, false, IsTrue, IfOk, OnOk, MatchResult, Err};
+ghost use Rattle.std.specs.Prelude.{◌≡◌, ◌≢◌, false, filter, IsTrue, IfOk, OnOk, MatchResult, Err};
+ghost use Rattle.std.specs.List.{list_any};
 ghost use Rattle.sqlite.specs.State.{HasCleanDisk, Survives};
 ghost use Rattle.sqlite.specs.Held.{state};
 ghost use Rattle.usbnum_core.specs.Spans.{IsSpread};
@@ -8,16 +9,18 @@ ghost use Rattle.registry_rules.specs.FactsOf.{IsFoundingOf, AreVendorsOf};
 ghost use Rattle.registry_rules.specs.TotalsOf.{AreTotalsOf};
 ghost use Rattle.registry_tables.specs.Rows.{newest, meta_of};
 ghost use Rattle.registry_tables.specs.Version.{SaysNewest};
-ghost use Rattle.registry_tables.specs.Lists.{AreAllowed};
+ghost use Rattle.registry_tables.specs.Lists.{AreAllowed, AreCounted, CountsOn};
+ghost use Rattle.registry_rows.specs.Rows.{is_numbered, is_within};
+ghost use Rattle.registry_rows.specs.Steps.{Answers};
 ghost use Rattle.registry_tables.specs.Calls.{Lists, KeepsAll, IsForeign};
 ghost use Rattle.registry_tables.specs.Finds.{Finds};
 
 use crate::TableFault;
 use registry_rows::{
-    Meta, list_curators, list_entries, list_fixed, list_licences, list_metas, list_orgs,
-    list_petitions, list_spans, list_vendors,
+    Meta, find_petitions, list_curators, list_entries, list_fixed, list_licences, list_metas,
+    list_orgs, list_spans, list_vendors,
 };
-use registry_rules::{Curators, Founding, Licences, Totals, Vendors};
+use registry_rules::{Curators, Founding, Licences, Petition, PetitionCounts, Totals, Vendors};
 use sqlite::{Alter, Connection, Transaction};
 use std::alloc::Global;
 use usbnum_core::{Span, Spans};
@@ -132,7 +135,58 @@ fn vendors_in<S: Alter>(alloc: Global, tx: &mut Transaction<'_, S>) -> Result<Ve
     Ok(Vendors::new(vendors))
 }
 
-// The totals, each table read once.
+// Whether the petition of the number is there.
+fn has_petition(petitions: &[(u32, Petition)], id: u32) -> bool
+    ensures { result ≡ list_any (is_numbered id) petitions.now }
+{
+    petitions.iter().any(|pair| pair.0 == id)
+}
+
+// Counts the petitions from the low number to the high one, and says whether the high one is there.
+fn count_range<S: Alter>(
+    alloc: Global,
+    tx: &mut Transaction<'_, S>,
+    counts: &mut PetitionCounts,
+    low: u32,
+    high: u32,
+) -> Result<bool, TableFault>
+    ensures same_reference { tx.new.conn.ghost_name ≡ tx.old.conn.ghost_name }
+    ensures counted { HasCleanDisk (state S.Store tx.new.conn.now) → IsTrue (state S.Store tx.old.conn.now).in_transaction
+        → Answers (state S.Store tx.old.conn.now) (state S.Store tx.new.conn.now) result (λ t more. CountsOn counts.old counts.new (filter (is_within low high) t.petitions)
+        × (more ≡ list_any (is_numbered high) (filter (is_within low high) t.petitions))) }
+    ensures survives { Survives (state S.Store tx.old.conn.now) (state S.Store tx.new.conn.now) (λ _. ⊥) }
+{
+    let petitions = find_petitions(alloc, tx, low, high)?;
+    match counts.add(&petitions) {
+        Ok(()) => Ok(has_petition(&petitions, high)),
+        Err(_) => Err(TableFault::NoMemory),
+    }
+}
+
+// The petitions, counted 4,096 numbers at a time. A history has them from 1 on without a gap, so the first range that
+// lacks its last one ends them.
+fn petitions_in<S: Alter>(
+    alloc: Global,
+    tx: &mut Transaction<'_, S>,
+) -> Result<PetitionCounts, TableFault>
+    ensures same_reference { tx.new.conn.ghost_name ≡ tx.old.conn.ghost_name }
+    ensures told { HasCleanDisk (state S.Store tx.new.conn.now) → IsTrue (state S.Store tx.old.conn.now).in_transaction → IsTrue (state S.Store tx.old.conn.now).is_open
+        → Finds (state S.Store tx.old.conn.now) (state S.Store tx.new.conn.now) result AreCounted }
+    ensures survives { Survives (state S.Store tx.old.conn.now) (state S.Store tx.new.conn.now) (λ _. ⊥) }
+{
+    let mut counts = PetitionCounts::new(alloc);
+    for range in 0..1048576u32 {
+        let low = range * 4096;
+        match count_range(alloc, tx, &mut counts, low, low + 4095) {
+            Ok(true) => {}
+            Ok(false) => return Ok(counts),
+            Err(fault) => return Err(fault),
+        }
+    }
+    Ok(counts)
+}
+
+// The totals. The petitions are read range by range, each other table once.
 fn totals_in<S: Alter>(alloc: Global, tx: &mut Transaction<'_, S>) -> Result<Totals, TableFault>
     ensures same_reference { tx.new.conn.ghost_name ≡ tx.old.conn.ghost_name }
     ensures told { HasCleanDisk (state S.Store tx.new.conn.now) → IsTrue (state S.Store tx.old.conn.now).in_transaction
@@ -143,18 +197,17 @@ fn totals_in<S: Alter>(alloc: Global, tx: &mut Transaction<'_, S>) -> Result<Tot
     let founding = founding_in(alloc, tx)?;
     let vendors = vendors_in(alloc, tx)?;
     let orgs = list_orgs(alloc, tx)?;
-    let petitions = list_petitions(alloc, tx)?;
+    let petitions = petitions_in(alloc, tx)?;
     let entries = list_entries(alloc, tx)?;
     let spans = list_spans(alloc, tx)?;
-    match Totals::of_lists(
-        alloc, founding, vendors, &orgs, &petitions, &entries, &spans,
-    ) {
+    match Totals::of_lists(alloc, founding, vendors, &orgs, petitions, &entries, &spans) {
         Ok(totals) => Ok(totals),
         Err(_) => Err(TableFault::NoMemory),
     }
 }
 
-/// The totals of the history whose rows the store has. Each table is read once, and nothing is written.
+/// The totals of the history whose rows the store has. The petitions are read range by range, each other table once, and
+/// nothing is written.
 ///
 /// `TableFault::Foreign` comes only where the tables are those of no history, as where the store says that it is of
 /// another schema than the newest. `TableFault::NoMemory` comes where the rows or the

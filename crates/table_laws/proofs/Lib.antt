@@ -7,6 +7,7 @@ pub mod ReadLemmas
 pub mod DeleteLemmas
 pub mod UpdateLemmas
 pub mod UnnumberedLemmas
+pub mod CopyLemmas
 pub mod SortedLemmas
 pub mod LastLemmas
 pub mod FoundLemmas

@@ -1,11 +1,13 @@
 -- CREATE TABLE adds its table.
-use Rattle.std.proofs.Common.{◌≡◌, ℕ, false, List, [], None, Ok, Result, sym, ap, subst, ◌∙◌}
+use Rattle.std.proofs.Common.{◌≡◌, ℕ, false, List, [], ◌∷◌, ◌++◌, fold, None, Ok, Result, sym, ap, subst, ◌∙◌}
 use Rattle.sqlite_trees.proofs.ListLemmas.{all_both, all-append}
 use Rattle.sqlite_schema.specs.declared.schema.Table.{Table}
 use Rattle.sqlite_schema.specs.declared.schema.Schema.{Schema}
 use Rattle.sqlite_schema.specs.declared.command.Command.TheVariants.{CreateTable}
 use Rattle.sqlite_resolve.specs.declared.error.CompileError.{CompileError}
 use Rattle.sqlite_resolve.specs.Compile.{table_defined_by}
+use Rattle.std.specs.List.{AllByRecursion}
+use Rattle.sqlite_trees.specs.Tree.{Trees}
 use Rattle.sqlite_catalog.specs.Listing.{IsSound}
 use Rattle.sqlite_catalog.specs.Change.{created, next_tree, KeepsRows}
 use Rattle.sqlite.specs.Effect.{Database}
@@ -13,7 +15,7 @@ use Rattle.sqlite.specs.Does.{Tally, lacks_sequence}
 use Rattle.sqlite.specs.State.{State, Executes, Writes}
 use Rattle.sqlite.specs.Listing.{understood}
 use Rattle.sqlite.proofs.Callers.{IsPlain, command_of, statement_of, runs_as}
-use Rattle.table_laws.specs.Making.{IsBlank, HasMade, Adds}
+use Rattle.table_laws.specs.Making.{IsBlank, HasMade, HasMore, Adds, AddsTo}
 use Rattle.table_laws.proofs.InsideLemmas.{goes_then}
 use Rattle.table_laws.proofs.PartLemmas.{same_ok, went}
 
@@ -60,3 +62,32 @@ adds_blank old new schema sql table makes count h blank =
 -- one step of making the tables and then another
 pub adds_then : (before mid after : Schema) (a b c : State) → Adds before mid a b → Adds mid after b c → Adds before after a c
 adds_then before mid after a b c p q = (goes_then a b c p.0 q.0, λ blank. q.1 (p.1 blank))
+
+-- ---- beside tables that have rows
+
+-- one table more
+pub has_one : (schema : Schema) (table : Table) (old new : Database) → table.tree ≡ next_tree schema → HasMade schema table old new → HasMore schema (table ∷ []) old new
+has_one schema table old new at made = record { is = made.is; sound = made.sound; kept = made.others; empty = (subst (λ n. new.trees n ≡ []) (sym at) made.empty, tt) }
+
+pub front_kept : (xs ys : List Table) (a b : Trees) → KeepsRows (xs ++ ys) a b → KeepsRows xs a b
+front_kept [] ys a b h = tt
+front_kept (x ∷ xs) ys a b h = (h.0, front_kept xs ys a b h.1)
+
+pub kept_then : (xs : List Table) (a b c : Trees) → KeepsRows xs a b → KeepsRows xs b c → KeepsRows xs a c
+kept_then [] a b c p q = tt
+kept_then (x ∷ xs) a b c p q = (q.0 ∙ p.0, kept_then xs a b c p.1 q.1)
+
+-- where no table had a row, none has
+pub adds_more : (schema : Schema) (added : List Table) (a b : State) → (fold created schema added).tables ≡ schema.tables ++ added → AddsTo schema added a b → Adds schema (fold created schema added) a b
+adds_more schema added a b tables adds = (
+  adds.0,
+  λ blank.
+      (let more = adds.1 blank.is in
+      record {
+        is = more.is;
+        sound = more.sound;
+        none = subst (AllByRecursion (λ (t : Table). b.now.trees t.tree ≡ [])) (sym tables) (all-append (λ (t : Table). b.now.trees t.tree ≡ []) schema.tables added
+            (all_both (λ (t : Table). b.now.trees t.tree ≡ a.now.trees t.tree) (λ (t : Table). a.now.trees t.tree ≡ []) (λ (t : Table). b.now.trees t.tree ≡ []) (λ t p q. p ∙ q) schema.tables more.kept blank.none)
+            more.empty);
+      }),
+)

@@ -96,7 +96,7 @@ module _ {X : Type 0} (key : X → ℤ) where
   insert_above [] new h = refl
   insert_above (x ∷ xs) new h = rw (Less-from_lt (key x) (key new) h.0, insert_above xs new h.1)
 
-  below_next : (xs : List X) → IsKeyedBy key xs → AllByRecursion (λ y. key y <ℤ next_key key xs) xs
+  pub below_next : (xs : List X) → IsKeyedBy key xs → AllByRecursion (λ y. key y <ℤ next_key key xs) xs
   below_next [] up = tt
   below_next (x ∷ xs) up = above_all key xs x up
 
@@ -107,11 +107,11 @@ module _ {X : Type 0} (IsValid : X → Type 0) (row : X → Row) where
   abbrev pub numbered_row : ℤ × X → Row
   numbered_row p = Int p.0 ∷ row p.1
 
-  next_is : (start : ℤ) (xs : List (ℤ × X)) → fold (λ (_ : ℤ) (r : Row). id_in (rowid r) +ℤ pos 1) start (map numbered_row xs) ≡ fold (λ (_ : ℤ) (p : ℤ × X). p.0 +ℤ pos 1) start xs
+  pub next_is : (start : ℤ) (xs : List (ℤ × X)) → fold (λ (_ : ℤ) (r : Row). id_in (rowid r) +ℤ pos 1) start (map numbered_row xs) ≡ fold (λ (_ : ℤ) (p : ℤ × X). p.0 +ℤ pos 1) start xs
   next_is start [] = refl
   next_is start (x ∷ xs) = next_is (x.0 +ℤ pos 1) xs
 
-  all_added : (xs : List (ℤ × X)) (x : ℤ × X) → AllByRecursion (λ (p : ℤ × X). IsValid p.1) xs → IsValid x.1 → AllByRecursion (λ (p : ℤ × X). IsValid p.1) (xs ++ x ∷ [])
+  pub all_added : (xs : List (ℤ × X)) (x : ℤ × X) → AllByRecursion (λ (p : ℤ × X). IsValid p.1) xs → IsValid x.1 → AllByRecursion (λ (p : ℤ × X). IsValid p.1) (xs ++ x ∷ [])
   all_added [] x all valid = (valid, tt)
   all_added (y ∷ ys) x all valid = (all.0, all_added ys x all.1 valid)
 

@@ -1,4 +1,5 @@
--- What INSERT OR REPLACE of one row, UPDATE and DELETE do to the rows of a table, whatever its columns are.
+-- What INSERT OR REPLACE of one row, INSERT of the rows of a query, UPDATE and DELETE do to the rows of a table,
+-- whatever its columns are.
 use Rattle.std.proofs.Common.{◌≡◌, ◌≢◌, inl, inr, ℕ, ℤ, ◌/◌, length, append-nil, List, [], ◌∷◌, map, drop, slice_get, Option, Some, None, Ok, refl, sym, ap, subst, ◌∙◌}
 use Rattle.std.specs.List.{AllByRecursion}
 use Rattle.sqlite.specs.Order.{Row}
@@ -6,9 +7,9 @@ use Rattle.sqlite.specs.Tree.{Trees, put_row}
 use Rattle.sqlite.specs.Term.{Term}
 use Rattle.sqlite.specs.Table.{Table}
 use Rattle.sqlite.specs.Schema.{Schema}
-use Rattle.sqlite.specs.Source.TheVariants.{Values}
+use Rattle.sqlite.specs.Source.TheVariants.{Values, Query}
 use Rattle.sqlite.specs.Command.{Command}
-use Rattle.sqlite.specs.Command.TheVariants.{InsertOr, Update, Delete}
+use Rattle.sqlite.specs.Command.TheVariants.{Insert, InsertOr, Update, Delete}
 use Rattle.sqlite.specs.Edit.{taken_by, Edit, with_rowid, numbered, edit_of, put_all, without_all, Applies}
 use Rattle.sqlite.specs.Cast.{cast_row}
 use Rattle.sqlite.specs.Rowids.TheVariants.{Chosen, Given}
@@ -131,6 +132,35 @@ module _ (schema : Schema) (untied : IsUntied schema) (at tree : ℕ) (name : Li
             sound = stays_sound command w same;
             rows_are = ap (λ (t : Trees). t tree) now ∙ done.2;
             others = subst (Others db) (sym now) done.3;
+          },
+        )
+
+    -- INSERT puts in the rows of its query, in their order, each with the next rowid where it has none
+    pub inserts : (q : Program) → Writes old new None (Insert at (Query q)) text params count
+        → (found : List Row) × Answers (record { schema = schema; trees = old.now.trees }) q params found
+        × Sets schema tree old.now new.now (put_all (old.now.trees tree) (numbered Chosen (old.now.trees tree) (map (λ s. cast_row table s) found)))
+    inserts q w =
+        let command = Insert at (Query q) in
+        let db = old.now.trees in
+        let put = subst (λ s. Does old.step_limit (mode_of old) params (record old.now { schema = s }) text None command (Ok (w.tally, new.now))) has w.changed in
+        let ran = ran_on_rows command w.tally (rw is at put) in
+        let found = went ran.1 in
+        let counter = went found.2 in
+        let none = same_ok counter.1 in
+        let edit = edit_of db table [] Chosen 0 found.0 in
+        let wrote = went counter.2 in
+        let counted = went wrote.2 in
+        let all = edits schema untied (mode_of old).keys db wrote.0 edit wrote.1 in
+        let trees : ran.0.trees ≡ wrote.0 = ap (λ (it : Written). it.trees) (same_ok counted.2) ∙ same_ok counted.1 in
+        let now : new.now.trees ≡ wrote.0 = ap (λ (d : Database). d.trees) ran.2 ∙ trees in
+        let same : new.now.schema ≡ schema = ap (λ (d : Database). d.schema) ran.2 in (
+          found.0,
+          subst (λ (given : Row). Answers (record { schema = schema; trees = db }) q given found.0) (append-nil params) found.1,
+          record {
+            same_schema = same;
+            sound = stays_sound command w same;
+            rows_are = ap (λ (t : Trees). t tree) now ∙ all.rows;
+            others = subst (Others db) (sym now) all.tables;
           },
         )
 

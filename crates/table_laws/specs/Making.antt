@@ -45,3 +45,14 @@ pub record HasMade (schema : Schema) (table : Table) (old new : Database) : Type
   pub sound : IsSound (created schema table) new.trees
   pub empty : new.trees (next_tree schema) ≡ []
   pub others : KeepsRows schema.tables old.trees new.trees
+
+-- the database has the tables of the schema with the rows that they had, and these tables after them, which are empty
+pub record HasMore (schema : Schema) (added : List Table) (old new : Database) : Type 0 where
+  pub is : new.schema ≡ fold created schema added
+  pub sound : IsSound (fold created schema added) new.trees
+  pub kept : KeepsRows schema.tables old.trees new.trees
+  pub empty : AllByRecursion (λ (t : Table). new.trees t.tree ≡ []) added
+
+-- the transaction goes on, and a database of the schema gets these tables
+abbrev pub AddsTo : Schema → List Table → State → State → Type 0
+AddsTo schema added old new = GoesOn old new × (old.now.schema ≡ schema → HasMore schema added old.now new.now)

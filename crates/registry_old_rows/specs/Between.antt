@@ -1,0 +1,35 @@
+-- The tables in the middle of a step from one schema to the next.
+use Rattle.std.specs.Prelude.{◌≡◌, ℕ, List, []}
+use Rattle.sqlite.specs.Effect.{Database}
+use Rattle.sqlite_trees.specs.Tree.{Trees}
+use Rattle.sqlite_catalog.specs.Listing.{IsSound}
+use Rattle.table_laws.specs.Stored.{Stores, StoresUnnumbered}
+use Rattle.registry_schema.specs.Schema.{schema_1, schema_2, schema_3}
+use Rattle.registry_rows.specs.Rows.{vendor_key, vendor_row, IsVendor, span_row, IsVendorSpan, entry_row, IsEntry, petition_key, petition_row, IsPetition}
+use Rattle.registry_rows.specs.Tables.{Tables}
+use Rattle.registry_old_rows.specs.Old.{AreFirst, AreSecond}
+
+-- a database of the first schema, with these values and these reserved numbers
+pub record HoldsFirst (vid : ℕ) (db : Database) (t : Tables) (numbers : List ℕ) : Type 0 where
+  pub schema : db.schema ≡ schema_1
+  pub sound : IsSound schema_1 db.trees
+  pub rows : AreFirst vid db.trees t numbers
+
+-- one of the second
+pub record HoldsSecond (vid : ℕ) (db : Database) (t : Tables) (numbers : List ℕ) : Type 0 where
+  pub schema : db.schema ≡ schema_2
+  pub sound : IsSound schema_2 db.trees
+  pub rows : AreSecond vid db.trees t numbers
+
+-- in the tables of the second schema stand the values of `o`, in those that the third adds the values of `t`
+pub record AreBoth (vid : ℕ) (db : Trees) (o t : Tables) : Type 0 where
+  pub second : AreSecond vid db o []
+  pub vendors : Stores IsVendor vendor_key vendor_row (db 14) t.vendors
+  pub spans : StoresUnnumbered IsVendorSpan span_row (db 15) t.spans
+  pub entries : StoresUnnumbered IsEntry entry_row (db 17) t.entries
+  pub petitions : Stores IsPetition petition_key petition_row (db 19) t.petitions
+
+pub record HoldsBoth (vid : ℕ) (db : Database) (o t : Tables) : Type 0 where
+  pub schema : db.schema ≡ schema_3
+  pub sound : IsSound schema_3 db.trees
+  pub rows : AreBoth vid db.trees o t
