@@ -17,3 +17,5 @@ pub mod LineLemmas
 pub mod WrittenLemmas
 pub mod TextLemmas
 pub mod TagLemmas
+pub mod ScanLemmas
+pub mod SearchLemmas

@@ -17,3 +17,5 @@ pub mod Finding
 pub mod Moments
 pub mod Writing
 pub mod Gathering
+pub mod Scanning
+pub mod Scans

@@ -12,6 +12,9 @@ mod line;
 mod look_up;
 mod pieces;
 mod reader;
+mod scan;
+mod search;
+mod seen;
 mod stamp;
 mod streams;
 mod tag;
@@ -27,6 +30,8 @@ pub use laws::{never_both, one_document, one_fault, one_or_the_other, written_sp
 pub use line::Why;
 pub use look_up::find;
 pub use reader::{Reader, read_all};
+pub use scan::Scan;
+pub use search::scan_all;
 pub use stamp::Stamp;
 pub use streams::{Inlet, Outlet};
 pub use tag::Tag;

@@ -1,0 +1,35 @@
+-- How many numbers each organisation holds, and how many it returned.
+use Rattle.std.specs.Prelude.{◌≡◌, ℕ, ◌+◌, List, Option, Some, None, unwrap_or, map, Bool, not, cond, ◌&&◌, if◌then◌else◌}
+use Rattle.std.specs.List.{count_by, list_any}
+use Rattle.std.specs.Str.{bytes_eq}
+use Rattle.std.specs.Ordering.{nat_cmp}
+use Rattle.std.specs.Cmp.Lexicographic.{slice_cmp}
+use Rattle.std.specs.BTreeMap.{BTreeMap, get}
+use Rattle.usbnum_core.specs.declared.number.Number.{Number}
+use Rattle.registry_rules.specs.declared.record.Entry.{Entry}
+use Rattle.registry_reports.specs.declared.tallies.Tally.{Tally}
+
+abbrev pub org_of : Number × Entry → List ℕ
+org_of pair = pair.1.org
+
+abbrev pub holds_for : List ℕ → Number × Entry → Bool
+holds_for slug pair = bytes_eq slug pair.1.org && pair.1.held
+
+abbrev pub returned_by : List ℕ → Number × Entry → Bool
+returned_by slug pair = bytes_eq slug pair.1.org && not pair.1.held
+
+-- how many of the numbers the organisation holds, and how many it returned
+abbrev pub tally_of : List (Number × Entry) → List ℕ → Tally
+tally_of numbers slug = record { held = count_by (holds_for slug) numbers; returned = count_by (returned_by slug) numbers }
+
+-- the tally of an organisation that owns one of the numbers
+abbrev pub tallied : List (Number × Entry) → List ℕ → Option Tally
+tallied numbers slug = if list_any (bytes_eq slug) (map org_of numbers) then Some (tally_of numbers slug) else None
+
+-- what is counted so far
+abbrev pub tally_at : BTreeMap (List ℕ) Tally → List ℕ → Tally
+tally_at tallies slug = unwrap_or (get (slice_cmp nat_cmp) tallies slug) (record { held = 0; returned = 0 })
+
+-- one number more
+abbrev pub with_number : Tally → Bool → Tally
+with_number tally held = record { held = tally.held + cond held 1 0; returned = tally.returned + cond (not held) 1 0 }

@@ -1,0 +1,16 @@
+//! The list of a registry's numbers, and reports on them, made of the lists that a registry gives.
+#![tactic(auto)]
+
+pub use counting::census;
+pub use laws::lists_the_history;
+pub use list::list_document;
+pub use owners::holders;
+pub use petitions::open_petitions;
+
+mod columns;
+mod counting;
+mod laws;
+mod list;
+mod owners;
+mod petitions;
+mod tallies;
