@@ -1,0 +1,20 @@
+-- Bytes that pass the test are ASCII.
+use Rattle.std.proofs.Common.{◌≡◌, ℕ, zero, suc, Bool, true, false, List, [], ◌∷◌, refl, arith}
+use Rattle.std.specs.Prelude.{◌&&◌}
+use Rattle.std.specs.Str.{IsAscii, IsUtf8}
+use Rattle.std.specs.List.{list_all}
+use Rattle.std.proofs.lemmas.Bool.{ltb-true}
+use Rattle.std.proofs.lemmas.Str.{IsUtf8-from_ascii}
+use Rattle.registry_http.specs.Routes.{is_ascii}
+
+both : (a b : Bool) → (a && b) ≡ true → (a ≡ true) × (b ≡ true)
+both true b e = (refl, e)
+both false b e = absurd cc
+
+pub IsAscii-from_small : (bytes : List ℕ) → list_all is_ascii bytes ≡ true → IsAscii bytes
+IsAscii-from_small [] e i = omega arith
+IsAscii-from_small (b ∷ bytes) e zero = ltb-true b 128 (both (is_ascii b) (list_all is_ascii bytes) e).0
+IsAscii-from_small (b ∷ bytes) e (suc i) = IsAscii-from_small bytes (both (is_ascii b) (list_all is_ascii bytes) e).1 i
+
+pub IsUtf8-from_small : (bytes : List ℕ) → list_all is_ascii bytes ≡ true → IsUtf8 bytes
+IsUtf8-from_small bytes e = IsUtf8-from_ascii bytes (IsAscii-from_small bytes e)

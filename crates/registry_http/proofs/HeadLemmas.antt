@@ -1,0 +1,62 @@
+-- What the bytes read so far say of all bytes that the source gives.
+use Rattle.std.proofs.Common.{◌≡◌, ℕ, ◌≤◌, List, [], ◌++◌, length, take, drop, Option, Some, None, refl, sym, ap, ◌∙◌, append_assoc, arith, length-append}
+use Rattle.std.specs.Io.KnownBytes.{Consumes, IsAtEnd}
+use Rattle.std.proofs.lemmas.List.{append-nil, take-append-le, take-append-drop, length-map, length-take}
+use Rattle.std.proofs.Math.Seq.{take-append_seam}
+use Rattle.httparse.specs.declared.spans.HeaderSpan.{HeaderSpan}
+use Rattle.httparse.specs.declared.spans.RequestSpans.{RequestSpans}
+use Rattle.httparse.specs.Grammar.{RequestHead, HasNoRequest, print_request}
+use Rattle.httparse.specs.Spans.{IsRequestAt, IsRequestWithin, RequestOverflows}
+use Rattle.usbids_text.specs.Ends.{MayGive}
+use Rattle.registry_http.specs.Heads.{HasHead, HasNoHead}
+
+pub Consumes-none : (o : Option (List ℕ)) → Consumes o o []
+Consumes-none None = tt
+Consumes-none (Some xs) = refl
+
+pub Consumes-then : (a b c : Option (List ℕ)) (x y : List ℕ) → Consumes a b x → Consumes b c y → Consumes a c (x ++ y)
+Consumes-then None b c x y p q = tt
+Consumes-then (Some xs) None c x y p q = absurd p
+Consumes-then (Some xs) (Some ys) None x y p q = absurd q
+Consumes-then (Some xs) (Some ys) (Some zs) x y p q = p ∙ ap (λ (t : List ℕ). x ++ t) q ∙ sym (append_assoc x y zs)
+
+-- all that the source would give begins with what it gave
+pub all_of : (a b : Option (List ℕ)) (x : List ℕ) → Consumes a b x → (more : List ℕ) × MayGive a (x ++ more)
+all_of None b x p = ([], tt)
+all_of (Some xs) None x p = absurd p
+all_of (Some xs) (Some ys) x p = (ys, sym p)
+
+-- at its end it has given all
+pub all_at_end : (a b : Option (List ℕ)) (x : List ℕ) → Consumes a b x → IsAtEnd b → MayGive a x
+all_at_end None b x p e = tt
+all_at_end (Some xs) None x p e = absurd p
+all_at_end (Some xs) (Some ys) x p e = sym (append-nil x) ∙ ap (λ (t : List ℕ). x ++ t) (sym e) ∙ sym p
+
+pub HasNoRequest-nil : HasNoRequest []
+unfolding print_request
+HasNoRequest-nil h rest reads = let e = ap length reads.1 in absurd (omega (arith, simp length-append at e))
+
+pub no_head_overflow : (buf more : List ℕ) (room : ℕ) → 64 ≤ room → RequestOverflows room buf → HasNoHead (buf ++ more)
+no_head_overflow buf more room wide over h rest has = let few = has.few in let many = over more h rest has.reads in absurd (omega arith)
+
+pub no_head_end : (buf : List ℕ) → HasNoRequest buf → HasNoHead buf
+no_head_end buf none h rest has = none h rest has.reads
+
+pub no_head_full : (buf more : List ℕ) → 8192 ≤ length buf → HasNoRequest buf → HasNoHead (buf ++ more)
+no_head_full buf more full none h rest has =
+    let n : ℕ = length (print_request h) in
+    let short = has.short in
+    let within : n ≤ length buf = omega arith in
+    let front : take n buf ≡ print_request h = sym (take-append-le n buf more within) ∙ ap (take n) has.reads.1 ∙ take-append_seam (print_request h) rest in
+    none h (drop n buf) (has.reads.0, sym (take-append-drop n buf) ∙ ap (λ (t : List ℕ). t ++ drop n buf) front)
+
+pub whole_head : (buf : List ℕ) (spans : List HeaderSpan) (r : RequestSpans) (h : RequestHead) → length buf ≤ 8192 → length spans ≤ 64 → IsRequestWithin buf spans r → IsRequestAt buf spans r h → HasHead buf h (drop r.len buf)
+whole_head buf spans r h small room within at =
+    let lens = ap length at.fields in
+    let len_fits = within.section.len_fits in
+    let len = at.len in
+    let counted : length h.fields ≤ length spans = omega (arith, simp (length-map, length-take) at lens, length-take r.headers spans) in
+    record { reads = at.reads; short = omega arith; few = omega arith }
+
+pub HasHead-append : (buf : List ℕ) (h : RequestHead) (rest more : List ℕ) → HasHead buf h rest → HasHead (buf ++ more) h (rest ++ more)
+HasHead-append buf h rest more has = record { reads = (has.reads.0, ap (λ (t : List ℕ). t ++ more) has.reads.1 ∙ append_assoc (print_request h) rest more); short = has.short; few = has.few }

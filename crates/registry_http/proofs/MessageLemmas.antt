@@ -1,0 +1,101 @@
+-- What a message says is determined by its bytes.
+use Rattle.std.proofs.Common.{◌≡◌, ℕ, List, [], ◌++◌, Option, Some, None, inl, inr, refl, sym, ap, subst, ◌∙◌}
+use Rattle.std.specs.Prelude.{Result, Ok, Err, IfOk, map, take, drop}
+use Rattle.httparse.specs.declared.spans.HeaderSpan.{HeaderSpan}
+use Rattle.httparse.specs.declared.spans.RequestSpans.{RequestSpans}
+use Rattle.httparse.specs.Spans.{IsRequestAt, span_bytes, header_bytes}
+use Rattle.registry_http.proofs.HeadLemmas.{HasHead-append}
+use Rattle.std.specs.Io.KnownBytes.{Consumes}
+use Rattle.httparse.specs.Grammar.{RequestHead}
+use Rattle.httparse.proofs.GrammarLemmas.{request_unique}
+use Rattle.usbids_text.specs.Ends.{MayGive}
+use Rattle.usbids_text.specs.Entries.{TopEntry}
+use Rattle.usbids_text.specs.declared.line.Why.{Why}
+use Rattle.usbids_text.specs.Cut.{lines}
+use Rattle.usbids_text.proofs.InnerLemmas.{lines-inner}
+use Rattle.usbids_text.proofs.UniqueLemmas.{one-spelt, one-fault, never-both}
+use Rattle.registry_rules.specs.declared.order.Request.{Request}
+use Rattle.registry_wire.specs.Import.{import_of}
+use Rattle.registry_wire.specs.declared.refusal.WireRefusal.{WireRefusal}
+use Rattle.registry_wire.specs.declared.refusal.WireRefusal.TheVariants.{BadList}
+use Rattle.registry_http.specs.declared.refusal.HttpRefusal.{HttpRefusal}
+use Rattle.registry_http.specs.Heads.{HasHead}
+use Rattle.registry_http.specs.Bodies.{body_in}
+use Rattle.registry_http.specs.Reading.{head_in, head_of}
+use Rattle.registry_http.specs.Messages.{ListSays, WholeBodySays, BodySays, HeadSays, Says, as_message}
+use Rattle.registry_http.specs.declared.route.Endpoint.{Endpoint}
+use Rattle.registry_http.specs.declared.route.Endpoint.TheVariants as endpoints
+use Rattle.registry_http.specs.declared.reading.Head.{Head}
+use Rattle.registry_http.specs.declared.reading.Head.TheVariants as heads
+use Rattle.registry_http.specs.declared.message.Message.{Message}
+
+-- a source may give something
+pub gives_some : (o : Option (List ℕ)) → (rest : List ℕ) × MayGive o rest
+gives_some None = ([], tt)
+gives_some (Some known) = (known, refl)
+
+-- what it gave, and what it may give from there on
+pub gives_after : (a b : Option (List ℕ)) (x rest : List ℕ) → Consumes a b x → MayGive b rest → MayGive a (x ++ rest)
+gives_after None b x rest took may = tt
+gives_after (Some xs) None x rest took may = absurd took
+gives_after (Some xs) (Some ys) x rest took may = ap (λ (t : List ℕ). x ++ t) may ∙ sym took
+
+-- the refusal of a faulty line
+abbrev pub bad_list : ℕ → Why → Result Request WireRefusal
+bad_list n why = Err (BadList (record { line = n; why = why }))
+
+one_list : (founding : ℕ) (caller key org : List ℕ) (vendor : Option ℕ) (body : List ℕ) (a b : Result Request WireRefusal)
+    → ListSays founding caller key org vendor body a → ListSays founding caller key org vendor body b → a ≡ b
+one_list founding caller key org vendor body a b (inl x) (inl y) =
+    x.2 ∙ (ap (λ (list : List TopEntry). Ok (import_of caller key org founding vendor list)) (one-spelt (lines body) x.0 y.0 x.1 y.1) ∙ sym y.2)
+one_list founding caller key org vendor body a b (inl x) (inr y) = absurd (never-both (lines body) x.0 y.0 y.1 x.1 y.2)
+one_list founding caller key org vendor body a b (inr x) (inl y) = absurd (never-both (lines body) y.0 x.0 x.1 y.1 x.2)
+one_list founding caller key org vendor body a b (inr x) (inr y) =
+    let same = one-fault (lines body) x.0 y.0 x.1 y.1 (lines-inner body) x.2 y.2 in
+    x.3 ∙ (ap (λ (n : ℕ). bad_list n x.1) same.0 ∙ (ap (λ (why : Why). bad_list y.0 why) same.1 ∙ sym y.3))
+
+one_whole_body : (founding : ℕ) (endpoint : Endpoint) (caller key body : List ℕ) (a b : Result Request WireRefusal)
+    → WholeBodySays founding endpoint caller key body a → WholeBodySays founding endpoint caller key body b → a ≡ b
+one_whole_body founding endpoints.Commands caller key body a b x y = x ∙ sym y
+one_whole_body founding (endpoints.Imports org vendor) caller key body a b x y = one_list founding caller key org vendor body a b x y
+
+one_body : (founding : ℕ) (endpoint : Endpoint) (caller key : List ℕ) (body : Result (List ℕ) WireRefusal) (a b : Result Request WireRefusal)
+    → BodySays founding endpoint caller key body a → BodySays founding endpoint caller key body b → a ≡ b
+one_body founding endpoint caller key (Err refusal) a b x y = x ∙ sym y
+one_body founding endpoint caller key (Ok body) a b x y = one_whole_body founding endpoint caller key body a b x y
+
+one_head : (founding : ℕ) (head_says : Result Head HttpRefusal) (rest : List ℕ) (a b : Result Message HttpRefusal) → HeadSays founding head_says rest a → HeadSays founding head_says rest b → a ≡ b
+one_head founding (Err refusal) rest a b x y = x ∙ sym y
+one_head founding (Ok (heads.Query query)) rest a b x y = x ∙ sym y
+one_head founding (Ok (heads.Order order)) rest a b x y =
+    x.2 ∙ (ap as_message (one_body founding order.endpoint order.caller order.key (body_in order.length rest) x.0 y.0 x.1 y.1) ∙ sym y.2)
+
+pub one_thing : (founding : ℕ) (bytes : List ℕ) (a b : Result Message HttpRefusal) → Says founding bytes a → Says founding bytes b → a ≡ b
+one_thing founding bytes a b (inl x) (inl y) = x.1 ∙ sym y.1
+one_thing founding bytes a b (inl x) (inr y) = absurd (x.0 y.0 y.1 y.2)
+one_thing founding bytes a b (inr x) (inl y) = absurd (y.0 x.0 x.1 x.2)
+one_thing founding bytes a b (inr x) (inr y) =
+    let same = request_unique bytes x.0 y.0 x.1 y.1 x.2.reads y.2.reads in
+    let head_says = subst (λ (h : RequestHead). HeadSays founding (head_of h) x.1 a) same.0 x.3 in
+    one_head founding (head_of y.0) y.1 a b (subst (λ (rest : List ℕ). HeadSays founding (head_of y.0) rest a) same.1 head_says) y.3
+
+head_at_spans : (buf : List ℕ) (spans : List HeaderSpan) (r : RequestSpans) (h : RequestHead) → IsRequestAt buf spans r h
+    → head_in (span_bytes buf r.method) (span_bytes buf r.path) (map (header_bytes buf) (take r.headers spans)) ≡ head_of h
+head_at_spans buf spans r h at = rw (at.method, at.path, at.fields) refl
+
+-- the head was read, and what it calls for is known of all that follows it
+pub says_after_head : {E : Type 0} (a b : Option (List ℕ)) (founding : ℕ) (buf : List ℕ) (spans : List HeaderSpan) (r : RequestSpans) (h : RequestHead) (result : Result (Result Message HttpRefusal) E)
+    → HasHead buf h (drop r.len buf) → IsRequestAt buf spans r h → Consumes a b buf
+    → IfOk result (λ said. (rest : List ℕ) × MayGive b rest × HeadSays founding (head_in (span_bytes buf r.method) (span_bytes buf r.path) (map (header_bytes buf) (take r.headers spans))) (drop r.len buf ++ rest) said)
+    → IfOk result (λ said. (bytes : List ℕ) × MayGive a bytes × Says founding bytes said)
+says_after_head a b founding buf spans r h (Err e) has at took ok = tt
+says_after_head a b founding buf spans r h (Ok said) has at took ok = (
+  buf ++ ok.0,
+  gives_after a b buf ok.0 took ok.1,
+  inr (
+    h,
+    drop r.len buf ++ ok.0,
+    HasHead-append buf h (drop r.len buf) ok.0 has,
+    subst (λ (head_says : Result Head HttpRefusal). HeadSays founding head_says (drop r.len buf ++ ok.0) said) (head_at_spans buf spans r h at) ok.2,
+  ),
+)

@@ -1,0 +1,12 @@
+pub mod Heads
+pub mod HeadEnds
+pub mod Fields
+pub mod Routes
+pub mod Refusals
+pub mod Reading
+pub mod Bodies
+pub mod Messages
+pub mod Statuses
+pub mod Responses
+pub mod Objects
+pub mod Resources

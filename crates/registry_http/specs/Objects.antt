@@ -1,0 +1,12 @@
+-- JSON objects, member by member. An object has its members in the order of their keys' bytes, whatever came first.
+use Rattle.std.specs.Prelude.{ℕ, List, Option, Some, None}
+use Rattle.serde_json.specs.Data.{Members, string, put}
+
+-- the members, with a text at the key
+abbrev pub put_text : List ℕ → List ℕ → Members → Members
+put_text key text members = put key (string text) members
+
+-- the members, with a text at the key if there is one
+abbrev pub put_if : List ℕ → Option (List ℕ) → Members → Members
+put_if key None members = members
+put_if key (Some text) members = put_text key text members

@@ -1,0 +1,68 @@
+-- What the head of a message asks for.
+use Rattle.std.specs.Prelude.{ℕ, List, map, bytes_eq, codes, nat_le, Bool, Option, None, option_and_then, Result, Ok, Err, if◌then◌else◌}
+use Rattle.std.specs.List.{list_any}
+use Rattle.httparse.specs.Grammar.{RequestHead}
+use Rattle.httparse.specs.Spans.{name_and_value}
+use Rattle.registry_http.specs.Refusals.{◌>>=◌, present}
+use Rattle.registry_wire.specs.Fields.{header_name}
+use Rattle.registry_wire.specs.Kinds.{slug_of, key_of}
+use Rattle.registry_http.specs.Fields.{is_named, values_of, only, length_of}
+use Rattle.registry_http.specs.Routes.{route_of}
+use Rattle.registry_wire.specs.declared.refusal.WireRefusal.TheVariants.{NoRoute, BadLength, TooLarge, BadHeader}
+use Rattle.registry_http.specs.declared.refusal.HttpRefusal.{HttpRefusal}
+use Rattle.registry_http.specs.declared.refusal.HttpRefusal.TheVariants.{Wire, WrongMethod}
+use Rattle.registry_http.specs.declared.refusal.Allow.TheVariants as allowed
+use Rattle.registry_wire.specs.declared.refusal.Header.{Header}
+use Rattle.registry_wire.specs.declared.refusal.Header.TheVariants.{Caller, Key}
+use Rattle.registry_http.specs.declared.route.Route.{Route}
+use Rattle.registry_http.specs.declared.route.Route.TheVariants.{Get, Post}
+use Rattle.registry_http.specs.declared.route.Endpoint.{Endpoint}
+use Rattle.registry_http.specs.declared.route.Endpoint.TheVariants as endpoints
+use Rattle.registry_http.specs.declared.reading.Head.{Head}
+use Rattle.registry_http.specs.declared.reading.Head.TheVariants as heads
+
+abbrev pub Fields : Type 0
+Fields = List (List ℕ × List ℕ)
+
+-- whether there is a field of this name
+abbrev pub has_field : List ℕ → Fields → Bool
+has_field name fields = list_any (λ field. is_named name field.0) fields
+
+-- the body's length: no transfer-encoding, exactly one content-length, and its value is 1 to 10 digits
+abbrev pub length_in : Fields → Option ℕ
+length_in fields = if has_field (codes "transfer-encoding") fields then None else option_and_then length_of (only (values_of (codes "content-length") fields))
+
+-- the value of the only field that a header names
+abbrev pub header_in : Header → Fields → Option (List ℕ)
+header_in header fields = only (values_of (header_name header) fields)
+
+-- the most bytes of a body
+abbrev pub limit_of : Endpoint → ℕ
+limit_of endpoints.Commands = 16384
+limit_of (endpoints.Imports org vendor) = 4194304
+
+abbrev pub within : ℕ → ℕ → Result ℕ HttpRefusal
+within most length = if nat_le length most then Ok length else Err (Wire TooLarge)
+
+-- an order: its length (21, 22), then its caller, then its key (26)
+unfoldable pub order_head : Endpoint → Fields → Result Head HttpRefusal
+order_head endpoint fields = do
+  wanted ← present BadLength (length_in fields)
+  length ← within (limit_of endpoint) wanted
+  caller ← present (BadHeader Caller) (option_and_then slug_of (header_in Caller fields))
+  key ← present (BadHeader Key) (option_and_then key_of (header_in Key fields))
+  Ok (heads.Order (record { endpoint = endpoint; length = length; caller = caller; key = key }))
+
+unfoldable pub head_for : Route → List ℕ → Fields → Result Head HttpRefusal
+head_for (Get query) method fields = if bytes_eq method (codes "GET") then Ok (heads.Query query) else Err (WrongMethod allowed.Get)
+head_for (Post endpoint) method fields = if bytes_eq method (codes "POST") then order_head endpoint fields else Err (WrongMethod allowed.Post)
+
+-- the path first (24), then the method (25), then what an order needs
+unfoldable pub head_in : List ℕ → List ℕ → Fields → Result Head HttpRefusal
+head_in method target fields = do
+  route ← present NoRoute (route_of target)
+  head_for route method fields
+
+-- what a head asks for, or its first fault
+abbrev pub head_of : RequestHead → Result Head HttpRefusal
+head_of head = head_in head.method head.target (map name_and_value head.fields)

@@ -1,0 +1,114 @@
+//! The body of a message, behind its head.
+
+ghost use Rattle.std.specs.Prelude.{Err, ◌≡◌, ◌≤◌, ◌<◌, ◌+◌, ◌++◌, [], true, false, ℕ, List, length, drop, nat_le, IfOk, OnOk};
+ghost use Rattle.std.specs.Io.KnownBytes.{Consumes, IsAtEnd};
+ghost use Rattle.usbids_text.specs.Ends.{HasFailed, MayGive};
+ghost use Rattle.usbids_text.specs.Readers.{Stands};
+ghost use Rattle.registry_http.specs.Bodies.{IsHeld, IsFed};
+
+use crate::head::{InputFault, take_more};
+use usbids_text::{Broken, Reader, Source};
+
+/// Reads until the buffer has so many bytes, and says whether it has: else the source is at its end. No read begins
+/// where it has them already.
+fn read_up_to<R: Source>(
+    source: &mut R,
+    buffer: &mut Vec<u8>,
+    wanted: usize,
+) -> Result<bool, InputFault>
+    ensures ok { IfOk result (λ whole. (more : List ℕ) × (buffer.new.items ≡ buffer.old.items ++ more)
+        × Consumes (R.remaining source.old) (R.remaining source.new) more
+        × (whole ≡ nat_le wanted (length buffer.new.items)) × (whole ≡ false → IsAtEnd (R.remaining source.new))) }
+    ensures kept { OnOk result (R.failures source.new ≡ R.failures source.old) }
+    ensures broken { result ≡ Err InputFault.Broken → HasFailed (R.failures source.old) (R.failures source.new) }
+{
+    while buffer.len() < wanted {
+        let count = take_more(source, buffer, wanted - buffer.len())?;
+        if count == 0 {
+            return Ok(false);
+        }
+    }
+    Ok(true)
+}
+
+/// Reads the rest of a body of so many bytes that begins at this place of the buffer, and says whether it is whole.
+pub(crate) fn read_body<R: Source>(
+    source: &mut R,
+    buffer: &mut Vec<u8>,
+    start: usize,
+    count: usize,
+) -> Result<bool, InputFault>
+    requires within { start ≤ length buffer.old.items }
+    requires front { start ≤ 8192 }
+    requires small { count < 4294967296 }
+    ensures ok { IfOk result (λ whole. (rest : List ℕ) × MayGive (R.remaining source.old) rest
+        × IsHeld whole buffer.new.items start count (drop start buffer.old.items ++ rest)) }
+    ensures kept { OnOk result (R.failures source.new ≡ R.failures source.old) }
+    ensures broken { result ≡ Err InputFault.Broken → HasFailed (R.failures source.old) (R.failures source.new) }
+{
+    read_up_to(source, buffer, start.saturating_add(count))
+}
+
+/// Feeds the reader the next bytes of the source, at most so many, and says how many they are: none at the end alone.
+fn feed_more<R: Source>(
+    source: &mut R,
+    reader: &mut Reader,
+    most: usize,
+) -> Result<usize, InputFault>
+    requires { 0 < most }
+    ensures ok { IfOk result (λ n. (more : List ℕ) × (length more ≡ n) × (n ≤ most)
+        × Consumes (R.remaining source.old) (R.remaining source.new) more × (n ≡ 0 → IsAtEnd (R.remaining source.new))
+        × ((t : List ℕ) → Stands reader.old t → Stands reader.new (t ++ more))) }
+    ensures kept { OnOk result (R.failures source.new ≡ R.failures source.old) }
+    ensures broken { result ≡ Err InputFault.Broken → HasFailed (R.failures source.old) (R.failures source.new) }
+{
+    let mut chunk = [0u8; 4096];
+    let room = most.min(chunk.len());
+    match source.take(&mut chunk[..room]) {
+        Ok(count) => {
+            let _ = reader.feed(&chunk[..count]);
+            Ok(count)
+        }
+        Err(Broken) => Err(InputFault::Broken),
+    }
+}
+
+/// Feeds the reader the next so many bytes of the source, and says whether they came: else the source is at its end.
+fn feed_from<R: Source>(
+    source: &mut R,
+    reader: &mut Reader,
+    wanted: usize,
+) -> Result<bool, InputFault>
+    ensures ok { IfOk result (λ whole. (more : List ℕ) × Consumes (R.remaining source.old) (R.remaining source.new) more
+        × (length more ≤ wanted) × (whole ≡ nat_le wanted (length more)) × (whole ≡ false → IsAtEnd (R.remaining source.new))
+        × ((t : List ℕ) → Stands reader.old t → Stands reader.new (t ++ more))) }
+    ensures kept { OnOk result (R.failures source.new ≡ R.failures source.old) }
+    ensures broken { result ≡ Err InputFault.Broken → HasFailed (R.failures source.old) (R.failures source.new) }
+{
+    let mut left = wanted;
+    while left > 0 {
+        let count = feed_more(source, reader, left)?;
+        if count == 0 {
+            return Ok(false);
+        }
+        left -= count;
+    }
+    Ok(true)
+}
+
+/// Feeds the reader a body of so many bytes, of which the first have come already, and says whether it is whole.
+pub(crate) fn feed_body<R: Source>(
+    source: &mut R,
+    reader: &mut Reader,
+    come: &[u8],
+    count: usize,
+) -> Result<bool, InputFault>
+    requires { Stands reader.old [] }
+    ensures ok { IfOk result (λ whole. (rest : List ℕ) × MayGive (R.remaining source.old) rest × IsFed whole reader.new count (come.now ++ rest)) }
+    ensures kept { OnOk result (R.failures source.new ≡ R.failures source.old) }
+    ensures broken { result ≡ Err InputFault.Broken → HasFailed (R.failures source.old) (R.failures source.new) }
+{
+    let first = come.len().min(count);
+    let _ = reader.feed(&come[..first]);
+    feed_from(source, reader, count - first)
+}

@@ -1,0 +1,84 @@
+//! The head of a message, among the bytes that come.
+
+ghost use Rattle.std.specs.Prelude.{Err, ◌≡◌, ◌≤◌, ◌<◌, ℕ, List, [], ◌++◌, length, drop, IfOk, OnOk};
+ghost use Rattle.std.specs.Io.KnownBytes.{Consumes, IsAtEnd};
+ghost use Rattle.httparse.specs.Spans.{IsRequestAt, IsRequestWithin};
+ghost use Rattle.httparse.specs.Grammar.{RequestHead};
+ghost use Rattle.usbids_text.specs.Ends.{MayGive, HasFailed};
+ghost use Rattle.registry_http.specs.Heads.{HasHead, HasNoHead};
+ghost use Rattle.registry_http.specs.HeadEnds.{IfWhole, OnMissing};
+
+use httparse::Status;
+use httparse::spans::{HeaderSpan, RequestSpans, parse_request};
+use usbids_text::{Broken, Source};
+
+/// How reading a head ended.
+#[derive(Clone, Copy, Debug)]
+pub(crate) enum HeadEnd {
+    /// It lies at the front of what was read.
+    Whole(RequestSpans),
+    /// Whatever follows, there is none.
+    Missing,
+}
+
+/// Why a message could not be read.
+#[derive(Clone, Copy, Debug, PartialEq, Eq)]
+pub enum InputFault {
+    /// The source failed.
+    Broken,
+    /// There is no memory for it.
+    NoMemory,
+}
+
+/// The next bytes of the source behind those that came before, at most so many, and how many they are: none at
+/// the end alone.
+pub(crate) fn take_more<R: Source>(
+    source: &mut R,
+    buffer: &mut Vec<u8>,
+    most: usize,
+) -> Result<usize, InputFault>
+    requires { 0 < most }
+    ensures ok { IfOk result (λ n. (more : List ℕ) × (buffer.new.items ≡ buffer.old.items ++ more) × (length more ≡ n) × (n ≤ most)
+        × Consumes (R.remaining source.old) (R.remaining source.new) more × (n ≡ 0 → IsAtEnd (R.remaining source.new))
+        × (R.failures source.new ≡ R.failures source.old)) }
+    ensures broken { result ≡ Err InputFault.Broken → HasFailed (R.failures source.old) (R.failures source.new) }
+{
+    let mut chunk = [0u8; 2048];
+    let room = most.min(chunk.len());
+    match source.take(&mut chunk[..room]) {
+        Ok(count) => match buffer.extend_from_slice(&chunk[..count]) {
+            Ok(()) => Ok(count),
+            Err(_) => Err(InputFault::NoMemory),
+        },
+        Err(Broken) => Err(InputFault::Broken),
+    }
+}
+
+/// Reads until a whole head of at most 64 fields has come in at most 8,192 bytes, or none can come.
+pub(crate) fn read_head<R: Source>(
+    source: &mut R,
+    buffer: &mut Vec<u8>,
+    spans: &mut [HeaderSpan],
+) -> Result<HeadEnd, InputFault>
+    requires fresh { buffer.old.items ≡ [] }
+    requires room { length spans.old ≡ 64 }
+    ensures whole { IfOk result (λ end. IfWhole end (λ r. (h : RequestHead)
+        × HasHead buffer.new.items h (drop r.len buffer.new.items) × IsRequestAt buffer.new.items spans.new r h × IsRequestWithin buffer.new.items spans.new r
+        × Consumes (R.remaining source.old) (R.remaining source.new) buffer.new.items)) }
+    ensures missing { IfOk result (λ end. OnMissing end ((bytes : List ℕ) × MayGive (R.remaining source.old) bytes × HasNoHead bytes)) }
+    ensures kept { OnOk result (R.failures source.new ≡ R.failures source.old) }
+    ensures broken { result ≡ Err InputFault.Broken → HasFailed (R.failures source.old) (R.failures source.new) }
+{
+    while buffer.len() < 8192 {
+        let count = take_more(source, buffer, 8192 - buffer.len())?;
+        if count == 0 {
+            return Ok(HeadEnd::Missing);
+        }
+        match parse_request(buffer, spans) {
+            Ok(Status::Complete(head)) => return Ok(HeadEnd::Whole(head)),
+            Ok(Status::Partial) => {}
+            Err(_) => return Ok(HeadEnd::Missing),
+        }
+    }
+    Ok(HeadEnd::Missing)
+}

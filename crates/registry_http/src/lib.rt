@@ -1,0 +1,29 @@
+//! Messages of HTTP: what all bytes of one say to a registry, and the bytes of a response. No store is asked here.
+#![tactic(auto)]
+
+mod body;
+mod fields;
+mod head;
+mod json_object;
+mod message;
+mod parts;
+mod reading;
+mod refusal;
+mod resources;
+mod response;
+mod response_head;
+mod route;
+mod routes;
+mod status;
+mod stop;
+mod unavailable;
+mod write;
+
+pub use head::InputFault;
+pub use message::{Message, read_message, says_one_thing};
+pub use refusal::{Allow, HttpRefusal};
+pub use resources::{number_response, org_response, petition_response};
+pub use response::{Body, ContentType, Response, refusal_response, reply_response, text_response};
+pub use route::{Query, Report};
+pub use unavailable::Unavailable;
+pub use write::{write_response, write_unavailable};

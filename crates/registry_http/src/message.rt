@@ -1,0 +1,268 @@
+//! What a message says, of all bytes that come.
+
+ghost use Rattle.std.specs.Prelude.{Ok, Err, Result, ◌≡◌, ◌≤◌, ◌<◌, ◌++◌, ℕ, List, length, drop, take, map, IfOk, OnOk};
+ghost use Rattle.usbids_text.specs.Ends.{HasFailed, MayGive};
+ghost use Rattle.httparse.specs.Spans.{IsRequestWithin, span_bytes, header_bytes};
+ghost use Rattle.registry_wire.specs.Reading.{body_reading};
+ghost use Rattle.registry_wire.specs.declared.refusal.WireRefusal.{WireRefusal};
+ghost use Rattle.registry_rules.specs.declared.order.Request.{Request};
+ghost use Rattle.registry_http.specs.Bodies.{body_in, IsFed};
+ghost use Rattle.registry_http.specs.declared.route.Endpoint.TheVariants as endpoints;
+ghost use Rattle.registry_http.specs.Reading.{head_in};
+ghost use Rattle.registry_http.specs.Messages.{BodySays, HeadSays, Says};
+ghost use Rattle.registry_http.specs.declared.message.Message.{Message};
+ghost use Rattle.registry_http.specs.declared.refusal.HttpRefusal.{HttpRefusal};
+
+use crate::body::{feed_body, read_body};
+use crate::head::{HeadEnd, InputFault, read_head};
+use crate::reading::{Head, OrderHead, head_in};
+use crate::refusal::HttpRefusal;
+use crate::route::{Endpoint, Query};
+use crate::stop::Stop;
+use httparse::spans::{EMPTY_HEADER_SPAN, HeaderSpan, RequestSpans};
+use registry_rules::Request;
+use registry_wire::{WireRefusal, import_request, request_from_json};
+use std::alloc::Global;
+use usbids_text::{Reader, Source};
+use usbnum_core::{Key, NoMemory, Slug, Vid};
+
+/// What a message says that has no fault.
+#[derive(Drop)]
+pub enum Message {
+    Query(Query),
+    Request(Request),
+}
+
+/// The request of a body of JSON.
+fn command_in(
+    alloc: Global,
+    caller: Slug,
+    key: Key,
+    body: &[u8],
+) -> Result<Result<Request, WireRefusal>, InputFault>
+    ensures ok { IfOk result (λ said. said ≡ body_reading caller key body.now) }
+    ensures kind { result ≡ Err InputFault.Broken → ⊥ }
+{
+    match request_from_json(alloc, caller, key, body) {
+        Ok(said) => Ok(said),
+        Err(NoMemory) => Err(InputFault::NoMemory),
+    }
+}
+
+/// The request of the list that a reader was fed, or that the list ended early.
+fn import_in(
+    alloc: Global,
+    founding: Vid,
+    caller: Slug,
+    key: Key,
+    org: Slug,
+    vendor: Option<Vid>,
+    reader: Reader,
+    whole: bool,
+) -> Result<Result<Request, WireRefusal>, InputFault>
+    ensures ok { IfOk result (λ said. (count : ℕ) (rest : List ℕ) → IsFed whole reader count rest → BodySays founding (endpoints.Imports org vendor) caller key (body_in count rest) said) }
+    ensures kind { result ≡ Err InputFault.Broken → ⊥ }
+{
+    if !whole {
+        return Ok(Err(WireRefusal::ShortBody));
+    }
+    match reader.finish() {
+        Ok(list) => match import_request(alloc, caller, key, org, founding, vendor, &list) {
+            Ok(request) => Ok(Ok(request)),
+            Err(NoMemory) => Err(InputFault::NoMemory),
+        },
+        Err(usbids_text::ReadFault::Line(fault)) => Ok(Err(WireRefusal::BadList(fault))),
+        Err(usbids_text::ReadFault::NoMemory) => Err(InputFault::NoMemory),
+    }
+}
+
+/// The request of a list of so many bytes, of which the first have come.
+fn read_import<R: Source>(
+    alloc: Global,
+    source: &mut R,
+    come: &[u8],
+    count: usize,
+    founding: Vid,
+    caller: Slug,
+    key: Key,
+    org: Slug,
+    vendor: Option<Vid>,
+) -> Result<Result<Request, WireRefusal>, InputFault>
+    ensures ok { IfOk result (λ said. (rest : List ℕ) × MayGive (R.remaining source.old) rest × BodySays founding (endpoints.Imports org vendor) caller key (body_in count (come.now ++ rest)) said) }
+    ensures kept { OnOk result (R.failures source.new ≡ R.failures source.old) }
+    ensures broken { result ≡ Err InputFault.Broken → HasFailed (R.failures source.old) (R.failures source.new) }
+{
+    let mut reader = Reader::new(alloc);
+    match feed_body(source, &mut reader, come, count) {
+        Ok(whole) => import_in(alloc, founding, caller, key, org, vendor, reader, whole),
+        Err(fault) => Err(fault),
+    }
+}
+
+/// The request of a body of JSON of so many bytes, of which the first lie in the buffer from this place on.
+fn read_command<R: Source>(
+    alloc: Global,
+    source: &mut R,
+    buffer: &mut Vec<u8>,
+    start: usize,
+    count: usize,
+    caller: Slug,
+    key: Key,
+) -> Result<Result<Request, WireRefusal>, InputFault>
+    requires within { start ≤ length buffer.old.items }
+    requires front { start ≤ 8192 }
+    requires small { count < 4294967296 }
+    ensures ok { IfOk result (λ said. (rest : List ℕ) × MayGive (R.remaining source.old) rest × ((founding : ℕ) → BodySays founding endpoints.Commands caller key (body_in count (drop start buffer.old.items ++ rest)) said)) }
+    ensures kept { OnOk result (R.failures source.new ≡ R.failures source.old) }
+    ensures broken { result ≡ Err InputFault.Broken → HasFailed (R.failures source.old) (R.failures source.new) }
+{
+    match read_body(source, buffer, start, count) {
+        Ok(true) => command_in(alloc, caller, key, &buffer[start..start + count]),
+        Ok(false) => Ok(Err(WireRefusal::ShortBody)),
+        Err(fault) => Err(fault),
+    }
+}
+
+/// The request of an order whose head has come, of whose body the first bytes lie in the buffer from this place on.
+fn read_order<R: Source>(
+    alloc: Global,
+    source: &mut R,
+    buffer: &mut Vec<u8>,
+    start: usize,
+    founding: Vid,
+    order: OrderHead,
+) -> Result<Result<Request, WireRefusal>, InputFault>
+    requires within { start ≤ length buffer.old.items }
+    requires front { start ≤ 8192 }
+    ensures ok { IfOk result (λ said. (rest : List ℕ) × MayGive (R.remaining source.old) rest
+        × BodySays founding order.endpoint order.caller order.key (body_in order.length (drop start buffer.old.items ++ rest)) said) }
+    ensures kept { OnOk result (R.failures source.new ≡ R.failures source.old) }
+    ensures broken { result ≡ Err InputFault.Broken → HasFailed (R.failures source.old) (R.failures source.new) }
+{
+    let OrderHead {
+        endpoint,
+        length,
+        caller,
+        key,
+    } = order;
+    match endpoint {
+        Endpoint::Commands => {
+            read_command(alloc, source, buffer, start, length as usize, caller, key)
+        }
+        Endpoint::Imports { org, vendor } => read_import(
+            alloc,
+            source,
+            &buffer[start..],
+            length as usize,
+            founding,
+            caller,
+            key,
+            org,
+            vendor,
+        ),
+    }
+}
+
+/// What a head asks for that lies at the front of the buffer.
+fn head_at(
+    alloc: Global,
+    buffer: &[u8],
+    spans: &[HeaderSpan],
+    head: RequestSpans,
+) -> Result<Result<Head, HttpRefusal>, InputFault>
+    requires { IsRequestWithin buffer.now spans.now head }
+    ensures ok { IfOk result (λ call. call ≡ head_in (span_bytes buffer.now head.method) (span_bytes buffer.now head.path) (map (header_bytes buffer.now) (take head.headers spans.now))) }
+    ensures kind { result ≡ Err InputFault.Broken → ⊥ }
+{
+    match head_in(
+        alloc,
+        head.method.of(buffer),
+        head.path.of(buffer),
+        buffer,
+        &spans[..head.headers],
+    ) {
+        Ok(call) => Ok(Ok(call)),
+        Err(Stop::Refused(refusal)) => Ok(Err(refusal)),
+        Err(Stop::OutOfMemory) => Err(InputFault::NoMemory),
+    }
+}
+
+/// What a message says whose head has come, of whose body the first bytes lie in the buffer from this place on.
+fn read_rest<R: Source>(
+    alloc: Global,
+    source: &mut R,
+    buffer: &mut Vec<u8>,
+    start: usize,
+    founding: Vid,
+    call: Head,
+) -> Result<Result<Message, HttpRefusal>, InputFault>
+    requires within { start ≤ length buffer.old.items }
+    requires front { start ≤ 8192 }
+    ensures ok { IfOk result (λ said. (rest : List ℕ) × MayGive (R.remaining source.old) rest × HeadSays founding (Ok call) (drop start buffer.old.items ++ rest) said) }
+    ensures kept { OnOk result (R.failures source.new ≡ R.failures source.old) }
+    ensures broken { result ≡ Err InputFault.Broken → HasFailed (R.failures source.old) (R.failures source.new) }
+{
+    match call {
+        Head::Query(query) => Ok(Ok(Message::Query(query))),
+        Head::Order(order) => match read_order(alloc, source, buffer, start, founding, order) {
+            Ok(Ok(request)) => Ok(Ok(Message::Request(request))),
+            Ok(Err(refusal)) => Ok(Err(HttpRefusal::Wire(refusal))),
+            Err(fault) => Err(fault),
+        },
+    }
+}
+
+/// What a message says whose head lies at the front of the buffer.
+fn read_after_head<R: Source>(
+    alloc: Global,
+    source: &mut R,
+    buffer: &mut Vec<u8>,
+    spans: &[HeaderSpan],
+    head: RequestSpans,
+    founding: Vid,
+) -> Result<Result<Message, HttpRefusal>, InputFault>
+    requires within { IsRequestWithin buffer.old.items spans.now head }
+    requires front { head.len ≤ 8192 }
+    ensures ok { IfOk result (λ said. (rest : List ℕ) × MayGive (R.remaining source.old) rest
+        × HeadSays founding (head_in (span_bytes buffer.old.items head.method) (span_bytes buffer.old.items head.path) (map (header_bytes buffer.old.items) (take head.headers spans.now))) (drop head.len buffer.old.items ++ rest) said) }
+    ensures kept { OnOk result (R.failures source.new ≡ R.failures source.old) }
+    ensures broken { result ≡ Err InputFault.Broken → HasFailed (R.failures source.old) (R.failures source.new) }
+{
+    match head_at(alloc, buffer, spans, head) {
+        Ok(Ok(call)) => read_rest(alloc, source, buffer, head.len, founding, call),
+        Ok(Err(refusal)) => Ok(Err(refusal)),
+        Err(fault) => Err(fault),
+    }
+}
+
+/// Reads one message, and gives what it says to a registry whose founding vendor this is: a query, a request, or the
+/// refusal of its first fault. No read begins once the bytes that were read decide that.
+///
+/// The message takes at most 8,192 bytes of memory for its head, and 16,384 for the body of an order in JSON besides
+/// the request itself. A list that is imported is read in pieces, and takes the memory of its document.
+///
+/// `Broken` comes only where the source failed in this call, and `NoMemory` only where memory is short.
+pub fn read_message<R: Source>(
+    alloc: Global,
+    source: &mut R,
+    founding: Vid,
+) -> Result<Result<Message, HttpRefusal>, InputFault>
+    ensures ok { IfOk result (λ said. (bytes : List ℕ) × MayGive (R.remaining source.old) bytes × Says founding bytes said) }
+    ensures kept { OnOk result (R.failures source.new ≡ R.failures source.old) }
+    ensures broken { result ≡ Err InputFault.Broken → HasFailed (R.failures source.old) (R.failures source.new) }
+{
+    let mut buffer = Vec::new(alloc);
+    let mut spans = [EMPTY_HEADER_SPAN; 64];
+    match read_head(source, &mut buffer, &mut spans) {
+        Ok(HeadEnd::Whole(head)) => {
+            read_after_head(alloc, source, &mut buffer, &spans, head, founding)
+        }
+        Ok(HeadEnd::Missing) => Ok(Err(HttpRefusal::Wire(WireRefusal::BadHead))),
+        Err(fault) => Err(fault),
+    }
+}
+
+/// The law of one meaning: all bytes of a message say one thing, however they were cut.
+pub fn says_one_thing()
+    ensures { (founding : ℕ) (bytes : List ℕ) (a b : Result Message HttpRefusal) → Says founding bytes a → Says founding bytes b → a ≡ b }
+{}

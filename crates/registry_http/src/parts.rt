@@ -1,0 +1,143 @@
+//! The parts of a path, read as values: what a path asks for whose template is known.
+
+ghost use Rattle.std.specs.Prelude.{◌≡◌, IfOk, option_copied};
+ghost use Rattle.registry_wire.specs.Kinds.{slug_of};
+ghost use Rattle.registry_http.specs.Routes.{starts_with_zero, petition_of, report_of, number_route, vendor_number_route, import_route, vendor_import_route, org_route, petition_route, report_route};
+
+use crate::fields::length_of;
+use crate::route::{Endpoint, Query, Report, Route};
+use std::alloc::Global;
+use usbnum_core::{NoMemory, Slug, parse_pid, parse_vid};
+
+/// The slug that a part is.
+#[tactic(auto, unfolding(registry_wire::specs::Kinds::slug_of))]
+pub(crate) fn slug_of(alloc: Global, text: &[u8]) -> Result<Option<Slug>, NoMemory>
+    ensures { IfOk result (λ found. found ≡ slug_of text.now) }
+{
+    Slug::new(alloc, text)
+}
+
+fn starts_with_zero(text: &[u8]) -> bool
+    ensures { result ≡ starts_with_zero text.now }
+{
+    matches!(text, [b'0', ..])
+}
+
+#[tactic(auto, unfolding(crate::specs::Routes::petition_of))]
+fn petition_of(text: &[u8]) -> Option<u32>
+    ensures { result ≡ petition_of text.now }
+{
+    if starts_with_zero(text) {
+        return None;
+    }
+    match length_of(text) {
+        Some(number) => {
+            if number < 4_294_967_296 {
+                Some(number as u32)
+            } else {
+                None
+            }
+        }
+        None => None,
+    }
+}
+
+#[tactic(auto, unfolding(crate::specs::Routes::report_of))]
+fn report_of(name: &str) -> Option<Report>
+    ensures { result ≡ report_of name.now }
+{
+    if name == "census" {
+        Some(Report::Census)
+    } else if name == "holders" {
+        Some(Report::Holders)
+    } else if name == "petitions" {
+        Some(Report::Petitions)
+    } else {
+        None
+    }
+}
+
+#[tactic(auto, unfolding(crate::specs::Routes::number_route))]
+pub(crate) fn number_route(pid: Option<&str>) -> Option<Route>
+    ensures { result ≡ number_route (option_copied pid.entry) }
+{
+    let pid = parse_pid(pid?.as_bytes())?;
+    Some(Route::Get(Query::Number { vendor: None, pid }))
+}
+
+#[tactic(auto, unfolding(crate::specs::Routes::vendor_number_route))]
+pub(crate) fn vendor_number_route(vendor: Option<&str>, pid: Option<&str>) -> Option<Route>
+    ensures { result ≡ vendor_number_route (option_copied vendor.entry) (option_copied pid.entry) }
+{
+    let vid = parse_vid(vendor?.as_bytes())?;
+    let pid = parse_pid(pid?.as_bytes())?;
+    Some(Route::Get(Query::Number {
+        vendor: Some(vid),
+        pid,
+    }))
+}
+
+#[tactic(auto, unfolding(crate::specs::Routes::petition_route))]
+pub(crate) fn petition_route(id: Option<&str>) -> Option<Route>
+    ensures { result ≡ petition_route (option_copied id.entry) }
+{
+    let id = petition_of(id?.as_bytes())?;
+    Some(Route::Get(Query::Petition(id)))
+}
+
+#[tactic(auto, unfolding(crate::specs::Routes::report_route))]
+pub(crate) fn report_route(name: Option<&str>) -> Option<Route>
+    ensures { result ≡ report_route (option_copied name.entry) }
+{
+    let report = report_of(name?)?;
+    Some(Route::Get(Query::Report(report)))
+}
+
+#[tactic(auto, unfolding(crate::specs::Routes::org_route))]
+pub(crate) fn org_route(alloc: Global, org: Option<&str>) -> Result<Option<Route>, NoMemory>
+    ensures { IfOk result (λ found. found ≡ org_route (option_copied org.entry)) }
+{
+    let Some(org) = org else {
+        return Ok(None);
+    };
+    match slug_of(alloc, org.as_bytes())? {
+        Some(org) => Ok(Some(Route::Get(Query::Org(org)))),
+        None => Ok(None),
+    }
+}
+
+#[tactic(auto, unfolding(crate::specs::Routes::import_route))]
+pub(crate) fn import_route(alloc: Global, org: Option<&str>) -> Result<Option<Route>, NoMemory>
+    ensures { IfOk result (λ found. found ≡ import_route (option_copied org.entry)) }
+{
+    let Some(org) = org else {
+        return Ok(None);
+    };
+    match slug_of(alloc, org.as_bytes())? {
+        Some(org) => Ok(Some(Route::Post(Endpoint::Imports { org, vendor: None }))),
+        None => Ok(None),
+    }
+}
+
+#[tactic(auto, unfolding(crate::specs::Routes::vendor_import_route))]
+pub(crate) fn vendor_import_route(
+    alloc: Global,
+    org: Option<&str>,
+    vendor: Option<&str>,
+) -> Result<Option<Route>, NoMemory>
+    ensures { IfOk result (λ found. found ≡ vendor_import_route (option_copied org.entry) (option_copied vendor.entry)) }
+{
+    let (Some(org), Some(vendor)) = (org, vendor) else {
+        return Ok(None);
+    };
+    let Some(vid) = parse_vid(vendor.as_bytes()) else {
+        return Ok(None);
+    };
+    match slug_of(alloc, org.as_bytes())? {
+        Some(org) => Ok(Some(Route::Post(Endpoint::Imports {
+            org,
+            vendor: Some(vid),
+        }))),
+        None => Ok(None),
+    }
+}

@@ -1,0 +1,184 @@
+//! What the head of a message asks for.
+
+ghost use Rattle.std.specs.Prelude.{◌≡◌, All, IfOk, length, map, option_and_then, bytes_eq};
+ghost use Rattle.httparse.specs.Spans.{IsHeaderWithin, header_bytes};
+ghost use Rattle.registry_http.specs.Refusals.{present, Gives};
+ghost use Rattle.registry_wire.specs.Kinds.{slug_of, key_of};
+ghost use Rattle.registry_http.specs.Reading.{length_in, header_in, limit_of, within, order_head, head_for, head_in};
+ghost use Rattle.registry_wire.specs.declared.refusal.WireRefusal.TheVariants as refusals;
+ghost use Rattle.registry_wire.specs.declared.refusal.Header.TheVariants as headers;
+
+use crate::fields::{has_field, length_of, only_value};
+use crate::parts::slug_of;
+use crate::refusal::{Allow, HttpRefusal};
+use crate::route::{Endpoint, Query, Route};
+use crate::routes::route_of;
+use crate::stop::Stop;
+use httparse::spans::HeaderSpan;
+use registry_wire::{Header, WireRefusal};
+use std::alloc::Global;
+use usbnum_core::{Key, NoMemory, Slug};
+
+/// The head of an order: where it is sent, how many bytes its body has, its caller and its key.
+#[derive(Drop)]
+pub(crate) struct OrderHead {
+    pub endpoint: Endpoint,
+    pub length: u32,
+    pub caller: Slug,
+    pub key: Key,
+}
+
+/// What a head asks for: a query, or that an order is read behind it.
+#[derive(Drop)]
+pub(crate) enum Head {
+    Query(Query),
+    Order(OrderHead),
+}
+
+fn length_in(buffer: &[u8], spans: &[HeaderSpan]) -> Option<u64>
+    requires { All (IsHeaderWithin (length buffer.now)) spans.now }
+    ensures { result ≡ length_in (map (header_bytes buffer.now) spans.now) }
+{
+    if has_field(buffer, spans, b"transfer-encoding") {
+        return None;
+    }
+    length_of(only_value(buffer, spans, b"content-length")?)
+}
+
+fn limit_of(endpoint: &Endpoint) -> u32
+    ensures { result ≡ limit_of endpoint.now }
+{
+    match endpoint {
+        Endpoint::Commands => 16_384,
+        Endpoint::Imports { .. } => 4_194_304,
+    }
+}
+
+fn within(most: u32, length: u64) -> Result<u32, Stop>
+    ensures { Gives result (within most length) }
+{
+    if length <= u64::from(most) {
+        Ok(length as u32)
+    } else {
+        Err(Stop::Refused(HttpRefusal::Wire(WireRefusal::TooLarge)))
+    }
+}
+
+fn length_at(buffer: &[u8], spans: &[HeaderSpan]) -> Result<u64, Stop>
+    requires { All (IsHeaderWithin (length buffer.now)) spans.now }
+    ensures { Gives result (present refusals.BadLength (length_in (map (header_bytes buffer.now) spans.now))) }
+{
+    match length_in(buffer, spans) {
+        Some(length) => Ok(length),
+        None => Err(Stop::Refused(HttpRefusal::Wire(WireRefusal::BadLength))),
+    }
+}
+
+fn caller_at(alloc: Global, buffer: &[u8], spans: &[HeaderSpan]) -> Result<Slug, Stop>
+    requires { All (IsHeaderWithin (length buffer.now)) spans.now }
+    ensures { Gives result (present (refusals.BadHeader headers.Caller) (option_and_then slug_of (header_in headers.Caller (map (header_bytes buffer.now) spans.now)))) }
+{
+    let Some(text) = only_value(buffer, spans, Header::Caller.name().as_bytes()) else {
+        return Err(Stop::Refused(HttpRefusal::Wire(WireRefusal::BadHeader(Header::Caller))));
+    };
+    match slug_of(alloc, text)? {
+        Some(caller) => Ok(caller),
+        None => Err(Stop::Refused(HttpRefusal::Wire(WireRefusal::BadHeader(Header::Caller)))),
+    }
+}
+
+/// The key that a text is.
+#[tactic(auto, unfolding(registry_wire::specs::Kinds::key_of))]
+fn key_of(alloc: Global, text: &[u8]) -> Result<Option<Key>, NoMemory>
+    ensures { IfOk result (λ found. found ≡ key_of text.now) }
+{
+    Key::new(alloc, text)
+}
+
+fn key_at(alloc: Global, buffer: &[u8], spans: &[HeaderSpan]) -> Result<Key, Stop>
+    requires { All (IsHeaderWithin (length buffer.now)) spans.now }
+    ensures { Gives result (present (refusals.BadHeader headers.Key) (option_and_then key_of (header_in headers.Key (map (header_bytes buffer.now) spans.now)))) }
+{
+    let Some(text) = only_value(buffer, spans, Header::Key.name().as_bytes()) else {
+        return Err(Stop::Refused(HttpRefusal::Wire(WireRefusal::BadHeader(Header::Key))));
+    };
+    match key_of(alloc, text)? {
+        Some(key) => Ok(key),
+        None => Err(Stop::Refused(HttpRefusal::Wire(WireRefusal::BadHeader(Header::Key)))),
+    }
+}
+
+#[tactic(auto, unfolding(crate::specs::Reading::order_head))]
+fn order_head(
+    alloc: Global,
+    endpoint: Endpoint,
+    buffer: &[u8],
+    spans: &[HeaderSpan],
+) -> Result<Head, Stop>
+    requires { All (IsHeaderWithin (length buffer.now)) spans.now }
+    ensures { Gives result (order_head endpoint (map (header_bytes buffer.now) spans.now)) }
+{
+    let wanted = length_at(buffer, spans)?;
+    let length = within(limit_of(&endpoint), wanted)?;
+    let caller = caller_at(alloc, buffer, spans)?;
+    let key = key_at(alloc, buffer, spans)?;
+    Ok(Head::Order(OrderHead {
+        endpoint,
+        length,
+        caller,
+        key,
+    }))
+}
+
+fn is_method(wanted: &str, method: &[u8]) -> bool
+    ensures { result ≡ bytes_eq method.now wanted.now }
+{
+    method == wanted.as_bytes()
+}
+
+#[tactic(auto, unfolding(crate::specs::Reading::head_for))]
+fn head_for(
+    alloc: Global,
+    route: Route,
+    method: &[u8],
+    buffer: &[u8],
+    spans: &[HeaderSpan],
+) -> Result<Head, Stop>
+    requires { All (IsHeaderWithin (length buffer.now)) spans.now }
+    ensures { Gives result (head_for route method.now (map (header_bytes buffer.now) spans.now)) }
+{
+    match route {
+        Route::Get(query) => {
+            if is_method("GET", method) {
+                Ok(Head::Query(query))
+            } else {
+                Err(Stop::Refused(HttpRefusal::WrongMethod(Allow::Get)))
+            }
+        }
+        Route::Post(endpoint) => {
+            if is_method("POST", method) {
+                order_head(alloc, endpoint, buffer, spans)
+            } else {
+                Err(Stop::Refused(HttpRefusal::WrongMethod(Allow::Post)))
+            }
+        }
+    }
+}
+
+/// What a head with this method, target and fields asks for, or its first fault.
+#[tactic(auto, unfolding(crate::specs::Reading::head_in))]
+pub(crate) fn head_in(
+    alloc: Global,
+    method: &[u8],
+    target: &[u8],
+    buffer: &[u8],
+    spans: &[HeaderSpan],
+) -> Result<Head, Stop>
+    requires { All (IsHeaderWithin (length buffer.now)) spans.now }
+    ensures { Gives result (head_in method.now target.now (map (header_bytes buffer.now) spans.now)) }
+{
+    match route_of(alloc, target)? {
+        Some(route) => head_for(alloc, route, method, buffer, spans),
+        None => Err(Stop::Refused(HttpRefusal::Wire(WireRefusal::NoRoute))),
+    }
+}

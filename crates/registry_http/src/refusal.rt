@@ -1,0 +1,44 @@
+//! Why a message is refused before the registry is asked.
+
+use registry_wire::WireRefusal;
+
+/// The method that a path allows.
+#[derive(Clone, Copy, Debug, PartialEq, Eq)]
+pub enum Allow {
+    Get,
+    Post,
+}
+
+/// Why a message is refused before the registry is asked.
+#[derive(Clone, Copy, Debug, PartialEq, Eq)]
+pub enum HttpRefusal {
+    /// A refusal that needs no more said.
+    Wire(WireRefusal),
+    /// Its path is served by this method alone.
+    WrongMethod(Allow),
+}
+
+impl HttpRefusal {
+    ghost use Rattle.std.specs.Prelude.{◌≡◌};
+    ghost use Rattle.registry_http.specs.Refusals.{wire_refusal, allow_of};
+
+    /// The refusal that is told.
+    pub(crate) fn wire(self) -> WireRefusal
+        ensures { result ≡ wire_refusal self }
+    {
+        match self {
+            HttpRefusal::Wire(refusal) => refusal,
+            HttpRefusal::WrongMethod(_) => WireRefusal::WrongMethod,
+        }
+    }
+
+    /// The method that is allowed, where that is why.
+    pub(crate) fn allow(self) -> Option<Allow>
+        ensures { result ≡ allow_of self }
+    {
+        match self {
+            HttpRefusal::Wire(_) => None,
+            HttpRefusal::WrongMethod(allow) => Some(allow),
+        }
+    }
+}

@@ -1,0 +1,108 @@
+//! Responses: a reply, a refusal, or a text.
+
+ghost use Rattle.std.specs.Prelude.{◌≡◌, IfOk, string_bytes};
+ghost use Rattle.registry_http.specs.Responses.{json_response, reply_response, refusal_response, text_response};
+
+use crate::refusal::{Allow, HttpRefusal};
+use crate::status::{reply_status, status_of};
+use http::StatusCode;
+use registry_rules::Reply;
+use registry_wire::{refusal_json, reply_json};
+use std::alloc::Global;
+use std::marker::Model;
+use usbnum_core::NoMemory;
+
+/// The media type of a body.
+#[derive(Clone, Copy, Debug, PartialEq, Eq)]
+pub enum ContentType {
+    Json,
+    Text,
+}
+
+/// The bytes of a body. A contract sees them as a list.
+#[derive(Drop)]
+pub struct Body {
+    bytes: Vec<u8>,
+}
+
+impl Model for Body {
+    ghost use Rattle.std.specs.Prelude.{List, ℕ};
+
+    ghost Value = { List ℕ };
+
+    ghost view = { λ body. body.bytes.items };
+}
+
+impl Body {
+    fn new(bytes: Vec<u8>) -> Body
+        ensures { result ≡ bytes.items }
+    {
+        Body { bytes }
+    }
+
+    pub(crate) fn as_slice(&self) -> &[u8]
+        ensures { result.now ≡ self.now }
+    {
+        &self.bytes
+    }
+}
+
+/// What is sent back for a message.
+#[derive(Drop)]
+pub struct Response {
+    pub status: StatusCode,
+    pub content_type: ContentType,
+    /// Of a wrong method, the one that the path allows.
+    pub allow: Option<Allow>,
+    pub body: Body,
+}
+
+/// A response of JSON, whose body is the text and a line feed.
+#[tactic(auto, unfolding(crate::specs::Responses::json_response))]
+pub(crate) fn json_response(
+    status: StatusCode,
+    allow: Option<Allow>,
+    text: String,
+) -> Result<Response, NoMemory>
+    ensures { IfOk result (λ response. response ≡ json_response status allow (string_bytes text)) }
+{
+    let mut text = text;
+    text.push_str("\n")?;
+    Ok(Response {
+        status,
+        content_type: ContentType::Json,
+        allow,
+        body: Body::new(text.into_bytes()),
+    })
+}
+
+/// The response to an order: the reply of the rules, with its status.
+#[tactic(auto, unfolding(crate::specs::Responses::reply_response))]
+pub fn reply_response(alloc: Global, reply: &Reply) -> Result<Response, NoMemory>
+    ensures { IfOk result (λ response. response ≡ reply_response reply.now) }
+{
+    let text = reply_json(alloc, reply)?;
+    json_response(reply_status(reply), None, text)
+}
+
+/// The response to a message that is refused before the registry is asked.
+#[tactic(auto, unfolding(crate::specs::Responses::refusal_response))]
+pub fn refusal_response(alloc: Global, refusal: HttpRefusal) -> Result<Response, NoMemory>
+    ensures { IfOk result (λ response. response ≡ refusal_response refusal) }
+{
+    let text = refusal_json(alloc, refusal.wire())?;
+    json_response(status_of(refusal.wire()), refusal.allow(), text)
+}
+
+/// The response of a list or a report: its bytes as they are.
+#[tactic(auto, unfolding(crate::specs::Responses::text_response))]
+pub fn text_response(bytes: Vec<u8>) -> Response
+    ensures { result ≡ text_response bytes.items }
+{
+    Response {
+        status: StatusCode::OK,
+        content_type: ContentType::Text,
+        allow: None,
+        body: Body::new(bytes),
+    }
+}

@@ -1,0 +1,176 @@
+//! The paths that are served, and what the target of a message asks for.
+
+ghost use Rattle.std.specs.Prelude.{◌≡◌, ◌≤◌, All, OnOk, IfOk, option_copied, length, position};
+ghost use Rattle.std.specs.Str.{IsAscii, IsUtf8};
+ghost use Rattle.std.specs.List.{list_all};
+ghost use Rattle.matchit.specs.Params.{walk};
+ghost use Rattle.registry_http.specs.Routes.{templates, with_template, first_two, is_ascii, path_end, is_question_mark, path_of, ascii_path, route_of, found_in, route_for, NextPart};
+
+use crate::parts::{
+    import_route, number_route, org_route, petition_route, report_route, vendor_import_route,
+    vendor_number_route,
+};
+use crate::route::{Endpoint, Query, Route};
+use matchit::{Params, ParamsIter, Router};
+use std::alloc::Global;
+use usbnum_core::NoMemory;
+
+/// A path that is served, whose parts are still to be read.
+#[derive(Clone, Copy, Debug, PartialEq, Eq)]
+pub(crate) enum Template {
+    Commands,
+    Imports,
+    VendorImports,
+    List,
+    Numbers,
+    VendorNumbers,
+    Orgs,
+    Petitions,
+    Reports,
+}
+
+#[tactic(auto, unfolding(crate::specs::Routes::with_template))]
+fn add(router: &mut Router<Template>, text: &str, template: Template) -> Result<(), NoMemory>
+    ensures { OnOk result (router.new ≡ with_template text.now template router.old) }
+{
+    match router.insert(text, template) {
+        Ok(()) => Ok(()),
+        Err(_) => Err(NoMemory),
+    }
+}
+
+/// The paths that are served.
+#[tactic(auto, unfolding(crate::specs::Routes::templates))]
+fn templates(alloc: Global) -> Result<Router<Template>, NoMemory>
+    ensures { IfOk result (λ r. r ≡ templates) }
+{
+    let mut router = Router::new(alloc);
+    add(&mut router, "/commands", Template::Commands)?;
+    add(&mut router, "/imports/{org}", Template::Imports)?;
+    add(&mut router, "/imports/{org}/{vid}", Template::VendorImports)?;
+    add(&mut router, "/list", Template::List)?;
+    add(&mut router, "/numbers/{pid}", Template::Numbers)?;
+    add(&mut router, "/numbers/{vid}/{pid}", Template::VendorNumbers)?;
+    add(&mut router, "/orgs/{org}", Template::Orgs)?;
+    add(&mut router, "/petitions/{id}", Template::Petitions)?;
+    add(&mut router, "/reports/{name}", Template::Reports)?;
+    Ok(router)
+}
+
+/// The next part of a path.
+fn next_part<'v>(params: &mut ParamsIter<'_, '_, 'v>) -> Option<&'v str>
+    requires { All (λ p. IsUtf8 p.1) params.old }
+    ensures { NextPart params.old (option_copied result) params.new }
+{
+    match params.next() {
+        Some((_, part)) => Some(part),
+        None => None,
+    }
+}
+
+/// The first two parts of a path.
+fn first_two<'v>(params: &Params<'_, 'v>) -> (Option<&'v str>, Option<&'v str>)
+    requires { IsAscii params.now.path.now }
+    ensures { (option_copied result.0, option_copied result.1)
+        ≡ first_two (walk params.now.pattern.now params.now.text.now params.now.path.now params.now.names.now 0 0) }
+{
+    let mut parts = params.iter();
+    match next_part(&mut parts) {
+        Some(first) => (Some(first), next_part(&mut parts)),
+        None => (None, None),
+    }
+}
+
+fn route_for(
+    alloc: Global,
+    template: Template,
+    one: Option<&str>,
+    two: Option<&str>,
+) -> Result<Option<Route>, NoMemory>
+    ensures { IfOk result (λ found. found ≡ route_for template (option_copied one.entry) (option_copied two.entry)) }
+{
+    match template {
+        Template::Commands => Ok(Some(Route::Post(Endpoint::Commands))),
+        Template::Imports => import_route(alloc, one),
+        Template::VendorImports => vendor_import_route(alloc, one, two),
+        Template::List => Ok(Some(Route::Get(Query::List))),
+        Template::Numbers => Ok(number_route(one)),
+        Template::VendorNumbers => Ok(vendor_number_route(one, two)),
+        Template::Orgs => org_route(alloc, one),
+        Template::Petitions => Ok(petition_route(one)),
+        Template::Reports => Ok(report_route(one)),
+    }
+}
+
+/// What an ASCII path asks for, if it is served.
+#[tactic(auto, unfolding(crate::specs::Routes::found_in))]
+fn found_in(alloc: Global, router: &Router<Template>, path: &str) -> Result<Option<Route>, NoMemory>
+    requires whole { router.now ≡ templates }
+    requires ascii { IsAscii path.now }
+    ensures { IfOk result (λ found. found ≡ found_in path.now) }
+{
+    match router.at(path) {
+        Ok(found) => {
+            let (one, two) = first_two(&found.params);
+            route_for(alloc, *found.value, one, two)
+        }
+        Err(_) => Ok(None),
+    }
+}
+
+fn are_ascii(bytes: &[u8]) -> bool
+    ensures { result ≡ list_all is_ascii bytes.now }
+{
+    bytes.iter().all(|b| *b < 128)
+}
+
+fn question_mark(target: &[u8]) -> Option<usize>
+    ensures { result ≡ position is_question_mark target.now }
+{
+    target.iter().position(|b| *b == b'?')
+}
+
+#[tactic(auto, unfolding(crate::specs::Routes::path_end))]
+fn path_end(target: &[u8]) -> usize
+    ensures value { result ≡ path_end target.now }
+    ensures within { result ≤ length target.now }
+{
+    match question_mark(target) {
+        Some(i) => i,
+        None => target.len(),
+    }
+}
+
+/// The target up to its first question mark.
+fn path_of(target: &[u8]) -> &[u8]
+    ensures { result.now ≡ path_of target.now }
+{
+    &target[..path_end(target)]
+}
+
+/// A path of ASCII bytes alone.
+fn ascii_path(path: &[u8]) -> Option<&str>
+    ensures { option_copied result ≡ ascii_path path.now }
+{
+    if !are_ascii(path) {
+        return None;
+    }
+    match str::from_utf8(path) {
+        Ok(path) => Some(path),
+        Err(_) => unreachable!(),
+    }
+}
+
+/// What the target of a message asks for, if it is served.
+#[tactic(auto, unfolding(crate::specs::Routes::route_of))]
+pub(crate) fn route_of(alloc: Global, target: &[u8]) -> Result<Option<Route>, NoMemory>
+    ensures { IfOk result (λ found. found ≡ route_of target.now) }
+{
+    match ascii_path(path_of(target)) {
+        Some(path) => {
+            let router = templates(alloc)?;
+            found_in(alloc, &router, path)
+        }
+        None => Ok(None),
+    }
+}

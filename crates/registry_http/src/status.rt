@@ -1,0 +1,51 @@
+//! The status of a response.
+
+ghost use Rattle.std.specs.Prelude.{◌≡◌};
+ghost use Rattle.registry_http.specs.Statuses.{status_of, rule_status, reply_status};
+
+use http::StatusCode;
+use registry_rules::{Refusal, Reply};
+use registry_wire::WireRefusal;
+
+/// The status of a refusal of the rules.
+fn rule_status(refusal: &Refusal) -> StatusCode
+    ensures { result ≡ rule_status refusal.now }
+{
+    match refusal {
+        Refusal::NotCurator | Refusal::NotKeeper => StatusCode::FORBIDDEN,
+        Refusal::NoOrg | Refusal::NoPetition | Refusal::NoVendor => StatusCode::NOT_FOUND,
+        Refusal::LicenceUnknown | Refusal::ImportTooLong => StatusCode::UNPROCESSABLE_ENTITY,
+        _ => StatusCode::CONFLICT,
+    }
+}
+
+/// The status of a reply.
+pub(crate) fn reply_status(reply: &Reply) -> StatusCode
+    ensures { result ≡ reply_status reply.now }
+{
+    match reply {
+        Reply::Done(_) => StatusCode::OK,
+        Reply::Refused(refusal) => rule_status(refusal),
+    }
+}
+
+/// The status of a refusal of the message itself.
+pub(crate) fn status_of(refusal: WireRefusal) -> StatusCode
+    ensures { result ≡ status_of refusal }
+{
+    match refusal {
+        WireRefusal::BadHead => StatusCode::BAD_REQUEST,
+        WireRefusal::BadLength => StatusCode::LENGTH_REQUIRED,
+        WireRefusal::TooLarge => StatusCode::PAYLOAD_TOO_LARGE,
+        WireRefusal::ShortBody => StatusCode::BAD_REQUEST,
+        WireRefusal::NoRoute => StatusCode::NOT_FOUND,
+        WireRefusal::WrongMethod => StatusCode::METHOD_NOT_ALLOWED,
+        WireRefusal::BadHeader(_) => StatusCode::BAD_REQUEST,
+        WireRefusal::BadJson => StatusCode::BAD_REQUEST,
+        WireRefusal::BadField(_) => StatusCode::UNPROCESSABLE_ENTITY,
+        WireRefusal::BadList(_) => StatusCode::UNPROCESSABLE_ENTITY,
+        WireRefusal::StoreFault => StatusCode::SERVICE_UNAVAILABLE,
+        WireRefusal::NoMemory => StatusCode::SERVICE_UNAVAILABLE,
+        WireRefusal::BadFounding(_) => StatusCode::UNPROCESSABLE_ENTITY,
+    }
+}

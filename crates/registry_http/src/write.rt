@@ -1,0 +1,66 @@
+//! Responses, written to a sink.
+
+ghost use Rattle.std.specs.Prelude.{◌≡◌, ◌++◌, IfOk};
+ghost use Rattle.usbids_text.specs.Ends.{Writes};
+ghost use Rattle.registry_http.specs.declared.response.Response.{Response as TheResponse};
+ghost use Rattle.registry_http.specs.Responses.{response_head, response_bytes, unavailable_response, IsInPlaceOf};
+
+use crate::response::Response;
+use crate::response_head::response_head;
+use crate::unavailable::{Unavailable, unavailable_text};
+use std::alloc::Global;
+use usbids_text::{Broken, Sink, put_all};
+use usbnum_core::NoMemory;
+
+/// Writes a head and then a body.
+fn put_both<W: Sink>(sink: &mut W, head: &[u8], body: &[u8]) -> Result<(), Broken>
+    ensures { Writes (W.contents sink.old) (W.contents sink.new) (W.failures sink.old) (W.failures sink.new) result (head.now ++ body.now) }
+{
+    match put_all(sink, head) {
+        Ok(()) => put_all(sink, body),
+        Err(broken) => Err(broken),
+    }
+}
+
+#[tactic(auto, unfolding(crate::specs::Responses::response_bytes))]
+fn put_response<W: Sink>(sink: &mut W, head: &str, response: &Response) -> Result<u16, Broken>
+    requires { head.now ≡ response_head response.now }
+    ensures writes { Writes (W.contents sink.old) (W.contents sink.new) (W.failures sink.old) (W.failures sink.new) result (response_bytes response.now) }
+    ensures status { IfOk result (λ status. status ≡ response.now.status) }
+{
+    match put_both(sink, head.as_bytes(), response.body.as_slice()) {
+        Ok(()) => Ok(response.status.as_u16()),
+        Err(broken) => Err(broken),
+    }
+}
+
+/// Writes a response, and gives its status. Where there is no memory for its head, it is refusal 31 that is written.
+///
+/// `Broken` comes only where the sink failed in this call: a beginning of the response was written.
+pub fn write_response<W: Sink>(
+    alloc: Global,
+    sink: &mut W,
+    response: &Response,
+) -> Result<u16, Broken>
+    ensures { (written : TheResponse) × IsInPlaceOf written response.now
+        × Writes (W.contents sink.old) (W.contents sink.new) (W.failures sink.old) (W.failures sink.new) result (response_bytes written)
+        × IfOk result (λ status. status ≡ written.status) }
+{
+    match response_head(alloc, response) {
+        Ok(head) => put_response(sink, head.as_str(), response),
+        Err(NoMemory) => write_unavailable(sink, Unavailable::NoMemory),
+    }
+}
+
+/// Writes refusal 30 or 31, and gives its status. It takes no memory.
+///
+/// `Broken` comes only where the sink failed in this call: a beginning of the response was written.
+pub fn write_unavailable<W: Sink>(sink: &mut W, why: Unavailable) -> Result<u16, Broken>
+    ensures writes { Writes (W.contents sink.old) (W.contents sink.new) (W.failures sink.old) (W.failures sink.new) result (response_bytes (unavailable_response why)) }
+    ensures status { IfOk result (λ status. status ≡ 503) }
+{
+    match put_all(sink, unavailable_text(why).as_bytes()) {
+        Ok(()) => Ok(503),
+        Err(broken) => Err(broken),
+    }
+}

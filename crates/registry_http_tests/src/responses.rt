@@ -1,0 +1,370 @@
+use crate::ends::{Brim, read, text};
+use registry_http::{
+    Response, Unavailable, number_response, org_response, petition_response, reply_response,
+    text_response, write_response, write_unavailable,
+};
+use registry_rules::{Card, Entry, Org, Petition, PetitionState, Refusal, Reply, Terms, Text};
+use std::alloc::Global;
+use std::process::Abort;
+use std::test::Fail;
+use usbids_text::{Broken, Inlet, Outlet};
+use usbnum_core::{Link, NoMemory, Pid, Slug, Title, Vid, parse_pid, parse_vid};
+
+// The bytes that are written, after the status that is given.
+fn written(alloc: Global, response: &Response) -> Result<String, NoMemory> {
+    let mut sink = Outlet::new(Vec::new(alloc));
+    match write_response(alloc, &mut sink, response) {
+        Ok(status) => {
+            let text = text(alloc, sink.into_inner());
+            Ok(format!(in alloc; "{status}: {text}")?)
+        }
+        Err(Broken) => Err(NoMemory),
+    }
+}
+
+fn slug(rt: &impl Abort, alloc: Global, text: &str) -> Slug {
+    Slug::new(alloc, text.as_bytes())
+        .expect(rt, "memory")
+        .expect(rt, "a slug")
+}
+
+fn title(rt: &impl Abort, alloc: Global, text: &str) -> Title {
+    Title::new(alloc, text.as_bytes())
+        .expect(rt, "memory")
+        .expect(rt, "a title")
+}
+
+fn link(rt: &impl Abort, alloc: Global, text: &str) -> Link {
+    Link::new(alloc, text.as_bytes())
+        .expect(rt, "memory")
+        .expect(rt, "a link")
+}
+
+fn terms(rt: &impl Abort, alloc: Global) -> Terms {
+    Terms {
+        licence: title(rt, alloc, "MIT"),
+        site: link(rt, alloc, "https://acme.example/b"),
+        source: link(rt, alloc, "https://acme.example/s"),
+    }
+}
+
+fn vid(rt: &impl Abort, text: &[u8]) -> Vid {
+    parse_vid(text).expect(rt, "a vendor ID")
+}
+
+fn pid(rt: &impl Abort, text: &[u8]) -> Pid {
+    parse_pid(text).expect(rt, "a product ID")
+}
+
+// What is written of a response that is JSON.
+fn json(alloc: Global, status: &str, body: &str) -> Result<String, NoMemory> {
+    let count = body.len().saturating_add(1);
+    Ok(format!(in alloc;
+        "HTTP/1.1 {status}\r\ncontent-type: application/json\r\ncontent-length: {count}\r\nconnection: close\r\n\r\n{body}\n"
+    )?)
+}
+
+fn expect(
+    rt: &impl Abort,
+    alloc: Global,
+    response: &Response,
+    status: &str,
+    body: &str,
+) -> Result<(), NoMemory> {
+    let code = &status[..3];
+    let text = json(alloc, status, body)?;
+    let wanted = format!(in alloc; "{code}: {text}")?;
+    assert_eq!(rt; written(alloc, response)?.as_str(), wanted.as_str());
+    Ok(())
+}
+
+fn expect_numbers(rt: &impl Abort, alloc: Global) -> Result<(), NoMemory> {
+    let number = pid(rt, b"0012");
+    let held = Entry {
+        org: slug(rt, alloc, "acme"),
+        held: true,
+        card: Card {
+            title: title(rt, alloc, "Blinker"),
+            terms: Some(terms(rt, alloc)),
+        },
+    };
+    let returned = Entry {
+        org: slug(rt, alloc, "acme"),
+        held: false,
+        card: Card {
+            title: title(rt, alloc, "Old \"x\""),
+            terms: None,
+        },
+    };
+    let free = number_response(alloc, None, number, false, None)?;
+    expect(
+        rt,
+        alloc,
+        &free,
+        "200 OK",
+        r#"{"number":"0012","state":"free"}"#,
+    )?;
+    let reserved = number_response(alloc, Some(vid(rt, b"cafe")), number, true, Some(&held))?;
+    expect(
+        rt,
+        alloc,
+        &reserved,
+        "200 OK",
+        r#"{"number":"0012","state":"reserved","vendor":"cafe"}"#,
+    )?;
+    let owned = number_response(alloc, None, number, false, Some(&held))?;
+    expect(
+        rt,
+        alloc,
+        &owned,
+        "200 OK",
+        r#"{"licence":"MIT","number":"0012","org":"acme","site":"https://acme.example/b","source":"https://acme.example/s","state":"held","title":"Blinker"}"#,
+    )?;
+    let given_back = number_response(
+        alloc,
+        Some(vid(rt, b"1209")),
+        number,
+        false,
+        Some(&returned),
+    )?;
+    expect(
+        rt,
+        alloc,
+        &given_back,
+        "200 OK",
+        r#"{"number":"0012","org":"acme","state":"returned","title":"Old \"x\"","vendor":"1209"}"#,
+    )
+}
+
+#[test]
+fn numbers(rt: HostRuntime) -> Result<(), Fail> {
+    expect_numbers(&rt, rt.alloc())?;
+    Ok(())
+}
+
+fn expect_orgs(rt: &impl Abort, alloc: Global) -> Result<(), NoMemory> {
+    let org = Org {
+        slug: slug(rt, alloc, "acme"),
+        title: title(rt, alloc, "Acme Tools"),
+        site: link(rt, alloc, "https://acme.example/"),
+        keeper: slug(rt, alloc, "ann"),
+    };
+    let found = org_response(alloc, Some(&org))?;
+    expect(
+        rt,
+        alloc,
+        &found,
+        "200 OK",
+        r#"{"keeper":"ann","org":"acme","site":"https://acme.example/","title":"Acme Tools"}"#,
+    )?;
+    let missing = org_response(alloc, None)?;
+    expect(
+        rt,
+        alloc,
+        &missing,
+        "404 Not Found",
+        r#"{"name":"NoOrg","refused":4}"#,
+    )
+}
+
+#[test]
+fn organisations(rt: HostRuntime) -> Result<(), Fail> {
+    expect_orgs(&rt, rt.alloc())?;
+    Ok(())
+}
+
+fn petition(
+    rt: &impl Abort,
+    alloc: Global,
+    vendor: &[u8],
+    want: Option<Pid>,
+    state: PetitionState,
+) -> Petition {
+    Petition {
+        vid: vid(rt, vendor),
+        org: slug(rt, alloc, "acme"),
+        want,
+        title: title(rt, alloc, "Blinker"),
+        terms: terms(rt, alloc),
+        state,
+    }
+}
+
+fn expect_petitions(rt: &impl Abort, alloc: Global) -> Result<(), NoMemory> {
+    let founding = vid(rt, b"1209");
+    let number = pid(rt, b"0012");
+    let open = petition(rt, alloc, b"1209", None, PetitionState::Open);
+    let response = petition_response(alloc, founding, 1, Some(&open))?;
+    expect(
+        rt,
+        alloc,
+        &response,
+        "200 OK",
+        r#"{"id":1,"licence":"MIT","org":"acme","site":"https://acme.example/b","source":"https://acme.example/s","state":"open","title":"Blinker"}"#,
+    )?;
+    let granted = petition(
+        rt,
+        alloc,
+        b"cafe",
+        Some(number),
+        PetitionState::Granted(number),
+    );
+    let response = petition_response(alloc, founding, 4294967295, Some(&granted))?;
+    expect(
+        rt,
+        alloc,
+        &response,
+        "200 OK",
+        r#"{"granted":"0012","id":4294967295,"licence":"MIT","org":"acme","site":"https://acme.example/b","source":"https://acme.example/s","state":"granted","title":"Blinker","vendor":"cafe","want":"0012"}"#,
+    )?;
+    let missing = petition_response(alloc, founding, 2, None)?;
+    expect(
+        rt,
+        alloc,
+        &missing,
+        "404 Not Found",
+        r#"{"name":"NoPetition","refused":6}"#,
+    )
+}
+
+#[test]
+fn petitions(rt: HostRuntime) -> Result<(), Fail> {
+    expect_petitions(&rt, rt.alloc())?;
+    Ok(())
+}
+
+fn expect_replies(rt: &impl Abort, alloc: Global) -> Result<(), NoMemory> {
+    let done = Reply::Done(Text::new(String::from_str(alloc, "enrolled acme")?));
+    expect(
+        rt,
+        alloc,
+        &reply_response(alloc, &done)?,
+        "200 OK",
+        r#"{"done":"enrolled acme"}"#,
+    )?;
+    let rows = [
+        (
+            Refusal::KeyReused,
+            "409 Conflict",
+            r#"{"name":"KeyReused","refused":1}"#,
+        ),
+        (
+            Refusal::NotCurator,
+            "403 Forbidden",
+            r#"{"name":"NotCurator","refused":2}"#,
+        ),
+        (
+            Refusal::LicenceUnknown,
+            "422 Unprocessable Entity",
+            r#"{"name":"LicenceUnknown","refused":13}"#,
+        ),
+        (
+            Refusal::NoVendor,
+            "404 Not Found",
+            r#"{"name":"NoVendor","refused":34}"#,
+        ),
+    ];
+    for (refusal, status, body) in rows {
+        expect(
+            rt,
+            alloc,
+            &reply_response(alloc, &Reply::Refused(refusal))?,
+            status,
+            body,
+        )?;
+    }
+    Ok(())
+}
+
+#[test]
+fn replies(rt: HostRuntime) -> Result<(), Fail> {
+    expect_replies(&rt, rt.alloc())?;
+    Ok(())
+}
+
+#[test]
+fn a_text_is_sent_as_it_is(rt: HostRuntime) -> Result<(), Fail> {
+    let alloc = rt.alloc();
+    let response = text_response(String::from_str(alloc, "1209  Shared\n")?.into_bytes());
+    assert_eq!(rt;
+        written(alloc, &response)?.as_str(),
+        "200: HTTP/1.1 200 OK\r\ncontent-type: text/plain; charset=utf-8\r\ncontent-length: 13\r\nconnection: close\r\n\r\n1209  Shared\n"
+    );
+    Ok(())
+}
+
+#[test]
+fn names_the_method_that_is_allowed(rt: HostRuntime) -> Result<(), Fail> {
+    let alloc = rt.alloc();
+    let mut source = Inlet::new(b"DELETE /list HTTP/1.1\r\n\r\n".as_slice());
+    assert_eq!(rt;
+        read(alloc, &mut source)?.as_str(),
+        "HTTP/1.1 405 Method Not Allowed\r\ncontent-type: application/json\r\ncontent-length: 36\r\nallow: GET\r\nconnection: close\r\n\r\n{\"name\":\"WrongMethod\",\"refused\":25}\n"
+    );
+    let mut source = Inlet::new(b"HEAD /imports/acme HTTP/1.1\r\n\r\n".as_slice());
+    assert_eq!(rt;
+        read(alloc, &mut source)?.as_str(),
+        "HTTP/1.1 405 Method Not Allowed\r\ncontent-type: application/json\r\ncontent-length: 36\r\nallow: POST\r\nconnection: close\r\n\r\n{\"name\":\"WrongMethod\",\"refused\":25}\n"
+    );
+    let mut source = Inlet::new(b"HEAD /list HTTP/1.1\r\n\r\n".as_slice());
+    assert_eq!(rt;
+        read(alloc, &mut source)?.as_str(),
+        "HTTP/1.1 405 Method Not Allowed\r\ncontent-type: application/json\r\ncontent-length: 36\r\nallow: GET\r\nconnection: close\r\n\r\n{\"name\":\"WrongMethod\",\"refused\":25}\n"
+    );
+    Ok(())
+}
+
+fn expect_unavailable(
+    rt: &impl Abort,
+    alloc: Global,
+    why: Unavailable,
+    body: &str,
+) -> Result<(), NoMemory> {
+    let mut sink = Outlet::new(Vec::new(alloc));
+    assert_eq!(rt; write_unavailable(&mut sink, why), Ok(503));
+    let wanted = json(alloc, "503 Service Unavailable", body)?;
+    assert_eq!(rt; text(alloc, sink.into_inner()).as_str(), wanted.as_str());
+    Ok(())
+}
+
+#[test]
+fn tells_why_nothing_is_asked(rt: HostRuntime) -> Result<(), Fail> {
+    let alloc = rt.alloc();
+    expect_unavailable(
+        &rt,
+        alloc,
+        Unavailable::StoreFault,
+        r#"{"name":"StoreFault","refused":30}"#,
+    )?;
+    expect_unavailable(
+        &rt,
+        alloc,
+        Unavailable::NoMemory,
+        r#"{"name":"NoMemory","refused":31}"#,
+    )?;
+    Ok(())
+}
+
+// A writer that takes so many bytes of a response and then fails has a beginning of it.
+fn expect_beginnings(rt: &impl Abort, alloc: Global) -> Result<(), NoMemory> {
+    let response = org_response(alloc, None)?;
+    let whole = written(alloc, &response)?;
+    let whole = &whole.as_bytes()[5..];
+    for room in 0..whole.len() {
+        let mut sink = Brim {
+            bytes: Vec::new(alloc),
+            room,
+            failures: 0,
+        };
+        assert_eq!(rt; write_response(alloc, &mut sink, &response), Err(Broken));
+        assert_eq!(rt; sink.failures, 1);
+        assert_eq!(rt; sink.bytes.as_slice(), &whole[..room]);
+    }
+    Ok(())
+}
+
+#[test]
+fn a_writer_that_fails_is_told(rt: HostRuntime) -> Result<(), Fail> {
+    expect_beginnings(&rt, rt.alloc())?;
+    Ok(())
+}
