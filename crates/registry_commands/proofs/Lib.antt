@@ -2,3 +2,4 @@ pub mod ApplyLemmas
 pub mod EndLemmas
 pub mod FailureLemmas
 pub mod LineLemmas
+pub mod ShownLemmas
