@@ -7,3 +7,4 @@ pub mod Trial
 pub mod Printed
 pub mod Shown
 pub mod Words
+pub mod LookUp

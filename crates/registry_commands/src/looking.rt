@@ -1,0 +1,104 @@
+//! A device that is looked up in a list.
+
+ghost use Rattle.std.specs.Prelude.{◌≡◌, ◌++◌, ◌∷◌, [], ℕ, List, IfOk};
+ghost use Rattle.usbids_text.specs.Ends.{MayGive};
+ghost use Rattle.registry_commands.specs.Failures.{IsOfInput, IsOfOutput, told_to};
+ghost use Rattle.registry_commands.specs.LookUp.{IsAnswered, IsLookedUp, IsMatched, IsNamed, IsRefused};
+
+use crate::found::reject;
+use crate::messages::{Failure, fail, tell};
+use crate::printing::print;
+use registry_wire::WireRefusal;
+use std::alloc::Global;
+use usbids_text::{Broken, Name, ReadFault, Scan, Sink, Source, scan_all};
+use usbnum_core::{NoMemory, Vid};
+
+fn name_line(alloc: Global, name: &Name) -> Result<Vec<u8>, NoMemory>
+    ensures { IfOk result (λ line. line.items ≡ name.now ++ 10 ∷ []) }
+{
+    let mut line = name.as_bytes().to_vec(alloc)?;
+    line.push(b'\n')?;
+    Ok(line)
+}
+
+/// Writes the name as a line, and answers the status.
+fn put_name<W: Sink, E: Sink>(alloc: Global, name: &Name, output: &mut W, errors: &mut E) -> u8
+    ensures { IsNamed (IsOfOutput (W.failures output.old) (W.failures output.new)) name.now
+        (W.contents output.old) (W.contents output.new) (told_to E.contents E.failures errors.old errors.new) result }
+{
+    match name_line(alloc, name) {
+        Ok(line) => print(output, errors, line.as_slice()),
+        Err(NoMemory) => fail(errors, Failure::Memory),
+    }
+}
+
+/// Tells why nothing was looked up, and answers the status.
+fn put_fault<E: Sink>(alloc: Global, fault: ReadFault, errors: &mut E) -> u8
+    ensures { IsRefused fault (told_to E.contents E.failures errors.old errors.new) result }
+{
+    match fault {
+        ReadFault::Line(fault) => reject(alloc, errors, WireRefusal::BadList(fault)),
+        ReadFault::NoMemory => fail(errors, Failure::Memory),
+    }
+}
+
+/// Writes the name that was found, or that none was, and answers the status.
+fn put_found<W: Sink, E: Sink>(
+    alloc: Global,
+    found: Option<Name>,
+    output: &mut W,
+    errors: &mut E,
+) -> u8
+    ensures { IsMatched (IsOfOutput (W.failures output.old) (W.failures output.new)) found
+        (W.contents output.old) (W.contents output.new) (told_to E.contents E.failures errors.old errors.new) result }
+{
+    match found {
+        Some(name) => put_name(alloc, &name, output, errors),
+        None => {
+            tell(errors, "not found\n");
+            2
+        }
+    }
+}
+
+/// Writes what was found, or why nothing was, and answers the status.
+fn put_answer<W: Sink, E: Sink>(
+    alloc: Global,
+    found: Result<Option<Name>, ReadFault>,
+    output: &mut W,
+    errors: &mut E,
+) -> u8
+    ensures { IsAnswered (IsOfOutput (W.failures output.old) (W.failures output.new)) found
+        (W.contents output.old) (W.contents output.new) (told_to E.contents E.failures errors.old errors.new) result }
+{
+    match found {
+        Ok(found) => put_found(alloc, found, output, errors),
+        Err(fault) => put_fault(alloc, fault, errors),
+    }
+}
+
+/// Writes the name of the first device with this code, in the order of the list, under a vendor of this number, as a
+/// line. The list is read once, in pieces, and no document is made of it.
+///
+/// The status is 0 where the name is written. It is 2 where there is no such device, or where the source gives no list:
+/// the errors say which. It is 1 after a failure, which the errors name: of the source, the output, or memory. An input
+/// of more than 4,294,967,295 bytes is such a failure.
+pub fn look_up<R: Source, W: Sink, E: Sink>(
+    alloc: Global,
+    source: &mut R,
+    vendor: Vid,
+    code: u16,
+    output: &mut W,
+    errors: &mut E,
+) -> u8
+    ensures { (bytes : List ℕ) × MayGive (R.remaining source.old) bytes
+        × IsLookedUp (IsOfInput (R.failures source.old) (R.failures source.new) bytes) (IsOfOutput (W.failures output.old) (W.failures output.new))
+        (record { vendor = vendor; code = code }) bytes (W.contents output.old) (W.contents output.new) (told_to E.contents E.failures errors.old errors.new) result }
+{
+    let mut scan = Scan::new(alloc, vendor, code);
+    let mut room = [0u8; 32768];
+    match scan_all(source, &mut scan, &mut room) {
+        Ok(()) => put_answer(alloc, scan.finish(), output, errors),
+        Err(Broken) => fail(errors, Failure::File),
+    }
+}
