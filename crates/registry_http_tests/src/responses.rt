@@ -10,13 +10,15 @@ use std::test::Fail;
 use usbids_text::{Broken, Inlet, Outlet};
 use usbnum_core::{Link, NoMemory, Pid, Slug, Title, Vid, parse_pid, parse_vid};
 
-// The bytes that are written, after the status that is given.
-fn written(alloc: Global, response: &Response) -> Result<String, NoMemory> {
+// The bytes that are written. The status that is given is the one in their first line.
+fn written(rt: &impl Abort, alloc: Global, response: &Response) -> Result<String, NoMemory> {
     let mut sink = Outlet::new(Vec::new(alloc));
     match write_response(alloc, &mut sink, response) {
         Ok(status) => {
             let text = text(alloc, sink.into_inner());
-            Ok(format!(in alloc; "{status}: {text}")?)
+            let line = format!(in alloc; "HTTP/1.1 {status} ")?;
+            assert_eq!(rt; text.as_bytes().starts_with(line.as_bytes()), true);
+            Ok(text)
         }
         Err(Broken) => Err(NoMemory),
     }
@@ -71,69 +73,82 @@ fn expect(
     status: &str,
     body: &str,
 ) -> Result<(), NoMemory> {
-    let code = &status[..3];
-    let text = json(alloc, status, body)?;
-    let wanted = format!(in alloc; "{code}: {text}")?;
-    assert_eq!(rt; written(alloc, response)?.as_str(), wanted.as_str());
+    let wanted = json(alloc, status, body)?;
+    assert_eq!(rt; written(rt, alloc, response)?.as_str(), wanted.as_str());
     Ok(())
 }
 
-fn expect_numbers(rt: &impl Abort, alloc: Global) -> Result<(), NoMemory> {
-    let number = pid(rt, b"0012");
-    let held = Entry {
+fn entry(rt: &impl Abort, alloc: Global, held: bool, name: &str, terms: Option<Terms>) -> Entry {
+    Entry {
         org: slug(rt, alloc, "acme"),
-        held: true,
+        held,
         card: Card {
-            title: title(rt, alloc, "Blinker"),
-            terms: Some(terms(rt, alloc)),
+            title: title(rt, alloc, name),
+            terms,
         },
-    };
-    let returned = Entry {
-        org: slug(rt, alloc, "acme"),
-        held: false,
-        card: Card {
-            title: title(rt, alloc, "Old \"x\""),
-            terms: None,
-        },
-    };
-    let free = number_response(alloc, None, number, false, None)?;
-    expect(
+    }
+}
+
+fn expect_number(
+    rt: &impl Abort,
+    alloc: Global,
+    vendor: Option<Vid>,
+    reserved: bool,
+    entry: Option<&Entry>,
+    body: &str,
+) -> Result<(), NoMemory> {
+    let response = number_response(alloc, vendor, pid(rt, b"0012"), reserved, entry)?;
+    expect(rt, alloc, &response, "200 OK", body)
+}
+
+fn expect_owned(rt: &impl Abort, alloc: Global) -> Result<(), NoMemory> {
+    let held = entry(rt, alloc, true, "Blinker", Some(terms(rt, alloc)));
+    expect_number(
         rt,
         alloc,
-        &free,
-        "200 OK",
-        r#"{"number":"0012","state":"free"}"#,
-    )?;
-    let reserved = number_response(alloc, Some(vid(rt, b"cafe")), number, true, Some(&held))?;
-    expect(
-        rt,
-        alloc,
-        &reserved,
-        "200 OK",
-        r#"{"number":"0012","state":"reserved","vendor":"cafe"}"#,
-    )?;
-    let owned = number_response(alloc, None, number, false, Some(&held))?;
-    expect(
-        rt,
-        alloc,
-        &owned,
-        "200 OK",
+        None,
+        false,
+        Some(&held),
         r#"{"licence":"MIT","number":"0012","org":"acme","site":"https://acme.example/b","source":"https://acme.example/s","state":"held","title":"Blinker"}"#,
-    )?;
-    let given_back = number_response(
+    )
+}
+
+fn expect_returned(rt: &impl Abort, alloc: Global) -> Result<(), NoMemory> {
+    let returned = entry(rt, alloc, false, "Old \"x\"", None);
+    expect_number(
+        rt,
         alloc,
         Some(vid(rt, b"1209")),
-        number,
         false,
         Some(&returned),
-    )?;
-    expect(
-        rt,
-        alloc,
-        &given_back,
-        "200 OK",
         r#"{"number":"0012","org":"acme","state":"returned","title":"Old \"x\"","vendor":"1209"}"#,
     )
+}
+
+fn expect_reserved(rt: &impl Abort, alloc: Global) -> Result<(), NoMemory> {
+    let held = entry(rt, alloc, true, "Blinker", None);
+    expect_number(
+        rt,
+        alloc,
+        Some(vid(rt, b"cafe")),
+        true,
+        Some(&held),
+        r#"{"number":"0012","state":"reserved","vendor":"cafe"}"#,
+    )
+}
+
+fn expect_numbers(rt: &impl Abort, alloc: Global) -> Result<(), NoMemory> {
+    expect_number(
+        rt,
+        alloc,
+        None,
+        false,
+        None,
+        r#"{"number":"0012","state":"free"}"#,
+    )?;
+    expect_reserved(rt, alloc)?;
+    expect_owned(rt, alloc)?;
+    expect_returned(rt, alloc)
 }
 
 #[test]
@@ -190,34 +205,40 @@ fn petition(
     }
 }
 
+fn expect_petition(
+    rt: &impl Abort,
+    alloc: Global,
+    id: u32,
+    petition: Petition,
+    body: &str,
+) -> Result<(), NoMemory> {
+    let response = petition_response(alloc, vid(rt, b"1209"), id, Some(&petition))?;
+    expect(rt, alloc, &response, "200 OK", body)
+}
+
 fn expect_petitions(rt: &impl Abort, alloc: Global) -> Result<(), NoMemory> {
-    let founding = vid(rt, b"1209");
     let number = pid(rt, b"0012");
-    let open = petition(rt, alloc, b"1209", None, PetitionState::Open);
-    let response = petition_response(alloc, founding, 1, Some(&open))?;
-    expect(
+    expect_petition(
         rt,
         alloc,
-        &response,
-        "200 OK",
+        1,
+        petition(rt, alloc, b"1209", None, PetitionState::Open),
         r#"{"id":1,"licence":"MIT","org":"acme","site":"https://acme.example/b","source":"https://acme.example/s","state":"open","title":"Blinker"}"#,
     )?;
-    let granted = petition(
+    expect_petition(
         rt,
         alloc,
-        b"cafe",
-        Some(number),
-        PetitionState::Granted(number),
-    );
-    let response = petition_response(alloc, founding, 4294967295, Some(&granted))?;
-    expect(
-        rt,
-        alloc,
-        &response,
-        "200 OK",
+        4294967295,
+        petition(
+            rt,
+            alloc,
+            b"cafe",
+            Some(number),
+            PetitionState::Granted(number),
+        ),
         r#"{"granted":"0012","id":4294967295,"licence":"MIT","org":"acme","site":"https://acme.example/b","source":"https://acme.example/s","state":"granted","title":"Blinker","vendor":"cafe","want":"0012"}"#,
     )?;
-    let missing = petition_response(alloc, founding, 2, None)?;
+    let missing = petition_response(alloc, vid(rt, b"1209"), 2, None)?;
     expect(
         rt,
         alloc,
@@ -287,8 +308,8 @@ fn a_text_is_sent_as_it_is(rt: HostRuntime) -> Result<(), Fail> {
     let alloc = rt.alloc();
     let response = text_response(String::from_str(alloc, "1209  Shared\n")?.into_bytes());
     assert_eq!(rt;
-        written(alloc, &response)?.as_str(),
-        "200: HTTP/1.1 200 OK\r\ncontent-type: text/plain; charset=utf-8\r\ncontent-length: 13\r\nconnection: close\r\n\r\n1209  Shared\n"
+        written(&rt, alloc, &response)?.as_str(),
+        "HTTP/1.1 200 OK\r\ncontent-type: text/plain; charset=utf-8\r\ncontent-length: 13\r\nconnection: close\r\n\r\n1209  Shared\n"
     );
     Ok(())
 }
@@ -348,8 +369,8 @@ fn tells_why_nothing_is_asked(rt: HostRuntime) -> Result<(), Fail> {
 // A writer that takes so many bytes of a response and then fails has a beginning of it.
 fn expect_beginnings(rt: &impl Abort, alloc: Global) -> Result<(), NoMemory> {
     let response = org_response(alloc, None)?;
-    let whole = written(alloc, &response)?;
-    let whole = &whole.as_bytes()[5..];
+    let whole = written(rt, alloc, &response)?;
+    let whole = whole.as_bytes();
     for room in 0..whole.len() {
         let mut sink = Brim {
             bytes: Vec::new(alloc),
