@@ -123,7 +123,7 @@ def words(room):
     for said in ([], ["trial"]):
         room.case(said, output=replies, lines=lines)
     store = f"{room.folder}/whole.db"
-    for said in (["serve", store, "--port", "8080"], ["export", store], ["report", store, "summary"], ["lookup", TEN, "1209", "0011"]):
+    for said in (["serve", store, "--port", "8080"], ["report", store, "summary"]):
         room.case(said, 2, errors=f"usbreg {said[0]}: not in this version\n")
 
 

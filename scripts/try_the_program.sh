@@ -15,7 +15,7 @@ for needed in python3 cc; do
     fi
 done
 [ "$failed" = 0 ] || exit 1
-for script in apply_in_files.py compare_man_page.py look_into_a_store.py "refuse_allocations.py --trial" refuse_in_tests.py stop_and_go_on.py; do
+for script in apply_in_files.py show_in_files.py compare_man_page.py look_into_a_store.py "refuse_allocations.py --trial" refuse_in_tests.py stop_and_go_on.py; do
     # shellcheck disable=SC2086
     if ! said=$(./$script 2>&1); then
         printf 'FAILED: scripts/%s\n%s\n' "$script" "$said" >&2

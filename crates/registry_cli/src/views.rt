@@ -1,0 +1,58 @@
+//! The commands that show something and change nothing: they open what the arguments name, and hand it on.
+
+use crate::files::{open_input, open_registry};
+use registry_commands::{BadWord, close_store, export, fail, look_up, reject_word};
+use registry_wire::stamp_from_text;
+use usbids_text::{Outlet, Stamp};
+use usbnum_core::{parse_code, parse_vid};
+
+/// The stamp of a text: none where there is no text, and an error where the text is no stamp.
+fn stamp_of(text: Option<&str>) -> Result<Option<Stamp>, BadWord> {
+    match text {
+        None => Ok(None),
+        Some(text) => match stamp_from_text(text.as_bytes()) {
+            Some(stamp) => Ok(Some(stamp)),
+            None => Err(BadWord::Stamp),
+        },
+    }
+}
+
+/// Prints the list of the registry in a file.
+pub fn run_export(rt: &HostRuntime, store: &str, stamp: Option<&str>) -> u8 {
+    let mut errors = Outlet::new(rt.stderr());
+    let stamp = match stamp_of(stamp) {
+        Ok(stamp) => stamp,
+        Err(word) => return reject_word(&mut errors, word),
+    };
+    let mut registry = match open_registry(rt, store) {
+        Ok(registry) => registry,
+        Err(failure) => return fail(&mut errors, failure),
+    };
+    let mut output = Outlet::new(rt.stdout());
+    let status = export(rt.alloc(), &mut registry, stamp, &mut output, &mut errors);
+    let (status, _files) = close_store(registry.close(), &mut errors, status);
+    status
+}
+
+/// Prints the name of a device in the list in a file.
+pub fn run_lookup(rt: &HostRuntime, list: &str, vid: &str, pid: &str) -> u8 {
+    let mut errors = Outlet::new(rt.stderr());
+    let Some(vendor) = parse_vid(vid.as_bytes()) else {
+        return reject_word(&mut errors, BadWord::Vid);
+    };
+    let Some(code) = parse_code(pid.as_bytes()) else {
+        return reject_word(&mut errors, BadWord::Pid);
+    };
+    let mut source = match open_input(rt, list) {
+        Ok(source) => source,
+        Err(failure) => return fail(&mut errors, failure),
+    };
+    look_up(
+        rt.alloc(),
+        &mut source,
+        vendor,
+        code,
+        &mut Outlet::new(rt.stdout()),
+        &mut errors,
+    )
+}

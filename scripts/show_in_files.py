@@ -1,0 +1,122 @@
+#!/usr/bin/env python3
+"""Runs the commands of `usbreg` that show something over stores and lists in files, and compares what they print.
+
+Usage: scripts/show_in_files.py [PROGRAM], by default the one that `make` builds. The status is 0 where every case is as
+it should be."""
+
+import json
+import re
+import sys
+
+from apply_in_files import Room
+from usbreg import EXAMPLES, content, folder, program, run
+
+HEADER = "# List of USB numbers in the syntax of usb.ids\n"
+STAMP = "# Version: 2024.01.30\n# Date:    2024-01-30 20:34:02\n"
+VENDOR = "\n1209  Shared products\n"
+LINK = "https://acme.example/"
+FIRST = ["enrolled acme", "petition 1", "granted 0011 to acme by petition 1"]
+
+USUAL = "1209  One\n\t0011  First\n\t0011  Second\n1210  Two\n\t0012  Other\n1209  Again\n\t0012  Late\n\t0000  \n"
+FAULTY = "1209  One\n\t0011  First\n\t11  x\n"
+
+
+def line(caller, key, order, **fields):
+    return json.dumps({"caller": caller, "key": key, "order": order, **fields}) + "\n"
+
+
+def ask(key, title, **fields):
+    return line("ann", key, "ask", org="acme", title=title, licence="MIT", site=LINK, source=LINK, **fields)
+
+
+def act(room, store, lines, replies):
+    """The store's registry gives these replies to the lines."""
+    room.case(["apply", store, room.file("lines.jsonl", "".join(lines))], output="".join(f'{{"done":"{it}"}}\n' for it in replies))
+
+
+def first(room, name):
+    """The registry after the lines of the first trial."""
+    store = room.founded(name)
+    act(room, store, content(f"{EXAMPLES}/first.jsonl").decode().splitlines(keepends=True), FIRST)
+    return store
+
+
+def more_vendors(room, store):
+    """Grants a number under a second vendor, and takes the first one back."""
+    lines = [
+        line("cora", "v1", "add-vendor", vendor="cafe", name="Second vendor"),
+        ask("k4", "Lamp", vendor="cafe"),
+        line("cora", "v3", "grant", petition=2),
+        line("ann", "k5", "return", number="0011"),
+    ]
+    act(room, store, lines, ["added vendor cafe", "petition 2", "granted cafe:0001 to acme by petition 2", "returned 0011"])
+
+
+def exports(room):
+    """An empty registry, with and without a stamp; the first one; two vendors and a returned number."""
+    empty = room.founded("shown")
+    room.case(["export", empty], output=HEADER + VENDOR)
+    room.case(["export", empty, "--stamp", "2024-01-30 20:34:02"], output=HEADER + STAMP + VENDOR)
+    for bad in ("2024-13-30 20:34:02", "2024-01-30 20:34:60", "2024-01-30", ""):
+        room.case(["export", empty, "--stamp", bad], 2, errors="bad word: stamp\n")
+    room.case(["export", f"{room.folder}/none.db"], 1, errors="fault: file\n")
+    store = first(room, "one")
+    room.case(["export", store], output=f"{HEADER}{VENDOR}\t0011  Blinker\n")
+    more_vendors(room, store)
+    room.case(["export", store], output=f"{HEADER}{VENDOR}cafe  Second vendor\n\t0001  Lamp\n")
+    room.case(["export", room.file("empty.db", "")], 1, errors="fault: foreign\n")
+
+
+def look_ups(room):
+    """The first match of several, no match, a match of a faulty list, and arguments that are no numbers."""
+    usual, faulty = room.file("usual.ids", USUAL), room.file("faulty.ids", FAULTY)
+    for vid, pid, name in (("1209", "0011", "First"), ("1209", "0012", "Late"), ("1210", "0012", "Other"), ("1209", "0000", "")):
+        room.case(["lookup", usual, vid, pid], output=f"{name}\n")
+    for vid, pid in (("1210", "0011"), ("1211", "0012"), ("0012", "1209")):
+        room.case(["lookup", usual, vid, pid], 2, errors="not found\n")
+    room.case(["lookup", faulty, "1209", "0011"], 2, errors='{"detail":"line 3: BadCode","name":"BadList","refused":29}\n')
+    for vid, pid, bad in (("0000", "0011", "vid"), ("12g9", "12g4", "vid"), ("1209", "12g4", "pid")):
+        room.case(["lookup", usual, vid, pid], 2, errors=f"bad word: {bad}\n")
+    room.case(["lookup", f"{room.folder}/none.ids", "1209", "0011"], 1, errors="fault: file\n")
+
+
+def devices(text):
+    """The devices of a list as `lsusb` reads one: a vendor is four digits and two spaces, a device a tab before them."""
+    found, vendor = {}, None
+    for it in text.splitlines():
+        if entry := re.fullmatch(r"(\t?)([0-9a-f]{4})  (.*)", it):
+            vendor, device = (vendor, entry[2]) if entry[1] else (entry[2], None)
+            if device:
+                found.setdefault((vendor, device), entry[3])
+    return found
+
+
+def second_reader(room):
+    """What another program reads of an export is what a look-up finds in it."""
+    store = room.founded("read")
+    numbers = [f"{number:04x}" for number in range(0x1000, 0x1010)]
+    lines = [line("ann", "k0", "enrol", org="acme", title="Acme", site=LINK)]
+    replies = ["enrolled acme"]
+    for place, number in enumerate(numbers, 1):
+        lines += [ask(f"a{place}", f"Device {number}", number=number), line("cora", f"g{place}", "grant", petition=place)]
+        replies += [f"petition {place}", f"granted {number} to acme by petition {place}"]
+    act(room, store, lines, replies)
+    status, listed, errors = run([room.program, "export", store])
+    read = devices(listed.decode())
+    if (status, errors) != (0, b"") or read != {("1209", number): f"Device {number}" for number in numbers}:
+        sys.exit(f"a second reader of the export: status {status}, {errors!r}, {read}")
+    exported = room.file("exported.ids", listed.decode())
+    for (vid, pid), name in read.items():
+        room.case(["lookup", exported, vid, pid], output=f"{name}\n")
+
+
+def main():
+    with folder() as made:
+        room = Room(program(*sys.argv[1:2]), made)
+        for cases in (exports, look_ups, second_reader):
+            cases(room)
+        print(f"what is shown of files: {room.seen} cases are as they should be")
+
+
+if __name__ == "__main__":
+    main()
