@@ -33,6 +33,21 @@ class Function:
         """How the names begin of the closures in its body."""
         return "::".join([*self.module, "fn", *self.inner, ""])
 
+    def take_name(self, names):
+        """Takes its name from those that a check knows: one of its module, else, since a type may have methods in other
+        modules than its own, one of the same type. Says whether there is such a one."""
+        begins, ends, of_type = ("::".join(it) for it in ([*self.module, ""], ["", self.inner[-1]], ["", *self.inner]))
+        others = [it for it in names if it.endswith(ends) and it != self.path]
+        fits = [it for it in others if it.startswith(begins)]
+        if fits:
+            best = max(fits, key=lambda it: len(os.path.commonprefix([it, self.path])))
+            self.inner = best.split("::")[len(self.module) :]
+            return True
+        fits = [it for it in others if it.endswith(of_type)]
+        if fits:
+            self.module = fits[0].split("::")[: -len(self.inner)]
+        return bool(fits)
+
     def owns(self, path):
         """Whether what a check prints under this name is the function or a closure in it."""
         return path == self.path or path.startswith(self.closures)

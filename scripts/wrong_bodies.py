@@ -138,12 +138,7 @@ class Trial:
         listed = self.rattle([function.inner[-1]])
         several = SEVERAL.search(listed.text)
         names = re.findall(r"`([^`]+)`", several[1]) if several else [*listed.verdicts]
-        begins, ends = "::".join([*function.module, ""]), f"::{function.inner[-1]}"
-        names = [it for it in names if it.startswith(begins) and it.endswith(ends) and it != function.path]
-        if names:
-            best = max(names, key=lambda it: len(os.path.commonprefix([it, function.path])))
-            function.inner = best.split("::")[len(function.module) :]
-        return bool(names)
+        return function.take_name(names)
 
     def judge(self, edits):
         """Tries edits in one check, and returns those that were not refused, each with what was said."""
