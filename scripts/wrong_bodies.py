@@ -138,7 +138,12 @@ class Trial:
         listed = self.rattle([function.inner[-1]])
         several = SEVERAL.search(listed.text)
         names = re.findall(r"`([^`]+)`", several[1]) if several else [*listed.verdicts]
-        return function.take_name(names)
+        module, block = function.module, function.inner[0]
+        found = function.take_name(names)
+        for other in functions.values() if function.module != module else ():
+            if (other.module, other.inner[0]) == (module, block):
+                other.module = function.module
+        return found
 
     def judge(self, edits):
         """Tries edits in one check, and returns those that were not refused, each with what was said."""
