@@ -2,11 +2,15 @@
 #![tactic(auto)]
 
 #[cfg(test)]
+mod lists;
+#[cfg(test)]
 mod memory;
 #[cfg(test)]
 mod queries;
 #[cfg(test)]
 mod reopening;
+#[cfg(test)]
+mod rounds;
 #[cfg(test)]
 mod stops;
 #[cfg(test)]

@@ -1,15 +1,15 @@
 //! What a registry answers of its history.
 
+use crate::lists::{Lists, lists_of, text_of};
 use crate::transcripts::{ASK, ENROL, ENROL_BOLT, GRANT, Step, read};
 use crate::values::{founded, founding, lines_of};
-use registry_rules::{Entry, Founding, Org, Petition, PetitionState, Request, Vendor};
-use registry_store::{Fault, Registry, RunEnd};
+use registry_rules::{Founding, Request};
+use registry_store::{Registry, RunEnd};
 use sqlite::{Alter, Connection};
 use std::alloc::Global;
-use std::fmt::Write;
 use std::process::Abort;
 use std::test::Fail;
-use usbnum_core::{Number, Spans, Vid};
+use usbnum_core::Vid;
 
 // Two organisations, a further vendor, a span that is reserved, a number of each vendor that is granted, one that is imported, and one that is returned.
 const STEPS: &[Step] = &[
@@ -43,92 +43,29 @@ const STEPS: &[Step] = &[
     ),
 ];
 
-const NUMBERS: &str =
-    "1000:0001 acme Lamp, terms, returned\n1209:0011 acme Blinker, terms, held\n1209:0012 acme New board, no terms, held\n";
-
-const PETITIONS: &str = "1 1209 acme Blinker, granted 17\n2 1000 acme Lamp, granted 1\n";
+const LISTS: &str =
+    "1000:0001 acme Lamp, terms, returned\n1209:0011 acme Blinker, terms, held\n1209:0012 acme New board, no terms, held\n1 1209 acme Blinker, granted 0011\n2 1000 acme Lamp, granted 0001\nacme ann Acme Tools\nbolt bob Bolt\n1000 Further\n1209 Shared products\n272 reserved\n";
 
 // What a registry answered.
 #[derive(Drop)]
-struct Answers {
-    end: RunEnd,
-    numbers: Result<Vec<(Number, Entry)>, Fault>,
-    petitions: Result<Vec<(u32, Petition)>, Fault>,
-    orgs: Result<Vec<Org>, Fault>,
-    vendors: Result<Vec<Vendor>, Fault>,
-    reserved: Result<Spans, Fault>,
+pub struct Answers {
+    pub end: RunEnd,
+    pub lists: Lists,
 }
 
 // Acts on the requests, and asks for each list.
 fn ask<S: Alter + Drop>(mut registry: Registry<S>, requests: &[Request], vid: Vid) -> Answers {
     let end = registry.run_from(requests, 0);
-    let numbers = registry.numbers();
-    let petitions = registry.petitions();
-    let orgs = registry.orgs();
-    let vendors = registry.vendors();
-    let reserved = registry.reserved(vid);
+    let lists = lists_of(&mut registry, vid);
     let _conn = registry.close();
-    Answers {
-        end,
-        numbers,
-        petitions,
-        orgs,
-        vendors,
-        reserved,
-    }
+    Answers { end, lists }
 }
 
-// The same of a new registry in memory.
-fn answers_after(alloc: Global, founding: &Founding, requests: &[Request]) -> Option<Answers> {
+/// What a new registry in memory answers to the requests, and its lists then.
+pub fn answers_after(alloc: Global, founding: &Founding, requests: &[Request]) -> Option<Answers> {
     let conn = Connection::open_in_memory(alloc).ok()?;
     let registry = founded(alloc, conn, founding)?;
     Some(ask(registry, requests, founding.vendor))
-}
-
-fn numbers_text(alloc: Global, numbers: &[(Number, Entry)]) -> Result<String, Fail> {
-    let mut text = String::new(alloc);
-    for (number, entry) in numbers {
-        let (vid, pid, org, title) = (number.vid, number.pid, &entry.org, &entry.card.title);
-        let terms = if entry.card.terms.is_some() {
-            "terms"
-        } else {
-            "no terms"
-        };
-        let held = if entry.held { "held" } else { "returned" };
-        write!(&mut text, "{vid}:{pid} {org} {title}, {terms}, {held}\n")?;
-    }
-    Ok(text)
-}
-
-fn petitions_text(alloc: Global, petitions: &[(u32, Petition)]) -> Result<String, Fail> {
-    let mut text = String::new(alloc);
-    for (id, petition) in petitions {
-        let (vid, org, title) = (petition.vid, &petition.org, &petition.title);
-        let granted = match petition.state {
-            PetitionState::Granted(pid) => pid.get(),
-            _ => 0,
-        };
-        write!(&mut text, "{id} {vid} {org} {title}, granted {granted}\n")?;
-    }
-    Ok(text)
-}
-
-fn orgs_text(alloc: Global, orgs: &[Org]) -> Result<String, Fail> {
-    let mut text = String::new(alloc);
-    for org in orgs {
-        let (slug, keeper) = (&org.slug, &org.keeper);
-        write!(&mut text, "{slug} {keeper}\n")?;
-    }
-    Ok(text)
-}
-
-fn vendors_text(alloc: Global, vendors: &[Vendor]) -> Result<String, Fail> {
-    let mut text = String::new(alloc);
-    for vendor in vendors {
-        let (vid, name) = (vendor.vid, &vendor.name);
-        write!(&mut text, "{vid} {name}\n")?;
-    }
-    Ok(text)
 }
 
 #[test]
@@ -139,14 +76,7 @@ fn answers_what_it_was_asked_to_do(rt: HostRuntime) -> Result<(), Fail> {
     let answers = answers_after(alloc, &founding, requests.as_slice()).ok_or("no answers")?;
     let replies = lines_of(alloc, answers.end.replies.as_slice())?;
     assert_eq!(rt; replies.as_str(), wanted.as_str());
-    let numbers = numbers_text(alloc, answers.numbers?.as_slice())?;
-    assert_eq!(rt; numbers.as_str(), NUMBERS);
-    let petitions = petitions_text(alloc, answers.petitions?.as_slice())?;
-    assert_eq!(rt; petitions.as_str(), PETITIONS);
-    let orgs = orgs_text(alloc, answers.orgs?.as_slice())?;
-    assert_eq!(rt; orgs.as_str(), "acme ann\nbolt bob\n");
-    let vendors = vendors_text(alloc, answers.vendors?.as_slice())?;
-    assert_eq!(rt; vendors.as_str(), "1000 Further\n1209 Shared products\n");
-    assert_eq!(rt; answers.reserved?.count(), 16 + 256);
+    let lists = text_of(alloc, answers.lists)?;
+    assert_eq!(rt; lists.as_str(), LISTS);
     Ok(())
 }

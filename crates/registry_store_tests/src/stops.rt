@@ -10,8 +10,8 @@ use std::alloc::Global;
 use std::process::Abort;
 use std::test::Fail;
 
-// The enrolments of o1 to o10.
-fn ten(alloc: Global) -> Result<Vec<Request>, Fail> {
+/// The enrolments of o1 to o10.
+pub fn ten(alloc: Global) -> Result<Vec<Request>, Fail> {
     let mut requests = Vec::new(alloc);
     for number in 1..=10u8 {
         let line = format!(in alloc;

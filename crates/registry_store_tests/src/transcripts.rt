@@ -198,6 +198,63 @@ const UNTITLED: &[Step] = &[
     ),
 ];
 
+/// An order of each of the thirteen kinds, a repeat and a refusal.
+pub const ORDERS: &[Step] = &[
+    ENROL,
+    (
+        r#"{"caller":"ann","key":"a2","order":"amend-org","org":"acme","title":"Acme","site":"http://acme.example/"}"#,
+        r#"{"done":"amended organisation acme"}"#,
+    ),
+    (
+        r#"{"caller":"cora","key":"c1","order":"reserve","first":"2000","last":"20ff"}"#,
+        r#"{"done":"reserved 2000-20ff"}"#,
+    ),
+    (
+        r#"{"caller":"cora","key":"c2","order":"release","first":"2010","last":"201f"}"#,
+        r#"{"done":"released 2010-201f"}"#,
+    ),
+    (
+        r#"{"caller":"cora","key":"c3","order":"add-vendor","vendor":"cafe","name":"Second vendor"}"#,
+        r#"{"done":"added vendor cafe"}"#,
+    ),
+    (
+        r#"{"caller":"cora","key":"c4","order":"add-licence","licence":"CERN-OHL-S-2.0"}"#,
+        r#"{"done":"added licence CERN-OHL-S-2.0"}"#,
+    ),
+    ASK,
+    GRANT,
+    (
+        r#"{"caller":"ann","key":"a4","order":"ask","org":"acme","title":"Lamp","licence":"CERN-OHL-S-2.0","site":"https://a.example","source":"https://a.example","vendor":"cafe"}"#,
+        r#"{"done":"petition 2"}"#,
+    ),
+    (
+        r#"{"caller":"cora","key":"c5","order":"decline","petition":2}"#,
+        r#"{"done":"declined petition 2"}"#,
+    ),
+    (
+        r#"{"caller":"ann","key":"a5","order":"ask","org":"acme","title":"Lamp","licence":"MIT","site":"https://a.example","source":"https://a.example"}"#,
+        r#"{"done":"petition 3"}"#,
+    ),
+    (
+        r#"{"caller":"ann","key":"a6","order":"withdraw","petition":3}"#,
+        r#"{"done":"withdrawn petition 3"}"#,
+    ),
+    (
+        "i1\n1209  x\n\t0000  Zero\n\t0001  Fixed\n\t0011  Taken\n\t0012  New board\n\t0012  New board again\n",
+        r#"{"done":"imported fresh 1, owned 1, reserved 1, doubled 1, untitled 0, zero 1"}"#,
+    ),
+    (
+        r#"{"caller":"ann","key":"a7","order":"amend","number":"0011","title":"Blinker 2","licence":"MIT","site":"https://a.example","source":"https://a.example"}"#,
+        r#"{"done":"amended 0011"}"#,
+    ),
+    (
+        r#"{"caller":"ann","key":"a8","order":"return","number":"0012"}"#,
+        r#"{"done":"returned 0012"}"#,
+    ),
+    ENROL,
+    RESERVE_OWNED,
+];
+
 /// What a registry answers to the requests.
 pub fn run<S: Alter + Drop>(mut registry: Registry<S>, requests: &[Request]) -> RunEnd {
     let end = registry.run_from(requests, 0);
@@ -243,6 +300,7 @@ fn each_request_has_its_reply(rt: HostRuntime) -> Result<(), Fail> {
         SECOND_VENDOR,
         IMPORTED,
         UNTITLED,
+        ORDERS,
     ] {
         let (requests, wanted) = read(alloc, steps)?;
         let replies = replies_to(alloc, requests.as_slice())?;
