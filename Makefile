@@ -1,40 +1,26 @@
-# all:     proves and builds the program usbreg, and prints its version. This is what `make` does.
-# trial:   compiles usbreg without proving it, and acts on three request lines over a
-#          registry in memory.
-# test:    the gate. Proves every crate and its tests from nothing, runs the tests and,
-#          as two compilers make it, each program; tries the must-fail edits, many in one
-#          check; then the scripts that try the program over files.
-# gate:    the same with each edit in a check of its own, as `rt ci` does it: twice the
-#          time, for a release.
-# install: puts the program that `make` built into PREFIX/bin, and its page into PREFIX/share/man/man1.
+# trial:   proves and builds the program usbreg, and acts on three request lines over
+#          a registry in memory.
+# test:    the gate. Proves every crate and its tests from nothing, tries the
+#          must-fail edits, runs the tests and, as two compilers make it, each program;
+#          then the scripts that try the program over files.
+# install: puts the program that `make trial` built into PREFIX/bin.
 # bench:   reads and writes lists beside plain readers, and acts on requests beside plain
 #          registries, and prints ratios. Not part of the gate; it says which packages
 #          are missing.
 
 PREFIX ?= /usr/local
-PROGRAM := crates/registry_cli/out/registry_cli
 
-.PHONY: all trial test gate install bench
-
-all:
-	@cd crates/registry_cli && rt run -- --version
+.PHONY: trial test install bench
 
 trial:
-	@echo "Compiling usbreg without proving it. This takes some minutes on a busy machine." >&2
-	@cd crates/registry_cli && rt try -- trial < ../../examples/first.jsonl
-	@echo "Nothing was proved. Next: 'make' proves and builds usbreg, 'make install' installs it, 'make test' runs the gate." >&2
+	@cd crates/registry_cli && rt run -- trial < ../../examples/first.jsonl
 
 test:
-	@scripts/gate.py
-
-gate:
 	rt ci
 	@scripts/try_the_program.sh
 
 install:
-	@test -x $(PROGRAM) || { echo "$(PROGRAM) is not there: 'make' builds it" >&2; exit 1; }
-	install -D $(PROGRAM) "$(DESTDIR)$(PREFIX)/bin/usbreg"
-	install -D -m 644 man/usbreg.1 "$(DESTDIR)$(PREFIX)/share/man/man1/usbreg.1"
+	install -D crates/registry_cli/out/registry_cli "$(DESTDIR)$(PREFIX)/bin/usbreg"
 
 bench:
 	bench/run.sh

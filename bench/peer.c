@@ -1,9 +1,10 @@
 // A registry of a few lines over libsqlite3, without proofs: the peer that `usbreg` is timed beside.
 //
 // Usage: peer STORE FILE TABLES: acts on the request lines of a file over a new store, or over one that is
-// there (:memory: for memory). It makes the checks of enrol, ask, grant and decline by prepared SQL statements,
-// keeps counts and the least free number in memory, commits each accepted request, and writes each reply before
-// the next request. The lines are those of registry.py: their texts have no escapes.
+// there (:memory: for memory). It makes the checks of enrol, ask (but for the 16 open petitions), grant and
+// decline by prepared SQL statements, keeps the least free number in memory, commits each accepted request,
+// and writes each reply before the next request. The lines are those of made_up_requests.py: their texts
+// have no escapes.
 #include <sqlite3.h>
 #include <stdio.h>
 #include <stdlib.h>
@@ -11,7 +12,7 @@
 #include <sys/stat.h>
 #include <unistd.h>
 
-enum { VID = 0x1209, PIDS = 65536, TEXT = 512, SLUG = 33, SLOTS = 2 * PIDS, MOST_OPEN = 16, MOST_PETITIONS = 1000000 };
+enum { VID = 0x1209, PIDS = 65536, TEXT = 512 };
 
 enum statement { BEGIN, COMMIT, ROLLBACK, KEPT, KEEP, ORG, PUT_ORG, LICENCE, CURATOR, PUT_PETITION, PETITION, GRANT, DECLINE, FIXED, SPAN, OWNER, PUT_ENTRY, STATEMENTS };
 
@@ -40,8 +41,6 @@ static sqlite3_stmt *made[STATEMENTS];
 static long long last_petition, organisations;
 static unsigned char owned[PIDS];
 static int least = 17;
-// How many petitions of each organisation are open: a table with open addressing, twice as large as is ever needed.
-static struct { char slug[SLUG]; int count; } open_petitions[SLOTS];
 
 static void must(int is_well) {
     if (!is_well) {
@@ -86,15 +85,6 @@ static const char *field(const char *line, const char *name, char *room) {
     return room;
 }
 
-static int *open_count(const char *slug) {
-    unsigned at = 5381;
-    for (const char *byte = slug; *byte; byte++) at = at * 33 + (unsigned char)*byte;
-    for (at %= SLOTS; open_petitions[at].slug[0]; at = (at + 1) % SLOTS)
-        if (!strcmp(open_petitions[at].slug, slug)) return &open_petitions[at].count;
-    snprintf(open_petitions[at].slug, SLUG, "%s", slug);
-    return &open_petitions[at].count;
-}
-
 static int reaches(enum statement which, int pid) {
     sqlite3_stmt *it = ready(which, NULL, NULL);
     sqlite3_bind_int(it, 1, pid);
@@ -122,8 +112,6 @@ static int ask(const char *line, const char *caller, char *reply) {
     if (!finds(it)) return 4;
     if (strcmp((const char *)sqlite3_column_text(it, 0), caller)) return 3;
     if (!finds(ready(LICENCE, field(line, "licence", licence), NULL))) return 13;
-    if (*open_count(org) >= MOST_OPEN) return 14;
-    if (last_petition >= MOST_PETITIONS) return 18;
     it = ready(PUT_PETITION, NULL, org);
     sqlite3_bind_int64(it, 1, last_petition + 1);
     sqlite3_bind_text(it, 3, field(line, "title", title), -1, SQLITE_STATIC);
@@ -132,7 +120,6 @@ static int ask(const char *line, const char *caller, char *reply) {
     sqlite3_bind_text(it, 6, field(line, "source", source), -1, SQLITE_STATIC);
     does(it);
     last_petition++;
-    ++*open_count(org);
     sprintf(reply, "petition %lld", last_petition);
     return 0;
 }
@@ -163,7 +150,6 @@ static int grant(const char *line, const char *caller, char *reply) {
         sqlite3_bind_text(it, at + 1, (const char *)sqlite3_column_text(petition, at), -1, SQLITE_STATIC);
     does(it);
     sprintf(reply, "granted %04x to %s by petition %lld", least, sqlite3_column_text(petition, 1), id);
-    --*open_count((const char *)sqlite3_column_text(petition, 1));
     it = ready(GRANT, NULL, NULL);
     sqlite3_bind_int64(it, 1, id);
     sqlite3_bind_int(it, 2, least);
@@ -178,7 +164,6 @@ static int decline(const char *line, const char *caller, char *reply) {
     long long id = 0;
     int refused = open_petition(line, caller, &id);
     if (refused) return refused;
-    --*open_count((const char *)sqlite3_column_text(made[PETITION], 1));
     sqlite3_reset(made[PETITION]);
     sqlite3_stmt *it = ready(DECLINE, NULL, NULL);
     sqlite3_bind_int64(it, 1, id);
@@ -249,9 +234,6 @@ int main(int count, char **words) {
     sqlite3_stmt *it;
     must(sqlite3_prepare_v2(db, "SELECT pid FROM entries3", -1, &it, NULL) == SQLITE_OK);
     while (finds(it)) owned[sqlite3_column_int(it, 0)] = 1;
-    sqlite3_finalize(it);
-    must(sqlite3_prepare_v2(db, "SELECT org FROM petitions3 WHERE state = 0", -1, &it, NULL) == SQLITE_OK);
-    while (finds(it)) ++*open_count((const char *)sqlite3_column_text(it, 0));
     sqlite3_finalize(it);
     while (least < PIDS - 1 && owned[least]) least++;
 

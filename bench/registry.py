@@ -3,9 +3,8 @@
 Python over sqlite3, on the same made-up requests: whole programs, from request lines to reply lines.
 
 Prints requests a second and their ratios, in memory and in a file on tmpfs (/dev/shm), best and median of
-five runs that take turns (of 100,000 in memory one alone: there a table is a sorted list); then what a request
-costs on a store with 60,000 entries and 100,000 petitions over what it costs on an empty one. Wants the program
-that `make` builds, and says what is missing."""
+five runs that take turns (of 100,000 in memory one alone: there a table is a sorted list); then what a request costs on a store with 60,000 entries and 100,000 petitions
+over what it costs on an empty one. Wants the program that `make trial` builds, and says what is missing."""
 
 import os
 import shutil
@@ -16,10 +15,20 @@ import tempfile
 import time
 
 HERE = os.path.dirname(os.path.abspath(__file__))
-sys.path.insert(0, f"{HERE}/../scripts")
-from usbreg import content, copy, declined, found, program, remove, rounds, write_requests
-
+USBREG = f"{HERE}/../crates/registry_cli/out/registry_cli"
 RUNS = int(os.environ.get("TIMES", "5"))
+
+
+def made_up(room, *words):
+    path = f"{room}/{'_'.join(map(str, words))}.jsonl"
+    with open(path, "wb") as file:
+        subprocess.run([sys.executable, f"{HERE}/made_up_requests.py", *map(str, words)], stdout=file, check=True)
+    return path
+
+
+def content(path):
+    with open(path, "rb") as file:
+        return file.read()
 
 
 def timed(words, lines=os.devnull):
@@ -33,17 +42,14 @@ def timed(words, lines=os.devnull):
 class Usbreg:
     name = "usbreg"
 
-    def __init__(self):
-        self.path = program()
-
     def in_memory(self, lines):
-        return timed([self.path, "trial"], lines)
+        return timed([USBREG, "trial"], lines)
 
-    def new_store(self, store):
-        return found(self.path, store)
+    def found(self, store):
+        subprocess.run([USBREG, "found", store, f"{HERE}/../examples/founding.toml"], check=True)
 
     def in_file(self, store, lines):
-        return timed([self.path, "apply", store, lines])
+        return timed([USBREG, "apply", store, lines])
 
 
 class Peer:
@@ -53,16 +59,18 @@ class Peer:
     def in_memory(self, lines):
         return timed([*self.words, ":memory:", lines, *self.last])
 
-    def new_store(self, store):
-        remove(store)
-        return store
+    def found(self, store):
+        pass
 
     def in_file(self, store, lines):
         return timed([*self.words, store, lines, *self.last])
 
 
 def programs(room):
-    yield Usbreg()
+    if os.path.exists(USBREG):
+        yield Usbreg()
+    else:
+        sys.exit("the program is not there: `make trial` builds it")
     if shutil.which("cc") and os.path.exists("/usr/include/sqlite3.h"):
         subprocess.run(["cc", "-O2", "-o", f"{room}/peer", f"{HERE}/peer.c", "-lsqlite3"], check=True)
         yield Peer("C, libsqlite3", [f"{room}/peer"], [f"{HERE}/tables.sql"])
@@ -91,35 +99,56 @@ def side_by_side(all_programs, lines, run, title, runs):
 
 
 def new_store(room, it):
-    return it.new_store(f"{room}/{it.name.split(',')[0]}.db")
+    store = f"{room}/{it.name.split(',')[0]}.db"
+    for end in ("", "-wal", "-shm"):
+        if os.path.exists(store + end):
+            os.remove(store + end)
+    it.found(store)
+    return store
 
 
 def on_a_full_store(all_programs, room):
     """What a request costs on a full store over an empty one, opening left out."""
-    full = write_requests(f"{room}/full.jsonl", [*rounds(1, 60000), *declined(60000, 40000)])
-    more = write_requests(f"{room}/more.jsonl", rounds(60001, 65000, others=40000))
-    few = write_requests(f"{room}/few.jsonl", rounds(1, 5000))
+    full, few, none = made_up(room, 1, 60000, 40000), (60001, 65000), f"{room}/none.jsonl"
+    open(none, "wb").close()
     for it in all_programs:
         empty, filled = [], []
         store = new_store(room, it)
         it.in_file(store, full)
-        kept = copy(store, f"{room}/kept.db")
+        kept = {end: content(store + end) for end in ("", "-wal") if os.path.exists(store + end)}
         for _ in range(RUNS):
-            opening, _ = it.in_file(copy(kept, store), os.devnull)
-            seconds, _ = it.in_file(store, more)
+            for end, bytes_there in kept.items():
+                with open(store + end, "wb") as file:
+                    file.write(bytes_there)
+            opening, _ = it.in_file(store, none)
+            seconds, _ = it.in_file(store, granted_after(room, *few))
             filled.append(seconds - opening)
             fresh = new_store(room, it)
-            opening, _ = it.in_file(fresh, os.devnull)
-            seconds, _ = it.in_file(fresh, few)
+            opening, _ = it.in_file(fresh, none)
+            seconds, _ = it.in_file(fresh, made_up(room, 1, 5000))
             empty.append(seconds - opening)
+            os.remove(fresh)
         print(f"  {it.name:16} a request with 60,000 entries and 100,000 petitions costs {min(filled) / min(empty):5.2f} of one on an empty store (best), {statistics.median(filled) / statistics.median(empty):5.2f} (median)")
+
+
+def granted_after(room, first, last):
+    """Rounds on the full store: its petitions go on after the 40,000 that were declined."""
+    path = f"{room}/after.jsonl"
+    if not os.path.exists(path):
+        with open(made_up(room, first, last), encoding="utf-8") as file:
+            lines = file.read()
+        for number in range(last, first - 1, -1):
+            lines = lines.replace(f'"petition":{number}}}', f'"petition":{number + 40000}}}').replace(f'"key":"a{number}"', f'"key":"b{number}"')
+        with open(path, "w", encoding="utf-8") as file:
+            file.write(lines)
+    return path
 
 
 def main():
     with tempfile.TemporaryDirectory(dir="/dev/shm") as room:
         all_programs = list(programs(room))
-        for last, runs in ((1000, RUNS), (33333, 1)):
-            lines = write_requests(f"{room}/{last}.jsonl", rounds(1, last))
+        for rounds, runs in ((1000, RUNS), (33333, 1)):
+            lines = made_up(room, 1, rounds)
             side_by_side(all_programs, lines, lambda it, lines: it.in_memory(lines), "in memory", runs)
             side_by_side(all_programs, lines, lambda it, lines: it.in_file(new_store(room, it), lines), "in a file on tmpfs", RUNS)
         on_a_full_store(all_programs, room)

@@ -1,33 +1,39 @@
 #!/usr/bin/env python3
 """Runs `usbreg` over stores in files, case by case, and compares what it prints, its status and the tables.
 
-Usage: scripts/apply_in_files.py [PROGRAM], by default the one that `make` builds. The status is 0 where every
-case is as it should be."""
+Usage: scripts/apply_in_files.py [PROGRAM], by default the one that `make trial` builds. The status is 0 where
+every case is as it should be."""
 
 import os
 import subprocess
 import sys
+import tempfile
 
-from usbreg import EXAMPLES, FOUNDING, content, folder, opened, program, run, tables, write
+from stores import opened, tables
 
-TEN = f"{EXAMPLES}/ten.jsonl"
+HERE = os.path.dirname(os.path.abspath(__file__))
+EXAMPLES = f"{HERE}/../examples"
+FOUNDING, TEN = f"{EXAMPLES}/founding.toml", f"{EXAMPLES}/ten.jsonl"
 REPLIES = [f'{{"done":"enrolled o{number}"}}\n' for number in range(1, 11)]
 
 
 class Room:
     """A folder with a program, and how many of its cases were seen."""
 
-    def __init__(self, usbreg, made):
-        self.program, self.folder, self.seen = usbreg, made, 0
+    def __init__(self, program, folder):
+        self.program, self.folder, self.seen = program, folder, 0
 
     def file(self, name, text):
-        return write(f"{self.folder}/{name}", text)
+        path = f"{self.folder}/{name}"
+        with open(path, "w", encoding="utf-8") as made:
+            made.write(text)
+        return path
 
-    def case(self, words, status=0, output="", errors="", lines=b""):
+    def case(self, words, status=0, output="", errors="", lines=""):
         """The words end with this status and print these texts."""
-        ended, printed, said = run([self.program, *words], lines)
-        if (ended, printed, said) != (status, output.encode(), errors.encode()):
-            sys.exit(f"usbreg {' '.join(words)}: status {ended}, printed {printed!r} and {said!r}")
+        ran = subprocess.run([self.program, *words], input=lines, capture_output=True, text=True, check=False)
+        if (ran.returncode, ran.stdout, ran.stderr) != (status, output, errors):
+            sys.exit(f"usbreg {' '.join(words)}: status {ran.returncode}, printed {ran.stdout!r} and {ran.stderr!r}")
         self.seen += 1
 
     def founded(self, name):
@@ -36,8 +42,8 @@ class Room:
         return store
 
 
-def change_from_outside(store, change):
-    """Another program changes a store."""
+def written(store, change):
+    """What another program writes to a store."""
     with opened(store) as connection:
         connection.execute("PRAGMA journal_mode = WAL")
         connection.execute(change)
@@ -53,7 +59,8 @@ def ten_enrolments(room):
     """Applied whole, and from the first request that is not answered."""
     whole, empty = room.founded("whole"), room.founded("empty")
     room.case(["apply", whole, TEN], output="".join(REPLIES))
-    requests = content(TEN).decode().splitlines(keepends=True)
+    with open(TEN, encoding="utf-8") as lines:
+        requests = lines.readlines()
     for answered in (0, 6, 10):
         store = room.founded(f"after{answered}")
         first = room.file(f"first{answered}.jsonl", "".join(requests[:answered]))
@@ -69,7 +76,8 @@ def ten_enrolments(room):
 def what_is_not_acted_on(room):
     """A bad line, an input or a store that is not there, a store that holds no registry."""
     store, untouched = room.founded("standing"), room.founded("untouched")
-    bad = room.file("bad.jsonl", content(TEN).decode().splitlines()[0] + "\n\n[]\n")
+    with open(TEN, encoding="utf-8") as lines:
+        bad = room.file("bad.jsonl", lines.readline() + "\n[]\n")
     room.case(["apply", store, bad], 2, errors='line 3: {"name":"BadJson","refused":27}\n')
     room.case(["apply", store, f"{room.folder}/none.jsonl"], 1, errors="fault: file\n")
     room.case(["found", store, FOUNDING], 1, errors="fault: taken\n")
@@ -88,7 +96,7 @@ def what_is_not_acted_on(room):
         (f"{room.folder}/other.db", "CREATE TABLE songs (title TEXT NOT NULL) STRICT"),
         (changed, "UPDATE meta SET version = 4"),
     ):
-        change_from_outside(store, change)
+        written(store, change)
         before = tables(store)
         room.case(["apply", store, TEN], 1, errors="fault: foreign\n")
         if tables(store) != before:
@@ -101,11 +109,11 @@ def what_is_not_acted_on(room):
 def outputs_that_fail(room):
     """A reader that goes away after six replies, and a device that is full."""
     store, full = room.founded("piped"), room.founded("full")
-    with subprocess.Popen([room.program, "apply", store, TEN], stdout=subprocess.PIPE, stderr=subprocess.PIPE) as applying:
-        applying.stdout.close()
-        errors = applying.stderr.read()
-        if (applying.wait(), errors) != (1, b"fault: file\n"):
-            sys.exit(f"nobody reads the replies: status {applying.returncode}, {errors!r}")
+    with subprocess.Popen([room.program, "apply", store, TEN], stdout=subprocess.PIPE, stderr=subprocess.PIPE) as run:
+        run.stdout.close()
+        errors = run.stderr.read()
+        if (run.wait(), errors) != (1, b"fault: file\n"):
+            sys.exit(f"nobody reads the replies: status {run.returncode}, {errors!r}")
     with open("/dev/full", "wb") as device:
         ran = subprocess.run([room.program, "apply", full, TEN], stdout=device, stderr=subprocess.PIPE, check=False)
     if (ran.returncode, ran.stderr) != (1, b"fault: file\n"):
@@ -118,18 +126,22 @@ def outputs_that_fail(room):
 
 def words(room):
     """No words are a trial; commands that have still to come say so."""
-    lines = content(f"{EXAMPLES}/first.jsonl")
+    with open(f"{EXAMPLES}/first.jsonl", encoding="utf-8") as first:
+        lines = first.read()
     replies = '{"done":"enrolled acme"}\n{"done":"petition 1"}\n{"done":"granted 0011 to acme by petition 1"}\n'
     for said in ([], ["trial"]):
         room.case(said, output=replies, lines=lines)
     store = f"{room.folder}/whole.db"
-    for said in (["serve", store, "--port", "8080"], ["report", store, "summary"]):
+    for said in (["serve", store, "--port", "8080"], ["export", store], ["report", store, "summary"], ["lookup", TEN, "1209", "0011"]):
         room.case(said, 2, errors=f"usbreg {said[0]}: not in this version\n")
 
 
 def main():
-    with folder() as made:
-        room = Room(program(*sys.argv[1:2]), made)
+    program = os.path.abspath(sys.argv[1] if len(sys.argv) > 1 else f"{HERE}/../crates/registry_cli/out/registry_cli")
+    if not os.path.exists(program):
+        sys.exit("the program is not there: `make trial` builds it")
+    with tempfile.TemporaryDirectory() as folder:
+        room = Room(program, folder)
         for cases in (ten_enrolments, what_is_not_acted_on, outputs_that_fail, words):
             cases(room)
         print(f"stores in files: {room.seen} cases are as they should be")

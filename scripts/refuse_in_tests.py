@@ -8,15 +8,15 @@ right one fails here: want of memory has changed an answer.
 Of a test that asks for many allocations some hundred are refused, evenly spread, but for two that make the tables and
 each statement on them once; with --all it is each of them.
 
-Usage: scripts/refuse_in_tests.py [--all] [PROGRAM..], by default the test programs of the crates below the store, as
-`rt test` builds them. Wants cc. The status is 0 where all of this held."""
+Usage: scripts/refuse_in_tests.py [--all] [PROGRAM..], by default the test programs that `make test` builds of the
+crates below the store. Wants cc. The status is 0 where all of this held."""
 
 import itertools
+import os
 import re
 import sys
 
-from refusing import asked_in, each, refusal, run_refused
-from usbreg import program, run
+from refusing import HERE, asked_in, each, refusal, run
 
 CRATES = ["usbnum_core", "usbids_text", "registry_rules", "registry_wire", "registry_tables"]
 MOST = 650
@@ -45,20 +45,20 @@ def says_so(errors):
     return first in NOTHING or bool(SHORT.search(first))
 
 
-def tests_of(tests):
-    listed = run([tests, "--list"])[1].decode().splitlines()
+def tests_of(program):
+    listed = run([program, "--list"])[1].decode().splitlines()
     return [it.removesuffix(": test") for it in listed if it.endswith(": test") and not it.startswith(LEFT_OUT)]
 
 
-def try_test(tests, test, shim, room, most):
-    words = [tests, test]
+def try_test(program, test, shim, room, most):
+    words = [program, test]
     count = asked_in(words, shim, room)
     apart = 1 if test in WHOLE else max(1, count // most)
 
     def attempt(number, _):
-        status, output, errors = run_refused(words, shim, number)
+        status, output, errors = run(words, shim, number)
         if status and not says_so(errors.decode(errors="replace")):
-            sys.exit(f"{tests} {test} without allocation {number}: status {status}, {output[-200:]!r} and {errors[:600]!r}")
+            sys.exit(f"{program} {test} without allocation {number}: status {status}, {output[-200:]!r} and {errors[:600]!r}")
         return not status
 
     passed = each(range(1, count + 1, apart), room, attempt)
@@ -67,12 +67,14 @@ def try_test(tests, test, shim, room, most):
 
 def main():
     given = [it for it in sys.argv[1:] if it != "--all"]
-    built = [program(it) for it in given] or [program(crate=f"{it}_tests", name=f"{it}_tests_tests") for it in CRATES]
+    programs = given or [f"{HERE}/../crates/{it}_tests/out/{it}_tests_tests" for it in CRATES]
     most = sys.maxsize if "--all" in sys.argv else MOST
     with refusal() as (room, shim):
-        for tests in built:
-            for test in tests_of(tests):
-                try_test(tests, test, shim, room, most)
+        for program in programs:
+            if not os.path.exists(program):
+                sys.exit(f"{program} is not there: `make test` builds it")
+            for test in tests_of(program):
+                try_test(program, test, shim, room, most)
 
 
 if __name__ == "__main__":

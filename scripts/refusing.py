@@ -7,32 +7,39 @@ import os
 import shutil
 import subprocess
 import sys
+import tempfile
 
-from usbreg import TOP, content, folder, run
+HERE = os.path.dirname(os.path.abspath(__file__))
 
 
 @contextlib.contextmanager
 def refusal():
-    """A folder for files of the run, and the library."""
+    """A folder for files of the run, and the library. The folder is in memory where there is such a one, since each
+    store is synced many times."""
     if not shutil.which("cc"):
         sys.exit("no C compiler: apt-get install gcc")
-    with folder() as room:
+    with tempfile.TemporaryDirectory(dir="/dev/shm" if os.path.isdir("/dev/shm") else None) as room:
         shim = f"{room}/refuse.so"
-        subprocess.run(["cc", "-O2", "-shared", "-fPIC", "-o", shim, f"{TOP}/scripts/refuse.c", "-ldl"], check=True)
+        subprocess.run(["cc", "-O2", "-shared", "-fPIC", "-o", shim, f"{HERE}/refuse.c", "-ldl"], check=True)
         yield room, shim
 
 
-def run_refused(words, shim, refused, lines=os.devnull, counted=None):
-    """Status, output and errors of a run that is refused the allocation of this number, or none for 0."""
-    env = {"LD_PRELOAD": shim, "REFUSED": str(refused), **({"COUNTED": counted} if counted else {})}
-    return run(words, content(lines), env)
+def run(words, shim=None, refused=0, counted=None, lines=None):
+    """Status, output and errors."""
+    extra = {"LD_PRELOAD": shim, "REFUSED": str(refused)} if shim else {}
+    if counted:
+        extra["COUNTED"] = counted
+    with open(lines or os.devnull, "rb") as given:
+        ran = subprocess.run(words, stdin=given, capture_output=True, env={**os.environ, **extra}, check=False, timeout=120)
+    return ran.returncode, ran.stdout, ran.stderr
 
 
-def asked_in(words, shim, room, lines=os.devnull):
+def asked_in(words, shim, room, lines=None):
     """How many allocations a run asks for."""
     path = f"{room}/counted"
-    run_refused(words, shim, 0, lines, path)
-    return int(content(path))
+    run(words, shim, 0, path, lines)
+    with open(path, encoding="utf-8") as file:
+        return int(file.read())
 
 
 def each(numbers, room, attempt):

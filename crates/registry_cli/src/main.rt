@@ -2,13 +2,11 @@
 #![tactic(auto)]
 
 mod files;
-mod views;
 
 use files::{run_apply, run_found, run_trial};
 use registry_words::{Command, Usage, command_of};
 use std::io;
 use std::process::ExitCode;
-use views::{run_export, run_lookup};
 
 fn main(rt: HostRuntime) -> ExitCode {
     ExitCode::from(run(&rt))
@@ -49,9 +47,9 @@ fn perform(rt: &HostRuntime, command: Command<&str>) -> u8 {
         } => run_apply(rt, store, file, answered),
         Command::Import { .. } => not_yet(rt, "import"),
         Command::Serve { .. } => not_yet(rt, "serve"),
-        Command::Export { store, stamp } => run_export(rt, store, stamp),
+        Command::Export { .. } => not_yet(rt, "export"),
         Command::Report { .. } => not_yet(rt, "report"),
-        Command::Lookup { list, vid, pid } => run_lookup(rt, list, vid, pid),
+        Command::Lookup { .. } => not_yet(rt, "lookup"),
     }
 }
 

@@ -19,7 +19,7 @@ use Rattle.registry_store.specs.Run.{HasAnswered, IsPlace}
 use Rattle.registry_store.proofs.Runs.{after_item, answers_item, leaves_weaker}
 use Rattle.registry_commands.specs.declared.lines.BadLine.{BadLine}
 use Rattle.registry_commands.specs.declared.messages.Failure.{Failure}
-use Rattle.registry_commands.specs.Failures.{TellsFailure, Told}
+use Rattle.registry_commands.specs.Failures.{TellsFailure}
 use Rattle.registry_commands.specs.Messages.{bad_line_text, exceeds_text, reply_line, reply_lines}
 use Rattle.registry_commands.specs.Apply.{IsApplied, IsCutShort, IsRejected, IsRun, IsStoppedAt, MayBeActedOn, lines_between}
 use Rattle.registry_commands.proofs.FailureLemmas.{tells_more}
@@ -167,10 +167,10 @@ module _ {S : Type 0} {g : Ghosts S} where
   -- ---- all of it
 
   -- a failure before the first request
-  pub fails_before : (OfInput OfOutput : Failure → Type 0) (it : Registry S g) (read : Result (List Request) BadLine) (a : ℕ) (out : Option (List ℕ)) (errors : Told) (status : ℕ)
-      → status ≡ 1 → TellsFailure OfInput errors → IsApplied OfInput OfOutput it it read a out out errors status
-  fails_before OfInput OfOutput it (Err bad) a out errors status one told = record { same = refl; silent = Keeps-same out; told = inr (one, told) }
-  fails_before OfInput OfOutput it (Ok rs) a out errors status one told = (
+  pub fails_before : (OfInput OfOutput : Failure → Type 0) (it : Registry S g) (read : Result (List Request) BadLine) (a : ℕ) (out errors errors_new : Option (List ℕ)) (status : ℕ)
+      → status ≡ 1 → TellsFailure OfInput errors errors_new → IsApplied OfInput OfOutput it it read a out out errors errors_new status
+  fails_before OfInput OfOutput it (Err bad) a out errors errors_new status one told = record { same = refl; silent = Keeps-same out; told = inr (one, told) }
+  fails_before OfInput OfOutput it (Ok rs) a out errors errors_new status one told = (
     λ more. record { same = refl; silent = Keeps-same out; told = inr (one, told) },
     λ within. record {
       statuses = inr one;
@@ -182,28 +182,28 @@ module _ {S : Type 0} {g : Ghosts S} where
   )
 
   module _ (OfMemory OfInput OfOutput : Failure → Type 0) (more : (failure : Failure) → OfMemory failure → OfInput failure)
-      (it new : Registry S g) (out out_new : Option (List ℕ)) (errors : Told) (status : ℕ) where
-    rejected_more : (text : List ℕ) → IsRejected OfMemory it new out out_new errors text status → IsRejected OfInput it new out out_new errors text status
+      (it new : Registry S g) (out out_new errors errors_new : Option (List ℕ)) (status : ℕ) where
+    rejected_more : (text : List ℕ) → IsRejected OfMemory it new out out_new errors errors_new text status → IsRejected OfInput it new out out_new errors errors_new text status
     rejected_more text is = record {
       same = is.same;
       silent = is.silent;
-      told = elim is.told [ inl said ↦ inl said | inr failed ↦ inr (failed.0, tells_more OfMemory OfInput errors more failed.1) ];
+      told = elim is.told [ inl said ↦ inl said | inr failed ↦ inr (failed.0, tells_more OfMemory OfInput errors errors_new more failed.1) ];
     }
 
-    run_more : (rs : List Request) (a : ℕ) → IsRun OfMemory OfOutput it new rs a out out_new errors status → IsRun OfInput OfOutput it new rs a out out_new errors status
+    run_more : (rs : List Request) (a : ℕ) → IsRun OfMemory OfOutput it new rs a out out_new errors errors_new status → IsRun OfInput OfOutput it new rs a out out_new errors errors_new status
     run_more rs a is = record {
       statuses = is.statuses;
       through = is.through;
       quiet = is.quiet;
       stopped = is.stopped;
       told = λ one. elim (is.told one) [
-        | inl unread ↦ inl (record { same = unread.same; silent = unread.silent; told = tells_more OfMemory OfInput errors more unread.told })
+        | inl unread ↦ inl (record { same = unread.same; silent = unread.silent; told = tells_more OfMemory OfInput errors errors_new more unread.told })
         | inr told ↦ inr told
       ];
     }
 
     -- the requests were read of an input, which may fail too
-    pub applied_more : (read : Result (List Request) BadLine) (a : ℕ) → IsApplied OfMemory OfOutput it new read a out out_new errors status
-        → IsApplied OfInput OfOutput it new read a out out_new errors status
+    pub applied_more : (read : Result (List Request) BadLine) (a : ℕ) → IsApplied OfMemory OfOutput it new read a out out_new errors errors_new status
+        → IsApplied OfInput OfOutput it new read a out out_new errors errors_new status
     applied_more (Err bad) a is = rejected_more (bad_line_text bad) is
     applied_more (Ok rs) a is = (λ more_answered. rejected_more exceeds_text (is.0 more_answered), λ within. run_more rs a (is.1 within))

@@ -1,5 +1,5 @@
 -- Which failure is told, from the step that failed up to the whole command.
-use Rattle.std.proofs.Common.{◌≡◌, ◌⊎◌, inl, inr, ℕ, ◌≤◌, List, length, refl, sym, subst, arith}
+use Rattle.std.proofs.Common.{◌≡◌, ◌⊎◌, inl, inr, ℕ, List, Option, refl, sym, subst}
 use Rattle.std.specs.Prelude.{Result, Ok, Err, IfErr, true, false}
 use Rattle.sqlite.specs.Store.{Ghosts}
 use Rattle.sqlite.specs.State.{HasCleanDisk}
@@ -12,7 +12,7 @@ use Rattle.registry_store.specs.declared.registry.Registry.{Registry}
 use Rattle.registry_store.specs.Promise.{Stands, is_spent, state_of}
 use Rattle.registry_commands.specs.declared.messages.Failure.{Failure}
 use Rattle.registry_commands.specs.declared.messages.Failure.TheVariants.{Store, Memory, Foreign, Taken, Spent, File}
-use Rattle.registry_commands.specs.Failures.{IsOfInput, IsOfMemory, IsOfOutput, IsOfSoundRun, IsTooLong, TellsFailure, Told}
+use Rattle.registry_commands.specs.Failures.{IsOfInput, IsOfMemory, IsOfOutput, IsOfSoundRun, TellsFailure}
 use Rattle.registry_commands.specs.Messages.{failure_of}
 use Rattle.registry_commands.specs.Apply.{IsOfRun, MayBeActedOn}
 
@@ -21,13 +21,9 @@ if_err P Q (Ok x) f p = tt
 if_err P Q (Err e) f p = f e p
 
 -- what may be told in a narrow place may be told in a wide one
-pub tells_more : (Narrow Wide : Failure → Type 0) (errors : Told) → ((failure : Failure) → Narrow failure → Wide failure)
-    → TellsFailure Narrow errors → TellsFailure Wide errors
-tells_more Narrow Wide errors more told = (told.0, more told.0 told.1, told.2)
-
--- what was read keeps to the limit of an input
-pub within : (bytes : List ℕ) → length bytes ≤ 4294967295 → ¬ IsTooLong bytes
-within bytes most long = omega (arith, most, long)
+pub tells_more : (Narrow Wide : Failure → Type 0) (old new : Option (List ℕ)) → ((failure : Failure) → Narrow failure → Wide failure)
+    → TellsFailure Narrow old new → TellsFailure Wide old new
+tells_more Narrow Wide old new more told = (told.0, more told.0 told.1, told.2)
 
 -- without memory, while the input did not fail
 pub memory_of_input : (old new : ℕ) (bytes : List ℕ) → new ≡ old → (failure : Failure) → IsOfMemory failure → IsOfInput old new bytes failure

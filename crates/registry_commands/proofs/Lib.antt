@@ -2,4 +2,3 @@ pub mod ApplyLemmas
 pub mod EndLemmas
 pub mod FailureLemmas
 pub mod LineLemmas
-pub mod ShownLemmas

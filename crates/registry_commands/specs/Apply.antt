@@ -14,7 +14,7 @@ use Rattle.registry_store.specs.Run.{HasAnswered, IsPlace}
 use Rattle.registry_commands.specs.declared.lines.BadLine.{BadLine}
 use Rattle.registry_commands.specs.declared.messages.Failure.{Failure}
 use Rattle.registry_commands.specs.declared.messages.Failure.TheVariants.{Foreign, Spent, Taken}
-use Rattle.registry_commands.specs.Failures.{Tells, TellsFailure, TellsNothing, Told}
+use Rattle.registry_commands.specs.Failures.{TellsFailure}
 use Rattle.registry_commands.specs.Messages.{bad_line_text, exceeds_text, reply_line, reply_lines}
 
 -- the reply lines of the requests from one place up to another
@@ -55,29 +55,29 @@ module _ {S : Type 0} {g : Ghosts S} where
     pub ends : (is_spent it ≡ true) ⊎ HasAnswered it h rs n
 
   -- Nothing was acted on and no reply was written. The errors say why, or that the input failed or there was no memory to say it.
-  pub record IsRejected (OfInput : Failure → Type 0) (it new : Registry S g) (out out_new : Option (List ℕ)) (errors : Told) (text : List ℕ) (status : ℕ) : Type 0 where
+  pub record IsRejected (OfInput : Failure → Type 0) (it new : Registry S g) (out out_new errors errors_new : Option (List ℕ)) (text : List ℕ) (status : ℕ) : Type 0 where
     pub same : new ≡ it
     pub silent : Keeps out out_new
-    pub told : ((status ≡ 2) × Tells errors text) ⊎ ((status ≡ 1) × TellsFailure OfInput errors)
+    pub told : ((status ≡ 2) × AppendsBeginning errors errors_new text) ⊎ ((status ≡ 1) × TellsFailure OfInput errors errors_new)
 
   -- The input failed, or there was no memory for its requests. Nothing was acted on and no reply was written.
-  pub record IsUnread (OfInput : Failure → Type 0) (it new : Registry S g) (out out_new : Option (List ℕ)) (errors : Told) : Type 0 where
+  pub record IsUnread (OfInput : Failure → Type 0) (it new : Registry S g) (out out_new errors errors_new : Option (List ℕ)) : Type 0 where
     pub same : new ≡ it
     pub silent : Keeps out out_new
-    pub told : TellsFailure OfInput errors
+    pub told : TellsFailure OfInput errors errors_new
 
   -- The requests from this place on were acted on in turn: all of them, or up to a failure.
-  pub record IsRun (OfInput OfOutput : Failure → Type 0) (it new : Registry S g) (rs : List Request) (a : ℕ) (out out_new : Option (List ℕ)) (errors : Told) (status : ℕ) : Type 0 where
+  pub record IsRun (OfInput OfOutput : Failure → Type 0) (it new : Registry S g) (rs : List Request) (a : ℕ) (out out_new errors errors_new : Option (List ℕ)) (status : ℕ) : Type 0 where
     pub statuses : (status ≡ 0) ⊎ (status ≡ 1)
     pub through : status ≡ 0 → (h : History) → HasAnswered it h rs a → HasCleanDisk (state_of new) → IsThrough new h rs a out out_new
-    pub quiet : status ≡ 0 → TellsNothing errors
+    pub quiet : status ≡ 0 → Keeps errors errors_new
     pub stopped : status ≡ 1 → (h : History) → HasAnswered it h rs a → HasCleanDisk (state_of new) → (n : ℕ) × IsStoppedAt new h rs a n out out_new
-    pub told : status ≡ 1 → IsUnread OfInput it new out out_new errors
-        ⊎ TellsFailure (λ failure. IsOfRun it new (λ h. HasAnswered it h rs a) failure × OfOutput failure) errors
+    pub told : status ≡ 1 → IsUnread OfInput it new out out_new errors errors_new
+        ⊎ TellsFailure (λ failure. IsOfRun it new (λ h. HasAnswered it h rs a) failure × OfOutput failure) errors errors_new
 
   -- What becomes of the requests that were read, of which the first are answered already, or of a line that is none.
-  abbrev pub IsApplied : (Failure → Type 0) → (Failure → Type 0) → Registry S g → Registry S g → Result (List Request) BadLine → ℕ → Option (List ℕ) → Option (List ℕ) → Told → ℕ → Type 0
-  IsApplied OfInput OfOutput it new (Err bad) a out out_new errors status = IsRejected OfInput it new out out_new errors (bad_line_text bad) status
-  IsApplied OfInput OfOutput it new (Ok rs) a out out_new errors status =
-      (length rs < a → IsRejected OfInput it new out out_new errors exceeds_text status)
-      × (a ≤ length rs → IsRun OfInput OfOutput it new rs a out out_new errors status)
+  abbrev pub IsApplied : (Failure → Type 0) → (Failure → Type 0) → Registry S g → Registry S g → Result (List Request) BadLine → ℕ → Option (List ℕ) → Option (List ℕ) → Option (List ℕ) → Option (List ℕ) → ℕ → Type 0
+  IsApplied OfInput OfOutput it new (Err bad) a out out_new errors errors_new status = IsRejected OfInput it new out out_new errors errors_new (bad_line_text bad) status
+  IsApplied OfInput OfOutput it new (Ok rs) a out out_new errors errors_new status =
+      (length rs < a → IsRejected OfInput it new out out_new errors errors_new exceeds_text status)
+      × (a ≤ length rs → IsRun OfInput OfOutput it new rs a out out_new errors errors_new status)

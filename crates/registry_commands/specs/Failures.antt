@@ -1,42 +1,13 @@
 -- Which failure may be told where.
 use Rattle.std.specs.Prelude.{◌≡◌, ◌⊎◌, ◌<◌, ℕ, List, length, Option, ⊤}
-use Rattle.std.specs.Io.KnownBytes.{Appends, Keeps}
 use Rattle.usbids_text.specs.Ends.{AppendsBeginning, HasFailed}
 use Rattle.registry_commands.specs.declared.messages.Failure.{Failure}
 use Rattle.registry_commands.specs.declared.messages.Failure.TheVariants.{Store, Memory, File}
 use Rattle.registry_commands.specs.Messages.{failure_line}
 
--- what the errors had taken and how often they had failed, before a command and after it
-pub record Told : Type 0 where
-  pub old : Option (List ℕ)
-  pub new : Option (List ℕ)
-  pub failures : ℕ
-  pub failures_new : ℕ
-
--- the same of the errors themselves, by their contents and their failures
-abbrev pub told_to : {E : Type 0} → (E → Option (List ℕ)) → (E → ℕ) → E → E → Told
-told_to contents failures errors errors_new = record {
-  old = contents errors;
-  new = contents errors_new;
-  failures = failures errors;
-  failures_new = failures errors_new;
-}
-
--- the text was written: all of it, or a beginning of it and the errors failed
-abbrev pub Tells : Told → List ℕ → Type 0
-Tells errors text = AppendsBeginning errors.old errors.new text × (HasFailed errors.failures errors.failures_new ⊎ Appends errors.old errors.new text)
-
--- nothing was written, and the errors did not fail
-abbrev pub TellsNothing : Told → Type 0
-TellsNothing errors = Keeps errors.old errors.new × (errors.failures_new ≡ errors.failures)
-
--- the message of a failure that may come here was written: all of it, or a beginning of it and the errors failed
-abbrev pub TellsFailure : (Failure → Type 0) → Told → Type 0
-TellsFailure May errors = (failure : Failure) × May failure × Tells errors (failure_line failure)
-
--- more bytes than an input may have
-abbrev pub IsTooLong : List ℕ → Type 0
-IsTooLong bytes = 4294967295 < length bytes
+-- the message of a failure that may come here was written, as far as the errors took it
+abbrev pub TellsFailure : (Failure → Type 0) → Option (List ℕ) → Option (List ℕ) → Type 0
+TellsFailure May old new = (failure : Failure) × May failure × AppendsBeginning old new (failure_line failure)
 
 -- the store failed, or it had no memory
 abbrev pub IsOfStore : Failure → Type 0
@@ -48,7 +19,7 @@ IsOfMemory failure = failure ≡ Memory
 
 -- The input failed between these two counts of failures, or it gives more than 4,294,967,295 bytes: that is File. Or there is no memory, and it did not fail.
 abbrev pub IsOfInput : ℕ → ℕ → List ℕ → Failure → Type 0
-IsOfInput old new bytes File = HasFailed old new ⊎ IsTooLong bytes
+IsOfInput old new bytes File = HasFailed old new ⊎ (4294967295 < length bytes)
 IsOfInput old new bytes Memory = new ≡ old
 IsOfInput old new bytes _ = ⊥
 

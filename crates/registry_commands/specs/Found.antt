@@ -1,8 +1,10 @@
 -- What becomes of a connection on which a registry is to be founded.
-use Rattle.std.specs.Prelude.{◌≡◌, ◌⊎◌, ⊤, ℕ, Result, Ok, Err}
+use Rattle.std.specs.Prelude.{◌≡◌, ◌⊎◌, ⊤, ℕ, Option, Result, Ok, Err, List}
+use Rattle.std.specs.Io.KnownBytes.{Keeps}
 use Rattle.sqlite.specs.Store.{Ghosts}
 use Rattle.sqlite.specs.State.{HasCleanDisk, Survives}
 use Rattle.sqlite.specs.Held.{Held, state}
+use Rattle.usbids_text.specs.Ends.{AppendsBeginning}
 use Rattle.registry_rules.specs.declared.founding.Founding.{Founding}
 use Rattle.registry_rules.specs.History.{founded}
 use Rattle.registry_tables.specs.Rows.{Rows, newest}
@@ -12,7 +14,7 @@ use Rattle.registry_wire.specs.declared.refusal.WireRefusal.{WireRefusal}
 use Rattle.registry_wire.specs.Founding.{Founds, Listed}
 use Rattle.registry_commands.specs.declared.messages.Failure.{Failure}
 use Rattle.registry_commands.specs.declared.messages.Failure.TheVariants.{Memory, Store, Taken}
-use Rattle.registry_commands.specs.Failures.{Tells, TellsFailure, TellsNothing, Told}
+use Rattle.registry_commands.specs.Failures.{TellsFailure}
 use Rattle.registry_commands.specs.Messages.{refusal_line}
 
 module _ {S : Type 0} (g : Ghosts S) where
@@ -29,14 +31,14 @@ module _ {S : Type 0} (g : Ghosts S) where
   IsOfFounding old new _ = ⊥
 
   -- A founding was tried. Whatever came of it, a crash leaves what it could leave before or, where no registry was, the whole of this one.
-  pub record IsTriedOn (old new : Held S) (founding : Founding) (errors : Told) (status : ℕ) : Type 0 where
+  pub record IsTriedOn (old new : Held S) (founding : Founding) (errors errors_new : Option (List ℕ)) (status : ℕ) : Type 0 where
     pub survives : Survives (state g old) (state g new) (λ db. HasNoMeta (state g old).now × Rows newest db (founded founding))
-    pub ends : ((status ≡ 0) × IsFounded old new founding × TellsNothing errors) ⊎ ((status ≡ 1) × TellsFailure (IsOfFounding old new) errors)
+    pub ends : ((status ≡ 0) × IsFounded old new founding × Keeps errors errors_new) ⊎ ((status ≡ 1) × TellsFailure (IsOfFounding old new) errors errors_new)
 
   -- what becomes of the connection by what a founding file lists, or by its first fault
-  abbrev pub IsFoundBy : (Failure → Type 0) → Held S → Held S → Result Listed WireRefusal → Told → ℕ → Type 0
-  IsFoundBy OfInput old new (Err refusal) errors status =
-      (new ≡ old) × (((status ≡ 2) × Tells errors (refusal_line refusal)) ⊎ ((status ≡ 1) × TellsFailure OfInput errors))
-  IsFoundBy OfInput old new (Ok listed) errors status =
-      ((new ≡ old) × (status ≡ 1) × TellsFailure OfInput errors)
-      ⊎ ((founding : Founding) × Founds listed founding × IsTriedOn old new founding errors status)
+  abbrev pub IsFoundBy : (Failure → Type 0) → Held S → Held S → Result Listed WireRefusal → Option (List ℕ) → Option (List ℕ) → ℕ → Type 0
+  IsFoundBy OfInput old new (Err refusal) errors errors_new status =
+      (new ≡ old) × (((status ≡ 2) × AppendsBeginning errors errors_new (refusal_line refusal)) ⊎ ((status ≡ 1) × TellsFailure OfInput errors errors_new))
+  IsFoundBy OfInput old new (Ok listed) errors errors_new status =
+      ((new ≡ old) × (status ≡ 1) × TellsFailure OfInput errors errors_new)
+      ⊎ ((founding : Founding) × Founds listed founding × IsTriedOn old new founding errors errors_new status)

@@ -4,7 +4,3 @@ pub mod Found
 pub mod Lines
 pub mod Messages
 pub mod Trial
-pub mod Printed
-pub mod Shown
-pub mod Words
-pub mod LookUp

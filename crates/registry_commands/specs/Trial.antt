@@ -1,5 +1,5 @@
 -- The registry of a trial, and what a trial writes.
-use Rattle.std.specs.Prelude.{◌≡◌, ◌⊎◌, ℕ, ◌&&◌, ◌+◌, ◌≤◌, length, nat_le, List, [], ◌∷◌, codes, Option, Result, Ok, Err}
+use Rattle.std.specs.Prelude.{◌≡◌, ◌⊎◌, ℕ, ◌&&◌, nat_le, List, [], ◌∷◌, codes, Option, Result, Ok, Err}
 use Rattle.std.specs.Io.KnownBytes.{Appends, Keeps}
 use Rattle.usbnum_core.specs.Spans.{spans_have}
 use Rattle.usbids_text.specs.Ends.{AppendsBeginning}
@@ -11,9 +11,8 @@ use Rattle.registry_rules.specs.Run.{answers}
 use Rattle.registry_commands.specs.declared.lines.BadLine.{BadLine}
 use Rattle.registry_commands.specs.declared.messages.Failure.{Failure}
 use Rattle.registry_commands.specs.declared.messages.Failure.TheVariants.{Store}
-use Rattle.registry_commands.specs.Failures.{IsOfSoundRun, Tells, TellsFailure, TellsNothing, Told}
+use Rattle.registry_commands.specs.Failures.{IsOfSoundRun, TellsFailure}
 use Rattle.registry_commands.specs.Messages.{bad_line_text, reply_lines}
-use Rattle.registry_commands.specs.Apply.{lines_between}
 
 -- vendor 1209, `Shared products`, with the curator `cora`, two licences and the fixed numbers 0001 to 0010
 pub record IsTrial (founding : Founding) : Type 0 where
@@ -33,21 +32,11 @@ pub record IsTried (rs : List Request) (out out_new : Option (List ℕ)) : Type 
 abbrev pub IsOfStart : (Failure → Type 0) → Failure → Type 0
 IsOfStart OfInput failure = (failure ≡ Store) ⊎ OfInput failure
 
--- Some requests were acted on after such a founding. Their reply lines are out, and of the next one at most a beginning.
-pub record IsTriedInPart (rs : List Request) (out out_new : Option (List ℕ)) : Type 0 where
-  pub founding : Founding
-  pub trial : IsTrial founding
-  pub n : ℕ
-  pub within : n ≤ length rs
-  pub middle : Option (List ℕ)
-  pub whole : Appends out middle (lines_between (founded founding) rs 0 n)
-  pub cut : AppendsBeginning middle out_new (lines_between (founded founding) rs n (n + 1))
-
 -- What a trial writes, and its status. Its registry stands, so no failure is Foreign, Taken or Spent.
-abbrev pub IsTrialOf : (Failure → Type 0) → (Failure → Type 0) → Result (List Request) BadLine → Option (List ℕ) → Option (List ℕ) → Told → ℕ → Type 0
-IsTrialOf OfInput OfOutput (Err bad) out out_new errors status =
-    Keeps out out_new × (((status ≡ 2) × Tells errors (bad_line_text bad)) ⊎ ((status ≡ 1) × TellsFailure (IsOfStart OfInput) errors))
-IsTrialOf OfInput OfOutput (Ok rs) out out_new errors status =
-    ((status ≡ 0) × IsTried rs out out_new × TellsNothing errors)
-    ⊎ ((status ≡ 1) × Keeps out out_new × TellsFailure (IsOfStart OfInput) errors)
-    ⊎ ((status ≡ 1) × IsTriedInPart rs out out_new × TellsFailure (λ failure. IsOfSoundRun failure × OfOutput failure) errors)
+abbrev pub IsTrialOf : (Failure → Type 0) → (Failure → Type 0) → Result (List Request) BadLine → Option (List ℕ) → Option (List ℕ) → Option (List ℕ) → Option (List ℕ) → ℕ → Type 0
+IsTrialOf OfInput OfOutput (Err bad) out out_new errors errors_new status =
+    Keeps out out_new × (((status ≡ 2) × AppendsBeginning errors errors_new (bad_line_text bad)) ⊎ ((status ≡ 1) × TellsFailure (IsOfStart OfInput) errors errors_new))
+IsTrialOf OfInput OfOutput (Ok rs) out out_new errors errors_new status =
+    ((status ≡ 0) × IsTried rs out out_new × Keeps errors errors_new)
+    ⊎ ((status ≡ 1) × Keeps out out_new × TellsFailure (IsOfStart OfInput) errors errors_new)
+    ⊎ ((status ≡ 1) × TellsFailure (λ failure. IsOfSoundRun failure × OfOutput failure) errors errors_new)

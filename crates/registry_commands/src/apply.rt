@@ -2,7 +2,7 @@
 
 ghost use Rattle.std.specs.Prelude.{◌≡◌, ◌≤◌, ◌⊎◌, false, ℕ, List, length, IfErr, Ok, OnOk, OnErr};
 ghost use Rattle.sqlite.specs.State.{HasCleanDisk};
-ghost use Rattle.usbids_text.specs.Ends.{MayGive};
+ghost use Rattle.usbids_text.specs.Ends.{AppendsBeginning, MayGive};
 ghost use Rattle.registry_rules.specs.History.{History};
 ghost use Rattle.registry_rules.specs.Run.{after_one, answer_one};
 ghost use Rattle.registry_store.specs.Promise.{Endures, Stands, is_spent, state_of};
@@ -10,8 +10,8 @@ ghost use Rattle.registry_store.specs.Run.{HasAnswered};
 ghost use Rattle.std.specs.Io.KnownBytes.{Appends};
 ghost use Rattle.registry_commands.specs.Lines.{requests_in};
 ghost use Rattle.registry_commands.specs.Messages.{bad_line_text, exceeds_text, reply_line};
-ghost use Rattle.registry_commands.specs.Apply.{IsApplied, IsCutShort, IsOfRun, IsStoppedAt, IsThrough, IsUnread, MayBeActedOn};
-ghost use Rattle.registry_commands.specs.Failures.{IsOfInput, IsOfMemory, IsOfOutput, IsTooLong, Tells, TellsFailure, told_to};
+ghost use Rattle.registry_commands.specs.Apply.{IsApplied, IsCutShort, IsOfRun, IsStoppedAt, IsThrough, MayBeActedOn};
+ghost use Rattle.registry_commands.specs.Failures.{IsOfInput, IsOfMemory, IsOfOutput, TellsFailure};
 
 use crate::input::read_all;
 use crate::lines::{BadLine, requests_in};
@@ -70,8 +70,8 @@ fn answer_from<S: Alter, W: Sink>(
 
 /// Tells which line is no request, and answers the status.
 fn reject_line<E: Sink>(alloc: Global, errors: &mut E, bad: BadLine) -> u8
-    ensures { ((result ≡ 2) × Tells (told_to E.contents E.failures errors.old errors.new) (bad_line_text bad))
-        ⊎ ((result ≡ 1) × TellsFailure IsOfMemory (told_to E.contents E.failures errors.old errors.new)) }
+    ensures { ((result ≡ 2) × AppendsBeginning (E.contents errors.old) (E.contents errors.new) (bad_line_text bad))
+        ⊎ ((result ≡ 1) × TellsFailure IsOfMemory (E.contents errors.old) (E.contents errors.new)) }
 {
     let Ok(text) = bad_line_text(alloc, bad) else {
         return fail(errors, Failure::Memory);
@@ -90,7 +90,7 @@ fn apply_requests<S: Alter, W: Sink, E: Sink>(
     errors: &mut E,
 ) -> u8
     ensures { IsApplied IsOfMemory (IsOfOutput (W.failures output.old) (W.failures output.new)) registry.old registry.new (Ok requests.now) answered
-        (W.contents output.old) (W.contents output.new) (told_to E.contents E.failures errors.old errors.new) result }
+        (W.contents output.old) (W.contents output.new) (E.contents errors.old) (E.contents errors.new) result }
 {
     if answered > requests.len() as u64 {
         tell(errors, "answered exceeds requests\n");
@@ -112,7 +112,7 @@ fn apply_bytes<S: Alter, W: Sink, E: Sink>(
     errors: &mut E,
 ) -> u8
     ensures { IsApplied IsOfMemory (IsOfOutput (W.failures output.old) (W.failures output.new)) registry.old registry.new (requests_in bytes.now) answered
-        (W.contents output.old) (W.contents output.new) (told_to E.contents E.failures errors.old errors.new) result }
+        (W.contents output.old) (W.contents output.new) (E.contents errors.old) (E.contents errors.new) result }
 {
     match requests_in(alloc, bytes) {
         Ok(Ok(requests)) => apply_requests(
@@ -135,8 +135,7 @@ fn apply_bytes<S: Alter, W: Sink, E: Sink>(
 /// The status is 0 where all requests were acted on, refused ones too, and all reply lines are
 /// written. It is 2 where a line is no request or fewer requests are there than are answered: then
 /// nothing is acted on, and the errors say why. It is 1 after a failure, which the errors name: of the
-/// source, the registry, the output, or memory. An input of more than 4,294,967,295 bytes is such a
-/// failure, and nothing is acted on. Where the errors fail nothing else changes.
+/// source, the registry, the output, or memory. Where the errors fail nothing else changes.
 pub fn apply_lines<R: Source, S: Alter, W: Sink, E: Sink>(
     alloc: Global,
     source: &mut R,
@@ -147,8 +146,7 @@ pub fn apply_lines<R: Source, S: Alter, W: Sink, E: Sink>(
 ) -> u8
     ensures { (bytes : List ℕ) × MayGive (R.remaining source.old) bytes
         × IsApplied (IsOfInput (R.failures source.old) (R.failures source.new) bytes) (IsOfOutput (W.failures output.old) (W.failures output.new))
-        registry.old registry.new (requests_in bytes) answered (W.contents output.old) (W.contents output.new) (told_to E.contents E.failures errors.old errors.new) result
-        × (IsTooLong bytes → (result ≡ 1) × IsUnread (IsOfInput (R.failures source.old) (R.failures source.new) bytes) registry.old registry.new (W.contents output.old) (W.contents output.new) (told_to E.contents E.failures errors.old errors.new)) }
+        registry.old registry.new (requests_in bytes) answered (W.contents output.old) (W.contents output.new) (E.contents errors.old) (E.contents errors.new) result }
 {
     match read_all(alloc, source) {
         Ok(bytes) => apply_bytes(alloc, bytes.as_slice(), answered, registry, output, errors),

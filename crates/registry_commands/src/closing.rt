@@ -1,45 +1,26 @@
 //! A store that a command has done with.
 
 ghost use Rattle.std.specs.Prelude.{◌≡◌, ◌≢◌, ◌⊎◌};
-ghost use Rattle.sqlite.specs.Files.{file_state};
-ghost use Rattle.sqlite.specs.State.{HasCleanDisk};
-ghost use Rattle.sqlite.specs.WalReads.{AreClean};
-ghost use Rattle.registry_rules.specs.History.{History};
-ghost use Rattle.registry_tables.specs.Rows.{newest};
-ghost use Rattle.registry_store.specs.Promise.{Leaves};
-ghost use Rattle.registry_store.specs.Reopen.{AreClosed, HoldEither, IsEither};
-ghost use Rattle.registry_commands.specs.Failures.{IsOfStore, TellsFailure, told_to};
+ghost use Rattle.registry_commands.specs.Failures.{IsOfStore, TellsFailure};
 
 use crate::messages::{fail, store_failure};
-use registry_store::{Closed, close_files, leave_store};
-use sqlite::{Connection, FileStore, Files};
+use sqlite::{Connection, FileStore};
 use sqlite_disk::Disk;
 use usbids_text::Sink;
 
-/// Lets go of the store, and hands its files on. Where the command went well, status 0, the store is closed, which
-/// takes its log into its file; where that fails the status is 1, and the errors say why. After a status of 1 or 2
-/// nothing more is written to the store, and its log stays beside its file.
-///
-/// Whatever the status, nothing is committed. Unless closing failed, the two files hold what the store held, as they
-/// read now and after any crash.
+/// Closes the store, which takes its log into its file. The status is that of the command, unless
+/// all went well before and closing fails: then it is 1, and the errors say why.
 pub fn close_store<D: Disk + Drop, E: Sink>(
     conn: Connection<FileStore<D>>,
     errors: &mut E,
     status: u8,
-) -> (u8, Files<D>)
-    ensures kept { status ≢ 0 → (result.0 ≡ status) × (errors.new ≡ errors.old) }
-    ensures well { status ≡ 0 → ((result.0 ≡ 0) × (errors.new ≡ errors.old))
-        ⊎ ((result.0 ≡ 1) × TellsFailure IsOfStore (told_to E.contents E.failures errors.old errors.new)) }
-    ensures closed { AreClosed conn result.1 }
-    ensures holds { result.0 ≡ status → (h next : History) → (HasCleanDisk (file_state conn) → Leaves newest (file_state conn) (IsEither h next))
-        → AreClean D.Disk result.1.log result.1.db → HoldEither D.Disk result.1 h next }
+) -> u8
+    ensures kept { status ≢ 0 → (result ≡ status) × (errors.new ≡ errors.old) }
+    ensures well { status ≡ 0 → ((result ≡ 0) × (errors.new ≡ errors.old))
+        ⊎ ((result ≡ 1) × TellsFailure IsOfStore (E.contents errors.old) (E.contents errors.new)) }
 {
-    if status != 0 {
-        return (status, leave_store(conn));
-    }
-    let Closed { files, error } = close_files(conn);
-    match error {
-        Some(error) => (fail(errors, store_failure(error)), files),
-        None => (0, files),
+    match conn.close() {
+        Err(error) if status == 0 => fail(errors, store_failure(error)),
+        _ => status,
     }
 }

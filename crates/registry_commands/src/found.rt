@@ -1,9 +1,9 @@
 //! A registry that is founded on a connection, by a founding file.
 
 ghost use Rattle.std.specs.Prelude.{◌≡◌, ◌⊎◌, ℕ, List};
-ghost use Rattle.usbids_text.specs.Ends.{MayGive};
+ghost use Rattle.usbids_text.specs.Ends.{AppendsBeginning, MayGive};
 ghost use Rattle.registry_wire.specs.Founding.{founding_listed};
-ghost use Rattle.registry_commands.specs.Failures.{IsOfInput, IsOfMemory, IsTooLong, Tells, TellsFailure, told_to};
+ghost use Rattle.registry_commands.specs.Failures.{IsOfInput, IsOfMemory, TellsFailure};
 ghost use Rattle.registry_commands.specs.Messages.{refusal_line};
 ghost use Rattle.registry_commands.specs.Found.{IsFoundBy, IsTriedOn};
 
@@ -16,10 +16,10 @@ use sqlite::{Alter, Connection};
 use std::alloc::Global;
 use usbids_text::{Sink, Source};
 
-/// Tells why bytes are no founding file or no list, and answers the status.
-pub(crate) fn reject<E: Sink>(alloc: Global, errors: &mut E, refusal: WireRefusal) -> u8
-    ensures { ((result ≡ 2) × Tells (told_to E.contents E.failures errors.old errors.new) (refusal_line refusal))
-        ⊎ ((result ≡ 1) × TellsFailure IsOfMemory (told_to E.contents E.failures errors.old errors.new)) }
+/// Tells why a founding file is none, and answers the status.
+fn reject<E: Sink>(alloc: Global, errors: &mut E, refusal: WireRefusal) -> u8
+    ensures { ((result ≡ 2) × AppendsBeginning (E.contents errors.old) (E.contents errors.new) (refusal_line refusal))
+        ⊎ ((result ≡ 1) × TellsFailure IsOfMemory (E.contents errors.old) (E.contents errors.new)) }
 {
     let Ok(text) = refusal_line(alloc, refusal) else {
         return fail(errors, Failure::Memory);
@@ -35,7 +35,7 @@ fn found_with<S: Alter, E: Sink>(
     founding: &Founding,
     errors: &mut E,
 ) -> (u8, Connection<S>)
-    ensures { IsTriedOn S.Store conn result.1 founding.now (told_to E.contents E.failures errors.old errors.new) result.0 }
+    ensures { IsTriedOn S.Store conn result.1 founding.now (E.contents errors.old) (E.contents errors.new) result.0 }
 {
     match Registry::found(alloc, conn, founding) {
         Ok(registry) => (0, registry.close()),
@@ -50,7 +50,7 @@ fn found_by<S: Alter, E: Sink>(
     bytes: &[u8],
     errors: &mut E,
 ) -> (u8, Connection<S>)
-    ensures { IsFoundBy S.Store IsOfMemory conn result.1 (founding_listed bytes.now) (told_to E.contents E.failures errors.old errors.new) result.0 }
+    ensures { IsFoundBy S.Store IsOfMemory conn result.1 (founding_listed bytes.now) (E.contents errors.old) (E.contents errors.new) result.0 }
 {
     match founding_from_toml(alloc, bytes) {
         Ok(Ok(founding)) => found_with(alloc, conn, &founding, errors),
@@ -64,8 +64,7 @@ fn found_by<S: Alter, E: Sink>(
 ///
 /// The status is 0 where the registry is founded. It is 2 where the source gives no founding file:
 /// then nothing is changed, and the errors say why. It is 1 after a failure, which the errors name;
-/// one is that the store holds a registry already, which is never replaced, and one that the source
-/// gives more than 4,294,967,295 bytes: then nothing is changed.
+/// one is that the store holds a registry already, which is never replaced.
 pub fn found_registry<R: Source, S: Alter, E: Sink>(
     alloc: Global,
     conn: Connection<S>,
@@ -74,8 +73,7 @@ pub fn found_registry<R: Source, S: Alter, E: Sink>(
 ) -> (u8, Connection<S>)
     ensures { (bytes : List ℕ) × MayGive (R.remaining source.old) bytes
         × IsFoundBy S.Store (IsOfInput (R.failures source.old) (R.failures source.new) bytes)
-        conn result.1 (founding_listed bytes) (told_to E.contents E.failures errors.old errors.new) result.0
-        × (IsTooLong bytes → (result.0 ≡ 1) × (result.1 ≡ conn) × TellsFailure (IsOfInput (R.failures source.old) (R.failures source.new) bytes) (told_to E.contents E.failures errors.old errors.new)) }
+        conn result.1 (founding_listed bytes) (E.contents errors.old) (E.contents errors.new) result.0 }
 {
     match read_all(alloc, source) {
         Ok(bytes) => found_by(alloc, conn, bytes.as_slice(), errors),

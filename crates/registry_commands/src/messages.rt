@@ -3,8 +3,8 @@
 ghost use Rattle.std.specs.Prelude.{◌≡◌, ◌≢◌, ◌⊎◌, ℕ, IfErr, IfOk, OnOk, OnErr};
 ghost use Rattle.std.specs.String.{string_bytes};
 ghost use Rattle.std.specs.Io.KnownBytes.{Appends};
-ghost use Rattle.usbids_text.specs.Ends.{AppendsBeginning};
-ghost use Rattle.registry_commands.specs.Failures.{IsOfOutput, Tells, told_to};
+ghost use Rattle.usbids_text.specs.Ends.{AppendsBeginning, HasFailed};
+ghost use Rattle.registry_commands.specs.Failures.{IsOfOutput};
 ghost use Rattle.registry_commands.specs.Messages.{bad_line_text, failure_line, failure_of, input_failure, refusal_line, reply_line};
 
 use crate::input::InputFault;
@@ -119,7 +119,8 @@ pub(crate) fn bad_line_text(alloc: Global, bad: BadLine) -> Result<String, NoMem
 
 /// Writes to the errors: all of the text, or a beginning of it where they fail.
 pub(crate) fn tell<E: Sink>(errors: &mut E, text: &str)
-    ensures told { Tells (told_to E.contents E.failures errors.old errors.new) text.now }
+    ensures told { AppendsBeginning (E.contents errors.old) (E.contents errors.new) text.now }
+    ensures whole { HasFailed (E.failures errors.old) (E.failures errors.new) ⊎ Appends (E.contents errors.old) (E.contents errors.new) text.now }
 {
     match put_all(errors, text.as_bytes()) {
         Ok(()) => {}
@@ -131,7 +132,8 @@ pub(crate) fn tell<E: Sink>(errors: &mut E, text: &str)
 /// beginning of it where they fail.
 pub fn fail<E: Sink>(errors: &mut E, failure: Failure) -> u8
     ensures status { result ≡ 1 }
-    ensures told { Tells (told_to E.contents E.failures errors.old errors.new) (failure_line failure) }
+    ensures told { AppendsBeginning (E.contents errors.old) (E.contents errors.new) (failure_line failure) }
+    ensures whole { HasFailed (E.failures errors.old) (E.failures errors.new) ⊎ Appends (E.contents errors.old) (E.contents errors.new) (failure_line failure) }
 {
     tell(errors, failure.line());
     1

@@ -1,16 +1,15 @@
 //! A registry in memory, founded anew each time.
 
 ghost use Rattle.std.specs.Prelude.{◌≡◌, ◌⊎◌, ◌&&◌, ◌∷◌, [], ℕ, List, nat_le, codes, IfErr, IfOk};
-ghost use Rattle.std.specs.Io.KnownBytes.{Keeps};
 ghost use Rattle.usbids_text.specs.Ends.{MayGive};
 ghost use Rattle.usbnum_core.specs.Spans.{spans_have};
 ghost use Rattle.registry_rules.specs.Texts.{AreInOrder};
 ghost use Rattle.registry_rules.specs.declared.founding.Founding.{Founding};
 ghost use Rattle.registry_rules.specs.History.{founded};
 ghost use Rattle.registry_store.specs.Promise.{Stands};
-ghost use Rattle.registry_commands.specs.Failures.{IsOfInput, IsOfOutput, IsTooLong, TellsFailure, told_to};
+ghost use Rattle.registry_commands.specs.Failures.{IsOfInput, IsOfOutput};
 ghost use Rattle.registry_commands.specs.Lines.{requests_in};
-ghost use Rattle.registry_commands.specs.Trial.{IsOfStart, IsTrial, IsTrialOf};
+ghost use Rattle.registry_commands.specs.Trial.{IsTrial, IsTrialOf};
 
 use crate::apply::apply_lines;
 use crate::messages::{Failure, fail, failure_of};
@@ -111,8 +110,7 @@ pub fn trial<R: Source, W: Sink, E: Sink>(
 ) -> u8
     ensures { (bytes : List ℕ) × MayGive (R.remaining source.old) bytes
         × IsTrialOf (IsOfInput (R.failures source.old) (R.failures source.new) bytes) (IsOfOutput (W.failures output.old) (W.failures output.new))
-        (requests_in bytes) (W.contents output.old) (W.contents output.new) (told_to E.contents E.failures errors.old errors.new) result
-        × (IsTooLong bytes → (result ≡ 1) × Keeps (W.contents output.old) (W.contents output.new) × TellsFailure (IsOfStart (IsOfInput (R.failures source.old) (R.failures source.new) bytes)) (told_to E.contents E.failures errors.old errors.new)) }
+        (requests_in bytes) (W.contents output.old) (W.contents output.new) (E.contents errors.old) (E.contents errors.new) result }
 {
     let mut registry = match found_trial(alloc) {
         Ok(registry) => registry,

@@ -3,8 +3,8 @@
 use crate::book::{founding, span};
 use crate::fields::{slug, title};
 use registry_rules::laws::{
-    has_four_states, has_one_organisation, has_own_spelling, has_row_if_owned, is_kept_for_good,
-    is_legal_from_start, is_owned_or_reserved, may_be_repeated, stays_legal,
+    has_four_states, has_one_organisation, has_own_spelling, is_kept_for_good, is_legal_from_start,
+    is_owned_or_reserved, may_be_repeated, stays_legal,
 };
 use registry_rules::{Curators, Holdings, Licences, Spelling, Text, Totals};
 
@@ -85,5 +85,4 @@ fn laws_may_be_cited(rt: HostRuntime) {
     is_owned_or_reserved();
     has_four_states();
     has_own_spelling();
-    has_row_if_owned();
 }

@@ -35,8 +35,7 @@ fn try_store<S: Alter>(tx: &mut Transaction<'_, S>) -> Result<(), TableFault>
     ensures fault { result ≢ Err TableFault.Foreign }
     ensures survives { Survives (state S.Store tx.old.conn.now) (state S.Store tx.new.conn.now) (λ _. ⊥) }
 {
-    let ran = tx.query_all("SELECT 1", &[]);
-    match ran {
+    match tx.query_all("SELECT 1", &[]) {
         Ok(_) => Ok(()),
         Err(error) => Err(fault_of(error)),
     }

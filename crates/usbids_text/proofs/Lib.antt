@@ -17,5 +17,3 @@ pub mod LineLemmas
 pub mod WrittenLemmas
 pub mod TextLemmas
 pub mod TagLemmas
-pub mod ScanLemmas
-pub mod SearchLemmas

@@ -17,5 +17,3 @@ pub mod Finding
 pub mod Moments
 pub mod Writing
 pub mod Gathering
-pub mod Scanning
-pub mod Scans

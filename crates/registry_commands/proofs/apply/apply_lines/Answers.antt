@@ -1,9 +1,9 @@
-use Rattle.std.proofs.Common.{sym, subst, refl}
+use Rattle.std.proofs.Common.{sym, subst}
 use Rattle.registry_commands.specs.declared.messages.Failure.{Failure}
-use Rattle.registry_commands.specs.Failures.{IsOfInput, IsOfMemory, IsOfOutput, TellsFailure}
+use Rattle.registry_commands.specs.Failures.{IsOfInput, IsOfMemory, IsOfOutput}
 use Rattle.registry_commands.specs.Lines.{requests_in}
-use Rattle.registry_commands.proofs.ApplyLemmas.{applied_more, fails_before, Keeps-same}
-use Rattle.registry_commands.proofs.FailureLemmas.{memory_of_input, within}
+use Rattle.registry_commands.proofs.ApplyLemmas.{applied_more, fails_before}
+use Rattle.registry_commands.proofs.FailureLemmas.{memory_of_input}
 use Rattle.registry_commands.proofs.apply.apply_lines.Goals as goal
 
 pub returns-in-Ok : goal.returns-in-Ok
@@ -15,19 +15,16 @@ returns-in-Ok g c =
       bytes,
       rw c.as_slice.ensures.value c.in-Ok.ensures.ok.0,
       applied_more IsOfMemory (IsOfInput before after bytes) OfOutput (memory_of_input before after bytes c.in-Ok.ensures.kept)
-          c.args.registry.now c.apply_bytes.new.registry _ _ _ c.apply_bytes.result (requests_in bytes) c.args.answered c.apply_bytes.ensures,
-      λ long. absurd (within bytes (rw c.as_slice.ensures.value c.in-Ok.ensures.ok.1) long),
+          c.args.registry.now c.apply_bytes.new.registry _ _ _ _ c.apply_bytes.result (requests_in bytes) c.args.answered c.apply_bytes.ensures,
     )
 
 pub returns-in-Err : goal.returns-in-Err
 returns-in-Err g c =
     let bytes = c.in-Err.ensures.err.0 in
     let OfInput = IsOfInput (g.R.Source.failures c.args.source.now) (g.R.Source.failures c.read_all.new.source) bytes in
-    let may = subst (λ (failure : Failure). OfInput failure) (sym c.input_failure.ensures) c.in-Err.ensures.err.2 in
-    let told : TellsFailure OfInput _ = (c.input_failure.result, may, c.fail.ensures.told) in (
+    let may = subst (λ (failure : Failure). OfInput failure) (sym c.input_failure.ensures) c.in-Err.ensures.err.2 in (
       bytes,
       c.in-Err.ensures.err.1,
       fails_before OfInput (IsOfOutput (g.W.Sink.failures c.args.output.now) (g.W.Sink.failures c.args.output.now))
-          c.args.registry.now (requests_in bytes) c.args.answered _ _ c.fail.result c.fail.ensures.status told,
-      λ long. (c.fail.ensures.status, record { same = refl; silent = Keeps-same _; told = told }),
+          c.args.registry.now (requests_in bytes) c.args.answered _ _ _ c.fail.result c.fail.ensures.status (c.input_failure.result, may, c.fail.ensures.told),
     )

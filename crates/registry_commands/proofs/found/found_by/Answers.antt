@@ -7,4 +7,4 @@ use Rattle.registry_commands.proofs.found.found_by.Goals as goal
 
 pub returns-in-Err : goal.returns-in-Err
 returns-in-Err g c =
-    founding_fails IsOfMemory g.S.Store c.args.conn (founding_listed c.args.bytes.now) _ c.fail.result c.fail.ensures.status (Memory, refl, c.fail.ensures.told)
+    founding_fails IsOfMemory g.S.Store c.args.conn (founding_listed c.args.bytes.now) _ _ c.fail.result c.fail.ensures.status (Memory, refl, c.fail.ensures.told)

@@ -1,9 +1,9 @@
-use Rattle.std.proofs.Common.{sym, subst, refl}
+use Rattle.std.proofs.Common.{sym, subst}
 use Rattle.registry_commands.specs.declared.messages.Failure.{Failure}
-use Rattle.registry_commands.specs.Failures.{IsOfInput, IsOfMemory, TellsFailure}
+use Rattle.registry_commands.specs.Failures.{IsOfInput, IsOfMemory}
 use Rattle.registry_wire.specs.Founding.{founding_listed}
 use Rattle.registry_commands.proofs.EndLemmas.{found_more, founding_fails}
-use Rattle.registry_commands.proofs.FailureLemmas.{memory_of_input, within}
+use Rattle.registry_commands.proofs.FailureLemmas.{memory_of_input}
 use Rattle.registry_commands.proofs.found.found_registry.Goals as goal
 
 pub returns-in-Ok : goal.returns-in-Ok
@@ -14,8 +14,7 @@ returns-in-Ok g c =
       bytes,
       rw c.as_slice.ensures.value c.in-Ok.ensures.ok.0,
       found_more IsOfMemory (IsOfInput before after bytes) (memory_of_input before after bytes c.in-Ok.ensures.kept)
-          g.S.Store c.args.conn c.found_by.result.1 (founding_listed bytes) _ c.found_by.result.0 c.found_by.ensures,
-      λ long. absurd (within bytes (rw c.as_slice.ensures.value c.in-Ok.ensures.ok.1) long),
+          g.S.Store c.args.conn c.found_by.result.1 (founding_listed bytes) _ _ c.found_by.result.0 c.found_by.ensures,
     )
 
 pub returns-in-Err : goal.returns-in-Err
@@ -23,9 +22,4 @@ returns-in-Err g c =
     let bytes = c.in-Err.ensures.err.0 in
     let OfInput = IsOfInput (g.R.Source.failures c.args.source.now) (g.R.Source.failures c.read_all.new.source) bytes in
     let may = subst (λ (failure : Failure). OfInput failure) (sym c.input_failure.ensures) c.in-Err.ensures.err.2 in
-    let told : TellsFailure OfInput _ = (c.input_failure.result, may, c.fail.ensures.told) in (
-      bytes,
-      c.in-Err.ensures.err.1,
-      founding_fails OfInput g.S.Store c.args.conn (founding_listed bytes) _ c.fail.result c.fail.ensures.status told,
-      λ long. (c.fail.ensures.status, refl, told),
-    )
+    (bytes, c.in-Err.ensures.err.1, founding_fails OfInput g.S.Store c.args.conn (founding_listed bytes) _ _ c.fail.result c.fail.ensures.status (c.input_failure.result, may, c.fail.ensures.told))

@@ -1,5 +1,4 @@
-use Rattle.std.proofs.Common.{inl, inr, refl}
-use Rattle.registry_commands.proofs.ApplyLemmas.{Keeps-same}
+use Rattle.std.proofs.Common.{inr}
 use Rattle.registry_commands.proofs.EndLemmas.{of_founding}
 use Rattle.registry_commands.proofs.found.found_with.Goals as goal
 
@@ -11,9 +10,3 @@ returns-in-Err g c =
       survives = c.in-Err.ensures.survives;
       ends = inr (c.fail.ensures.status, (c.failure_of.result, rw c.failure_of.ensures of, c.fail.ensures.told));
     }
-
-pub returns-in-Ok : goal.returns-in-Ok
-returns-in-Ok g c = rw c.close.ensures (record {
-  survives = c.in-Ok.ensures.survives;
-  ends = inl (refl, record { none_before = c.in-Ok.ensures.fresh; rows = λ clean. (c.in-Ok.ensures.stands clean).at }, (Keeps-same _, refl));
-})

@@ -57,7 +57,8 @@ returns-then-eq-3-clause-raised g c clean =
 pub returns-else-eq-3-clause-foreign : goal.returns-else-eq-3-clause-foreign
 returns-else-eq-3-clause-foreign g c clean foreign =
     let a = state g.S.Store c.args.conn.now in
-    let is_open : IsTrue a.is_open = c.unknown.ensures.open clean (search rules) in (
+    let is_open : IsTrue a.is_open = c.unknown.ensures.open clean (search rules) in
+    (
       is_open,
       λ h version rows.
           elim (version_among a c.version_of-version.result c.version_of-version.ensures.first c.version_of-version.ensures.second c.version_of-version.ensures.third h version is_open rows) [

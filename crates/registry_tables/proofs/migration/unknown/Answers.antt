@@ -4,6 +4,15 @@ use Rattle.sqlite.specs.Held.{state}
 use Rattle.registry_tables.proofs.CallLemmas.{quiet_all}
 use Rattle.registry_tables.proofs.migration.unknown.Goals as goal
 
+pub returns-clause-survives : goal.returns-clause-survives
+returns-clause-survives g c =
+    let old = c.args.conn.now in
+    let begun = c.transaction-tx.result.conn.now in
+    let mid = c.try_store-ran.new.tx.conn.now in
+    let end = c.rollback.new.self.0 in
+    let same : end ≡ c.conn-1.given.0 = search rules in
+    subst (λ e. Survives (state g.S.Store old) (state g.S.Store e) (λ _. ⊥)) same (quiet_all g.S.Store old begun mid end c.transaction-tx.ensures.begun c.try_store-ran.ensures.survives c.rollback.ensures.survives)
+
 pub returns-in-Ok-clause-open : goal.returns-in-Ok-clause-open
 returns-in-Ok-clause-open g c clean foreign =
     let begun = c.transaction-tx.result.conn.now in

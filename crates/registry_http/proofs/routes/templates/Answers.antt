@@ -1,7 +1,0 @@
-use Rattle.std.proofs.Common.{refl}
-use Rattle.registry_http.specs.Routes.{templates}
-use Rattle.registry_http.proofs.routes.templates.Goals as goal
-
-pub returns : goal.returns
-unfolding templates
-returns c = rw (c.in_ok-add-9.ensures, c.in_ok-add-8.ensures, c.in_ok-add-7.ensures, c.in_ok-add-6.ensures, c.in_ok-add-5.ensures, c.in_ok-add-4.ensures, c.in_ok-add-3.ensures, c.in_ok-add-2.ensures, c.in_ok-add.ensures, c.new-router.ensures) refl
