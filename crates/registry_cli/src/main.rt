@@ -5,6 +5,7 @@ mod files;
 mod views;
 
 use files::{run_apply, run_found, run_trial};
+use views::{run_export, run_lookup};
 use registry_words::{Command, Usage, command_of};
 use std::io;
 use std::process::ExitCode;

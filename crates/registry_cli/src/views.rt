@@ -1,4 +1,4 @@
-//! The commands that show something and change nothing: they open what the arguments name, and hand it on.
+//! The commands that show something and change nothing: they open what the words name, and hand it on.
 
 use crate::files::{open_input, open_registry};
 use registry_commands::{BadWord, close_store, export, fail, look_up, reject_word};
@@ -30,8 +30,7 @@ pub fn run_export(rt: &HostRuntime, store: &str, stamp: Option<&str>) -> u8 {
     };
     let mut output = Outlet::new(rt.stdout());
     let status = export(rt.alloc(), &mut registry, stamp, &mut output, &mut errors);
-    let (status, _files) = close_store(registry.close(), &mut errors, status);
-    status
+    close_store(registry.close(), &mut errors, status)
 }
 
 /// Prints the name of a device in the list in a file.

@@ -5,6 +5,6 @@ pub mod Lines
 pub mod Messages
 pub mod Trial
 pub mod Printed
+pub mod LookUp
 pub mod Shown
 pub mod Words
-pub mod LookUp

@@ -19,20 +19,13 @@ not_found_text = codes "not found\n"
 abbrev pub IsNamed : (Failure → Type 0) → List ℕ → Option (List ℕ) → Option (List ℕ) → Told → ℕ → Type 0
 IsNamed OfOutput name out out_new errors status = IsPrinted OfOutput (name ++ 10 ∷ []) out out_new errors status ⊎ IsUnprinted IsOfMemory out out_new errors status
 
--- the name of the first match as a line, or that there is none
-abbrev pub IsMatched : (Failure → Type 0) → Option (List ℕ) → Option (List ℕ) → Option (List ℕ) → Told → ℕ → Type 0
-IsMatched OfOutput (Some name) out out_new errors status = IsNamed OfOutput name out out_new errors status
-IsMatched OfOutput None out out_new errors status = (status ≡ 2) × Keeps out out_new × Tells errors not_found_text
-
--- why the bytes are no list, or that there was no memory
-abbrev pub IsRefused : ReadFault → Told → ℕ → Type 0
-IsRefused (Line fault) errors status = ((status ≡ 2) × Tells errors (refusal_line (BadList fault))) ⊎ ((status ≡ 1) × TellsFailure IsOfMemory errors)
-IsRefused NoMemory errors status = (status ≡ 1) × TellsFailure IsOfMemory errors
-
--- what is written of what was found, or of a faulty list
+-- what is written of the name of the first match, of none, of a faulty list, and of want of memory
 abbrev pub IsAnswered : (Failure → Type 0) → Result (Option (List ℕ)) ReadFault → Option (List ℕ) → Option (List ℕ) → Told → ℕ → Type 0
-IsAnswered OfOutput (Ok found) out out_new errors status = IsMatched OfOutput found out out_new errors status
-IsAnswered OfOutput (Err fault) out out_new errors status = Keeps out out_new × IsRefused fault errors status
+IsAnswered OfOutput (Ok (Some name)) out out_new errors status = IsNamed OfOutput name out out_new errors status
+IsAnswered OfOutput (Ok None) out out_new errors status = (status ≡ 2) × Keeps out out_new × Tells errors not_found_text
+IsAnswered OfOutput (Err (Line fault)) out out_new errors status =
+    Keeps out out_new × (((status ≡ 2) × Tells errors (refusal_line (BadList fault))) ⊎ ((status ≡ 1) × TellsFailure IsOfMemory errors))
+IsAnswered OfOutput (Err NoMemory) out out_new errors status = IsUnprinted IsOfMemory out out_new errors status
 
 -- what was found in these bytes is answered; or the input failed, or had more than an input may have
 abbrev pub IsLookedUp : (Failure → Type 0) → (Failure → Type 0) → Wanted → List ℕ → Option (List ℕ) → Option (List ℕ) → Told → ℕ → Type 0

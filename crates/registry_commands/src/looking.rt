@@ -3,7 +3,7 @@
 ghost use Rattle.std.specs.Prelude.{◌≡◌, ◌++◌, ◌∷◌, [], ℕ, List, IfOk};
 ghost use Rattle.usbids_text.specs.Ends.{MayGive};
 ghost use Rattle.registry_commands.specs.Failures.{IsOfInput, IsOfOutput, told_to};
-ghost use Rattle.registry_commands.specs.LookUp.{IsAnswered, IsLookedUp, IsMatched, IsNamed, IsRefused};
+ghost use Rattle.registry_commands.specs.LookUp.{IsAnswered, IsLookedUp, IsNamed};
 
 use crate::found::reject;
 use crate::messages::{Failure, fail, tell};
@@ -22,42 +22,18 @@ fn name_line(alloc: Global, name: &Name) -> Result<Vec<u8>, NoMemory>
 }
 
 /// Writes the name as a line, and answers the status.
-fn put_name<W: Sink, E: Sink>(alloc: Global, name: &Name, output: &mut W, errors: &mut E) -> u8
+fn put_name<W: Sink, E: Sink>(
+    alloc: Global,
+    name: &Name,
+    output: &mut W,
+    errors: &mut E,
+) -> u8
     ensures { IsNamed (IsOfOutput (W.failures output.old) (W.failures output.new)) name.now
         (W.contents output.old) (W.contents output.new) (told_to E.contents E.failures errors.old errors.new) result }
 {
     match name_line(alloc, name) {
         Ok(line) => print(output, errors, line.as_slice()),
         Err(NoMemory) => fail(errors, Failure::Memory),
-    }
-}
-
-/// Tells why nothing was looked up, and answers the status.
-fn put_fault<E: Sink>(alloc: Global, fault: ReadFault, errors: &mut E) -> u8
-    ensures { IsRefused fault (told_to E.contents E.failures errors.old errors.new) result }
-{
-    match fault {
-        ReadFault::Line(fault) => reject(alloc, errors, WireRefusal::BadList(fault)),
-        ReadFault::NoMemory => fail(errors, Failure::Memory),
-    }
-}
-
-/// Writes the name that was found, or that none was, and answers the status.
-fn put_found<W: Sink, E: Sink>(
-    alloc: Global,
-    found: Option<Name>,
-    output: &mut W,
-    errors: &mut E,
-) -> u8
-    ensures { IsMatched (IsOfOutput (W.failures output.old) (W.failures output.new)) found
-        (W.contents output.old) (W.contents output.new) (told_to E.contents E.failures errors.old errors.new) result }
-{
-    match found {
-        Some(name) => put_name(alloc, &name, output, errors),
-        None => {
-            tell(errors, "not found\n");
-            2
-        }
     }
 }
 
@@ -72,8 +48,13 @@ fn put_answer<W: Sink, E: Sink>(
         (W.contents output.old) (W.contents output.new) (told_to E.contents E.failures errors.old errors.new) result }
 {
     match found {
-        Ok(found) => put_found(alloc, found, output, errors),
-        Err(fault) => put_fault(alloc, fault, errors),
+        Ok(Some(name)) => put_name(alloc, &name, output, errors),
+        Ok(None) => {
+            tell(errors, "not found\n");
+            2
+        }
+        Err(ReadFault::Line(fault)) => reject(alloc, errors, WireRefusal::BadList(fault)),
+        Err(ReadFault::NoMemory) => fail(errors, Failure::Memory),
     }
 }
 

@@ -1,5 +1,4 @@
 use Rattle.std.proofs.Common.{[], inl, inr}
-use Rattle.usbids_text.specs.declared.seen.Wanted.{Wanted}
 use Rattle.registry_commands.specs.declared.messages.Failure.TheVariants.{File}
 use Rattle.registry_commands.proofs.ApplyLemmas.{Keeps-same}
 use Rattle.registry_commands.proofs.looking.look_up.Goals as goal
@@ -7,7 +6,7 @@ use Rattle.registry_commands.proofs.looking.look_up.Goals as goal
 pub returns-in-Ok : goal.returns-in-Ok
 returns-in-Ok g c =
     let read = c.in-Ok.ensures.ok in
-    let wanted : Wanted = record { vendor = c.args.vendor; code = c.args.code } in
+    let wanted = record { vendor = c.args.vendor; code = c.args.code } in
     (read.0, read.1, inl (c.finish.result, read.2, c.finish.ensures wanted read.0 (read.3 wanted [] c.new-scan.ensures), c.put_answer.ensures))
 
 pub returns-in-Err : goal.returns-in-Err
