@@ -7,9 +7,9 @@
 # gate:    the same with each edit in a check of its own, as `rt ci` does it: twice the
 #          time, for a release.
 # install: puts the program that `make` built into PREFIX/bin, and its page into PREFIX/share/man/man1.
-# bench:   reads and writes lists beside plain readers, and acts on requests beside plain
-#          registries, and prints ratios. Not part of the gate; it says which packages
-#          are missing.
+# bench:   reads and writes lists and looks devices up beside plain readers, and acts on requests beside plain
+#          registries, and prints ratios; opens a large store of an older schema. Not part of the gate; it
+#          says which packages are missing.
 
 PREFIX ?= /usr/local
 PROGRAM := crates/registry_cli/out/registry_cli
@@ -38,4 +38,6 @@ install:
 
 bench:
 	bench/run.sh
+	bench/look_up.py
 	bench/registry.py
+	bench/open_older.py

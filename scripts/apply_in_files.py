@@ -4,6 +4,7 @@
 Usage: scripts/apply_in_files.py [PROGRAM], by default the one that `make` builds. The status is 0 where every
 case is as it should be."""
 
+import json
 import os
 import subprocess
 import sys
@@ -94,8 +95,6 @@ def what_is_not_acted_on(room):
         if tables(store) != before:
             sys.exit(f"a store was changed that is foreign: {change}")
     room.case(["found", changed, FOUNDING], 1, errors="fault: taken\n")
-    bare = room.file("bare.toml", 'vendor = "0000"\n')
-    room.case(["found", f"{room.folder}/bare.db", bare], 2, errors='{"detail":"vendor","name":"BadFounding","refused":32}\n')
 
 
 def outputs_that_fail(room):
@@ -116,21 +115,55 @@ def outputs_that_fail(room):
         room.seen += 1
 
 
+def bad_inputs(room):
+    """The first line that is no request is named by its number, and a founding file by its key. Nothing is acted on."""
+    enrol = content(TEN).decode().splitlines()[0]
+    reserve = '{"caller":"ann","key":"k1","order":"reserve","first":"0020","last":"0010"}'
+    imported = '{"caller":"ann","key":"k1","order":"import"}'
+    bad_json, field = '{"name":"BadJson","refused":27}', '{"detail":"%s","name":"BadField","refused":28}'
+    for lines, number, refusal in (
+        ("[]", 1, bad_json),
+        ("{}\n[]", 1, field % "caller"),
+        (f"{enrol}\n \t\r\n\n{{}}\n[]", 4, field % "caller"),
+        (f"\n{enrol} x", 2, bad_json),
+        (reserve, 1, field % "last"),
+        (f"\n\n{imported}", 3, field % "order"),
+    ):
+        room.case(["trial"], 2, errors=f"line {number}: {refusal}\n", lines=lines.encode())
+    for lines, replies in (("", 0), ("\n \t\r\n", 0), (f"\r\n{enrol}\r\n\n{enrol}\n", 2), (f"{enrol}\n\n{enrol}\n \n{enrol}", 3)):
+        room.case(["trial"], output=REPLIES[0] * replies, lines=lines.encode())
+    for text, key in (("=", "toml"), ('vendor = "0000"\n', "vendor")):
+        bad, store = room.file("bad.toml", text), f"{room.folder}/bad.db"
+        room.case(["found", store, bad], 2, errors=f'{{"detail":"{key}","name":"BadFounding","refused":32}}\n')
+
+
+def repeats(room):
+    """Repeats, refusals and a registry that is founded again write nothing: the file keeps its bytes."""
+    store = room.founded("repeats")
+    room.case(["apply", store, TEN], output="".join(REPLIES))
+    before = content(store)
+    taken = json.dumps(json.loads(content(TEN).splitlines()[0]) | {"key": "other"}) + "\n"
+    again = room.file("again.jsonl", content(TEN).decode() + taken)
+    room.case(["apply", store, again], output="".join(REPLIES) + '{"name":"OrgTaken","refused":5}\n')
+    room.case(["found", store, FOUNDING], 1, errors="fault: taken\n")
+    if content(store) != before:
+        sys.exit("a repeat wrote to the store")
+
+
 def words(room):
-    """No words are a trial; commands that have still to come say so."""
+    """No words are a trial; a command that has still to come says so."""
     lines = content(f"{EXAMPLES}/first.jsonl")
     replies = '{"done":"enrolled acme"}\n{"done":"petition 1"}\n{"done":"granted 0011 to acme by petition 1"}\n'
     for said in ([], ["trial"]):
         room.case(said, output=replies, lines=lines)
     store = f"{room.folder}/whole.db"
-    for said in (["serve", store, "--port", "8080"], ["report", store, "summary"]):
-        room.case(said, 2, errors=f"usbreg {said[0]}: not in this version\n")
+    room.case(["serve", store, "--port", "8080"], 2, errors="usbreg serve: not in this version\n")
 
 
 def main():
     with folder() as made:
         room = Room(program(*sys.argv[1:2]), made)
-        for cases in (ten_enrolments, what_is_not_acted_on, outputs_that_fail, words):
+        for cases in (ten_enrolments, what_is_not_acted_on, outputs_that_fail, bad_inputs, repeats, words):
             cases(room)
         print(f"stores in files: {room.seen} cases are as they should be")
 

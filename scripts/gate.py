@@ -8,11 +8,13 @@ script that failed as one; the status is 0 where nothing did."""
 
 import os
 import re
+import resource
 import shutil
 import signal
 import subprocess
 import sys
 import tempfile
+import threading
 import time
 
 from crates import TOP
@@ -37,18 +39,55 @@ def copy(names, to):
         shutil.copy2(f"{TOP}/{name}", f"{to}/{name}", follow_symlinks=False)
 
 
+class Cost:
+    """What a part takes, in a `with`: minutes on the clock and of processor, and memory at the peak, which is what the
+    machine has less of then than when the part begins, looked at every second."""
+
+    def __enter__(self):
+        self.begun, self.before, self.ended = time.monotonic(), self.processor(), threading.Event()
+        self.free = self.least = self.available()
+        self.watch = threading.Thread(target=self.look, daemon=True)
+        self.watch.start()
+        return self
+
+    def __exit__(self, *_):
+        self.ended.set()
+        self.watch.join()
+        self.minutes = (time.monotonic() - self.begun) / 60
+        self.of_processor = (self.processor() - self.before) / 60
+
+    def look(self):
+        while not self.ended.wait(1):
+            self.least = min(self.least, self.available())
+
+    @staticmethod
+    def processor():
+        used = resource.getrusage(resource.RUSAGE_CHILDREN)
+        return used.ru_utime + used.ru_stime
+
+    @staticmethod
+    def available():
+        with open("/proc/meminfo", encoding="ascii") as told:
+            return next(int(line.split()[1]) for line in told if line.startswith("MemAvailable:"))
+
+    def __str__(self):
+        peak = (self.free - self.least) / 2**20
+        return f"{self.minutes:.1f} minutes, {self.of_processor:.1f} of processor, {peak:.1f} GiB at the peak"
+
+
 class Part:
     """A part of the gate that has run: how much passed and failed, by its last line and status, and what it names."""
 
     def __init__(self, words, at):
-        name = " ".join(words)
+        self.name = name = " ".join(words)
         print(f"== {name}", flush=True)
-        begun, last, self.named = time.monotonic(), "", []
-        for line in self.lines(words, at):
-            print(line, end="", flush=True)
-            last = line
-            self.named += [line.rstrip()] if NAMES.match(line) else []
-        print(f"== {name}: {(time.monotonic() - begun) / 60:.1f} minutes", flush=True)
+        last, self.named = "", []
+        with Cost() as self.cost:
+            for line in self.lines(words, at):
+                print(line, end="", flush=True)
+                last = line
+                self.named += [line.rstrip()] if NAMES.match(line) else []
+        print(f"== {name}: {self.cost}", flush=True)
         count = COUNT.fullmatch(last)
         self.passed, self.failed = (int(it) for it in count.groups()) if count else (0, 0)
         if self.status and not self.failed:
@@ -82,6 +121,8 @@ def main():
         copy([it for it in names if EDITS.match(it)], room)
         parts += [Part(["scripts/wrong_bodies.py", "--as-built"], room)]
         scripts = [Part([it], room) for it in ("scripts/test_wrong_bodies.py", "scripts/try_the_program.sh")]
+    for part in [*parts, *scripts]:
+        print(f"{part.name}: {part.cost}")
     for part in [*parts, *scripts]:
         print("".join(f"{it}\n" for it in part.named), end="")
     if parts[0].failed:

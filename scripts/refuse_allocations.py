@@ -5,12 +5,17 @@ Trials of examples/first.jsonl and of examples/orders.jsonl, which has all order
 first of these applied to a store in a file: each run prints the whole answers, or a beginning of them and
 `fault: memory` or `fault: store` with status 1. A store is opened again then, the run goes on with
 `--answered`, and the replies and the tables end as those of a run in which nothing was refused. A store is
-founded in the same way: where that fails it can be founded again, or was founded already, and is whole.
+founded in the same way: where that fails it can be founded again, or was founded already, and is whole. The
+commands that show something print the whole of it or a beginning, and change nothing; an import that fails
+is done under its key again, with the same reply and the same tables. A store of an older schema that is opened
+opens again as the same history.
 
 The same with `usbids_bench` and a list that it reads, writes and reads again: it says so, or that there is
 no memory, and never counts other entries or names a fault of a line.
 
-Usage: scripts/refuse_allocations.py [--trial] [PROGRAM [BENCH]], by default the one that `make` builds, and the one
+Of such an opening some hundred allocations are refused, evenly spread; with --all it is each of them.
+
+Usage: scripts/refuse_allocations.py [--trial] [--all] [PROGRAM [BENCH]], by default the one that `make` builds, and the one
 that `rt run` builds in crates/usbids_bench; with --trial the two trials alone, which are part of `make test`. Wants cc.
 The status is 0 where all of this held."""
 
@@ -18,9 +23,12 @@ import os
 import sys
 
 from refusing import asked_in, each, refusal, run_refused
-from usbreg import EXAMPLES, FOUNDING, apply, content, copy, found, program, remove, run, tables, write
+from usbreg import EXAMPLES, FOUNDING, apply, content, copy, done, found, older, program, remove, run, tables, write
 
+# So many allocations, evenly spread, of an opening that asks for thousands.
+MOST = 400
 FAULTS = {b"fault: memory\n", b"fault: store\n"}
+REPORTS = ("census", "holders", "petitions")
 LIST = """# a list
 1209  Shared products
 \t0011  Blinker
@@ -62,15 +70,76 @@ def stores(usbreg, shim, room, lines):
 
     def attempt(number, folder):
         words = [usbreg, "apply", copy(founded, f"{folder}/store.db"), lines]
-        done, is_whole = look(f"apply without allocation {number}", run_refused(words, shim, number), wanted)
-        status, rest, errors = run([*words, "--answered", str(done)])
-        if (status, rest.splitlines(), errors) != (0, replies[done:], b"") or tables(words[2]) != end:
+        answered, is_whole = look(f"apply without allocation {number}", run_refused(words, shim, number), wanted)
+        status, rest, errors = run([*words, "--answered", str(answered)])
+        if (status, rest.splitlines(), errors) != (0, replies[answered:], b"") or tables(words[2]) != end:
             sys.exit(f"apply after allocation {number} was refused does not go on as it should: {errors!r}")
         return is_whole
 
     count = asked_in([usbreg, "apply", copy(founded, f"{room}/counted.db"), lines], shim, room)
     whole = sum(each(range(1, count + 1), room, attempt))
     print(f"apply: each of {count} allocations refused; {whole} runs did without it, the others said so and went on", flush=True)
+
+
+def views(usbreg, shim, room, lines):
+    store = found(usbreg, f"{room}/viewed.db")
+    apply(usbreg, store, lines)
+    end, listed = tables(store), write(f"{room}/viewed.ids", done([usbreg, "export", store]).decode())
+    for words in ([usbreg, "export", store], *([usbreg, "report", store, it] for it in REPORTS), [usbreg, "lookup", listed, "1209", "0011"]):
+        wanted = done(words)
+
+        def attempt(number, folder, words=words, wanted=wanted):
+            own = [copy(store, f"{folder}/store.db") if it == store else it for it in words]
+            is_whole = look(f"{words[1]} without allocation {number}", run_refused(own, shim, number), wanted)[1]
+            if run(own) != (0, wanted, b"") or (store in words and tables(own[2]) != end):
+                sys.exit(f"{words[1]} after allocation {number} was refused is not what it was")
+            return is_whole
+
+        count = asked_in(words, shim, room)
+        whole = sum(each(range(1, count + 1), room, attempt))
+        name = " ".join(words[1:2] + words[3:])
+        print(f"{name}: each of {count} allocations refused; {whole} runs did without it, the others said so", flush=True)
+
+
+def older_stores(usbreg, shim, room, version, every):
+    """The first opening of a store of an older schema. Opened again it holds the same history."""
+    store = older(f"{room}/older{version}.db", version)
+    other = [usbreg, "report", copy(store, f"{room}/raised.db"), "census"]
+    wanted = done(other)
+    end = tables(other[2])
+
+    def attempt(number, folder):
+        words = [usbreg, "report", copy(store, f"{folder}/store.db"), "census"]
+        is_whole = look(f"opening schema {version} without allocation {number}", run_refused(words, shim, number), wanted)[1]
+        if run(words) != (0, wanted, b"") or tables(words[2]) != end:
+            sys.exit(f"a store of schema {version} does not open as it should after allocation {number} was refused")
+        return is_whole
+
+    count = asked_in([usbreg, "report", copy(store, f"{room}/counted.db"), "census"], shim, room)
+    refused = range(1, count + 1, 1 if every else max(1, count // MOST))
+    whole = sum(each(refused, room, attempt))
+    print(f"opening schema {version}: {len(refused)} of {count} allocations refused; {whole} runs did without it, the others said so and opened again", flush=True)
+
+
+def imports(usbreg, shim, room, lines):
+    before, other = (found(usbreg, f"{room}/{it}.db") for it in ("before", "imported"))
+    for store in (before, other):
+        apply(usbreg, store, lines)
+    listed = write(f"{room}/imported.ids", "1209  x\n\t0001  Fixed\n\t0011  Taken\n\t0012  New board\n\t0013\n")
+    asked = [listed, "--caller", "cora", "--key", "i1", "--org", "acme"]
+    wanted = done([usbreg, "import", other, *asked])
+    end = tables(other)
+
+    def attempt(number, folder):
+        words = [usbreg, "import", copy(before, f"{folder}/store.db"), *asked]
+        is_whole = look(f"import without allocation {number}", run_refused(words, shim, number), wanted)[1]
+        if run(words) != (0, wanted, b"") or tables(words[2]) != end:
+            sys.exit(f"an import after allocation {number} was refused does not end as it should")
+        return is_whole
+
+    count = asked_in([usbreg, "import", copy(before, f"{room}/counted.db"), *asked], shim, room)
+    whole = sum(each(range(1, count + 1), room, attempt))
+    print(f"import: each of {count} allocations refused; {whole} runs did without it, the others said so and were done under their key again", flush=True)
 
 
 def foundings(usbreg, shim, room, lines):
@@ -114,7 +183,7 @@ def lists(bench, shim, room):
 
 def main():
     alone = "--trial" in sys.argv
-    given = [it for it in sys.argv[1:] if it != "--trial"]
+    given = [it for it in sys.argv[1:] if it not in ("--trial", "--all")]
     usbreg = program(*given[:1])
     first, orders = (f"{EXAMPLES}/{it}.jsonl" for it in ("first", "orders"))
     with refusal() as (room, shim):
@@ -124,6 +193,10 @@ def main():
             return
         foundings(usbreg, shim, room, first)
         stores(usbreg, shim, room, first)
+        views(usbreg, shim, room, first)
+        imports(usbreg, shim, room, first)
+        for version in (1, 2):
+            older_stores(usbreg, shim, room, version, "--all" in sys.argv)
         lists(program(*given[1:2], crate="usbids_bench"), shim, room)
 
 

@@ -37,7 +37,7 @@ def asked_in(words, shim, room, lines=os.devnull):
 
 def each(numbers, room, attempt):
     """What the attempts with each number give. They run side by side, each row of them in a folder of its own."""
-    rows = os.cpu_count() or 1
+    rows = len(os.sched_getaffinity(0))
 
     def row(first):
         folder = f"{room}/{first}"

@@ -9,7 +9,7 @@ import re
 import sys
 
 from apply_in_files import Room
-from usbreg import EXAMPLES, content, folder, program, run
+from usbreg import EXAMPLES, content, folder, program, run, tables
 
 HEADER = "# List of USB numbers in the syntax of usb.ids\n"
 STAMP = "# Version: 2024.01.30\n# Date:    2024-01-30 20:34:02\n"
@@ -67,6 +67,91 @@ def exports(room):
     room.case(["export", room.file("empty.db", "")], 1, errors="fault: foreign\n")
 
 
+def census(vendor, free, reserved, held, returned):
+    rows = (("vendor", vendor), ("free", free), ("reserved", reserved), ("held", held), ("returned", returned), ("total", 65535))
+    return "".join(f"{label:<10}{value:>6}\n" for label, value in rows)
+
+
+def reports(room):
+    """Of an empty registry, of the first one, after another petition, and of two vendors with a returned number."""
+    empty, store = room.founded("unused"), first(room, "reported")
+    for name, text in (("census", census("1209", 65519, 16, 0, 0)), ("holders", ""), ("petitions", "")):
+        room.case(["report", empty, name], output=text)
+    holder = f"{'acme':<32}"
+    for name, text in (("census", census("1209", 65518, 16, 1, 0)), ("holders", f"{holder}     1     0\n"), ("petitions", "")):
+        room.case(["report", store, name], output=text)
+    act(room, store, [ask("k4", "Lamp")], ["petition 2"])
+    room.case(["report", store, "petitions"], output=f"      2  {holder}  any   Lamp\n")
+    other = first(room, "vendors")
+    more_vendors(room, other)
+    act(room, other, [ask("k6", "Drive", vendor="cafe"), ask("k7", "Clock", vendor="cafe", number="00ff")], ["petition 3", "petition 4"])
+    room.case(["report", other, "census"], output=census("1209", 65518, 16, 0, 1) + census("cafe", 65534, 0, 1, 0))
+    room.case(["report", other, "holders"], output=f"{holder}     1     1\n")
+    room.case(["report", other, "petitions"], output=f"      3  {holder}  cafe:any  Drive\n      4  {holder}  cafe:00ff  Clock\n")
+    for bad in ("list", "Census", ""):
+        room.case(["report", store, bad], 2, errors="bad word: name\n")
+    room.case(["report", f"{room.folder}/none.db", "census"], 1, errors="fault: file\n")
+    room.case(["report", room.file("empty2.db", ""), "census"], 1, errors="fault: foreign\n")
+
+
+def imports(room):
+    """Items of each class, again under another key and under the same one; too many; untitled; an export again; several vendors."""
+    store = first(room, "imported")
+    mixed = room.file("mixed.ids", "1209  x\n\t0000  Zero\n\t0001  Fixed\n\t0011  Taken\n\t0012  New board\n\t0012  New board again\n")
+
+    def words(it, items, key, caller="cora", org="acme"):
+        return ["import", it, items, "--caller", caller, "--key", key, "--org", org]
+
+    def done(it, items, key, counts, *more):
+        names = ("fresh", "owned", "reserved", "doubled", "untitled", "zero")
+        text = ", ".join(f"{name} {count}" for name, count in zip(names, counts))
+        room.case([*words(it, items, key), *more], output=f'{{"done":"imported {text}"}}\n')
+
+    done(store, mixed, "i1", (1, 1, 1, 1, 0, 1))
+    room.case(["export", store], output=f"{HEADER}{VENDOR}\t0011  Blinker\n\t0012  New board\n")
+    before = tables(store)
+    done(store, mixed, "i1", (1, 1, 1, 1, 0, 1))
+    if tables(store) != before:
+        sys.exit("an import under its key again changed the tables")
+    done(store, mixed, "i2", (0, 2, 1, 1, 0, 1))
+    room.case(["export", store], output=f"{HEADER}{VENDOR}\t0011  Blinker\n\t0012  New board\n")
+
+    other = room.founded("taken-over")
+    act(room, other, [content(f"{EXAMPLES}/first.jsonl").decode().splitlines(keepends=True)[0]], FIRST[:1])
+    many = "1209  x\n" + "\t0000  y\n" * 8192
+    room.case(words(other, room.file("many.ids", many + "\t0000  y\n"), "i1"), 2, output='{"name":"ImportTooLong","refused":19}\n')
+    done(other, room.file("most.ids", many), "i1", (0, 0, 0, 0, 0, 8192))
+    done(other, room.file("untitled.ids", "1209  x\n\t0011\n"), "i2", (0, 0, 0, 0, 1, 0))
+    listed = f"{HEADER}{VENDOR}\t0011  Blinker\n"
+    done(other, room.file("listed.ids", listed), "i3", (1, 0, 0, 0, 0, 0))
+    room.case(["export", other], output=listed)
+
+    two = room.file("two.ids", "1209  x\n\t1000  One\ncafe  y\n\t2000  Two\n1209  z\n\t1001  Three\n")
+    room.case([*words(other, two, "i4"), "--vendor", "cafe"], 2, output='{"name":"NoVendor","refused":34}\n')
+    act(room, other, [line("cora", "v1", "add-vendor", vendor="cafe", name="Second vendor")], ["added vendor cafe"])
+    done(other, two, "i4", (1, 0, 0, 0, 0, 0), "--vendor", "CAFE")
+    done(other, two, "i5", (2, 0, 0, 0, 0, 0))
+    done(other, two, "i6", (0, 2, 0, 0, 0, 0), "--vendor", "1209")
+    room.case(["export", other], output=f"{listed}\t1000  One\n\t1001  Three\ncafe  Second vendor\n\t2000  Two\n")
+
+    before = tables(other)
+    room.case(words(other, two, "i7", caller="ann"), 2, output='{"name":"NotCurator","refused":2}\n')
+    room.case(words(other, two, "i7", org="bolt"), 2, output='{"name":"NoOrg","refused":4}\n')
+    room.case(words(other, two, "i1"), 2, output='{"name":"KeyReused","refused":1}\n')
+    bad = room.file("bad.ids", FAULTY)
+    room.case(words(other, bad, "i7"), 2, errors='{"detail":"line 3: BadCode","name":"BadList","refused":29}\n')
+    none = f"{room.folder}/none.ids"
+    for caller, key, org, vendor, word in (
+        ("Cora", "", "Acme", "0", "caller"), ("cora", "", "Acme", "0", "key"), ("cora", "i7", "Acme", "0", "org"), ("cora", "i7", "acme", "0000", "vendor"),
+    ):
+        room.case([*words(none, none, key, caller, org), "--vendor", vendor], 2, errors=f"bad word: {word}\n")
+    room.case(words(none, bad, "i7"), 1, errors="fault: file\n")
+    room.case(words(other, none, "i7"), 1, errors="fault: file\n")
+    room.case(words(room.file("empty3.db", ""), none, "i7"), 1, errors="fault: foreign\n")
+    if tables(other) != before:
+        sys.exit("an import that was refused changed the tables")
+
+
 def look_ups(room):
     """The first match of several, no match, a match of a faulty list, and arguments that are no numbers."""
     usual, faulty = room.file("usual.ids", USUAL), room.file("faulty.ids", FAULTY)
@@ -113,7 +198,7 @@ def second_reader(room):
 def main():
     with folder() as made:
         room = Room(program(*sys.argv[1:2]), made)
-        for cases in (exports, look_ups, second_reader):
+        for cases in (exports, reports, imports, look_ups, second_reader):
             cases(room)
         print(f"what is shown of files: {room.seen} cases are as they should be")
 

@@ -88,6 +88,19 @@ def opened(store):
     return contextlib.closing(sqlite3.connect(store))
 
 
+def older_text(version):
+    """The text that makes a store of an older schema with SQLite."""
+    return content(f"{EXAMPLES}/schema{version}.sql").decode()
+
+
+def older(store, version):
+    """Makes the store of an older schema that is among the examples in a new file, and gives the file's path."""
+    remove(store)
+    with opened(store) as connection:
+        connection.executescript(older_text(version))
+    return store
+
+
 def tables(store):
     """All tables and rows, as statements."""
     with opened(store) as connection:

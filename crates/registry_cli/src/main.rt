@@ -2,13 +2,16 @@
 #![tactic(auto)]
 
 mod files;
+mod imports;
 mod views;
 
 use files::{run_apply, run_found, run_trial};
+use imports::run_import;
+use registry_commands::import_of_arguments;
 use registry_words::{Command, Usage, command_of};
 use std::io;
 use std::process::ExitCode;
-use views::{run_export, run_lookup};
+use views::{run_export, run_lookup, run_report};
 
 fn main(rt: HostRuntime) -> ExitCode {
     ExitCode::from(run(&rt))
@@ -47,10 +50,20 @@ fn perform(rt: &HostRuntime, command: Command<&str>) -> u8 {
             file,
             answered,
         } => run_apply(rt, store, file, answered),
-        Command::Import { .. } => not_yet(rt, "import"),
+        Command::Import {
+            store,
+            list,
+            caller,
+            key,
+            org,
+            vendor,
+        } => {
+            let asked = import_of_arguments(rt.alloc(), caller, key, org, vendor);
+            run_import(rt, store, list, asked)
+        }
         Command::Serve { .. } => not_yet(rt, "serve"),
         Command::Export { store, stamp } => run_export(rt, store, stamp),
-        Command::Report { .. } => not_yet(rt, "report"),
+        Command::Report { store, name } => run_report(rt, store, name),
         Command::Lookup { list, vid, pid } => run_lookup(rt, list, vid, pid),
     }
 }

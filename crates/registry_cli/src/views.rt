@@ -1,7 +1,9 @@
 //! The commands that show something and change nothing: they open what the arguments name, and hand it on.
 
 use crate::files::{open_input, open_registry};
-use registry_commands::{BadWord, close_store, export, fail, look_up, reject_word};
+use registry_commands::{
+    BadWord, close_store, export, fail, look_up, reject_word, report, report_named,
+};
 use registry_wire::stamp_from_text;
 use usbids_text::{Outlet, Stamp};
 use usbnum_core::{parse_code, parse_vid};
@@ -30,6 +32,22 @@ pub fn run_export(rt: &HostRuntime, store: &str, stamp: Option<&str>) -> u8 {
     };
     let mut output = Outlet::new(rt.stdout());
     let status = export(rt.alloc(), &mut registry, stamp, &mut output, &mut errors);
+    let (status, _files) = close_store(registry.close(), &mut errors, status);
+    status
+}
+
+/// Prints a report on the registry in a file.
+pub fn run_report(rt: &HostRuntime, store: &str, name: &str) -> u8 {
+    let mut errors = Outlet::new(rt.stderr());
+    let Some(name) = report_named(name) else {
+        return reject_word(&mut errors, BadWord::Name);
+    };
+    let mut registry = match open_registry(rt, store) {
+        Ok(registry) => registry,
+        Err(failure) => return fail(&mut errors, failure),
+    };
+    let mut output = Outlet::new(rt.stdout());
+    let status = report(rt.alloc(), &mut registry, name, &mut output, &mut errors);
     let (status, _files) = close_store(registry.close(), &mut errors, status);
     status
 }

@@ -4,12 +4,12 @@
 #[cfg(test)]
 mod lines;
 #[cfg(test)]
+mod reopened;
+#[cfg(test)]
 mod runs;
 #[cfg(test)]
 mod shared;
 #[cfg(test)]
-mod ten;
-#[cfg(test)]
-mod transcripts;
+mod views;
 #[cfg(test)]
 mod words;

@@ -1,35 +1,22 @@
-//! Lines and replies that the examples share, and a trial of them.
+//! Lines and replies that the tests share, and what runs over them write.
 
-use registry_commands::trial;
+use registry_commands::{apply_lines, found_registry, trial};
+use registry_store::Registry;
+use sqlite::{Alter, Connection, MemStore};
 use std::alloc::Global;
+use std::io;
+use std::process::Abort;
 use std::test::Fail;
 use usbids_text::{Inlet, Outlet};
 
 pub(crate) const ENROL: &str =
     r#"{"caller":"ann","key":"k1","order":"enrol","org":"acme","title":"Acme Tools","site":"https://acme.example/"}"#;
 
-pub(crate) const ENROL_BOLT: &str =
-    r#"{"caller":"bob","key":"b2","order":"enrol","org":"bolt","title":"Bolt","site":"https://bolt.example/"}"#;
-
 pub(crate) const ASK: &str =
     r#"{"caller":"ann","key":"k2","order":"ask","org":"acme","number":"0011","title":"Blinker","licence":"MIT","site":"https://acme.example/blinker","source":"https://acme.example/src"}"#;
 
-pub(crate) const ASK_ANY: &str =
-    r#"{"caller":"ann","key":"k2","order":"ask","org":"acme","title":"Blinker","licence":"MIT","site":"https://acme.example/blinker","source":"https://acme.example/src"}"#;
-
-pub(crate) const BOLT_ASKS: &str =
-    r#"{"caller":"bob","key":"b1","order":"ask","org":"bolt","title":"Lamp","licence":"MIT","site":"https://bolt.example/lamp","source":"https://bolt.example/src"}"#;
-
 pub(crate) const GRANT: &str =
     r#"{"caller":"cora","key":"k3","order":"grant","petition":1,"number":"0011"}"#;
-
-pub(crate) const GRANT_ANY: &str = r#"{"caller":"cora","key":"k3","order":"grant","petition":1}"#;
-
-pub(crate) const GRANT_OTHER: &str =
-    r#"{"caller":"cora","key":"k3","order":"grant","petition":1,"number":"0012"}"#;
-
-pub(crate) const GRANT_SECOND: &str =
-    r#"{"caller":"cora","key":"k5","order":"grant","petition":2}"#;
 
 pub(crate) const ENROLLED: &str = r#"{"done":"enrolled acme"}"#;
 
@@ -55,14 +42,67 @@ pub(crate) fn joined(alloc: Global, lines: &[&str]) -> Result<String, Fail> {
     Ok(text)
 }
 
-pub(crate) fn tried(alloc: Global, text: &str) -> Written {
+/// A trial over what the reader gives.
+pub(crate) fn tried<R: io::Read + Drop>(alloc: Global, reader: R) -> Written {
     let mut output = Outlet::new(Vec::new(alloc));
     let mut errors = Outlet::new(Vec::new(alloc));
-    let mut source = Inlet::new(text.as_bytes());
-    let status = trial(alloc, &mut source, &mut output, &mut errors);
+    let status = trial(alloc, &mut Inlet::new(reader), &mut output, &mut errors);
     Written {
         status,
         output: output.into_inner(),
         errors: errors.into_inner(),
     }
+}
+
+/// A registry in memory that a founding file founded.
+pub(crate) fn founded<R: AllocGlobal + Abort>(rt: &R, file: &str) -> Registry<MemStore> {
+    let conn = Connection::open_in_memory(rt.alloc()).expect(rt, "memory");
+    let mut errors = Outlet::new(Vec::new(rt.alloc()));
+    let (status, conn) = found_registry(
+        rt.alloc(),
+        conn,
+        &mut Inlet::new(file.as_bytes()),
+        &mut errors,
+    );
+    assert_eq!(rt; status, 0);
+    assert!(rt; errors.into_inner().is_empty());
+    match Registry::open(rt.alloc(), conn) {
+        Ok(registry) => registry,
+        Err((_, conn)) => {
+            drop(conn.into_store());
+            panic!(rt; "no registry");
+        }
+    }
+}
+
+/// The lines over a registry, of which the first are answered.
+pub(crate) fn applied<R: AllocGlobal, S: Alter>(
+    rt: &R,
+    registry: &mut Registry<S>,
+    text: &str,
+    answered: u64,
+) -> Written {
+    let mut output = Outlet::new(Vec::new(rt.alloc()));
+    let mut errors = Outlet::new(Vec::new(rt.alloc()));
+    let mut source = Inlet::new(text.as_bytes());
+    let status = apply_lines(
+        rt.alloc(),
+        &mut source,
+        answered,
+        registry,
+        &mut output,
+        &mut errors,
+    );
+    Written {
+        status,
+        output: output.into_inner(),
+        errors: errors.into_inner(),
+    }
+}
+
+/// That a run has this status, and wrote this to the output and that to the errors.
+pub(crate) fn wrote(rt: &impl Abort, run: &Written, status: u8, output: &str, errors: &str) {
+    assert_eq!(rt; run.status, status);
+    assert_eq!(rt; run.output.as_slice(), output.as_bytes());
+    assert_eq!(rt; run.errors.as_slice(), errors.as_bytes());
 }

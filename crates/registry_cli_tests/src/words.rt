@@ -103,10 +103,15 @@ fn help_and_faults(rt: HostRuntime) {
             "lookup  Print the name of a device in a list",
             false,
         ),
+        (
+            "usbreg --help",
+            "`found`, `apply`, `import` and `serve` change a store",
+            false,
+        ),
         ("usbreg --version", "usbreg 0.1.0", false),
         (
             "usbreg apply --help",
-            "usbreg apply numbers.db requests.jsonl --answered 6",
+            "usbreg apply numbers.db examples/first.jsonl --answered 3",
             false,
         ),
         (

@@ -3,18 +3,16 @@ use Rattle.std.proofs.Common.{◌≡◌, ◌⊎◌, inl, inr, ℕ, ◌≤◌, Li
 use Rattle.std.specs.Prelude.{Result, Ok, Err, IfErr, true, false}
 use Rattle.sqlite.specs.Store.{Ghosts}
 use Rattle.sqlite.specs.State.{HasCleanDisk}
-use Rattle.registry_rules.specs.declared.order.Request.{Request}
 use Rattle.registry_rules.specs.History.{History}
-use Rattle.registry_rules.specs.Run.{after_one}
 use Rattle.registry_store.specs.declared.fault.Fault.{Fault}
 use Rattle.registry_store.specs.declared.fault.Fault.TheVariants as faults
 use Rattle.registry_store.specs.declared.registry.Registry.{Registry}
-use Rattle.registry_store.specs.Promise.{Stands, is_spent, state_of}
+use Rattle.registry_store.specs.Promise.{is_spent, state_of}
 use Rattle.registry_commands.specs.declared.messages.Failure.{Failure}
 use Rattle.registry_commands.specs.declared.messages.Failure.TheVariants.{Store, Memory, Foreign, Taken, Spent, File}
 use Rattle.registry_commands.specs.Failures.{IsOfInput, IsOfMemory, IsOfOutput, IsOfSoundRun, IsTooLong, TellsFailure, Told}
 use Rattle.registry_commands.specs.Messages.{failure_of}
-use Rattle.registry_commands.specs.Apply.{IsOfRun, MayBeActedOn}
+use Rattle.registry_commands.specs.Apply.{IsOfRun}
 
 pub if_err : {A E : Type 0} (P Q : E → Type 0) (r : Result A E) → ((e : E) → P e → Q e) → IfErr r P → IfErr r Q
 if_err P Q (Ok x) f p = tt
@@ -39,33 +37,15 @@ module _ {S : Type 0} {g : Ghosts S} where
   of_reply it new These failure (inl is) = subst (λ (f : Failure). IsOfRun it new These f) (sym is) tt
   of_reply it new These failure (inr is) = subst (λ (f : Failure). IsOfRun it new These f) (sym is) tt
 
-  module _ (it new : Registry S g) (r : Request) (n : ℕ) where
-    abbrev Fits : Failure → Type 0
-    Fits failure = IsOfRun it new (λ h. MayBeActedOn it h r) failure × IsOfOutput n n failure
-
-    never_here : ((h : History) → Stands it h → HasCleanDisk (state_of new) → ⊥) → (h : History) → MayBeActedOn it h r → HasCleanDisk (state_of new) → ⊥
-    never_here never h (inl s) clean = never h s clean
-    never_here never h (inr s) clean = never (after_one h r) s clean
-
-    -- a request that is not acted on, and no reply is written
-    pub of_fault : (fault : Fault) → (fault ≡ faults.Spent → is_spent it ≡ true)
-        → ((h : History) → Stands it h → HasCleanDisk (state_of new) → (fault ≡ faults.Store) ⊎ (fault ≡ faults.NoMemory)) → Fits (failure_of fault)
-    of_fault faults.Store spent kind = (tt, refl)
-    of_fault faults.NoMemory spent kind = (tt, refl)
-    of_fault faults.Foreign spent kind = (λ at. never_here (λ h s clean. elim (kind h s clean) [ inl e ↦ absurd cc | inr e ↦ absurd cc ]) at.0 at.1 at.2, refl)
-    of_fault faults.Taken spent kind = (λ at. never_here (λ h s clean. elim (kind h s clean) [ inl e ↦ absurd cc | inr e ↦ absurd cc ]) at.0 at.1 at.2, refl)
-    of_fault faults.Spent spent kind = (spent refl, refl)
-
-  -- what stops a later step of a run stops the run
-  pub of_later : (it middle new : Registry S g) (These Those : History → Type 0) → (is_spent middle ≡ true → is_spent it ≡ true)
-      → ((h : History) → These h → HasCleanDisk (state_of new) → (x : History) × Those x)
-      → (failure : Failure) → IsOfRun middle new Those failure → IsOfRun it new These failure
-  of_later it middle new These Those spent at Spent is = spent is
-  of_later it middle new These Those spent at Foreign none = λ here. let there = at here.0 here.1 here.2 in none (there.0, there.1, here.2)
-  of_later it middle new These Those spent at Taken none = λ here. let there = at here.0 here.1 here.2 in none (there.0, there.1, here.2)
-  of_later it middle new These Those spent at Store is = tt
-  of_later it middle new These Those spent at Memory is = tt
-  of_later it middle new These Those spent at File is = tt
+  -- a run that ends by a fault, while the output did not fail
+  pub of_fault : (it new : Registry S g) (These : History → Type 0) (old_count new_count : ℕ) → new_count ≡ old_count → (fault : Fault) → (fault ≡ faults.Spent → is_spent it ≡ true)
+      → ((h : History) → These h → HasCleanDisk (state_of new) → (fault ≡ faults.Store) ⊎ (fault ≡ faults.NoMemory))
+      → IsOfRun it new These (failure_of fault) × IsOfOutput old_count new_count (failure_of fault)
+  of_fault it new These old_count new_count same faults.Store spent kind = (tt, same)
+  of_fault it new These old_count new_count same faults.NoMemory spent kind = (tt, same)
+  of_fault it new These old_count new_count same faults.Foreign spent kind = (λ at. elim (kind at.0 at.1 at.2) [ inl e ↦ absurd cc | inr e ↦ absurd cc ], same)
+  of_fault it new These old_count new_count same faults.Taken spent kind = (λ at. elim (kind at.0 at.1 at.2) [ inl e ↦ absurd cc | inr e ↦ absurd cc ], same)
+  of_fault it new These old_count new_count same faults.Spent spent kind = (spent refl, same)
 
   -- a registry that stands, over a clean disk
   pub of_standing : (it new : Registry S g) (These : History → Type 0) (h : History) → These h → is_spent it ≡ false → HasCleanDisk (state_of new)

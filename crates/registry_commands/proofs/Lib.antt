@@ -1,5 +1,10 @@
 pub mod ApplyLemmas
 pub mod EndLemmas
 pub mod FailureLemmas
+pub mod ImportLemmas
 pub mod LineLemmas
+pub mod ListLemmas
+pub mod ReopenLemmas
+pub mod ReplyLemmas
+pub mod ReportLemmas
 pub mod ShownLemmas

@@ -6,7 +6,7 @@ use Rattle.sqlite.specs.State.{HasCleanDisk}
 use Rattle.usbids_text.specs.Ends.{AppendsBeginning}
 use Rattle.registry_rules.specs.declared.order.Request.{Request}
 use Rattle.registry_rules.specs.History.{History}
-use Rattle.registry_rules.specs.Run.{after, after_one, answer_one, answers}
+use Rattle.registry_rules.specs.Run.{after, answers}
 use Rattle.registry_tables.specs.Rows.{newest}
 use Rattle.registry_store.specs.declared.registry.Registry.{Registry}
 use Rattle.registry_store.specs.Promise.{Leaves, Stands, is_spent, state_of}
@@ -15,17 +15,13 @@ use Rattle.registry_commands.specs.declared.lines.BadLine.{BadLine}
 use Rattle.registry_commands.specs.declared.messages.Failure.{Failure}
 use Rattle.registry_commands.specs.declared.messages.Failure.TheVariants.{Foreign, Spent, Taken}
 use Rattle.registry_commands.specs.Failures.{Tells, TellsFailure, TellsNothing, Told}
-use Rattle.registry_commands.specs.Messages.{bad_line_text, exceeds_text, reply_line, reply_lines}
+use Rattle.registry_commands.specs.Messages.{bad_line_text, exceeds_text, reply_lines}
 
 -- the reply lines of the requests from one place up to another
 abbrev pub lines_between : History → List Request → ℕ → ℕ → List ℕ
 lines_between h rs a n = reply_lines (drop a (answers h (take n rs)))
 
 module _ {S : Type 0} {g : Ghosts S} where
-  -- the request is not acted on yet, or was acted on last
-  abbrev pub MayBeActedOn : Registry S g → History → Request → Type 0
-  MayBeActedOn it h r = Stands it h ⊎ Stands it (after_one h r)
-
   -- What a run over this registry may fail of: Spent only where it was spent before, Foreign and Taken only where it stood at
   -- none of these histories or the disk isn't clean.
   abbrev pub IsOfRun : Registry S g → Registry S g → (History → Type 0) → Failure → Type 0
@@ -33,12 +29,6 @@ module _ {S : Type 0} {g : Ghosts S} where
   IsOfRun it new These Foreign = ¬ ((h : History) × These h × HasCleanDisk (state_of new))
   IsOfRun it new These Taken = ¬ ((h : History) × These h × HasCleanDisk (state_of new))
   IsOfRun it new These _ = ⊤
-
-  -- A request failed: a beginning of its reply line is out, and a crash leaves the history with or without it.
-  pub record IsCutShort (it : Registry S g) (h : History) (r : Request) (old new : Option (List ℕ)) : Type 0 where
-    pub gained : AppendsBeginning old new (reply_line (answer_one h r))
-    pub leaves : Leaves newest (state_of it) (λ x. (x ≡ h) ⊎ (x ≡ after_one h r))
-    pub ends : (is_spent it ≡ true) ⊎ Stands it (after_one h r)
 
   -- All requests from this place on are answered: their reply lines are out, and the registry is at the history after them.
   pub record IsThrough (it : Registry S g) (h : History) (rs : List Request) (a : ℕ) (old new : Option (List ℕ)) : Type 0 where

@@ -3,8 +3,12 @@ pub mod Failures
 pub mod Found
 pub mod Lines
 pub mod Messages
+pub mod Replies
+pub mod Reopened
 pub mod Trial
 pub mod Printed
 pub mod Shown
 pub mod Words
 pub mod LookUp
+pub mod Reports
+pub mod Imports

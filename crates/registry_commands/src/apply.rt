@@ -1,51 +1,55 @@
 //! Request lines, acted on one after another over a registry.
 
-ghost use Rattle.std.specs.Prelude.{◌≡◌, ◌≤◌, ◌⊎◌, false, ℕ, List, length, IfErr, Ok, OnOk, OnErr};
+ghost use Rattle.std.specs.Prelude.{◌≡◌, ◌≤◌, ◌⊎◌, ℕ, List, length, IfErr, Ok, OnOk, OnErr};
 ghost use Rattle.sqlite.specs.State.{HasCleanDisk};
 ghost use Rattle.usbids_text.specs.Ends.{MayGive};
 ghost use Rattle.registry_rules.specs.History.{History};
-ghost use Rattle.registry_rules.specs.Run.{after_one, answer_one};
-ghost use Rattle.registry_store.specs.Promise.{Endures, Stands, is_spent, state_of};
+ghost use Rattle.registry_store.specs.Promise.{Endures, state_of};
 ghost use Rattle.registry_store.specs.Run.{HasAnswered};
-ghost use Rattle.std.specs.Io.KnownBytes.{Appends};
 ghost use Rattle.registry_commands.specs.Lines.{requests_in};
-ghost use Rattle.registry_commands.specs.Messages.{bad_line_text, exceeds_text, reply_line};
-ghost use Rattle.registry_commands.specs.Apply.{IsApplied, IsCutShort, IsOfRun, IsStoppedAt, IsThrough, IsUnread, MayBeActedOn};
+ghost use Rattle.registry_commands.specs.Messages.{bad_line_text};
+ghost use Rattle.registry_commands.specs.Apply.{IsApplied, IsOfRun, IsStoppedAt, IsThrough, IsUnread};
 ghost use Rattle.registry_commands.specs.Failures.{IsOfInput, IsOfMemory, IsOfOutput, IsTooLong, Tells, TellsFailure, told_to};
 
 use crate::input::read_all;
 use crate::lines::{BadLine, requests_in};
-use crate::messages::{Failure, bad_line_text, fail, failure_of, input_failure, put_reply, tell};
+use crate::messages::{Failure, bad_line_text, fail, failure_of, input_failure, tell};
+use crate::replies::ReplyLines;
 use registry_rules::Request;
-use registry_store::Registry;
+use registry_store::{Registry, RunStop};
 use sqlite::Alter;
 use std::alloc::Global;
 use usbids_text::{Sink, Source};
 
-/// Acts on a request and writes its reply.
-fn answer<S: Alter, W: Sink>(
-    alloc: Global,
+/// Acts on the requests from the first unanswered one on. The reply to each is written before the
+/// next request is acted on.
+fn write_replies<S: Alter, W: Sink>(
     registry: &mut Registry<S>,
-    request: &Request,
-    output: &mut W,
+    requests: &[Request],
+    answered: usize,
+    lines: &mut ReplyLines<'_, W>,
 ) -> Result<(), Failure>
-    ensures done { (h : History) → MayBeActedOn registry.old h request.now → HasCleanDisk (state_of registry.new)
-        → OnOk result (Stands registry.new (after_one h request.now) × Appends (W.contents output.old) (W.contents output.new) (reply_line (answer_one h request.now))) }
-    ensures stopped { (h : History) → MayBeActedOn registry.old h request.now → HasCleanDisk (state_of registry.new)
-        → OnErr result (IsCutShort registry.new h request.now (W.contents output.old) (W.contents output.new)) }
-    ensures failure { IfErr result (λ failure. IsOfRun registry.old registry.new (λ h. MayBeActedOn registry.old h request.now) failure
-        × IsOfOutput (W.failures output.old) (W.failures output.new) failure) }
-    ensures goes_on { OnOk result ((is_spent registry.new ≡ false) × (W.failures output.new ≡ W.failures output.old)) }
+    requires { answered ≤ length requests.now }
+    ensures same_reference { lines.new.output.ghost_name ≡ lines.old.output.ghost_name }
+    ensures through { (h : History) → HasAnswered registry.old h requests.now answered → HasCleanDisk (state_of registry.new)
+        → OnOk result (IsThrough registry.new h requests.now answered (W.contents lines.old.output.now) (W.contents lines.new.output.now)) }
+    ensures stopped { (h : History) → HasAnswered registry.old h requests.now answered → HasCleanDisk (state_of registry.new)
+        → OnErr result ((n : ℕ) × IsStoppedAt registry.new h requests.now answered n (W.contents lines.old.output.now) (W.contents lines.new.output.now)) }
+    ensures failure { IfErr result (λ failure. IsOfRun registry.old registry.new (λ h. HasAnswered registry.old h requests.now answered) failure
+        × IsOfOutput (W.failures lines.old.output.now) (W.failures lines.new.output.now) failure) }
     ensures endures { Endures (state_of registry.old) (state_of registry.new) }
 {
-    match registry.act(request) {
-        Ok(reply) => put_reply(alloc, output, &reply),
-        Err(fault) => Err(failure_of(fault)),
+    match registry.run_to(requests, answered, lines) {
+        Ok(()) => Ok(()),
+        Err(RunStop::Fault(fault)) => Err(failure_of(fault)),
+        Err(RunStop::Cut) => match lines.failure {
+            Some(failure) => Err(failure),
+            None => unreachable!(),
+        },
     }
 }
 
-/// Acts on the requests from the first unanswered one on. Each reply is written before the next
-/// request is acted on.
+/// The same over an output.
 fn answer_from<S: Alter, W: Sink>(
     alloc: Global,
     registry: &mut Registry<S>,
@@ -62,10 +66,12 @@ fn answer_from<S: Alter, W: Sink>(
         × IsOfOutput (W.failures output.old) (W.failures output.new) failure) }
     ensures endures { Endures (state_of registry.old) (state_of registry.new) }
 {
-    for request in &requests[answered..] {
-        answer(alloc, registry, request, output)?;
-    }
-    Ok(())
+    let mut lines = ReplyLines {
+        alloc,
+        output,
+        failure: None,
+    };
+    write_replies(registry, requests, answered, &mut lines)
 }
 
 /// Tells which line is no request, and answers the status.

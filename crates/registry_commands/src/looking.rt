@@ -32,8 +32,8 @@ fn put_name<W: Sink, E: Sink>(alloc: Global, name: &Name, output: &mut W, errors
     }
 }
 
-/// Tells why nothing was looked up, and answers the status.
-fn put_fault<E: Sink>(alloc: Global, fault: ReadFault, errors: &mut E) -> u8
+/// Tells why the bytes are no list, and returns the status.
+pub(crate) fn put_fault<E: Sink>(alloc: Global, fault: ReadFault, errors: &mut E) -> u8
     ensures { IsRefused fault (told_to E.contents E.failures errors.old errors.new) result }
 {
     match fault {

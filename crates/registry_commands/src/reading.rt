@@ -3,12 +3,12 @@
 ghost use Rattle.std.specs.Prelude.{IfErr, IfOk};
 ghost use Rattle.sqlite.specs.State.{HasCleanDisk};
 ghost use Rattle.registry_rules.specs.History.{History};
-ghost use Rattle.registry_tables.specs.Lists.{IsNumberList, IsVendorList};
+ghost use Rattle.registry_tables.specs.Lists.{IsNumberList, IsPetitionList, IsVendorList};
 ghost use Rattle.registry_store.specs.Promise.{Stands, state_of};
 ghost use Rattle.registry_commands.specs.Shown.{IsLeft, IsOfReading};
 
 use crate::messages::{Failure, failure_of};
-use registry_rules::{Entry, Vendor};
+use registry_rules::{Entry, Petition, Vendor};
 use registry_store::Registry;
 use sqlite::Alter;
 use usbnum_core::Number;
@@ -35,6 +35,20 @@ pub(crate) fn numbers_of<S: Alter>(
 {
     match registry.numbers() {
         Ok(numbers) => Ok(numbers),
+        Err(fault) => Err(failure_of(fault)),
+    }
+}
+
+/// All petitions, by their numbers.
+pub(crate) fn petitions_of<S: Alter>(
+    registry: &mut Registry<S>,
+) -> Result<Vec<(u32, Petition)>, Failure>
+    ensures answered { (h : History) → Stands registry.old h → HasCleanDisk (state_of registry.new) → IfOk result (λ list. IsPetitionList h list.items) }
+    ensures failure { IfErr result (IsOfReading registry.old registry.new) }
+    ensures left { IsLeft registry.old registry.new }
+{
+    match registry.petitions() {
+        Ok(petitions) => Ok(petitions),
         Err(fault) => Err(failure_of(fault)),
     }
 }

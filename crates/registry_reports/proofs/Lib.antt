@@ -2,6 +2,8 @@ pub mod TitleLemmas
 pub mod ListLemmas
 pub mod CensusLemmas
 pub mod CensusLines
+pub mod OrderLemmas
+pub mod OneLemmas
 pub mod HistoryLemmas
 pub mod TallyLemmas
 pub mod HolderLemmas

@@ -2,7 +2,7 @@
 #![tactic(auto)]
 
 pub use counting::census;
-pub use laws::lists_the_history;
+pub use laws::{has_one_list, lists_the_history};
 pub use list::list_document;
 pub use owners::holders;
 pub use petitions::open_petitions;

@@ -1,7 +1,6 @@
 //! What a founding and the values beside it say of themselves.
 
-use crate::book::{founding, span};
-use crate::fields::{slug, title};
+use crate::fields::{founding, slug, span, title};
 use registry_rules::laws::{
     has_four_states, has_one_organisation, has_own_spelling, has_row_if_owned, is_kept_for_good,
     is_legal_from_start, is_owned_or_reserved, may_be_repeated, stays_legal,
@@ -10,9 +9,7 @@ use registry_rules::{Curators, Holdings, Licences, Spelling, Text, Totals};
 
 #[test]
 fn a_founding_says_what_it_has(rt: HostRuntime) {
-    let founding = founding(&rt, "ann", span(&rt, 7, 7))
-        .clone()
-        .expect(&rt, "memory");
+    let founding = founding(&rt, span(&rt, 7, 7)).clone().expect(&rt, "memory");
     let (curators, licences) = (&founding.curators, &founding.licences);
     assert_eq!(rt;
         (
@@ -77,7 +74,7 @@ fn texts_say_what_they_are(rt: HostRuntime) {
 
 #[test]
 fn laws_may_be_cited(rt: HostRuntime) {
-    is_legal_from_start(&founding(&rt, "ann", span(&rt, 7, 7)));
+    is_legal_from_start(&founding(&rt, span(&rt, 7, 7)));
     stays_legal();
     may_be_repeated();
     is_kept_for_good();

@@ -1,29 +1,12 @@
-//! The rules by example, and held against a plain and slow program that asks the definitions of a list of deeds.
+//! Values of the rules, one request's way through them, and the limits that no short history reaches.
+//! `scripts/compare_with_plain_history.py` has the cases of each order and refusal.
 #![tactic(auto)]
 
-#[cfg(test)]
-mod book;
-#[cfg(test)]
-mod dice;
 #[cfg(test)]
 mod fields;
 #[cfg(test)]
 mod foundings;
 #[cfg(test)]
-mod judging;
+mod limits;
 #[cfg(test)]
-mod limit_rows;
-#[cfg(test)]
-mod lists;
-#[cfg(test)]
-mod made_up;
-#[cfg(test)]
-mod orders;
-#[cfg(test)]
-mod plain;
-#[cfg(test)]
-mod plain_rows;
-#[cfg(test)]
-mod rows;
-#[cfg(test)]
-mod shown;
+mod way;

@@ -1,3 +1,4 @@
 pub mod TextLemmas
 pub mod GrowLemmas
 pub mod VersionLemmas
+pub mod NameLemmas

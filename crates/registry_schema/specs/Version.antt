@@ -1,7 +1,25 @@
--- The schemas by their numbers.
-use Rattle.std.specs.Prelude.{ℕ, if◌then◌else◌, nat_eq, List, []}
-use Rattle.registry_schema.specs.Texts.{texts_1, texts_2, texts_3}
+-- Which schema the names of the tables tell.
+use Rattle.std.specs.Prelude.{ℕ, Bool, true, false, ◌&&◌, if◌then◌else◌, List, [], ◌∷◌, ◌++◌, codes, Option, Some, None}
+use Rattle.std.specs.Str.{bytes_eq}
+use Rattle.sqlite_schema.specs.declared.schema.Table.{Table}
 
--- the texts of the schema of this number, of which there are three
-abbrev pub texts_of : ℕ → List (List ℕ)
-texts_of version = if nat_eq version 1 then texts_1 else (if nat_eq version 2 then texts_2 else (if nat_eq version 3 then texts_3 else []))
+-- the tables of each schema, in the order in which they are made
+abbrev pub names_1 : List (List ℕ)
+names_1 = codes "meta" ∷ codes "curators" ∷ codes "licences" ∷ codes "fixed" ∷ codes "orgs" ∷ codes "petitions" ∷ codes "entries" ∷ codes "reserved" ∷ codes "kept" ∷ []
+
+abbrev pub names_2 : List (List ℕ)
+names_2 = names_1 ++ codes "spans" ∷ []
+
+abbrev pub names_3 : List (List ℕ)
+names_3 = names_2 ++ codes "vendors" ∷ codes "spans3" ∷ codes "entries3" ∷ codes "petitions3" ∷ []
+
+-- the tables have these names, in this order
+abbrev pub are_named : List (List ℕ) → List Table → Bool
+are_named [] [] = true
+are_named (name ∷ names) (table ∷ tables) = bytes_eq table.name name && are_named names tables
+are_named [] (table ∷ tables) = false
+are_named (name ∷ names) [] = false
+
+-- the number of the schema whose tables have these names
+abbrev pub version_named : List Table → Option ℕ
+version_named tables = if are_named names_1 tables then Some 1 else (if are_named names_2 tables then Some 2 else (if are_named names_3 tables then Some 3 else None))

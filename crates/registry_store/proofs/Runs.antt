@@ -1,12 +1,11 @@
 -- Runs of requests, one more at a time.
-use Rattle.std.proofs.Common.{◌≡◌, ◌⊎◌, inl, inr, ◌<◌, ◌+◌, ℕ, List, [], ◌∷◌, ◌++◌, length, take, get_or, refl, sym, ap, ◌∙◌}
+use Rattle.std.proofs.Common.{◌≡◌, ◌<◌, ◌+◌, ℕ, zero, suc, List, [], ◌∷◌, ◌++◌, length, take, get_or, refl, sym, ap, ◌∙◌}
 use Rattle.std.proofs.lemmas.List.{take_more}
 use Rattle.sqlite.specs.State.{State}
 use Rattle.registry_rules.specs.declared.order.Request.{Request}
 use Rattle.registry_rules.specs.History.{History}
 use Rattle.registry_rules.specs.Run.{after, answers, after_one, answer_one}
 use Rattle.registry_store.specs.Promise.{Leaves}
-use Rattle.registry_store.specs.Run.{IsPlace}
 
 pub after-append : (h : History) (xs ys : List Request) → after h (xs ++ ys) ≡ after (after h xs) ys
 after-append h [] ys = refl
@@ -33,6 +32,7 @@ after_item h xs i x low is = after_more h xs i x low ∙ ap (after_one (after h 
 pub answers_item : (h : History) (xs : List Request) (i : ℕ) (x : Request) → i < length xs → x ≡ get_or xs i x → answers h (take (i + 1) xs) ≡ answers h (take i xs) ++ answer_one (after h (take i xs)) x ∷ []
 answers_item h xs i x low is = answers_more h xs i x low ∙ ap (λ (y : Request). answers h (take i xs) ++ answer_one (after h (take i xs)) y ∷ []) (sym is)
 
-pub place_item : (v : ℕ) (s : State) (h : History) (rs : List Request) (i : ℕ) (x : Request) → i < length rs → x ≡ get_or rs i x
-    → Leaves v s (λ y. (y ≡ after h (take i rs)) ⊎ (y ≡ after_one (after h (take i rs)) x)) → Leaves v s (IsPlace h rs i)
-place_item v s h rs i x low is = leaves_weaker v s _ (IsPlace h rs i) (λ y. elim [ inl e ↦ inl e | inr e ↦ inr (e ∙ sym (after_item h rs i x low is)) ])
+pub take-answers : (n : ℕ) (h : History) (rs : List Request) → answers h (take n rs) ≡ take n (answers h rs)
+take-answers zero h rs = refl
+take-answers (suc n) h [] = refl
+take-answers (suc n) h (r ∷ rs) = ap (λ x. answer_one h r ∷ x) (take-answers n (after_one h r) rs)

@@ -157,6 +157,15 @@ module _ {S : Type 0} (g : Ghosts S) (old begun mid : Held S) (is : begun ≡ re
           )
 
   module _ (end : Held S) (ends : Survives (state g mid) (state g end) (λ _. ⊥)) where
+    -- the verdict is that of the history
+    pub said_of : HasCleanDisk (state g end) → (h : History) → Counts before h → IsAt newest (state g old) h → v ≡ verdict h r
+    said_of clean h counts at =
+        let mids : HasCleanDisk (state g mid) = omega (arith, ends.clean) in
+        let start : HasCleanDisk (state g begun) = omega (arith, first.clean) in
+        let start_old : HasCleanDisk (state g old) = subst (λ b. HasCleanDisk (state g b)) is start in
+        let open_before : IsTrue (state g old).is_open = subst (λ b. IsTrue (state g b).is_open) is (judged mids inside).0.was_open in
+        ((judged mids inside).1 h counts.legal (holds h open_before (rows_now (state g old) h at start_old open_before))).1 counts.totals_are
+
     -- nothing was committed
     pub none_at_all : Survives (state g old) (state g end) (λ _. ⊥)
     none_at_all = survives_begin g old (state g end) _ (subst (λ b. Survives (state g b) (state g end) (λ _. ⊥)) is (quiet_then (state g begun) (state g mid) (state g end) first ends))

@@ -17,6 +17,14 @@ use Rattle.registry_store.specs.declared.registry.Registry.{Registry}
 abbrev pub Leaves : ℕ → State → (History → Type 0) → Type 0
 Leaves v s These = (db : Trees) → s.may_leave db → (h : History) × These h × Rows v db h
 
+-- the same in some schema
+abbrev pub LeavesSome : State → (History → Type 0) → Type 0
+LeavesSome s These = (db : Trees) → s.may_leave db → (h : History) × These h × (v : ℕ) × Rows v db h
+
+-- the rows of the history, in this schema or a later one
+abbrev pub LeavesLater : ℕ → State → History → Type 0
+LeavesLater v s h = (db : Trees) → s.may_leave db → (later : ℕ) × (v ≤ later) × Rows later db h
+
 -- While it is open the connection shows the rows of the history, and a crash leaves those alone.
 pub record IsAt (v : ℕ) (s : State) (h : History) : Type 0 where
   pub shown : HasCleanDisk s → IsTrue s.is_open → (s.now ≡ s.committed) × Rows v s.committed.trees h

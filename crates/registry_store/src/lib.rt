@@ -7,12 +7,13 @@ mod queries;
 pub mod registry;
 pub mod reopen;
 pub mod replies;
-mod run;
+pub mod run;
 
 pub use fault::Fault;
-pub use registry::{Registry, RunEnd};
+pub use registry::Registry;
 pub use reopen::{
-    Closed, close_and_open, close_files, crash_and_open, leave, leave_and_open, leave_store,
-    open_files, run_in_memory, run_through, stop, take_up,
+    Closed, close_and_open, close_files, crash_and_open, crash_and_open_store, leave,
+    leave_and_open, leave_store, open_files, run_in_memory, run_through, stop, take_up,
 };
 pub use replies::{Cut, Replies, RunStop};
+pub use run::RunEnd;

@@ -5,3 +5,5 @@ pub mod Changed
 pub mod Reserved
 pub mod Finds
 pub mod Version
+pub mod Versions
+pub mod Raising

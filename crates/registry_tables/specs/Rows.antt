@@ -22,6 +22,9 @@ use Rattle.registry_rows.specs.declared.kept.KeptRow.{KeptRow}
 use Rattle.registry_rows.specs.declared.meta.Meta.{Meta}
 use Rattle.registry_rows.specs.Rows.{is_named, is_called, is_kept_under, is_of, is_numbered}
 use Rattle.registry_rows.specs.Tables.{Tables, HasRows, Holds}
+use Rattle.table_laws.specs.Making.{HasTables}
+use Rattle.registry_schema.specs.Texts.{texts_1, texts_2}
+use Rattle.registry_old_rows.specs.Old.{AreFirst, AreSecond, with_version, HasOneVendor, is_listed}
 
 -- the newest schema
 abbrev pub newest : ℕ
@@ -94,12 +97,38 @@ pub record AreRecords (h : History) (t : Tables) : Type 0 where
   pub entries : AreEntries h t.entries
   pub petitions : ArePetitions h t.petitions
 
--- The trees have the tables of the schema of this number and nothing else, and in them the rows of the history and no
--- others. An older number is that of a store that is still to be migrated.
-unfoldable pub Rows : ℕ → Trees → History → Type 0
-Rows version db h = (version ≡ newest) × (t : Tables) × HasRows db t × AreRecords h t × AreKeptReplies h t.kept
+-- ---- each schema
 
--- the same of a database, whose schema is known
+-- `reserved` has a row for each number of the spans
+abbrev pub AreRowsOfSpans : ℕ → Tables → List ℕ → Type 0
+AreRowsOfSpans vid t numbers = (n : Number) → list_any (vendor_span_has n) t.spans ≡ is_listed vid numbers n
+
+-- The trees have the tables of the first schema and nothing else, and in them these values: the vendor, which is the
+-- founding one, stands in `meta` alone, and each number that an order reserved has a row.
+pub record HasFirst (vid : ℕ) (db : Trees) (t : Tables) : Type 0 where
+  pub has : HasTables texts_1 db
+  pub one : HasOneVendor t
+  pub numbers : List ℕ
+  pub rows : AreFirst vid db (with_version 1 t) numbers
+  pub reserved : AreRowsOfSpans vid t numbers
+
+-- The same of the second schema: the numbers that an order reserved stand in spans, and `reserved` is empty.
+pub record HasSecond (vid : ℕ) (db : Trees) (t : Tables) : Type 0 where
+  pub has : HasTables texts_2 db
+  pub one : HasOneVendor t
+  pub rows : AreSecond vid db (with_version 2 t) []
+
+-- The trees have the tables of the schema of this number and nothing else, and these values in them. In the third, the
+-- newest, the vendor stands in each row that is one vendor's, and the tables that it replaces are empty.
+abbrev pub HasValues : ℕ → ℕ → Trees → Tables → Type 0
+HasValues version vid db t = ((version ≡ 1) × HasFirst vid db t) ⊎ (((version ≡ 2) × HasSecond vid db t) ⊎ ((version ≡ newest) × HasRows db t))
+
+-- The trees have the tables of the schema of this number and nothing else, and in them the rows of the history and no
+-- others. Below the newest a store is still to be migrated; a history with a second vendor has no rows there.
+unfoldable pub Rows : ℕ → Trees → History → Type 0
+Rows version db h = (t : Tables) × HasValues version h.founding.vendor db t × AreRecords h t × AreKeptReplies h t.kept
+
+-- the rows of the newest in a database, whose schema is known
 unfoldable pub HoldsRows : ℕ → Database → History → Type 0
 HoldsRows version db h = (version ≡ newest) × (t : Tables) × Holds db t × AreRecords h t × AreKeptReplies h t.kept
 

@@ -9,6 +9,8 @@ mod lists;
 #[cfg(test)]
 mod lookups;
 #[cfg(test)]
+mod migrations;
+#[cfg(test)]
 mod spans;
 #[cfg(test)]
 mod stores;

@@ -73,10 +73,20 @@ pub fn put_org(alloc: Global, text: &str) -> Result<Change, Fail> {
 
 /// A petition of acme for any number of the vendor 1209, in this state.
 pub fn put_petition(alloc: Global, id: u32, state: PetitionState) -> Result<Change, Fail> {
+    put_petition_for(alloc, id, None, state)
+}
+
+/// The same, for this number where there is one.
+pub fn put_petition_for(
+    alloc: Global,
+    id: u32,
+    want: Option<Pid>,
+    state: PetitionState,
+) -> Result<Change, Fail> {
     let petition = Petition {
         vid: Vid::new(0x1209).ok_or("no vendor")?,
         org: slug(alloc, "acme")?,
-        want: None,
+        want,
         title: title(alloc, "Probe")?,
         terms: terms(alloc)?,
         state,

@@ -94,7 +94,7 @@ fn found<'a>(alloc: Global) -> Result<Command<'a>, AllocError>
         "found",
         "Found a registry in a new file",
         "FOUNDING names the vendor, its name, the curators, the licences that are allowed and the \
-         numbers that stay reserved.\n\nExample:\n  usbreg found numbers.db founding.toml",
+         numbers that stay reserved.\n\nExample:\n  usbreg found numbers.db examples/founding.toml",
     );
     let command = with_arg(
         command,
@@ -122,7 +122,7 @@ fn apply<'a>(alloc: Global) -> Result<Command<'a>, AllocError>
         "Run the request lines of a file over a registry",
         "After a stop, count the reply lines that were printed and run the same file again with \
          that count: no request is acted on twice.\n\nExample:\n  usbreg apply numbers.db \
-         requests.jsonl\n  usbreg apply numbers.db requests.jsonl --answered 6",
+         examples/first.jsonl\n  usbreg apply numbers.db examples/first.jsonl --answered 3",
     );
     let command = with_arg(
         command,
@@ -266,7 +266,8 @@ fn bare<'a>(alloc: Global) -> Command<'a>
         .version("0.1.0")
         .about("A registry of shared USB product numbers, which loses and doubles no grant")
         .after_help(
-            "With no command it is `trial`.\n\nExit status: 0, 1 after a fault of the store, of \
+            "With no command it is `trial`. `found`, `apply`, `import` and `serve` change a store; \
+             the other commands leave it as it is.\n\nExit status: 0, 1 after a fault of the store, of \
              memory or of a file, 2 for words or lines that are refused.",
         )
 }

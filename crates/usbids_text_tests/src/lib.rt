@@ -6,6 +6,8 @@ mod ends;
 #[cfg(test)]
 mod reading;
 #[cfg(test)]
+mod scanning;
+#[cfg(test)]
 mod values;
 #[cfg(test)]
 mod writing;

@@ -1,50 +1,18 @@
-use Rattle.std.proofs.Common.{length, ap, arith, ◌∙◌}
+use Rattle.std.proofs.Common.{ap, ◌∙◌}
 use Rattle.sqlite_schema.specs.declared.schema.Schema.{Schema}
 use Rattle.sqlite.specs.Held.{state}
-use Rattle.registry_schema.proofs.VersionLemmas.{count_1, count_2, count_3}
+use Rattle.registry_schema.specs.Version.{version_named}
+use Rattle.registry_schema.proofs.VersionLemmas.{named_1, named_2, named_3}
 use Rattle.registry_schema.proofs.version.version_of.Goals as goal
 
-pub returns-in-9-clause-second : goal.returns-in-9-clause-second
-returns-in-9-clause-second g c is_open has =
-    let many = ap (λ (s : Schema). length s.tables) c.schema.ensures.value ∙ count_2 (state g.S.Store c.args.conn.now) c.schema.ensures.live is_open has in
-    absurd (omega (arith, many, c.len.ensures, c.in-9.is))
+pub returns-clause-named : goal.returns-clause-named
+returns-clause-named g c = c.version_by.ensures ∙ ap version_named c.as_slice.ensures ∙ ap (λ (s : Schema). version_named s.tables) c.schema.ensures.value
 
-pub returns-in-9-clause-third : goal.returns-in-9-clause-third
-returns-in-9-clause-third g c is_open has =
-    let many = ap (λ (s : Schema). length s.tables) c.schema.ensures.value ∙ count_3 (state g.S.Store c.args.conn.now) c.schema.ensures.live is_open has in
-    absurd (omega (arith, many, c.len.ensures, c.in-9.is))
+pub returns-clause-first : goal.returns-clause-first
+returns-clause-first g c is_open has = returns-clause-named g c ∙ named_1 (state g.S.Store c.args.conn.now) c.schema.ensures.live is_open has
 
-pub returns-in-10-clause-first : goal.returns-in-10-clause-first
-returns-in-10-clause-first g c is_open has =
-    let many = ap (λ (s : Schema). length s.tables) c.schema.ensures.value ∙ count_1 (state g.S.Store c.args.conn.now) c.schema.ensures.live is_open has in
-    absurd (omega (arith, many, c.len.ensures, c.in-10.is))
+pub returns-clause-second : goal.returns-clause-second
+returns-clause-second g c is_open has = returns-clause-named g c ∙ named_2 (state g.S.Store c.args.conn.now) c.schema.ensures.live is_open has
 
-pub returns-in-10-clause-third : goal.returns-in-10-clause-third
-returns-in-10-clause-third g c is_open has =
-    let many = ap (λ (s : Schema). length s.tables) c.schema.ensures.value ∙ count_3 (state g.S.Store c.args.conn.now) c.schema.ensures.live is_open has in
-    absurd (omega (arith, many, c.len.ensures, c.in-10.is))
-
-pub returns-in-14-clause-first : goal.returns-in-14-clause-first
-returns-in-14-clause-first g c is_open has =
-    let many = ap (λ (s : Schema). length s.tables) c.schema.ensures.value ∙ count_1 (state g.S.Store c.args.conn.now) c.schema.ensures.live is_open has in
-    absurd (omega (arith, many, c.len.ensures, c.in-14.is))
-
-pub returns-in-14-clause-second : goal.returns-in-14-clause-second
-returns-in-14-clause-second g c is_open has =
-    let many = ap (λ (s : Schema). length s.tables) c.schema.ensures.value ∙ count_2 (state g.S.Store c.args.conn.now) c.schema.ensures.live is_open has in
-    absurd (omega (arith, many, c.len.ensures, c.in-14.is))
-
-pub returns-in_default-clause-first : goal.returns-in_default-clause-first
-returns-in_default-clause-first g c is_open has =
-    let many = ap (λ (s : Schema). length s.tables) c.schema.ensures.value ∙ count_1 (state g.S.Store c.args.conn.now) c.schema.ensures.live is_open has in
-    absurd (omega (arith, many, c.len.ensures, c.in_default))
-
-pub returns-in_default-clause-second : goal.returns-in_default-clause-second
-returns-in_default-clause-second g c is_open has =
-    let many = ap (λ (s : Schema). length s.tables) c.schema.ensures.value ∙ count_2 (state g.S.Store c.args.conn.now) c.schema.ensures.live is_open has in
-    absurd (omega (arith, many, c.len.ensures, c.in_default))
-
-pub returns-in_default-clause-third : goal.returns-in_default-clause-third
-returns-in_default-clause-third g c is_open has =
-    let many = ap (λ (s : Schema). length s.tables) c.schema.ensures.value ∙ count_3 (state g.S.Store c.args.conn.now) c.schema.ensures.live is_open has in
-    absurd (omega (arith, many, c.len.ensures, c.in_default))
+pub returns-clause-third : goal.returns-clause-third
+returns-clause-third g c is_open has = returns-clause-named g c ∙ named_3 (state g.S.Store c.args.conn.now) c.schema.ensures.live is_open has

@@ -1,4 +1,4 @@
-use Rattle.std.proofs.Common.{◌≡◌, Err, rules, refl, ap, subst}
+use Rattle.std.proofs.Common.{◌≡◌, Err, IsTrue, rules, refl, ap, subst}
 use Rattle.sqlite.specs.State.{HasCleanDisk, Survives, IsRolledBack}
 use Rattle.sqlite.specs.Held.{state}
 use Rattle.registry_rules.specs.Run.{after_one, after_verdict, reply_of}
@@ -9,7 +9,7 @@ use Rattle.registry_tables.specs.Rows.{newest}
 use Rattle.registry_schema.specs.declared.fault.TableFault.TheVariants.{Foreign}
 use Rattle.registry_store.specs.Promise.{IsAt}
 use Rattle.registry_store.specs.Attempt.{CommitsOne}
-use Rattle.registry_store.proofs.Steps.{answered, one_at_most, as_before, never_foreign}
+use Rattle.registry_store.proofs.Steps.{answered, one_at_most, as_before, never_foreign, said_of}
 use Rattle.registry_store.proofs.attempt.attempt.Goals as goal
 
 pub returns-in_ok-finish-in-New-clause-answered : goal.returns-in_ok-finish-in-New-clause-answered
@@ -70,3 +70,28 @@ returns-in_err-verdict-clause-foreign g c clean foreign h counts at =
     let was : c.judged.result ≡ Err Foreign = search rules in
     never_foreign g.S.Store c.args.conn.now c.transaction-tx.result.conn.now mid end c.transaction-tx.ensures.begun c.schema-schema.ensures.live c.args.totals.now
     (λ mids inside. (subst (λ x. Finds (state g.S.Store c.transaction-tx.result.conn.now) (state g.S.Store mid) x (λ h found. AreTotalsOf h c.args.totals.now → found ≡ verdict h c.args.request.now)) was (c.judged.ensures.found mids inside)).0 refl) c.judged.ensures.survives ends clean h counts at
+
+pub returns-in_ok-finish-in-New-clause-open : goal.returns-in_ok-finish-in-New-clause-open
+returns-in_ok-finish-in-New-clause-open g c clean h deed counts at new =
+    let end = c.finish.new.tx.0 in
+    let same : end ≡ c.conn-in-New-1.given.0 = search rules in
+    let late : HasCleanDisk (state g.S.Store end) = search rules in
+    subst (λ x. IsTrue (state g.S.Store x).is_open) same (c.in_ok-finish-in-New.ensures.ok late).is_open
+
+pub returns-in-Refused-clause-open : goal.returns-in-Refused-clause-open
+returns-in-Refused-clause-open g c clean h deed counts at new =
+    let mid = c.judged.new.tx.conn.now in
+    let end = c.conn-in-Refused-1.given.0 in
+    let ends : Survives (state g.S.Store mid) (state g.S.Store end) (λ _. ⊥) = search rules in
+    let said = said_of g.S.Store c.args.conn.now c.transaction-tx.result.conn.now mid c.transaction-tx.ensures.begun c.schema-schema.ensures.live c.args.totals.now c.args.request.now c.in_ok-verdict.verdict
+    c.in_ok-verdict.ensures.found c.judged.ensures.survives end ends clean h counts at in
+    absurd (cc (said, new, c.in-Refused.is))
+
+pub returns-in-Kept-clause-open : goal.returns-in-Kept-clause-open
+returns-in-Kept-clause-open g c clean h deed counts at new =
+    let mid = c.judged.new.tx.conn.now in
+    let end = c.conn-in-Kept-1.given.0 in
+    let ends : Survives (state g.S.Store mid) (state g.S.Store end) (λ _. ⊥) = search rules in
+    let said = said_of g.S.Store c.args.conn.now c.transaction-tx.result.conn.now mid c.transaction-tx.ensures.begun c.schema-schema.ensures.live c.args.totals.now c.args.request.now c.in_ok-verdict.verdict
+    c.in_ok-verdict.ensures.found c.judged.ensures.survives end ends clean h counts at in
+    absurd (cc (said, new, c.in-Kept.is))

@@ -1,24 +1,42 @@
-use Rattle.std.proofs.Common.{inl, inr}
+use Rattle.std.proofs.Common.{◌≡◌, ◌-◌, ◌≤◌, ◌∙◌, inl, inr, true, List, [], ◌++◌, drop, length, ap, arith, vec_capacity}
+use Rattle.registry_rules.specs.declared.verdict.Reply.{Reply}
+use Rattle.registry_rules.specs.Run.{after, answers}
 use Rattle.registry_rules.proofs.RunLemmas.{legal_after}
-use Rattle.registry_rules.specs.Run.{after}
 use Rattle.registry_rules.proofs.NumberLemmas.{one_organisation}
-use Rattle.registry_store.proofs.Places.{whole, whole_next, slice_is_rest, some_request}
+use Rattle.registry_store.specs.Promise.{is_spent}
+use Rattle.registry_store.proofs.ListLemmas.{has_room, listed, stopped_list}
 use Rattle.registry_store.proofs.registry.Registry.run_from.Goals as goal
 
-pub returns-clause-run : goal.returns-clause-run
-returns-clause-run g c h at clean =
-    let end = c.run-fault.new.self in
-    let rs = c.args.requests.now in
-    elim at [
-      | inl stands ↦ whole end h rs c.args.answered _ _ (rw (slice_is_rest rs c.args.answered) at (c.run-fault.ensures.run _ stands clean))
-      | inr next ↦ whole_next end (some_request rs _ next.0) h rs c.args.answered _ _ next.0 (rw (slice_is_rest rs c.args.answered) at (c.run-fault.ensures.run _ next.1 clean))
-    ]
+pub returns-in-Ok-run_to-clause-run : goal.returns-in-Ok-run_to-clause-run
+returns-in-Ok-run_to-clause-run g c h at clean =
+    let got = c.in-Ok-run_to.ensures.through h at clean in
+    let none : c.in-Ok.replies.items ≡ [] = c.in-Ok.ensures.items in
+    let rest = drop c.args.answered (answers h c.args.requests.now) in
+    record { all = (listed c.in-Ok.replies c.run_to.new.replies rest got.0).0 ∙ ap (λ (xs : List Reply). xs ++ rest) none; stands = got.1 }
 
-pub returns-clause-holders : goal.returns-clause-holders
-returns-clause-holders g c h legal n deed org has gives = one_organisation (after h c.args.requests.now) (legal_after h c.args.requests.now legal) n deed org has gives
+pub returns-in-Err-Fault-clause-run : goal.returns-in-Err-Fault-clause-run
+returns-in-Err-Fault-clause-run g c h at clean =
+    let stop = rw c.in-Err-Fault.field-0-is at (c.in-Err-Fault.ensures.stopped h at clean) in
+    let spent : is_spent c.run_to.new.self ≡ true = elim c.in-Err-Fault.ensures.ends [ inl cut ↦ absurd (cc (cut, c.in-Err-Fault.field-0-is)) | inr s ↦ s ] in
+    stopped_list c.run_to.new.self h c.args.requests.now c.args.answered stop.0 c.in-Ok.replies c.run_to.new.replies c.in-Ok.ensures.items c.in-Err-Fault.fault spent stop.1
+
+pub returns-in-Err-Cut-clause-run : goal.returns-in-Err-Cut-clause-run
+returns-in-Err-Cut-clause-run g c h at clean =
+    let stop = rw c.in-Err-Cut.field-0-is at (c.in-Err-Cut.ensures.stopped h at clean) in
+    let room : length c.args.requests.now - c.args.answered ≤ vec_capacity c.in-Ok.replies = omega (arith, c.in-Ok.ensures.exact) in
+    absurd (has_room c.run_to.new.self h c.args.requests.now c.args.answered stop.0 c.in-Ok.replies c.run_to.new.replies c.in-Ok.ensures.items room stop.1)
+
+pub returns-in-Ok-run_to-clause-holders : goal.returns-in-Ok-run_to-clause-holders
+returns-in-Ok-run_to-clause-holders g c h legal n deed org has gives = one_organisation (after h c.args.requests.now) (legal_after h c.args.requests.now legal) n deed org has gives
+
+pub returns-in-Err-Fault-clause-holders : goal.returns-in-Err-Fault-clause-holders
+returns-in-Err-Fault-clause-holders g c h legal n deed org has gives = one_organisation (after h c.args.requests.now) (legal_after h c.args.requests.now legal) n deed org has gives
+
+pub returns-in-Err-Cut-clause-holders : goal.returns-in-Err-Cut-clause-holders
+returns-in-Err-Cut-clause-holders g c h legal n deed org has gives = one_organisation (after h c.args.requests.now) (legal_after h c.args.requests.now legal) n deed org has gives
 
 pub returns-then-self-clause-holders : goal.returns-then-self-clause-holders
 returns-then-self-clause-holders g c h legal n deed org has gives = one_organisation (after h c.args.requests.now) (legal_after h c.args.requests.now legal) n deed org has gives
 
-pub returns-in-Err-clause-holders : goal.returns-in-Err-clause-holders
-returns-in-Err-clause-holders g c h legal n deed org has gives = one_organisation (after h c.args.requests.now) (legal_after h c.args.requests.now legal) n deed org has gives
+pub returns-in_default-clause-holders : goal.returns-in_default-clause-holders
+returns-in_default-clause-holders g c h legal n deed org has gives = one_organisation (after h c.args.requests.now) (legal_after h c.args.requests.now legal) n deed org has gives

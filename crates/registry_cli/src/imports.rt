@@ -1,0 +1,38 @@
+//! The command that imports a list.
+
+use crate::files::{open_input, open_registry};
+use registry_commands::{BadWord, Failure, Import, close_store, fail, import_list, reject_word};
+use usbids_text::Outlet;
+use usbnum_core::NoMemory;
+
+/// Imports the list in a file into the registry in a file, where the arguments say what is asked for.
+pub fn run_import(
+    rt: &HostRuntime,
+    store: &str,
+    list: &str,
+    asked: Result<Result<Import, BadWord>, NoMemory>,
+) -> u8 {
+    let mut errors = Outlet::new(rt.stderr());
+    let import = match asked {
+        Ok(Ok(import)) => import,
+        Ok(Err(word)) => return reject_word(&mut errors, word),
+        Err(NoMemory) => return fail(&mut errors, Failure::Memory),
+    };
+    let mut registry = match open_registry(rt, store) {
+        Ok(registry) => registry,
+        Err(failure) => return fail(&mut errors, failure),
+    };
+    let status = match open_input(rt, list) {
+        Ok(mut source) => import_list(
+            rt.alloc(),
+            &mut source,
+            import,
+            &mut registry,
+            &mut Outlet::new(rt.stdout()),
+            &mut errors,
+        ),
+        Err(failure) => fail(&mut errors, failure),
+    };
+    let (status, _files) = close_store(registry.close(), &mut errors, status);
+    status
+}

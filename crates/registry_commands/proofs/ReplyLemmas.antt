@@ -1,0 +1,69 @@
+-- A run whose replies an output takes as lines.
+use Rattle.std.proofs.Common.{◌≡◌, inl, inr, ℕ, ◌+◌, List, [], ◌∷◌, Option, refl, sym, ap, subst, ◌∙◌, arith}
+use Rattle.std.proofs.lemmas.List.{append-nil}
+use Rattle.std.specs.Io.KnownBytes.{Appends}
+use Rattle.sqlite.specs.Store.{Ghosts}
+use Rattle.usbids_text.specs.Ends.{AppendsBeginning}
+use Rattle.usbids_text.proofs.EndLemmas.{Appends-nil, Appends-then}
+use Rattle.registry_rules.specs.declared.order.Request.{Request}
+use Rattle.registry_rules.specs.declared.verdict.Reply.{Reply}
+use Rattle.registry_rules.specs.History.{History}
+use Rattle.registry_store.specs.declared.registry.Registry.{Registry}
+use Rattle.registry_store.specs.declared.replies.RunStop.{RunStop}
+use Rattle.registry_store.specs.declared.replies.RunStop.TheVariants as stop
+use Rattle.registry_store.specs.RunTo.{HaveTaken, IsCutBy, IsHalted}
+use Rattle.registry_commands.specs.declared.replies.ReplyLines.{ReplyLines}
+use Rattle.registry_commands.specs.Messages.{reply_line, reply_lines}
+use Rattle.registry_commands.specs.Apply.{IsStoppedAt, lines_between}
+use Rattle.registry_commands.specs.Replies.{CutsLine, TakesLine}
+use Rattle.registry_commands.proofs.ApplyLemmas.{no_beginning}
+
+module _ {W : Type 0} (contents : W → Option (List ℕ)) (failures : W → ℕ) where
+  -- the lines of all these replies are out
+  pub record AreOut (old new : ReplyLines W) (replies : List Reply) : Type 0 where
+    pub same_output : new.output.ghost_name ≡ old.output.ghost_name
+    pub gained : Appends (contents old.output.now) (contents new.output.now) (reply_lines replies)
+    pub kept : failures new.output.now ≡ failures old.output.now
+
+  pub taken_lines : (old new : ReplyLines W) (replies : List Reply) → HaveTaken (TakesLine contents failures) old new replies → AreOut old new replies
+  taken_lines old new [] same =
+      subst (λ (k : ReplyLines W). AreOut old k []) (sym same) (record { same_output = refl; gained = Appends-nil (contents old.output.now); kept = refl })
+  taken_lines old new (reply ∷ replies) taken =
+      let rest = taken_lines taken.0 new replies taken.2 in
+      record {
+        same_output = rest.same_output ∙ taken.1.same_output;
+        gained = Appends-then (contents old.output.now) (contents taken.0.output.now) (contents new.output.now) (reply_line reply) (reply_lines replies) taken.1.gained rest.gained;
+        kept = rest.kept ∙ taken.1.kept;
+      }
+
+  -- nothing was given to the output after these replies
+  pub no_more : (old middle new : ReplyLines W) (replies : List Reply) → HaveTaken (TakesLine contents failures) old middle replies → new ≡ middle
+      → (new.output.ghost_name ≡ old.output.ghost_name) × (failures new.output.now ≡ failures old.output.now)
+  no_more old middle new replies taken same =
+      let out = taken_lines old middle replies taken in
+      subst (λ (k : ReplyLines W). (k.output.ghost_name ≡ old.output.ghost_name) × (failures k.output.now ≡ failures old.output.now)) (sym same) (out.same_output, out.kept)
+
+  -- of the next line at most a beginning is out
+  next_begun : (why : RunStop) (middle new : ReplyLines W) (next : Reply) → IsCutBy (CutsLine contents failures) why middle new next
+      → AppendsBeginning (contents middle.output.now) (contents new.output.now) (reply_line next)
+  next_begun (stop.Fault fault) middle new next cut =
+      subst (λ (k : ReplyLines W). AppendsBeginning (contents middle.output.now) (contents k.output.now) (reply_line next)) (sym cut.0)
+      (no_beginning (contents middle.output.now) (reply_line next))
+  next_begun stop.Cut middle new next cut = cut.gained
+
+  pub stopped_lines : {S : Type 0} {g : Ghosts S} (it : Registry S g) (h : History) (rs : List Request) (a n : ℕ) (old new : ReplyLines W) (why : RunStop)
+      → IsHalted (TakesLine contents failures) (CutsLine contents failures) it h rs a n old new why → IsStoppedAt it h rs a n (contents old.output.now) (contents new.output.now)
+  stopped_lines it h rs a n old new why halted =
+      let middle = halted.middle in
+      let one : lines_between h rs n (n + 1) ≡ reply_line halted.reply.0 = ap reply_lines halted.reply.1 ∙ append-nil (reply_line halted.reply.0) in
+      record {
+        from = halted.from;
+        within = omega (arith, halted.within);
+        gained = (
+          contents middle.output.now,
+          (taken_lines old middle _ halted.taken).gained,
+          subst (λ (text : List ℕ). AppendsBeginning (contents middle.output.now) (contents new.output.now) text) (sym one) (next_begun why middle new halted.reply.0 halted.reply.2),
+        );
+        leaves = halted.leaves;
+        ends = elim halted.ends [ inl spent ↦ inl spent | inr stands ↦ inr (inr (halted.within, stands)) ];
+      }

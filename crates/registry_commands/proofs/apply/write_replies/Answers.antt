@@ -1,0 +1,75 @@
+use Rattle.std.proofs.Common.{◌≡◌, ◌⊎◌, ℕ, ap, subst, ◌∙◌}
+use Rattle.std.specs.Prelude.{Err}
+use Rattle.sqlite.specs.State.{HasCleanDisk}
+use Rattle.registry_rules.specs.History.{History}
+use Rattle.registry_store.specs.Promise.{state_of}
+use Rattle.registry_store.specs.Run.{HasAnswered}
+use Rattle.registry_store.specs.declared.fault.Fault.TheVariants.{Store, NoMemory}
+use Rattle.registry_store.specs.declared.replies.RunStop.TheVariants as stop
+use Rattle.registry_commands.specs.declared.messages.Failure.{Failure}
+use Rattle.registry_commands.specs.Apply.{IsOfRun}
+use Rattle.registry_commands.specs.Failures.{IsOfOutput}
+use Rattle.registry_commands.proofs.FailureLemmas.{of_fault, of_reply}
+use Rattle.registry_commands.proofs.ReplyLemmas.{no_more, stopped_lines, taken_lines}
+use Rattle.registry_commands.proofs.apply.write_replies.Goals as goal
+
+pub returns-in-Ok-clause-same_reference : goal.returns-in-Ok-clause-same_reference
+returns-in-Ok-clause-same_reference g c =
+    let given = c.in-Ok.ensures.given in
+    (taken_lines g.W.Sink.contents g.W.Sink.failures c.args.lines.now c.run_to.new.replies given.0 given.1).same_output
+
+pub returns-in-Ok-clause-through : goal.returns-in-Ok-clause-through
+returns-in-Ok-clause-through g c h at clean =
+    let done = c.in-Ok.ensures.through h at clean in
+    record { gained = (taken_lines g.W.Sink.contents g.W.Sink.failures c.args.lines.now c.run_to.new.replies _ done.0).gained; stands = done.1 }
+
+pub returns-in-Err-Fault-clause-same_reference : goal.returns-in-Err-Fault-clause-same_reference
+returns-in-Err-Fault-clause-same_reference g c =
+    let given = rw c.in-Err-Fault.field-0-is at c.in-Err-Fault.ensures.cut in
+    (no_more g.W.Sink.contents g.W.Sink.failures c.args.lines.now given.middle c.run_to.new.replies given.replies given.taken given.last).0
+
+pub returns-in-Err-Fault-clause-stopped : goal.returns-in-Err-Fault-clause-stopped
+returns-in-Err-Fault-clause-stopped g c h at clean =
+    let halted = c.in-Err-Fault.ensures.stopped h at clean in
+    (halted.0, stopped_lines g.W.Sink.contents g.W.Sink.failures c.run_to.new.self h c.args.requests.now c.args.answered halted.0 c.args.lines.now c.run_to.new.replies _ halted.1)
+
+pub returns-in-Err-Fault-clause-failure : goal.returns-in-Err-Fault-clause-failure
+returns-in-Err-Fault-clause-failure g c =
+    let given = rw c.in-Err-Fault.field-0-is at c.in-Err-Fault.ensures.cut in
+    let old = c.args.lines.now in
+    let new = c.run_to.new.replies in
+    let kept = (no_more g.W.Sink.contents g.W.Sink.failures old given.middle new given.replies given.taken given.last).1 in
+    let fault = c.in-Err-Fault.fault in
+    let kind : (h : History) → HasAnswered c.args.registry.now h c.args.requests.now c.args.answered → HasCleanDisk (state_of c.run_to.new.self) → (fault ≡ Store) ⊎ (fault ≡ NoMemory) =
+    λ h at clean. let halted = rw c.in-Err-Fault.field-0-is at (c.in-Err-Fault.ensures.stopped h at clean) in halted.1.reply.2.1 in
+    rw c.failure_of.ensures (of_fault c.args.registry.now c.run_to.new.self (λ h. HasAnswered c.args.registry.now h c.args.requests.now c.args.answered)
+    (g.W.Sink.failures old.output.now) (g.W.Sink.failures new.output.now) kept fault
+    (λ spent. c.in-Err-Fault.ensures.only_spent (ap Err (c.in-Err-Fault.field-0-is ∙ ap stop.Fault spent))) kind)
+
+pub unreachable-requires : goal.unreachable-requires
+unreachable-requires g c =
+    let given = rw c.in-Err-Cut.field-0-is at c.in-Err-Cut.ensures.cut in
+    absurd (cc (given.last.1.noted, c.in-None.is))
+
+pub returns-in-Some-clause-same_reference : goal.returns-in-Some-clause-same_reference
+returns-in-Some-clause-same_reference g c =
+    let given = rw c.in-Err-Cut.field-0-is at c.in-Err-Cut.ensures.cut in
+    given.last.1.same_output ∙ (taken_lines g.W.Sink.contents g.W.Sink.failures c.args.lines.now given.middle given.replies given.taken).same_output
+
+pub returns-in-Some-clause-stopped : goal.returns-in-Some-clause-stopped
+returns-in-Some-clause-stopped g c h at clean =
+    let halted = c.in-Err-Cut.ensures.stopped h at clean in
+    (halted.0, stopped_lines g.W.Sink.contents g.W.Sink.failures c.run_to.new.self h c.args.requests.now c.args.answered halted.0 c.args.lines.now c.run_to.new.replies _ halted.1)
+
+pub returns-in-Some-clause-failure : goal.returns-in-Some-clause-failure
+returns-in-Some-clause-failure g c =
+    let given = rw c.in-Err-Cut.field-0-is at c.in-Err-Cut.ensures.cut in
+    let cut = given.last.1 in
+    let old = g.W.Sink.failures c.args.lines.now.output.now in
+    let new = g.W.Sink.failures c.run_to.new.replies.output.now in
+    let kept : g.W.Sink.failures given.middle.output.now ≡ old = (taken_lines g.W.Sink.contents g.W.Sink.failures c.args.lines.now given.middle given.replies given.taken).kept in
+    let same : cut.failure ≡ c.in-Some.failure = cc (cut.noted, c.in-Some.is) in (
+      subst (λ (f : Failure). IsOfRun c.args.registry.now c.run_to.new.self (λ h. HasAnswered c.args.registry.now h c.args.requests.now c.args.answered) f) same
+          (of_reply c.args.registry.now c.run_to.new.self (λ h. HasAnswered c.args.registry.now h c.args.requests.now c.args.answered) cut.failure cut.kind),
+      subst (λ (f : Failure). IsOfOutput old new f) same (subst (λ (n : ℕ). IsOfOutput n new cut.failure) kept cut.cause),
+    )

@@ -1,0 +1,41 @@
+use Rattle.std.proofs.Common.{inl, inr, ap}
+use Rattle.std.specs.Prelude.{Err}
+use Rattle.registry_store.proofs.ToLemmas.{once, once_left}
+use Rattle.registry_store.specs.RunTo.{MayBeActedOn}
+use Rattle.registry_commands.specs.Failures.{IsOfOutput}
+use Rattle.registry_commands.proofs.ImportLemmas.{kind_of, not_of_output, nothing_of, of_act, replied}
+use Rattle.registry_commands.proofs.importing.act_on.Goals as goal
+
+pub returns-in-Ok : goal.returns-in-Ok
+returns-in-Ok g c = record {
+  ends = replied (IsOfOutput (g.W.Sink.failures c.args.output.now) (g.W.Sink.failures c.put_status.new.output)) c.args.registry.now c.act.new.self c.args.request.now _ _ _
+      c.put_status.result c.in-Ok.reply
+      (λ h may clean. once c.args.registry.now c.act.new.self h c.args.request.now c.in-Ok.reply c.in-Ok.ensures.answered may clean) c.put_status.ensures;
+  endures = c.act.ensures.endures;
+}
+
+pub returns-in-Err : goal.returns-in-Err
+returns-in-Err g c =
+    let it = c.args.registry.now in
+    let new = c.act.new.self in
+    let r = c.args.request.now in
+    let fault = c.in-Err.fault in
+    record {
+      ends = inr (record {
+        status_is = c.fail.ensures.status;
+        cut = λ h may clean. record {
+          gained = nothing_of (g.W.Sink.contents c.args.output.now) _;
+          leaves = once_left it new h r c.act.ensures.crash may clean;
+          ends = inl c.in-Err.ensures.ends;
+        };
+        told = (
+          c.failure_of.result,
+          rw c.failure_of.ensures (
+            of_act it new (λ h. MayBeActedOn it h r) fault (λ e. c.in-Err.ensures.only_spent (ap Err e)) (λ h may clean. kind_of it new h r fault c.in-Err.ensures.kind may clean),
+            not_of_output (g.W.Sink.failures c.args.output.now) fault,
+          ),
+          c.fail.ensures.told,
+        );
+      });
+      endures = c.act.ensures.endures;
+    }

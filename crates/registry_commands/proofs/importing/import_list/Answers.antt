@@ -1,0 +1,14 @@
+use Rattle.std.proofs.Common.{inl, inr, refl}
+use Rattle.registry_commands.specs.declared.messages.Failure.TheVariants.{File}
+use Rattle.registry_commands.proofs.ApplyLemmas.{Keeps-same}
+use Rattle.registry_commands.proofs.importing.import_list.Goals as goal
+
+pub returns-in-Ok : goal.returns-in-Ok
+returns-in-Ok g c =
+    let read = c.in-Ok.ensures.ok in
+    (read.0, read.1, inl (c.in-Ok.read, read.2, read.3, c.import_read.ensures))
+
+pub returns-in-Err : goal.returns-in-Err
+returns-in-Err g c =
+    let read = c.in-Err.ensures.err in
+    (read.0, read.1, inr (refl, (c.fail.ensures.status, Keeps-same _, (File, read.2, c.fail.ensures.told))))

@@ -1,0 +1,43 @@
+use Rattle.std.proofs.Common.{◌≡◌, true, subst, sym, ◌∙◌, rules}
+use Rattle.std.proofs.lemmas.Bool.{and_parts}
+use Rattle.std.proofs.lemmas.Option.{IfSome_then}
+use Rattle.sqlite.specs.State.{HasCleanDisk}
+use Rattle.sqlite.specs.Files.{file_state}
+use Rattle.registry_tables.specs.Rows.{newest}
+use Rattle.registry_store.specs.Promise.{Leaves}
+use Rattle.registry_store.specs.Reopen.{IsEither}
+use Rattle.registry_store.proofs.Crash.{closed_clean, in_some}
+use Rattle.registry_commands.specs.Failures.{IsOfInput, IsOfOutput, told_to}
+use Rattle.registry_commands.specs.Lines.{requests_in}
+use Rattle.registry_commands.proofs.ReopenLemmas.{if_reopened}
+use Rattle.registry_commands.proofs.reopening.apply_and_open.Goals as goal
+
+pub returns : goal.returns
+returns g c =
+    let run = c.apply_lines-status in
+    let bytes = run.ensures.0 in
+    let OfInput = IsOfInput (g.R.Source.failures c.args.source.now) (g.R.Source.failures run.new.source) bytes in
+    let OfOutput = IsOfOutput (g.W.Sink.failures c.args.output.now) (g.W.Sink.failures run.new.output) in
+    let told = told_to g.E.Sink.contents g.E.Sink.failures c.args.errors.now run.new.errors in
+    let close = c.close_store-closed in (
+      bytes,
+      run.ensures.1,
+      if_reopened OfInput OfOutput c.args.first run.new.registry (requests_in bytes) c.args.answered (g.W.Sink.contents c.args.output.now) (g.W.Sink.contents run.new.output) told run.result run.ensures.2
+          c.open_files.result
+          (λ h next legal legal_next leaves.
+          let before = subst (λ x. HasCleanDisk (file_state x) → Leaves newest (file_state x) (IsEither h next)) (sym c.close.ensures) leaves in
+          c.open_files.ensures.stands h next legal legal_next (λ honest. (close.ensures.holds c.if-closed-status.false h next (in_some (file_state c.close.result) (IsEither h next) before) honest).now))
+          (IfSome_then c.open_files.result c.open_files.ensures.honest
+          (λ x honest clean. subst (λ y. HasCleanDisk (file_state y)) c.close.ensures (closed_clean c.close.result close.result.1 close.ensures.closed (honest clean)))),
+    )
+
+pub returns-then-closed-status : goal.returns-then-closed-status
+returns-then-closed-status g c = (c.apply_lines-status.ensures.0, c.apply_lines-status.ensures.1, tt)
+
+pub returns-then-not-may_be_used : goal.returns-then-not-may_be_used
+returns-then-not-may_be_used g c = (c.apply_lines-status.ensures.0, c.apply_lines-status.ensures.1, tt)
+
+pub open_files-requires : goal.open_files-requires
+open_files-requires g c =
+    let used : c.may_be_used.result ≡ true = search rules in
+    and_parts (g.D.Disk.is_usable c.close_store-closed.result.1.log) (g.D.Disk.is_usable c.close_store-closed.result.1.db) (sym c.may_be_used.ensures ∙ used)

@@ -1,0 +1,60 @@
+//! From one run of the program to the next.
+
+ghost use Rattle.std.specs.Prelude.{ℕ, List, IfSome};
+ghost use Rattle.usbids_text.specs.Ends.{MayGive};
+ghost use Rattle.registry_commands.specs.Lines.{requests_in};
+ghost use Rattle.registry_commands.specs.Reopened.{IsReopened};
+
+use crate::apply::apply_lines;
+use crate::closing::close_store;
+use registry_store::{Registry, crash_and_open, open_files};
+use sqlite::{FileStore, Options};
+use sqlite_disk::{Crash, Disk};
+use std::alloc::Global;
+use usbids_text::{Sink, Source};
+
+/// Acts on request lines as `apply_lines` does, lets go of the store as `close_store` does, and opens its files again.
+///
+/// Whatever the status, what is opened has acted on a beginning of the requests, which holds every one whose reply line
+/// is out, and at most one more. None is opened where closing or opening fails.
+pub fn apply_and_open<R: Source, D: Disk + Drop, W: Sink, E: Sink>(
+    alloc: Global,
+    source: &mut R,
+    answered: u64,
+    first: Registry<FileStore<D>>,
+    output: &mut W,
+    errors: &mut E,
+    options: Options,
+) -> (u8, Option<Registry<FileStore<D>>>)
+    ensures { (bytes : List ℕ) × MayGive (R.remaining source.old) bytes
+        × IfSome result.1 (IsReopened first (requests_in bytes) answered (W.contents output.old) (W.contents output.new) result.0) }
+{
+    let mut registry = first;
+    let status = apply_lines(alloc, source, answered, &mut registry, output, errors);
+    let (closed, files) = close_store(registry.close(), errors, status);
+    if closed != status {
+        return (closed, None);
+    }
+    if !files.may_be_used() {
+        return (status, None);
+    }
+    (status, open_files(alloc, files, options))
+}
+
+/// The same with a crash of both disks in place of the close.
+pub fn apply_and_crash<R: Source, D: Crash + Drop, W: Sink, E: Sink>(
+    alloc: Global,
+    source: &mut R,
+    answered: u64,
+    first: Registry<FileStore<D>>,
+    output: &mut W,
+    errors: &mut E,
+    options: Options,
+) -> (u8, Option<Registry<FileStore<D>>>)
+    ensures { (bytes : List ℕ) × MayGive (R.remaining source.old) bytes
+        × IfSome result.1 (IsReopened first (requests_in bytes) answered (W.contents output.old) (W.contents output.new) result.0) }
+{
+    let mut registry = first;
+    let status = apply_lines(alloc, source, answered, &mut registry, output, errors);
+    (status, crash_and_open(alloc, registry, options))
+}

@@ -1,0 +1,33 @@
+//! The replies of a run as lines of an output.
+
+ghost use Rattle.registry_commands.specs.Replies.{CutsLine, TakesLine};
+
+use crate::messages::{Failure, put_reply};
+use registry_rules::Reply;
+use registry_store::{Cut, Replies};
+use std::alloc::Global;
+use usbids_text::Sink;
+
+/// An output that takes the replies of a run as lines, and why it took no more.
+#[derive(Drop)]
+pub(crate) struct ReplyLines<'a, W> {
+    pub(crate) alloc: Global,
+    pub(crate) output: &'a mut W,
+    pub(crate) failure: Option<Failure>,
+}
+
+impl<W: Sink> Replies for ReplyLines<'_, W> {
+    ghost takes = { TakesLine W.contents W.failures };
+
+    ghost cuts = { CutsLine W.contents W.failures };
+
+    fn put(&mut self, reply: Reply) -> Result<(), Cut> {
+        match put_reply(self.alloc, self.output, &reply) {
+            Ok(()) => Ok(()),
+            Err(failure) => {
+                self.failure = Some(failure);
+                Err(Cut)
+            }
+        }
+    }
+}

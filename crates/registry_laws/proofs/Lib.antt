@@ -1,0 +1,4 @@
+pub mod SoundLemmas
+pub mod FreshLemmas
+pub mod TakingLemmas
+pub mod AgainLemmas

@@ -1,0 +1,5 @@
+use Rattle.registry_laws.proofs.AgainLemmas.{completes}
+use Rattle.registry_laws.proofs.completes_list.Goals as goal
+
+pub returns : goal.returns
+returns c = completes

@@ -1,0 +1,5 @@
+use Rattle.registry_reports.proofs.OneLemmas.{one}
+use Rattle.registry_reports.proofs.laws.has_one_list.Goals as goal
+
+pub returns : goal.returns
+returns c = one

@@ -1,0 +1,41 @@
+//! Of which schema a store says that it is.
+
+ghost use Rattle.std.specs.Prelude.{◌≡◌, ◌≢◌, [], ◌∷◌, IsTrue, MatchResult, Err};
+ghost use Rattle.sqlite.specs.State.{HasCleanDisk, Survives};
+ghost use Rattle.sqlite.specs.Held.{state};
+ghost use Rattle.registry_old_rows.specs.Steps.{TellsOf};
+ghost use Rattle.registry_tables.specs.Raising.{IsMarked};
+
+use registry_old_rows::list_old_metas;
+use registry_rows::Meta;
+use registry_schema::TableFault;
+use sqlite::{Alter, Transaction};
+use std::alloc::Global;
+
+fn of_version(meta: Meta, version: u32) -> Result<Meta, TableFault>
+    ensures { MatchResult result (λ same. (same ≡ meta) × (meta.version ≡ version)) (λ fault. (fault ≡ TableFault.Foreign) × (meta.version ≢ version)) }
+{
+    if meta.version == version {
+        Ok(meta)
+    } else {
+        Err(TableFault::Foreign)
+    }
+}
+
+/// What the store is, where it says that it is of this schema.
+pub(crate) fn old_meta<S: Alter>(
+    alloc: Global,
+    tx: &mut Transaction<'_, S>,
+    version: u32,
+) -> Result<Meta, TableFault>
+    ensures same_reference { tx.new.conn.ghost_name ≡ tx.old.conn.ghost_name }
+    ensures told { HasCleanDisk (state S.Store tx.new.conn.now) → IsTrue (state S.Store tx.old.conn.now).in_transaction
+        → TellsOf (state S.Store tx.old.conn.now) (state S.Store tx.new.conn.now) (IsMarked version (state S.Store tx.old.conn.now).now) result (λ x meta. x.tables.metas ≡ meta ∷ []) }
+    ensures survives { Survives (state S.Store tx.old.conn.now) (state S.Store tx.new.conn.now) (λ _. ⊥) }
+{
+    let mut metas = list_old_metas(alloc, tx)?;
+    match metas.pop() {
+        Some(meta) => of_version(meta, version),
+        None => Err(TableFault::Foreign),
+    }
+}

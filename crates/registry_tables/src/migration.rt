@@ -1,0 +1,84 @@
+//! From an older schema to the newest, one version at a time.
+
+ghost use Rattle.std.specs.Prelude.{◌≡◌, ◌≢◌, ℕ, Ok, false, IsTrue, OnOk, Err};
+ghost use Rattle.sqlite.specs.State.{HasCleanDisk, Survives};
+ghost use Rattle.sqlite.specs.Held.{state};
+ghost use Rattle.table_laws.specs.Inside.{GoesOn};
+ghost use Rattle.table_laws.specs.Making.{HasTables};
+ghost use Rattle.registry_schema.specs.Texts.{texts_3};
+ghost use Rattle.registry_rules.specs.History.{History};
+ghost use Rattle.registry_tables.specs.Rows.{newest, Rows};
+ghost use Rattle.registry_tables.specs.Raising.{IsMadeBy, CommitsStep, CommitsTwo, EndsTwo, CommitsLater, IsAtRest, StaysOpen};
+
+use crate::second::first_to_second;
+use crate::third::second_to_third;
+use registry_schema::{TableFault, fault_of, version_of};
+use sqlite::{Alter, Connection, Transaction};
+use std::alloc::Global;
+
+// Two steps, each in its transaction.
+fn first_to_third<S: Alter>(alloc: Global, conn: &mut Connection<S>) -> Result<(), TableFault>
+    requires { conn.old.in_transaction ≡ false }
+    ensures idle { conn.new.in_transaction ≡ false }
+    ensures made { HasCleanDisk (state S.Store conn.new) → OnOk result (IsMadeBy (EndsTwo (state S.Store conn.old)) (state S.Store conn.new)) }
+    ensures foreign { HasCleanDisk (state S.Store conn.new) → result ≡ Err TableFault.Foreign → IsTrue (state S.Store conn.old).is_open × ((h : History) → ¬ Rows 1 (state S.Store conn.old).now.trees h) }
+    ensures survives { Survives (state S.Store conn.old) (state S.Store conn.new) (CommitsTwo (state S.Store conn.old)) }
+{
+    first_to_second(alloc, conn)?;
+    second_to_third(alloc, conn)
+}
+
+// Whether the store answers, by a statement that reads no table.
+fn try_store<S: Alter>(tx: &mut Transaction<'_, S>) -> Result<(), TableFault>
+    ensures same_reference { tx.new.conn.ghost_name ≡ tx.old.conn.ghost_name }
+    ensures answered { HasCleanDisk (state S.Store tx.new.conn.now) → IsTrue (state S.Store tx.old.conn.now).in_transaction → OnOk result (GoesOn (state S.Store tx.old.conn.now) (state S.Store tx.new.conn.now)) }
+    ensures fault { result ≢ Err TableFault.Foreign }
+    ensures survives { Survives (state S.Store tx.old.conn.now) (state S.Store tx.new.conn.now) (λ _. ⊥) }
+{
+    let ran = tx.query_all("SELECT 1", &[]);
+    match ran {
+        Ok(_) => Ok(()),
+        Err(error) => Err(fault_of(error)),
+    }
+}
+
+// The fault of tables of no schema: Foreign, where the store still answers. Nothing is written.
+fn unknown<S: Alter>(conn: &mut Connection<S>) -> TableFault
+    requires { conn.old.in_transaction ≡ false }
+    ensures idle { conn.new.in_transaction ≡ false }
+    ensures open { HasCleanDisk (state S.Store conn.new) → result ≡ TableFault.Foreign → IsTrue (state S.Store conn.old).is_open }
+    ensures survives { Survives (state S.Store conn.old) (state S.Store conn.new) (λ _. ⊥) }
+{
+    let mut tx = conn.transaction();
+    let ran = try_store(&mut tx);
+    tx.rollback();
+    match ran {
+        Ok(()) => TableFault::Foreign,
+        Err(fault) => fault,
+    }
+}
+
+/// Brings the tables of an older schema to the newest, one version at a time, each in a transaction of its own.
+///
+/// `TableFault::Foreign` comes only where the tables are those of no history in any schema. After a fault a crash leaves
+/// the rows of the same history, in the schema that they had or in a later one. Tables of the newest schema are left alone.
+pub fn migrate<S: Alter>(alloc: Global, conn: &mut Connection<S>) -> Result<(), TableFault>
+    requires { conn.old.in_transaction ≡ false }
+    ensures idle { conn.new.in_transaction ≡ false }
+    ensures raised { HasCleanDisk (state S.Store conn.new) → OnOk result (StaysOpen (state S.Store conn.old) (state S.Store conn.new)
+        × ((h : History) (version : ℕ) → IsAtRest version (state S.Store conn.old) h → IsAtRest newest (state S.Store conn.new) h)) }
+    ensures newest { IsTrue (state S.Store conn.old).is_open → HasTables texts_3 (state S.Store conn.old).now.trees → (result ≡ Ok _) × (conn.new ≡ conn.old) }
+    ensures foreign { HasCleanDisk (state S.Store conn.new) → result ≡ Err TableFault.Foreign → IsTrue (state S.Store conn.old).is_open × ((h : History) (version : ℕ) → ¬ Rows version (state S.Store conn.old).now.trees h) }
+    ensures survives { Survives (state S.Store conn.old) (state S.Store conn.new) (CommitsLater (state S.Store conn.old)) }
+{
+    let version = version_of(conn);
+    if version == Some(1) {
+        first_to_third(alloc, conn)
+    } else if version == Some(2) {
+        second_to_third(alloc, conn)
+    } else if version == Some(3) {
+        Ok(())
+    } else {
+        Err(unknown(conn))
+    }
+}

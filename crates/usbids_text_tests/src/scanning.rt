@@ -1,0 +1,58 @@
+//! Devices that are looked for in lists that come in pieces.
+
+use std::test::Fail;
+use usbids_text::{Inlet, LineFault, ReadFault, Scan, Why, scan_all};
+use usbnum_core::Vid;
+
+/// A vendor that is there twice, devices that are there twice, and a class with the vendor's number.
+const LIST: &[u8] =
+    b"1209  One\n\t0011  First\n\t0011  Second\nC 12  Class\n\t0011  Sub\n1210  Two\n\t0012  Other\n1209  Again\n\t0012  Late";
+
+/// Devices, with the first match or none.
+const ROWS: &[(u16, u16, Option<&str>)] = &[
+    (0x1209, 0x11, Some("First")),
+    (0x1209, 0x12, Some("Late")),
+    (0x1210, 0x12, Some("Other")),
+    (0x1210, 0x11, None),
+    (0x12, 0x11, None),
+];
+
+#[test]
+fn finds_the_first_match_however_the_list_is_cut(rt: HostRuntime) -> Result<(), Fail> {
+    for (vendor, code, name) in ROWS {
+        let vendor = Vid::new(*vendor).ok_or("a vendor")?;
+        for size in [1usize, 7, 4096] {
+            let mut scan = Scan::new(rt.alloc(), vendor, *code);
+            let mut room = vec![in rt.alloc(); 0u8; size]?;
+            scan_all(&mut Inlet::new(LIST), &mut scan, &mut room).map_err(|_| "a source")?;
+            let found = scan.finish()?;
+            assert_eq!(rt;
+                found.as_ref().map(|found| found.as_bytes()),
+                name.map(|name| name.as_bytes())
+            );
+        }
+    }
+    Ok(())
+}
+
+/// Lists with a fault, before a match and behind it, and where it is.
+const FAULTY: &[(&[u8], u64, Why)] = &[
+    (b"1209  One\n\t0011  First\n\t11  x\n", 3, Why::BadCode),
+    (b"1209  One\n\t\t01  x\n\t0011  First", 2, Why::NoParent),
+];
+
+#[test]
+fn tells_a_fault_before_any_match(rt: HostRuntime) -> Result<(), Fail> {
+    for (list, line, why) in FAULTY {
+        let vendor = Vid::new(0x1209).ok_or("a vendor")?;
+        let mut scan = Scan::new(rt.alloc(), vendor, 0x11);
+        let mut room = [0u8; 5];
+        scan_all(&mut Inlet::new(*list), &mut scan, &mut room).map_err(|_| "a source")?;
+        let fault = ReadFault::Line(LineFault {
+            line: *line,
+            why: *why,
+        });
+        assert_eq!(rt; scan.finish().err(), Some(fault));
+    }
+    Ok(())
+}

@@ -1,0 +1,327 @@
+#!/usr/bin/env python3
+"""Opens stores of the older schemas with `usbreg`, and compares them with the same history founded today.
+
+SQLite makes the stores: by examples/schema1.sql and examples/schema2.sql, whose texts are those of docs/schema.md and
+whose rows are those of a plain history after examples/one_vendor.requests; then by the rows of the cases in `cases/` and
+of requests made up by chance, as far as they name no vendor. Whichever command opens such a store first, it prints what
+it prints of the registry that was founded today by the same requests, and the rows of all tables are the same. Each
+accepted request has its first reply again, and later requests do the same to both.
+
+A store with many rows is killed at random moments while it is opened. What is left is sound and holds the history in
+the older schema, in the one between, or in the newest; opened again it is as without a stop.
+
+A store whose version is not that of its tables, or with other tables, is foreign: its file keeps its bytes, as a store
+of the newest schema does that is opened.
+
+Usage: scripts/open_older_stores.py [STOPS [PROGRAM]], by default 6 stops from each schema of the program that `make`
+builds. The status is 0 where all of this held."""
+
+import collections
+import copy as copies
+import random
+import re
+import subprocess
+import sys
+import time
+
+from compare_with_plain_history import Chance, Registry, Room, all_cases, request, requests_in
+from look_into_a_store import TEXTS, asked, documented_texts, same
+from plain_history import History
+from usbreg import (
+    EXAMPLES, FOUNDING, apply, content, copy, declined, done, folder, found, older, older_text, opened, program, remove, rounds, run, write,
+    write_requests,
+)
+
+REPORTS = ("census", "holders", "petitions")
+LINK = "https://acme.example/"
+# The tables of the newest schema that replace older ones, and how many tables the older schemas have.
+NEW = {"vendors", "spans3", "entries3", "petitions3"}
+COUNTS = {1: 9, 2: 10}
+
+
+def in_schema(version, tables):
+    """The rows of the same history in an older schema, from those in the newest."""
+    ((_, _, vendor, name),) = tables["meta"]
+    spans = [row[1:] for row in tables["spans3"]]
+    rows = {it: tables[it] for it in tables if it not in NEW and it != "spans"}
+    rows["meta"] = [(1, version, vendor, name)]
+    rows["entries"] = [row[1:] for row in tables["entries3"]]
+    rows["petitions"] = [(number, *rest) for number, _, *rest in tables["petitions3"]]
+    if version == 1:
+        return rows | {"reserved": [(pid,) for lo, hi in spans for pid in range(lo, hi + 1)]}
+    return rows | {"reserved": [], "spans": spans}
+
+
+def make(store, version, tables):
+    """Makes a store of an older schema with SQLite, of the rows in the newest one, and gives the file's path."""
+    remove(store)
+    with opened(store) as connection:
+        connection.execute("PRAGMA journal_mode = WAL")
+        for text in re.findall(r"^CREATE .*;$", older_text(version), re.MULTILINE):
+            connection.execute(text)
+        for name, rows in in_schema(version, tables).items():
+            for row in rows:
+                connection.execute(f"INSERT INTO {name} VALUES ({', '.join('?' * len(row))})", row)
+        connection.commit()
+    return store
+
+
+def in_order(tables):
+    return {name: sorted(rows, key=repr) for name, rows in tables.items()}
+
+
+def rows_of(store):
+    """The rows of each table. The script ends where SQLite finds the store unsound."""
+    with opened(store) as connection:
+        if connection.execute("PRAGMA integrity_check").fetchone() != ("ok",):
+            sys.exit(f"{store} is not sound")
+        names = [it for (it,) in connection.execute("SELECT name FROM sqlite_schema WHERE type = 'table'")]
+        return in_order({it: list(connection.execute(f"SELECT * FROM {it}")) for it in names})
+
+
+def same_rows(what, there, wanted):
+    """Ends the script where the tables, or their rows, are not the wanted ones."""
+    for name in sorted({*there, *wanted}):
+        if there.get(name) != wanted.get(name):
+            sys.exit(f"{what}: the table {name} is {str(there.get(name))[:2000]}, where {str(wanted.get(name))[:2000]} is expected")
+
+
+def views(usbreg, store):
+    """The commands that show a store."""
+    return [[usbreg, "export", store], *([usbreg, "report", store, it] for it in REPORTS)]
+
+
+def keeps_bytes(what, store, ran, wanted):
+    """A run ends as wanted, and leaves the file of the store as it was."""
+    before = content(store)
+    ended = run(ran)
+    if ended != wanted:
+        sys.exit(f"{what}: {ended} and not {wanted}")
+    if content(store) != before:
+        sys.exit(f"{what}: the file has other bytes")
+
+
+class Stores:
+    """Registries founded today, and stores of the older schemas with the same history."""
+
+    def __init__(self, usbreg, made):
+        self.program, self.folder, self.room, self.opened = usbreg, made, Room(usbreg, made), 0
+
+    def today(self, what, requests, **founding):
+        """A registry that is founded today, and its accepted requests with their replies."""
+        registry = self.room.registry(**founding)
+        replies = registry.send(what, requests)
+        return registry, [it for it in zip(requests, replies) if it[1].startswith('{"done"')]
+
+    def open_with(self, what, older, words, wanted, today):
+        """A copy of an older store is opened by a command, twice: it prints what is wanted, and the rows are today's."""
+        store = copy(older, f"{self.folder}/opened.db")
+        words = [store if it == today.store else it for it in words]
+        if done(words) != wanted:
+            sys.exit(f"{what}: {words} prints another text than with the registry founded today")
+        same_rows(what, rows_of(copy(store, f"{self.folder}/looked.db")), rows_of(today.store))
+        keeps_bytes(f"{what}, opened again", store, words, (0, wanted, b""))
+        self.opened += 1
+        return store
+
+    def opens_as(self, what, version, older, today, accepted, more=()):
+        """Each accepted request has its first reply again; then more requests do what they do to a registry of today."""
+        registry = Registry(self.program, older, copies.deepcopy(today.history))
+        registry.send(what, [it for it, _ in accepted], [it for _, it in accepted])
+        same_rows(f"{what} in schema {version}", rows_of(older), rows_of(today.store))
+        registry.send(f"{what} in schema {version}, and more", more)
+        if more:
+            today = Registry(self.program, copy(today.store, f"{self.folder}/more.db"), copies.deepcopy(today.history))
+            today.send(f"{what}, and more", more)
+        same_rows(f"{what} in schema {version}, and more", rows_of(older), rows_of(today.store))
+        shown = [[done(words) for words in views(self.program, it)] for it in (older, today.store)]
+        if shown[0] != shown[1]:
+            sys.exit(f"{what} in schema {version} shows another list or other reports than founded today")
+        self.opened += 1
+
+
+def later_requests():
+    """Requests that the older schemas did not know, and some on what their stores hold."""
+    asked = {"title": "Lamp 3", "site": LINK, "source": LINK}
+    return [
+        request("cora", "l1", "add-vendor", vendor="cafe", name="Second vendor"),
+        request("cora", "l2", "add-licence", licence="CERN-OHL-S-2.0"),
+        request("cora", "l3", "reserve", first="0001", last="00ff", vendor="cafe"),
+        request("ann", "l4", "ask", org="acme", licence="CERN-OHL-S-2.0", vendor="cafe", **asked),
+        request("cora", "l5", "grant", petition=7),
+        request("cora", "l6", "reserve", first="2100", last="21ff"),
+        request("cora", "l7", "release", first="2000", last="2000"),
+        request("cora", "l8", "reserve", first="2010", last="2011"),
+        request("cora", "l9", "grant", petition=5),
+        request("cora", "l10", "grant", petition=6),
+        request("ann", "l11", "ask", org="acme", number="0011", licence="MIT", **asked),
+        request("bob", "l12", "ask", org="bolt", number="0011", licence="MIT", **asked),
+        request("cora", "l13", "grant", petition=8),
+        request("ann", "l14", "return", number="2010", vendor="1209"),
+        request("bob", "l15", "amend", number="0300", licence="MIT", **asked),
+    ]
+
+
+def examples(stores):
+    """The stores of the two texts are those of the requests, and open as the same history by whichever command."""
+    requests = requests_in(f"{EXAMPLES}/one_vendor.requests")
+    today, accepted = stores.today("the examples", requests)
+    if len(accepted) != len(requests):
+        sys.exit("a request of one_vendor.requests is refused")
+    # `apply` takes no import: that command has one of its own.
+    lines = [it for it in accepted if it[0]["order"] != "import"]
+    repeats = write_requests(f"{stores.folder}/repeats.jsonl", [it for it, _ in lines])
+    commands = [([stores.program, "apply", today.store, repeats], "".join(f"{it}\n" for _, it in lines).encode())]
+    commands += [(it, done(it)) for it in views(stores.program, today.store)]
+    for version, count in COUNTS.items():
+        what = f"examples/schema{version}.sql"
+        store = older(f"{stores.folder}/older{version}.db", version)
+        with opened(store) as connection:
+            same(f"the texts of {what}", asked(connection, TEXTS), documented_texts()[:count])
+        same_rows(what, rows_of(store), in_order(in_schema(version, today.history.tables())))
+        for words, wanted in commands:
+            stores.open_with(what, store, words, wanted, today)
+        with_journal = copy(store, f"{stores.folder}/journal.db")
+        with opened(with_journal) as connection:
+            connection.execute("PRAGMA journal_mode = DELETE")
+        stores.open_with(f"{what} with a journal", with_journal, *commands[0], today)
+        stores.opens_as(what, version, store, today, accepted, later_requests())
+
+
+class OneVendor(Chance):
+    """Requests by chance that the older schemas know."""
+
+    def vendor(self):
+        return {}
+
+    def request(self):
+        while (made := super().request())["order"] in ("add-vendor", "add-licence"):
+            pass
+        return made
+
+
+def histories(stores):
+    """The cases that the older schemas know, and requests made up by chance."""
+    known = [it for it in all_cases() if not any("vendor" in asked or asked["order"] == "add-licence" for asked in it[1])]
+    all_histories = [(name, requests, {}) for name, requests in known]
+    for seed in (1, 2, 3):
+        chance = OneVendor(seed)
+        made_up = [chance.request() for _ in range(300)]
+        all_histories.append((f"requests made up by {seed}", made_up, {"curator": "ann", "fixed": "0007"}))
+    chance = Chance(4)
+    more = [chance.request() for _ in range(100)]
+    for what, requests, founding in all_histories:
+        today, accepted = stores.today(what, requests, **founding)
+        for version in COUNTS:
+            store = make(f"{stores.folder}/older.db", version, rows_of(today.store))
+            stores.opens_as(what, version, store, today, accepted, more)
+    return len(all_histories)
+
+
+def killed(words, seconds):
+    """Runs a command, which is killed after so many seconds: whether it was."""
+    with subprocess.Popen(words, stdout=subprocess.DEVNULL) as ran:
+        try:
+            status = ran.wait(seconds)
+        except subprocess.TimeoutExpired:
+            ran.kill()
+            status = ran.wait()
+    if status not in (0, -9):
+        sys.exit(f"{words} ended with status {status}")
+    return status != 0
+
+
+def stops_from(version, stores, today, stops):
+    """Kills the opening of a store with many rows so many times: how often each schema was left, or a log without a schema of its own."""
+    wanted = {3: rows_of(today)} | {it: in_order(in_schema(it, rows_of(today))) for it in range(version, 3)}
+    whole = make(f"{stores.folder}/whole.db", version, wanted[3])
+    store = copy(whole, f"{stores.folder}/stopped.db")
+    words = [stores.program, "report", store, "census"]
+    census = done([stores.program, "report", today, "census"])
+    began = time.monotonic()
+    done(words)
+    seconds, left, again = time.monotonic() - began, collections.Counter(), True
+    while left.total() < stops:
+        if again:
+            copy(whole, store)
+        again = not killed(words, random.uniform(0, 1.1 * seconds))
+        there = rows_of(copy(store, f"{stores.folder}/looked.db"))
+        reached = there["meta"][0][1]
+        same_rows(f"a stop from schema {version} left schema {reached}", there, wanted.get(reached, wanted[3]))
+        if not again:
+            left[reached] += 1
+            again = reached == 3
+            if again and done(words) != census:
+                sys.exit("what a stop left has another census")
+    return left
+
+
+def stops(stores, count):
+    """A store with 2,000 entries, 7,000 petitions and 513 reserved numbers, founded today and of each older schema."""
+    store = found(stores.program, f"{stores.folder}/many.db")
+    spans = [request("cora", f"r{it}", "reserve", first=f"{it:04x}", last=f"{it + 1:04x}") for it in range(0x8000, 0x8400, 4)]
+    spans.append(request("cora", "r1", "reserve", first="ffff", last="ffff"))
+    apply(stores.program, store, write_requests(f"{stores.folder}/many.jsonl", [*rounds(1, 2000), *declined(2000, 5000), *spans]))
+    return {version: stops_from(version, stores, store, count) for version in COUNTS}
+
+
+def foreign_changes(version):
+    """Changes by another program after which a store of this schema is none."""
+    yield from (f"UPDATE meta SET version = {it}" for it in (-1, 0, 1, 2, 3, 4, 259) if it != version)
+    last = {1: "kept", 2: "spans", 3: "petitions3"}[version]
+    yield from (f"ALTER TABLE {it} RENAME TO other" for it in ("meta", "orgs", last))
+    yield f"DROP TABLE {last}"
+    yield "CREATE TABLE other (title TEXT NOT NULL) STRICT"
+    yield "DELETE FROM meta"
+
+
+def foreign_stores(stores):
+    """Whichever command opens what is no store of a schema, it says so and writes nothing."""
+    lines = write(f"{stores.folder}/lines.jsonl", content(f"{EXAMPLES}/first.jsonl").decode())
+    count = 0
+    for version in (1, 2, 3):
+        store = f"{stores.folder}/foreign.db"
+        for change in foreign_changes(version):
+            if version == 3:
+                found(stores.program, store)
+            else:
+                older(store, version)
+            with opened(store) as connection:
+                connection.execute(change)
+                connection.commit()
+            for words in ([stores.program, "apply", store, lines], *views(stores.program, store)):
+                keeps_bytes(f"schema {version} after {change}", store, words, (1, b"", b"fault: foreign\n"))
+            count += 1
+    return count
+
+
+def newest(stores):
+    """A store of the newest schema keeps its bytes, whichever command opens it."""
+    store = found(stores.program, f"{stores.folder}/newest.db")
+    lines = f"{EXAMPLES}/orders.jsonl"
+    replies = apply(stores.program, store, lines)
+    repeats = write(f"{stores.folder}/again.jsonl", "".join(content(lines).decode().splitlines(keepends=True)[:16]))
+    keeps_bytes("repeats", store, [stores.program, "apply", store, repeats], (0, b"".join(replies.splitlines(keepends=True)[:16]), b""))
+    for words in views(stores.program, store):
+        keeps_bytes("the newest schema", store, words, (0, done(words), b""))
+
+
+def main():
+    count = int(sys.argv[1]) if len(sys.argv) > 1 else 6
+    usbreg = program(*sys.argv[2:3])
+    seed = int(time.time())
+    random.seed(seed)
+    with folder() as made:
+        stores = Stores(usbreg, made)
+        examples(stores)
+        several = histories(stores)
+        refused = foreign_stores(stores)
+        newest(stores)
+        for version, left in stops(stores, count).items():
+            told = ", ".join(f"{left[it]} left schema {it}" for it in range(version, 4))
+            print(f"{left.total()} stops of opening a store of schema {version}: {told}; each time the same history, and opened again as without a stop (seed {seed})")
+    print(f"{stores.opened} openings of older stores, the examples and {several} histories, are the same histories founded today; {refused} stores are foreign and keep their bytes")
+
+
+if __name__ == "__main__":
+    main()

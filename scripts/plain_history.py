@@ -1,0 +1,333 @@
+"""The rules once more, as plain and slow questions to the list of all accepted requests, the oldest first.
+
+It shares nothing with the program but `docs/requests.md` and `docs/schema.md`: scripts hold the program's replies and
+tables against it. Numbers are pairs of a vendor ID and a product ID, as integers; a vendor that a request does not name
+is the founding one."""
+
+import json
+import tomllib
+
+REFUSALS = {
+    1: "KeyReused", 2: "NotCurator", 3: "NotKeeper", 4: "NoOrg", 5: "OrgTaken", 6: "NoPetition", 7: "PetitionClosed",
+    8: "NumberReserved", 9: "NumberOwned", 10: "NumberHeld", 11: "NumberNotHeld", 12: "NoneFree", 13: "LicenceUnknown",
+    14: "TooManyOpen", 15: "RangeOwned", 16: "RangeFixed", 17: "RangeNotReserved", 18: "Full", 19: "ImportTooLong",
+    33: "VendorTaken", 34: "NoVendor", 35: "LicenceTaken",
+}
+# The fields of an order in its canonical form. An import has its items in their place, and its vendor before them.
+FIELDS = {
+    "enrol": ("org", "title", "site"), "amend-org": ("org", "title", "site"),
+    "ask": ("org", "number", "title", "licence", "site", "source", "vendor"), "grant": ("petition", "number"),
+    "decline": ("petition",), "withdraw": ("petition",),
+    "amend": ("number", "title", "licence", "site", "source", "vendor"), "return": ("number", "vendor"),
+    "reserve": ("first", "last", "vendor"), "release": ("first", "last", "vendor"),
+    "import": ("org", "vendor", "items"), "add-vendor": ("vendor", "name"), "add-licence": ("licence",),
+}
+OPEN, GRANTED, DECLINED, WITHDRAWN = range(4)
+STATES = {"grant": GRANTED, "decline": DECLINED, "withdraw": WITHDRAWN}
+CURATORS_ORDERS = {"grant", "decline", "reserve", "release", "import", "add-vendor", "add-licence"}
+TERMS = ("title", "licence", "site", "source")
+
+
+class Refused(Exception):
+    """A check failed: the refusal's number, and its detail where it has one."""
+
+
+def check(passes, number, detail=None):
+    if not passes:
+        raise Refused(number, detail)
+
+
+def hexadecimal(text):
+    return int(text, 16) if text else None
+
+
+def items(text):
+    """The (number, title) pairs of a list of one vendor's devices."""
+    lines = [line for line in text.splitlines() if line.startswith("\t")]
+    return [(int(line[1:5], 16), line[7:]) for line in lines]
+
+
+class History:
+    """A founding, and the accepted requests with what each one did."""
+
+    def __init__(self, founding):
+        with open(founding, "rb") as file:
+            self.founding = tomllib.load(file)
+        self.founder = int(self.founding["vendor"], 16)
+        self.deeds = []
+
+    def of_order(self, *orders):
+        return [deed for deed in self.deeds if deed["order"] in orders]
+
+    # What the history says.
+
+    def vendor(self, request):
+        return hexadecimal(request.get("vendor")) or self.founder
+
+    def vendors(self):
+        """The name of each vendor."""
+        return {self.founder: self.founding["name"]} | {int(it["vendor"], 16): it["name"] for it in self.of_order("add-vendor")}
+
+    def licences(self):
+        return [*self.founding["licences"], *(it["licence"] for it in self.of_order("add-licence"))]
+
+    def keeper(self, org):
+        """The caller that enrolled the organisation."""
+        return next((it["caller"] for it in self.of_order("enrol") if it["org"] == org), None)
+
+    def petition(self, number):
+        asked = self.of_order("ask")
+        return asked[number - 1] if number <= len(asked) else None
+
+    def state(self, number):
+        """The state of a petition."""
+        return next((STATES[it["order"]] for it in self.of_order(*STATES) if it["petition"] == number), OPEN)
+
+    def open_petitions(self, org):
+        asked = enumerate(self.of_order("ask"), 1)
+        return [number for number, it in asked if it["org"] == org and self.state(number) == OPEN]
+
+    def owner(self, number):
+        """The organisation that the number was first given to."""
+        return next((it["gives"][number] for it in self.deeds if number in it.get("gives", {})), None)
+
+    def is_held(self, number):
+        """Whether the number was given, and not returned since."""
+        told = [number in it.get("gives", {}) for it in self.deeds if number in it.get("gives", {}) or number == it.get("returns")]
+        return bool(told) and told[-1]
+
+    def is_fixed(self, number):
+        spans = (span.split("-") for span in self.founding["fixed"])
+        return number[0] == self.founder and any(int(span[0], 16) <= number[1] <= int(span[-1], 16) for span in spans)
+
+    def is_ordered(self, number):
+        """Whether an order reserved the number, and none released it since."""
+        orders = self.of_order("reserve", "release")
+        told = [it["order"] for it in orders if it["vid"] == number[0] and int(it["first"], 16) <= number[1] <= int(it["last"], 16)]
+        return bool(told) and told[-1] == "reserve"
+
+    def is_reserved(self, number):
+        return self.is_fixed(number) or self.is_ordered(number)
+
+    def least_free(self, vid):
+        numbers = ((vid, pid) for pid in range(1, 0x10000))
+        return next((it for it in numbers if not self.is_reserved(it) and self.owner(it) is None), None)
+
+    # The answer to a request.
+
+    def answer(self, request):
+        """The reply to a request. An accepted one joins the history."""
+        try:
+            deed = self.judged(request)
+        except Refused as refused:
+            number, detail = refused.args
+            return {"name": REFUSALS[number], "refused": number} | ({"detail": detail} if detail else {})
+        if deed not in self.deeds:
+            self.deeds.append(deed)
+        return {"done": deed["reply"]}
+
+    def judged(self, request):
+        """What the request does, or what it did when it came first. It fails with the first check that does."""
+        order, form = request["order"], self.canonical(request)
+        for deed in self.deeds:
+            if (deed["caller"], deed["key"]) == (request["caller"], request["key"]):
+                check(deed["form"] == form, 1)
+                return deed
+        if order in CURATORS_ORDERS:
+            check(request["caller"] in self.founding["curators"], 2)
+        deed = {**request, "form": form, "vid": self.vendor(request)}
+        return deed | getattr(self, order.replace("-", "_"))(request, deed["vid"])
+
+    def canonical(self, request):
+        """The order's canonical form, as `kept` holds it."""
+        texts = [request["order"]]
+        for field in FIELDS[request["order"]]:
+            if field == "items":
+                texts += [f"{pid:04x}={title}" for pid, title in items(request["list"])]
+            elif field == "number" and request["order"] in ("ask", "grant"):
+                texts.append(request.get(field) or "-")
+            elif field != "vendor" or request.get(field):
+                texts.append(str(request[field]))
+        return "\t".join(texts)
+
+    def shown(self, number, pid=None):
+        """A number, with its vendor where that is not the founding one."""
+        digits = f"{number[1]:04x}" if pid is None else pid
+        return digits if number[0] == self.founder else f"{number[0]:04x}:{digits}"
+
+    def enrol(self, request, _):
+        check(self.keeper(request["org"]) is None, 5)
+        check(len(self.of_order("enrol")) < 65_536, 18)
+        return {"reply": f"enrolled {request['org']}"}
+
+    def check_keeper(self, request, org):
+        check(self.keeper(org) is not None, 4)
+        check(self.keeper(org) == request["caller"], 3)
+
+    def amend_org(self, request, _):
+        self.check_keeper(request, request["org"])
+        return {"reply": f"amended organisation {request['org']}"}
+
+    def check_given(self, number, org):
+        """The organisation may be given the number."""
+        owner = self.owner(number)
+        check(not self.is_reserved(number), 8)
+        check(owner in (None, org), 9, owner)
+        check(not self.is_held(number), 10)
+
+    def ask(self, request, vid):
+        self.check_keeper(request, request["org"])
+        check(vid in self.vendors(), 34)
+        check(request["licence"] in self.licences(), 13)
+        check(len(self.open_petitions(request["org"])) < 16, 14)
+        check(len(self.of_order("ask")) < 1_000_000, 18)
+        if request.get("number"):
+            self.check_given((vid, int(request["number"], 16)), request["org"])
+        return {"reply": f"petition {len(self.of_order('ask')) + 1}"}
+
+    def check_open(self, request):
+        check(self.petition(request["petition"]) is not None, 6)
+        check(self.state(request["petition"]) == OPEN, 7)
+
+    def grant(self, request, _):
+        self.check_open(request)
+        petition = self.petition(request["petition"])
+        named = hexadecimal(request.get("number")) or hexadecimal(petition.get("number"))
+        number = (petition["vid"], named) if named else self.least_free(petition["vid"])
+        check(number is not None, 12)
+        self.check_given(number, petition["org"])
+        reply = f"granted {self.shown(number)} to {petition['org']} by petition {request['petition']}"
+        return {"reply": reply, "gives": {number: petition["org"]}, "granted": number[1]}
+
+    def decline(self, request, _):
+        self.check_open(request)
+        return {"reply": f"declined petition {request['petition']}"}
+
+    def withdraw(self, request, _):
+        petition = self.petition(request["petition"])
+        check(petition is not None, 6)
+        check(self.keeper(petition["org"]) == request["caller"], 3)
+        check(self.state(request["petition"]) == OPEN, 7)
+        return {"reply": f"withdrawn petition {request['petition']}"}
+
+    def check_held(self, request, number):
+        check(self.is_held(number), 11)
+        check(self.keeper(self.owner(number)) == request["caller"], 3)
+
+    def amend(self, request, vid):
+        number = (vid, int(request["number"], 16))
+        self.check_held(request, number)
+        check(request["licence"] in self.licences(), 13)
+        return {"reply": f"amended {self.shown(number)}", "amends": number}
+
+    def return_(self, request, vid):
+        number = (vid, int(request["number"], 16))
+        self.check_held(request, number)
+        return {"reply": f"returned {self.shown(number)}", "returns": number}
+
+    def numbers(self, request, vid):
+        """The numbers of a span of a vendor, none of them fixed."""
+        check(vid in self.vendors(), 34)
+        span = [(vid, pid) for pid in range(int(request["first"], 16), int(request["last"], 16) + 1)]
+        check(not any(map(self.is_fixed, span)), 16)
+        return span
+
+    def reserve(self, request, vid):
+        owned = next(filter(self.owner, self.numbers(request, vid)), None)
+        check(owned is None, 15, owned and self.shown(owned))
+        return {"reply": f"reserved {self.shown((vid, 0), request['first'] + '-' + request['last'])}"}
+
+    def release(self, request, vid):
+        check(all(map(self.is_ordered, self.numbers(request, vid))), 17)
+        return {"reply": f"released {self.shown((vid, 0), request['first'] + '-' + request['last'])}"}
+
+    def import_(self, request, vid):
+        check(self.keeper(request["org"]) is not None, 4)
+        check(vid in self.vendors(), 34)
+        listed = items(request["list"])
+        check(len(listed) <= 8192, 19)
+        counts = dict.fromkeys(("fresh", "owned", "reserved", "doubled", "untitled", "zero"), 0)
+        seen, fresh = set(), {}
+        for pid, title in listed:
+            number = (vid, pid)
+            kind = (
+                "zero" if pid == 0 else "untitled" if not title else "doubled" if pid in seen
+                else "reserved" if self.is_reserved(number) else "owned" if self.owner(number) else "fresh"
+            )
+            counts[kind] += 1
+            if kind == "fresh":
+                fresh[number] = title
+            if pid and title:
+                seen.add(pid)
+        reply = "imported " + ", ".join(f"{kind} {count}" for kind, count in counts.items())
+        return {"reply": reply, "gives": dict.fromkeys(fresh, request["org"]), "titles": fresh}
+
+    def add_vendor(self, request, vid):
+        check(vid not in self.vendors(), 33)
+        check(len(self.vendors()) < 256, 18)
+        return {"reply": f"added vendor {request['vendor']}"}
+
+    def add_licence(self, request, _):
+        check(request["licence"] not in self.licences(), 35)
+        check(len(self.licences()) < 1024, 18)
+        return {"reply": f"added licence {request['licence']}"}
+
+    # The tables.
+
+    def card(self, number):
+        """Title, licence, site and source of an owned number, as they were given or amended last."""
+        last = None
+        for deed in self.deeds:
+            if number in deed.get("titles", {}):
+                last = (deed["titles"][number], None, None, None)
+            elif number in deed.get("gives", {}):
+                last = tuple(self.petition(deed["petition"])[field] for field in TERMS)
+            elif number == deed.get("amends"):
+                last = tuple(deed[field] for field in TERMS)
+        return last
+
+    def described(self, org):
+        last = [it for it in self.of_order("enrol", "amend-org") if it["org"] == org][-1]
+        return org, last["title"], last["site"], self.keeper(org)
+
+    def petition_row(self, number, asked):
+        granted = next((it["granted"] for it in self.of_order("grant") if it["petition"] == number), None)
+        want, state = hexadecimal(asked.get("number")), self.state(number)
+        return number, asked["vid"], asked["org"], want, *(asked[field] for field in TERMS), state, granted
+
+    def reserved_spans(self):
+        """The maximal spans of numbers that orders reserved."""
+        touched = {(it["vid"], pid) for it in self.of_order("reserve") for pid in range(int(it["first"], 16), int(it["last"], 16) + 1)}
+        spans = []
+        for vid, pid in sorted(filter(self.is_ordered, touched)):
+            if spans and (spans[-1][0], spans[-1][2] + 1) == (vid, pid):
+                spans[-1][2] = pid
+            else:
+                spans.append([vid, pid, pid])
+        return list(map(tuple, spans))
+
+    def tables(self):
+        """The rows of each table, ascending."""
+        owned = sorted({number for deed in self.deeds for number in deed.get("gives", {})})
+        return {
+            "meta": [(1, 3, self.founder, self.founding["name"])],
+            "curators": sorted((it,) for it in self.founding["curators"]),
+            "licences": sorted((it,) for it in self.licences()),
+            "fixed": sorted((int(it.split("-")[0], 16), int(it.split("-")[-1], 16)) for it in self.founding["fixed"]),
+            "orgs": sorted(self.described(it["org"]) for it in self.of_order("enrol")),
+            "vendors": sorted(self.vendors().items()),
+            "spans3": self.reserved_spans(),
+            "entries3": [(*it, self.owner(it), int(self.is_held(it)), *self.card(it)) for it in owned],
+            "petitions3": [self.petition_row(*it) for it in enumerate(self.of_order("ask"), 1)],
+            "kept": sorted((it["caller"], it["key"], it["form"].encode(), it["reply"]) for it in self.deeds),
+            **{older: [] for older in ("petitions", "entries", "reserved", "spans")},
+        }
+
+
+setattr(History, "return", History.return_)
+setattr(History, "import", History.import_)
+
+
+def line(reply):
+    """A reply as the program prints it."""
+    return json.dumps(reply, sort_keys=True, separators=(",", ":"), ensure_ascii=False)
