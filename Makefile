@@ -3,9 +3,10 @@
 #          registry in memory.
 # test:    the gate. Proves every crate and its tests from nothing, runs the tests and,
 #          as two compilers make it, each program; tries the must-fail edits, many in one
-#          check; then the scripts that try the program over files.
-# gate:    the same with each edit in a check of its own, as `rt ci` does it: twice the
-#          time, for a release.
+#          check; runs the tests of the store and of the program, compiled with checks;
+#          then the scripts that try the program over files.
+# gate:    the same with the latter tests proved too, and each edit in a check of its own,
+#          as a bare `rt ci` does it: more than twice the time, for a release.
 # install: puts the program that `make` built into PREFIX/bin, and its page into PREFIX/share/man/man1.
 # bench:   reads and writes lists and looks devices up beside plain readers, and acts on requests beside plain
 #          registries, and prints ratios; opens a large store of an older schema. Not part of the gate; it

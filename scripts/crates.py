@@ -42,9 +42,10 @@ class Crate:
             found.update({it.name: it for it in [*library.below(), library]})
         return [*found.values()]
 
-    def edits(self):
-        """What lies in its folder of must-fail edits, but for files that are there to be read."""
-        folder = f"{self.folder}/must-fail"
+    def edits(self, top=None):
+        """What lies in its folder of must-fail edits, of this repository or of a copy of its edits, but for files that
+        are there to be read."""
+        folder = f"{top}/crates/{self.name}/must-fail" if top else f"{self.folder}/must-fail"
         names = sorted(os.listdir(folder)) if os.path.isdir(folder) else []
         return [f"{folder}/{it}" for it in names if not it.endswith(".md")]
 

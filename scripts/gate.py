@@ -1,14 +1,16 @@
 #!/usr/bin/env python3
-"""The gate: `rt ci` over a copy of the repository without its must-fail edits, then these edits, as many in one check
-as can be, over what `rt ci` built there, then the scripts that try the program that it built.
+"""The gate: `rt ci` over a copy of the repository, and beside it the must-fail edits, as many in one check as can be,
+over the libraries that `rt ci` has just proved; then the tests over the program's crates, compiled with checks and not
+proved; then the scripts that try the program.
 
-The copy has the files as they stand, committed or not, and lies in a temporary folder. What `rt ci` would say of each
-edit by itself `make gate` shows, which takes longer. The last line counts what passed and failed over all parts, a
-script that failed as one; the status is 0 where nothing did."""
+The copy has the files as they stand, committed or not, and lies in a temporary folder, without the edits and without
+the crates of tests that are not proved here. What `rt ci` says of these, and of each edit by itself, `make gate` shows,
+which takes longer. The last line counts what passed and failed over all parts, a script that failed as one; the exit
+status is 0 where nothing failed."""
 
+import concurrent.futures
 import os
 import re
-import resource
 import shutil
 import signal
 import subprocess
@@ -17,12 +19,22 @@ import tempfile
 import threading
 import time
 
-from crates import TOP
+from crates import TOP, crates_of
 
 LEFT_OUT = {".git", "out", "__pycache__"}
 EDITS = re.compile(r"crates/[^/]+/must-fail/")
+PROVED = re.compile(r"rt: (\w+) proved\n")
 NAMES = re.compile(r"(rt: )?FAILED: ")
 COUNT = re.compile(r"(\d+) passed, (\d+) failed\n?")
+
+# Crates of tests whose functions hold a registry over files. To prove a test shows that it keeps to what its calls
+# require and does not overflow; of these it takes longer than the proof of all that they call, so `make gate` does it.
+TRIED = ("registry_store_tests", "registry_cli_tests")
+
+# How many crates have their edits tried while `rt ci` runs, which leaves about half of four processors idle, and the
+# bytes of memory that have to be free for one more.
+LANES = 2
+ROOM = 6 * 2**30
 
 
 def files():
@@ -39,13 +51,18 @@ def copy(names, to):
         shutil.copy2(f"{TOP}/{name}", f"{to}/{name}", follow_symlinks=False)
 
 
-class Cost:
-    """What a part takes, in a `with`: minutes on the clock and of processor, and memory at the peak, which is what the
-    machine has less of then than when the part begins, looked at every second."""
+def available():
+    """The bytes of memory that are free."""
+    with open("/proc/meminfo", encoding="ascii") as told:
+        return next(1024 * int(line.split()[1]) for line in told if line.startswith("MemAvailable:"))
+
+
+class Memory:
+    """What the machine has less of at the peak than when this begins, in a `with`, looked at every second."""
 
     def __enter__(self):
-        self.begun, self.before, self.ended = time.monotonic(), self.processor(), threading.Event()
-        self.free = self.least = self.available()
+        self.ended = threading.Event()
+        self.free = self.least = available()
         self.watch = threading.Thread(target=self.look, daemon=True)
         self.watch.start()
         return self
@@ -53,81 +70,169 @@ class Cost:
     def __exit__(self, *_):
         self.ended.set()
         self.watch.join()
-        self.minutes = (time.monotonic() - self.begun) / 60
-        self.of_processor = (self.processor() - self.before) / 60
 
     def look(self):
         while not self.ended.wait(1):
-            self.least = min(self.least, self.available())
-
-    @staticmethod
-    def processor():
-        used = resource.getrusage(resource.RUSAGE_CHILDREN)
-        return used.ru_utime + used.ru_stime
-
-    @staticmethod
-    def available():
-        with open("/proc/meminfo", encoding="ascii") as told:
-            return next(int(line.split()[1]) for line in told if line.startswith("MemAvailable:"))
+            self.least = min(self.least, available())
 
     def __str__(self):
-        peak = (self.free - self.least) / 2**20
-        return f"{self.minutes:.1f} minutes, {self.of_processor:.1f} of processor, {peak:.1f} GiB at the peak"
+        return f"{(self.free - self.least) / 2**30:.1f} GiB of memory at the peak"
 
 
 class Part:
-    """A part of the gate that has run: how much passed and failed, by its last line and status, and what it names."""
+    """A part of the gate: a command, and once it has run, how much passed and failed, by its last line and exit status,
+    what failed by name, and the minutes that it took, on the clock and of processor."""
+
+    running, is_over = set(), False
+    printing = threading.Lock()
 
     def __init__(self, words, at):
-        self.name = name = " ".join(words)
-        print(f"== {name}", flush=True)
-        last, self.named = "", []
-        with Cost() as self.cost:
-            for line in self.lines(words, at):
-                print(line, end="", flush=True)
-                last = line
-                self.named += [line.rstrip()] if NAMES.match(line) else []
-        print(f"== {name}: {self.cost}", flush=True)
+        self.words, self.at, self.name = words, at, " ".join(words)
+        self.passed = self.failed = self.minutes = self.of_processor = 0
+        self.named = []
+
+    def run(self, hear=lambda line: None):
+        """Runs it, prints what it prints and gives each line to `hear`."""
+        if self.is_over:
+            return self
+        self.show(f"== {self.name}\n")
+        last, begun = "", time.monotonic()
+        for line in self.lines():
+            self.show(line)
+            last = line
+            self.named += [line.rstrip()] if NAMES.match(line) else []
+            hear(line)
+        self.minutes = (time.monotonic() - begun) / 60
         count = COUNT.fullmatch(last)
         self.passed, self.failed = (int(it) for it in count.groups()) if count else (0, 0)
         if self.status and not self.failed:
             self.failed = 1
         if self.failed and not self.named:
-            self.named = [f"FAILED: {name}"]
+            self.named = [f"FAILED: {self.name}"]
+        self.show(f"== {self}\n")
+        return self
 
-    def lines(self, words, at):
-        """What the part prints, line by line. It ends, with all that it started, where the gate is stopped."""
+    @classmethod
+    def show(cls, line):
+        with cls.printing:
+            print(line, end="", flush=True)
+
+    def lines(self):
+        """What it prints, line by line."""
         how = {"stdin": subprocess.DEVNULL, "stdout": subprocess.PIPE, "stderr": subprocess.STDOUT}
-        with subprocess.Popen(words, cwd=at, text=True, errors="replace", start_new_session=True, **how) as ran:
-            try:
-                yield from ran.stdout
-            except BaseException:
-                os.killpg(ran.pid, signal.SIGTERM)
-                raise
-        self.status = ran.returncode
+        with subprocess.Popen(self.words, cwd=self.at, text=True, errors="replace", start_new_session=True, **how) as ran:
+            self.running.add(ran.pid)
+            yield from ran.stdout
+            _, status, used = os.wait4(ran.pid, 0)
+            self.running.discard(ran.pid)
+            self.status = ran.returncode = os.waitstatus_to_exitcode(status)
+            self.of_processor = (used.ru_utime + used.ru_stime) / 60
+
+    def __str__(self):
+        return f"{self.name}: {self.minutes:.1f} minutes, {self.of_processor:.1f} of processor"
+
+
+class Tried(Part):
+    """A crate of tests that is run and not proved: it passes, or it fails, as one."""
+
+    def __init__(self, crate, top):
+        super().__init__(["rt", "try", "--test", "--seconds", "600"], f"{top}/crates/{crate}")
+        self.name = f"{crate}: {self.name}"
+
+    def run(self, hear=lambda line: None):
+        super().run(hear)
+        self.passed = 1 - self.failed
+        return self
+
+
+class Edits:
+    """The trials of the must-fail edits, crate by crate as these are proved, a few side by side."""
+
+    def __init__(self, top, edits, pool):
+        self.top, self.edits, self.pool, self.parts = top, edits, pool, {}
+        self.left = {it.name for it in crates_of(top).values() if it.edits(edits)}
+        self.is_alone = threading.Event()
+
+    def hear(self, line):
+        """Has the edits of a crate tried once `rt ci` says that it is proved."""
+        proved = PROVED.fullmatch(line)
+        if proved and proved[1] in self.left:
+            self.begin(proved[1])
+
+    def begin(self, crate):
+        self.left.remove(crate)
+        words = ["scripts/wrong_bodies.py", "--as-built", "--edits", self.edits, crate]
+        part = Part(["nice", *words], self.top)
+        part.name = f"scripts/wrong_bodies.py {crate}"
+        self.parts[crate] = self.pool.submit(self.run, part)
+
+    def run(self, part):
+        while available() < ROOM and not Part.is_over and not self.is_alone.wait(5):
+            pass
+        return part.run()
+
+    def end(self):
+        """Has the others tried too, which says of each that its crate is not proved, and waits for all."""
+        self.is_alone.set()
+        for crate in sorted(self.left):
+            self.begin(crate)
+        return [it.result() for it in self.parts.values()]
+
+
+def leave_out(crates, top):
+    """Takes crates out of the crates.txt of a copy."""
+    file = f"{top}/crates.txt"
+    with open(file, encoding="utf-8") as it:
+        lines = [line for line in it if line.partition(":")[0] not in crates]
+    with open(file, "w", encoding="utf-8") as it:
+        it.writelines(lines)
+
+
+def gate(room):
+    """Runs all parts over copies in a folder, and returns them."""
+    top, edits, names = f"{room}/top", f"{room}/edits", [*files()]
+    tried = [it for it in names if it.startswith(tuple(f"crates/{crate}/" for crate in TRIED))]
+    # so that it is the top of a repository, as `rt ci` wants it, wherever the folder lies
+    os.makedirs(f"{top}/.git")
+    copy([it for it in names if EDITS.match(it)], edits)
+    copy([it for it in names if not EDITS.match(it) and it not in tried], top)
+    leave_out(TRIED, top)
+    with concurrent.futures.ThreadPoolExecutor(LANES) as pool:
+        trials = Edits(top, edits, pool)
+        parts = [Part(["rt", "ci"], top).run(trials.hear)]
+        # what the scripts leave where they are stopped goes with the copy
+        os.environ["TMPDIR"] = room
+        copy(["crates.txt", *tried], top)
+        parts += [Tried(it, top).run() for it in TRIED]
+        parts += trials.end()
+    copy([it for it in names if EDITS.match(it)], top)
+    return parts + [Part([f"scripts/{it}"], top).run() for it in ("test_wrong_bodies.py", "try_the_program.sh")]
+
+
+def stop(*_):
+    """Ends the gate and all that it has started."""
+    Part.is_over = True
+    for pid in [*Part.running]:
+        os.killpg(pid, signal.SIGTERM)
+    sys.exit(1)
 
 
 def main():
-    # so that the folder is removed also where the gate is ended from outside
-    signal.signal(signal.SIGTERM, lambda *_: sys.exit(1))
-    names = [*files()]
-    with tempfile.TemporaryDirectory(prefix="usbreg-gate-") as room:
-        # so that it is the top of a repository, as `rt ci` wants it, wherever the folder lies
-        os.mkdir(f"{room}/.git")
-        copy([it for it in names if not EDITS.match(it)], room)
-        parts = [Part(["rt", "ci"], room)]
-        # what the scripts leave where they are stopped goes with the copy
-        os.environ["TMPDIR"] = room
-        copy([it for it in names if EDITS.match(it)], room)
-        parts += [Part(["scripts/wrong_bodies.py", "--as-built"], room)]
-        scripts = [Part([it], room) for it in ("scripts/test_wrong_bodies.py", "scripts/try_the_program.sh")]
-    for part in [*parts, *scripts]:
-        print(f"{part.name}: {part.cost}")
-    for part in [*parts, *scripts]:
+    # so that nothing goes on, and the folder is removed, where the gate is ended from outside
+    signal.signal(signal.SIGTERM, stop)
+    signal.signal(signal.SIGINT, stop)
+    begun = time.monotonic()
+    with Memory() as memory, tempfile.TemporaryDirectory(prefix="usbreg-gate-") as room:
+        parts = gate(room)
+    for part in parts:
+        print(part)
+    minutes, of_processor = (time.monotonic() - begun) / 60, sum(it.of_processor for it in parts)
+    print(f"All: {minutes:.1f} minutes, {of_processor:.1f} of processor, {memory}")
+    for part in parts:
         print("".join(f"{it}\n" for it in part.named), end="")
     if parts[0].failed:
         print("A crate alone: rt check, rt test or rt run in its folder; all of rt ci: make gate")
-    failed = sum(it.failed for it in [*parts, *scripts])
+    failed = sum(it.failed for it in parts)
     print(f"{sum(it.passed for it in parts)} passed, {failed} failed")
     return 1 if failed else 0
 

@@ -9,11 +9,12 @@ of one function are tried in two checks, and alone what is in no body, as a cons
 or that the compiler or the borrow checker refuses for its form, is a bad edit, and the others are tried again
 without it. What is not refused beside others is tried alone.
 
-Usage: scripts/wrong_bodies.py [--as-built] [NAME | NAME/EDIT ..], by default all crates. With --as-built it takes the
-libraries that `rt ci` built just before, and leaves out crates that it did not prove; without, it runs `rt check` in
-each crate first, and works over what that kept. The last line counts the edits, and the status is 0 where all were
-refused."""
+Usage: scripts/wrong_bodies.py [--as-built] [--edits FOLDER] [NAME | NAME/EDIT ..], by default all crates. With
+--as-built it takes the libraries that `rt ci` built just before, and leaves out crates that it did not prove; without,
+it runs `rt check` in each crate first, and works over what that kept. With --edits it takes the edits that lie in
+FOLDER/crates/NAME/must-fail. The last line counts the edits, and the exit status is 0 where all were refused."""
 
+import argparse
 import concurrent.futures
 import os
 import re
@@ -237,15 +238,16 @@ def try_crate(crate, files, at, as_built):
         return trial
 
 
-def asked(names):
-    """The crates that are asked for, each with the files of its edits, those with the most work first."""
+def asked(names, top):
+    """The crates that are asked for, each with the files of its edits, which may lie below another top, those with the
+    most work first."""
     crates = crates_of()
     found = {}
     for name in names or crates:
         crate, _, edit = name.rstrip("/").partition("/")
         if crate not in crates:
             sys.exit(f"crates.txt names no crate {crate}")
-        files = [it for it in crates[crate].edits() if edit in ("", name_of(it))]
+        files = [it for it in crates[crate].edits(top) if edit in ("", name_of(it))]
         if edit and not files:
             sys.exit(f"there is no edit {name}")
         found.setdefault(crate, []).extend(files)
@@ -273,10 +275,14 @@ def lanes():
 
 
 def main():
-    as_built = "--as-built" in sys.argv
-    work, at = asked([it for it in sys.argv[1:] if it != "--as-built"]), kit()
+    given = argparse.ArgumentParser()
+    given.add_argument("--as-built", action="store_true")
+    given.add_argument("--edits", metavar="FOLDER")
+    given.add_argument("names", nargs="*")
+    given = given.parse_args()
+    work, at = asked(given.names, given.edits), kit()
     with concurrent.futures.ThreadPoolExecutor(lanes()) as pool:
-        trials = [*pool.map(lambda it: try_crate(*it, at, as_built), work)]
+        trials = [*pool.map(lambda it: try_crate(*it, at, given.as_built), work)]
     refused = sum(len(it.refused) for it in trials)
     failed = [it for trial in trials for it in trial.failed]
     for name in failed:
