@@ -37,7 +37,7 @@ module _ {S : Type 0} {g : Ghosts S} where
   stopped_before it h rs a out low at clean = record {
     from = omega arith;
     within = low;
-    gained = (out, subst (Appends out out) (sym (ap reply_lines (between_none h rs a low))) (Appends-nil out), no_beginning out (lines_between h rs a (a + 1)));
+    gained = (out, subst (Appends out out) (sym (ap reply_lines (between_none h rs a low))) (Appends-nil out), no_beginning out (lines_between h rs a (a + 1)), inl (Keeps-same out));
     leaves = place_left it h rs a at clean;
     ends = inr at;
   }

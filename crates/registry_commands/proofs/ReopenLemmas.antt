@@ -24,7 +24,7 @@ use Rattle.registry_commands.specs.Failures.{Told}
 use Rattle.registry_commands.specs.Messages.{reply_lines}
 use Rattle.registry_commands.specs.Apply.{IsApplied, IsRun, lines_between}
 use Rattle.registry_commands.specs.Reopened.{IsReopened, IsReopenedAt}
-use Rattle.registry_commands.proofs.ApplyLemmas.{no_beginning}
+use Rattle.registry_commands.proofs.ApplyLemmas.{Keeps-same, no_beginning}
 
 module _ {S : Type 0} {g : Ghosts S} where
   -- the registry is opened at one of the histories that the last one left
@@ -40,13 +40,16 @@ module _ {S : Type 0} {g : Ghosts S} where
   ]
 
   module _ (first last it : Registry S g) (opens : Opens last it) (before : HasCleanDisk (state_of it) → HasCleanDisk (state_of last)) where
+    -- a registry is opened where it stood
+    stays : (h : History) → Stands last h → HasCleanDisk (state_of it) → ∥ Stands it h ∥₁
+    stays h stands clean =
+        let legal = stands.counts.legal in
+        ∥∥₁_map (opens h h legal legal (λ was. leaves_weaker newest (state_of last) (λ x. x ≡ h) (IsEither h h) (λ x e. inl e) (stands.at.left was)) clean)
+        (λ found. subst (Stands it) (elim found.1 [ inl e ↦ e | inr e ↦ e ]) found.2)
+
     -- nothing was acted on
     as_before : last ≡ first → (h : History) → Stands first h → HasCleanDisk (state_of it) → ∥ Stands it h ∥₁
-    as_before same h stands clean =
-        let now : Stands last h = subst (λ (x : Registry S g). Stands x h) (sym same) stands in
-        let legal = now.counts.legal in
-        ∥∥₁_map (opens h h legal legal (λ was. leaves_weaker newest (state_of last) (λ x. x ≡ h) (IsEither h h) (λ x e. inl e) (now.at.left was)) clean)
-        (λ found. subst (Stands it) (elim found.1 [ inl e ↦ e | inr e ↦ e ]) found.2)
+    as_before same h stands = stays h (subst (λ (x : Registry S g). Stands x h) (sym same) stands)
 
     placed : (h : History) (rs : List Request) (n : ℕ) → Legal h → Leaves newest (state_of last) (IsPlace h rs n) → HasCleanDisk (state_of it) → ∥ HasAnswered it h rs n ∥₁
     placed h rs n legal leaves clean =
@@ -72,18 +75,25 @@ module _ {S : Type 0} {g : Ghosts S} where
                   out_new,
                   subst (λ (text : List ℕ). Appends out out_new text) (sym (ap reply_lines (between_all h rs a n refl))) through.gained,
                   no_beginning out_new (lines_between h rs n (n + 1)),
+                  inl (Keeps-same out_new),
                 );
                 answered = placed h rs n legal leaves clean;
               },
             )
         | inr one ↦
-            let stopped = run.stopped one h at (before clean) in (
+            let stopped = run.stopped one h at (before clean) in
+            let gained = stopped.1.gained in (
               stopped.0,
               record {
                 from = stopped.1.from;
                 within = stopped.1.within;
                 whole = λ zero. absurd (omega (arith, one, zero));
-                gained = stopped.1.gained;
+                gained = (
+                  gained.0,
+                  gained.1,
+                  gained.2,
+                  elim gained.3 [ inl kept ↦ inl kept | inr stands ↦ inr (stays (after h (take (stopped.0 + 1) rs)) stands clean) ],
+                );
                 answered = placed h rs stopped.0 legal stopped.1.leaves clean;
               },
             )

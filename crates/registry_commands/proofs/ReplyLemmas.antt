@@ -1,22 +1,29 @@
 -- A run whose replies an output takes as lines.
-use Rattle.std.proofs.Common.{◌≡◌, inl, inr, ℕ, ◌+◌, List, [], ◌∷◌, Option, refl, sym, ap, subst, ◌∙◌, arith}
+use Rattle.std.proofs.Common.{◌≡◌, ◌⊎◌, inl, inr, ℕ, true, ◌+◌, List, take, [], ◌∷◌, Option, refl, sym, ap, subst, ◌∙◌, arith}
 use Rattle.std.proofs.lemmas.List.{append-nil}
-use Rattle.std.specs.Io.KnownBytes.{Appends}
+use Rattle.std.specs.Io.KnownBytes.{Appends, Keeps}
 use Rattle.sqlite.specs.Store.{Ghosts}
 use Rattle.usbids_text.specs.Ends.{AppendsBeginning}
 use Rattle.usbids_text.proofs.EndLemmas.{Appends-nil, Appends-then}
 use Rattle.registry_rules.specs.declared.order.Request.{Request}
 use Rattle.registry_rules.specs.declared.verdict.Reply.{Reply}
 use Rattle.registry_rules.specs.History.{History}
+use Rattle.registry_rules.specs.Run.{after}
 use Rattle.registry_store.specs.declared.registry.Registry.{Registry}
 use Rattle.registry_store.specs.declared.replies.RunStop.{RunStop}
 use Rattle.registry_store.specs.declared.replies.RunStop.TheVariants as stop
-use Rattle.registry_store.specs.RunTo.{HaveTaken, IsCutBy, IsHalted}
+use Rattle.registry_store.specs.Promise.{Stands, is_spent}
+use Rattle.registry_store.specs.RunTo.{HaveTaken, IsCutBy, IsHalted, IsLeftAt}
 use Rattle.registry_commands.specs.declared.replies.ReplyLines.{ReplyLines}
 use Rattle.registry_commands.specs.Messages.{reply_line, reply_lines}
 use Rattle.registry_commands.specs.Apply.{IsStoppedAt, lines_between}
 use Rattle.registry_commands.specs.Replies.{CutsLine, TakesLine}
-use Rattle.registry_commands.proofs.ApplyLemmas.{no_beginning}
+use Rattle.registry_commands.proofs.ApplyLemmas.{Keeps-same, no_beginning}
+
+module _ {S : Type 0} {g : Ghosts S} (it : Registry S g) (h : History) where
+  spent_or_there : (why : RunStop) → IsLeftAt why it h → (is_spent it ≡ true) ⊎ Stands it h
+  spent_or_there (stop.Fault fault) spent = inl spent
+  spent_or_there stop.Cut stands = inr stands
 
 module _ {W : Type 0} (contents : W → Option (List ℕ)) (failures : W → ℕ) where
   -- the lines of all these replies are out
@@ -51,6 +58,13 @@ module _ {W : Type 0} (contents : W → Option (List ℕ)) (failures : W → ℕ
       (no_beginning (contents middle.output.now) (reply_line next))
   next_begun stop.Cut middle new next cut = cut.gained
 
+  -- nothing of it is out, or its request is acted on
+  next_acted : {S : Type 0} {g : Ghosts S} (it : Registry S g) (h : History) (why : RunStop) (middle new : ReplyLines W) (next : Reply) → IsCutBy (CutsLine contents failures) why middle new next
+      → IsLeftAt why it h → Keeps (contents middle.output.now) (contents new.output.now) ⊎ Stands it h
+  next_acted it h (stop.Fault fault) middle new next cut spent =
+      inl (subst (λ (k : ReplyLines W). Keeps (contents middle.output.now) (contents k.output.now)) (sym cut.0) (Keeps-same (contents middle.output.now)))
+  next_acted it h stop.Cut middle new next cut stands = inr stands
+
   pub stopped_lines : {S : Type 0} {g : Ghosts S} (it : Registry S g) (h : History) (rs : List Request) (a n : ℕ) (old new : ReplyLines W) (why : RunStop)
       → IsHalted (TakesLine contents failures) (CutsLine contents failures) it h rs a n old new why → IsStoppedAt it h rs a n (contents old.output.now) (contents new.output.now)
   stopped_lines it h rs a n old new why halted =
@@ -63,7 +77,8 @@ module _ {W : Type 0} (contents : W → Option (List ℕ)) (failures : W → ℕ
           contents middle.output.now,
           (taken_lines old middle _ halted.taken).gained,
           subst (λ (text : List ℕ). AppendsBeginning (contents middle.output.now) (contents new.output.now) text) (sym one) (next_begun why middle new halted.reply.0 halted.reply.2),
+          next_acted it (after h (take (n + 1) rs)) why middle new halted.reply.0 halted.reply.2 halted.ends,
         );
         leaves = halted.leaves;
-        ends = elim halted.ends [ inl spent ↦ inl spent | inr stands ↦ inr (inr (halted.within, stands)) ];
+        ends = elim (spent_or_there it (after h (take (n + 1) rs)) why halted.ends) [ inl spent ↦ inl spent | inr stands ↦ inr (inr (halted.within, stands)) ];
       }

@@ -35,12 +35,13 @@ module _ {S : Type 0} {g : Ghosts S} where
     pub gained : Appends old new (reply_lines (drop a (answers h rs)))
     pub stands : Stands it (after h rs)
 
-  -- The run stopped with n requests answered. Their reply lines are out, and of the next one at most a beginning.
-  -- The registry, and what a crash leaves, has acted on these requests and on at most one more.
+  -- The run stopped with n requests answered, whose reply lines are out. Of the next line nothing is out; or at most a beginning
+  -- is, and the registry is at the history after its request. A crash leaves these n requests, and at most one more.
   pub record IsStoppedAt (it : Registry S g) (h : History) (rs : List Request) (a n : ℕ) (old new : Option (List ℕ)) : Type 0 where
     pub from : a ≤ n
     pub within : n ≤ length rs
     pub gained : (middle : Option (List ℕ)) × Appends old middle (lines_between h rs a n) × AppendsBeginning middle new (lines_between h rs n (n + 1))
+        × (Keeps middle new ⊎ Stands it (after h (take (n + 1) rs)))
     pub leaves : Leaves newest (state_of it) (IsPlace h rs n)
     pub ends : (is_spent it ≡ true) ⊎ HasAnswered it h rs n
 

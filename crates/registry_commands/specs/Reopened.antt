@@ -1,12 +1,12 @@
 -- What the next opening of a store finds, after request lines were acted on over it.
-use Rattle.std.specs.Prelude.{◌≡◌, ◌<◌, ◌≤◌, ◌+◌, ℕ, List, length, Option, Result, Ok, Err}
+use Rattle.std.specs.Prelude.{◌≡◌, ◌⊎◌, ◌<◌, ◌≤◌, ◌+◌, ℕ, List, length, take, Option, Result, Ok, Err}
 use Rattle.std.specs.Io.KnownBytes.{Appends, Keeps}
 use Rattle.sqlite.specs.Store.{Ghosts}
 use Rattle.sqlite.specs.State.{HasCleanDisk}
 use Rattle.usbids_text.specs.Ends.{AppendsBeginning}
 use Rattle.registry_rules.specs.declared.order.Request.{Request}
 use Rattle.registry_rules.specs.History.{History}
-use Rattle.registry_rules.specs.Run.{Legal}
+use Rattle.registry_rules.specs.Run.{Legal, after}
 use Rattle.registry_store.specs.declared.registry.Registry.{Registry}
 use Rattle.registry_store.specs.Promise.{Stands, state_of}
 use Rattle.registry_store.specs.Run.{HasAnswered}
@@ -18,13 +18,14 @@ module _ {S : Type 0} {g : Ghosts S} where
   abbrev pub IsReopenedAsBefore : Registry S g → Registry S g → Option (List ℕ) → Option (List ℕ) → Type 0
   IsReopenedAsBefore first it out out_new = Keeps out out_new × ((h : History) → Stands first h → HasCleanDisk (state_of it) → ∥ Stands it h ∥₁)
 
-  -- The reply lines of the requests up to the n-th are out, and of the next one at most a beginning; at status 0 that is all of them.
-  -- The registry that is opened has acted on these n requests, and on at most one more.
+  -- The reply lines of the requests up to the n-th are out; at status 0 that is all of them. The registry that is opened has acted
+  -- on these n requests, and on at most one more: on this one where anything of its line is out.
   pub record IsReopenedAt (it : Registry S g) (h : History) (rs : List Request) (a n : ℕ) (out out_new : Option (List ℕ)) (status : ℕ) : Type 0 where
     pub from : a ≤ n
     pub within : n ≤ length rs
     pub whole : status ≡ 0 → n ≡ length rs
     pub gained : (middle : Option (List ℕ)) × Appends out middle (lines_between h rs a n) × AppendsBeginning middle out_new (lines_between h rs n (n + 1))
+        × (Keeps middle out_new ⊎ ∥ Stands it (after h (take (n + 1) rs)) ∥₁)
     pub answered : ∥ HasAnswered it h rs n ∥₁
 
   -- what is opened after the requests that were read were acted on over the first registry, of which so many are answered already, or after a line that is none

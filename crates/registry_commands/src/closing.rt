@@ -1,11 +1,11 @@
 //! A store that a command has done with.
 
-ghost use Rattle.std.specs.Prelude.{◌≡◌, ◌≢◌, ◌⊎◌};
+ghost use Rattle.std.specs.Prelude.{◌≡◌, ◌≢◌, ◌⊎◌, ℕ};
 ghost use Rattle.sqlite.specs.Files.{file_state};
 ghost use Rattle.sqlite.specs.State.{HasCleanDisk};
 ghost use Rattle.sqlite.specs.WalReads.{AreClean};
 ghost use Rattle.registry_rules.specs.History.{History};
-ghost use Rattle.registry_store.specs.Promise.{LeavesSome};
+ghost use Rattle.registry_store.specs.Promise.{LeavesFrom};
 ghost use Rattle.registry_store.specs.Reopen.{AreClosed, HoldEither, IsEither};
 ghost use Rattle.registry_commands.specs.Failures.{IsOfStore, TellsFailure, told_to};
 
@@ -30,8 +30,8 @@ pub fn close_store<D: Disk + Drop, E: Sink>(
     ensures well { status ≡ 0 → ((result.0 ≡ 0) × (errors.new ≡ errors.old))
         ⊎ ((result.0 ≡ 1) × TellsFailure IsOfStore (told_to E.contents E.failures errors.old errors.new)) }
     ensures closed { AreClosed conn result.1 }
-    ensures holds { result.0 ≡ status → (h next : History) → (HasCleanDisk (file_state conn) → LeavesSome (file_state conn) (IsEither h next))
-        → AreClean D.Disk result.1.log result.1.db → HoldEither D.Disk result.1 h next }
+    ensures holds { result.0 ≡ status → (from : ℕ) (h next : History) → (HasCleanDisk (file_state conn) → LeavesFrom from (file_state conn) (IsEither h next))
+        → AreClean D.Disk result.1.log result.1.db → HoldEither D.Disk from result.1 h next }
 {
     if status != 0 {
         return (status, leave_store(conn));

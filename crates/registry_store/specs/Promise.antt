@@ -17,9 +17,9 @@ use Rattle.registry_store.specs.declared.registry.Registry.{Registry}
 abbrev pub Leaves : ℕ → State → (History → Type 0) → Type 0
 Leaves v s These = (db : Trees) → s.may_leave db → (h : History) × These h × Rows v db h
 
--- the same in some schema
-abbrev pub LeavesSome : State → (History → Type 0) → Type 0
-LeavesSome s These = (db : Trees) → s.may_leave db → (h : History) × These h × (v : ℕ) × Rows v db h
+-- the same in this schema or a later one
+abbrev pub LeavesFrom : ℕ → State → (History → Type 0) → Type 0
+LeavesFrom from s These = (db : Trees) → s.may_leave db → (h : History) × These h × (v : ℕ) × (from ≤ v) × Rows v db h
 
 -- the rows of the history, in this schema or a later one
 abbrev pub LeavesLater : ℕ → State → History → Type 0

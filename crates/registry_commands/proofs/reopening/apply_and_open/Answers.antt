@@ -6,7 +6,7 @@ use Rattle.sqlite.specs.Files.{file_state}
 use Rattle.registry_tables.specs.Rows.{newest}
 use Rattle.registry_store.specs.Promise.{Leaves}
 use Rattle.registry_store.specs.Reopen.{IsEither}
-use Rattle.registry_store.proofs.Crash.{closed_clean, in_some}
+use Rattle.registry_store.proofs.Crash.{closed_clean, in_newest}
 use Rattle.registry_commands.specs.Failures.{IsOfInput, IsOfOutput, told_to}
 use Rattle.registry_commands.specs.Lines.{requests_in}
 use Rattle.registry_commands.proofs.ReopenLemmas.{if_reopened}
@@ -26,7 +26,7 @@ returns g c =
           c.open_files.result
           (λ h next legal legal_next leaves.
           let before = subst (λ x. HasCleanDisk (file_state x) → Leaves newest (file_state x) (IsEither h next)) (sym c.close.ensures) leaves in
-          c.open_files.ensures.stands h next legal legal_next (λ honest. (close.ensures.holds c.if-closed-status.false h next (in_some (file_state c.close.result) (IsEither h next) before) honest).now))
+          c.open_files.ensures.stands newest h next legal legal_next (λ honest. (close.ensures.holds c.if-closed-status.false newest h next (in_newest (file_state c.close.result) (IsEither h next) before) honest).now))
           (IfSome_then c.open_files.result c.open_files.ensures.honest
           (λ x honest clean. subst (λ y. HasCleanDisk (file_state y)) c.close.ensures (closed_clean c.close.result close.result.1 close.ensures.closed (honest clean)))),
     )

@@ -8,10 +8,10 @@ use Rattle.registry_store.proofs.Opening.{either_legal}
 use Rattle.registry_store.proofs.reopen.take_up.Goals as goal
 
 pub returns-in-Ok-clause-stands : goal.returns-in-Ok-clause-stands
-returns-in-Ok-clause-stands g c image h next legal legal_next opened clean =
+returns-in-Ok-clause-stands g c from image h next legal legal_next opened clean =
     let conn = c.args.conn in
     let was : HasCleanDisk (file_state conn) = omega (arith, c.in-Ok.ensures.survives.clean) in
     let it = opened was in
     ∥∥₁_map it.2 (λ found.
-    let fresh : IsFreshAt found.4 (file_state conn) found.2 = λ _. (it.0.0.is_open, it.0.0.clean, subst (λ db. Rows found.4 db found.2) (sym (it.1.holds found.0 found.1)) found.5) in
+    let fresh : IsFreshAt found.4 (file_state conn) found.2 = λ _. (it.0.0.is_open, it.0.0.clean, subst (λ db. Rows found.4 db found.2) (sym (it.1.holds found.0 found.1)) found.6) in
     (found.2, found.3, c.in-Ok.ensures.fresh found.4 found.2 (either_legal h next found.2 legal legal_next found.3) fresh clean))
