@@ -89,10 +89,6 @@ fn explain(rt: &HostRuntime, usage: &Usage) -> u8 {
                 1
             }
         }
-        Usage::Missing => {
-            let _ = rt.eprintln("error: a word is missing: see usbreg --help");
-            2
-        }
         Usage::NoMemory => {
             let _ = rt.eprintln("fault: memory");
             1

@@ -1,3 +1,6 @@
 pub mod CommandLemmas
+pub mod CommandValues
+pub mod EnteredLemmas
+pub mod LevelLemmas
 pub mod NumberLemmas
 pub mod Vectors

@@ -1,4 +1,4 @@
-use Rattle.std.proofs.Common.{◌≡◌, ◌≤◌, arith, sym}
+use Rattle.std.proofs.Common.{◌≤◌, arith, sym}
 use Rattle.registry_words.proofs.NumberLemmas.{number-within, number-outside, number-none}
 use Rattle.registry_words.proofs.command.number_in.Goals as goal
 use Rattle.registry_words.proofs.command.number_in.Goals.{else-low-number-via-then-low-number+else-number-high, else-low-number-via-else-low-number}
