@@ -3,4 +3,5 @@ pub mod CommandValues
 pub mod EnteredLemmas
 pub mod LevelLemmas
 pub mod NumberLemmas
+pub mod UsageLemmas
 pub mod Vectors
