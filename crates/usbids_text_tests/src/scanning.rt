@@ -1,5 +1,8 @@
 //! Devices that are looked for in lists that come in pieces.
 
+ghost use Rattle.std.specs.Prelude.{◌<◌, length};
+
+use std::process::Abort;
 use std::test::Fail;
 use usbids_text::{Inlet, LineFault, ReadFault, Scan, Why, scan_all};
 use usbnum_core::Vid;
@@ -17,20 +20,33 @@ const ROWS: &[(u16, u16, Option<&str>)] = &[
     (0x12, 0x11, None),
 ];
 
+/// The list has this name for the device, where it is read in pieces as large as the room.
+fn has_name(
+    rt: &(impl AllocGlobal + Abort),
+    row: &(u16, u16, Option<&str>),
+    room: &mut [u8],
+) -> Result<(), Fail>
+    requires { 0 < length room.old }
+{
+    let (vendor, code, name) = row;
+    let vendor = Vid::new(*vendor).ok_or("a vendor")?;
+    let mut scan = Scan::new(rt.alloc(), vendor, *code);
+    scan_all(&mut Inlet::new(LIST), &mut scan, room).map_err(|_| "a source")?;
+    let found = scan.finish()?;
+    assert_eq!(rt;
+        found.as_ref().map(|found| found.as_bytes()),
+        name.map(|name| name.as_bytes())
+    );
+    Ok(())
+}
+
 #[test]
 fn finds_the_first_match_however_the_list_is_cut(rt: HostRuntime) -> Result<(), Fail> {
-    for (vendor, code, name) in ROWS {
-        let vendor = Vid::new(*vendor).ok_or("a vendor")?;
-        for size in [1usize, 7, 4096] {
-            let mut scan = Scan::new(rt.alloc(), vendor, *code);
-            let mut room = vec![in rt.alloc(); 0u8; size]?;
-            scan_all(&mut Inlet::new(LIST), &mut scan, &mut room).map_err(|_| "a source")?;
-            let found = scan.finish()?;
-            assert_eq!(rt;
-                found.as_ref().map(|found| found.as_bytes()),
-                name.map(|name| name.as_bytes())
-            );
-        }
+    let (mut one, mut seven, mut many) = ([0u8; 1], [0u8; 7], [0u8; 4096]);
+    for row in ROWS {
+        has_name(&rt, row, &mut one)?;
+        has_name(&rt, row, &mut seven)?;
+        has_name(&rt, row, &mut many)?;
     }
     Ok(())
 }
