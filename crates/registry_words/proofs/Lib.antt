@@ -1,3 +1,5 @@
+pub mod AcceptLemmas
+pub mod Accepted
 pub mod CommandLemmas
 pub mod CommandValues
 pub mod EnteredLemmas

@@ -1,11 +1,10 @@
 -- What an error of `clap` comes to.
-use Rattle.std.proofs.Common.{◌≡◌, ◌⊎◌, refl, inl, inr, subst, sym, []}
+use Rattle.std.proofs.Common.{◌≡◌, ◌⊎◌, refl, inl, inr, subst, sym}
 use Rattle.clap.specs.Words.{IsAmong, Kinds, kind_of}
 use Rattle.clap.specs.declared.error.Error.{Error}
 use Rattle.clap.specs.declared.error.kind.ErrorKind.{ErrorKind}
 use Rattle.clap.specs.declared.error.kind.ErrorKind.TheVariants as kind
 use Rattle.registry_words.specs.Commands.{IsOfFaults, usage_by}
-use Rattle.registry_words.specs.declared.command.Usage.{Usage}
 use Rattle.registry_words.specs.declared.command.Usage.TheVariants as usage
 
 pub refused : (k : ErrorKind) (e : Error) → (k ≡ kind.OutOfMemory → ⊥) → usage_by k e ≡ usage.Refused e
@@ -16,7 +15,3 @@ pub of_faults : (faults : Kinds) (k : ErrorKind) (e : Error) → kind_of e ≡ k
 of_faults faults kind.OutOfMemory e is h = tt
 of_faults faults k e is (inl memory) = absurd cc
 of_faults faults k e is (inr among) = subst (λ (x : ErrorKind). IsAmong x faults) (sym is) among
-
-pub for_memory : (faults : Kinds) (u : Usage) → faults ≡ [] → IsOfFaults faults u → u ≡ usage.NoMemory
-for_memory faults (usage.Refused e) none among = absurd (subst (λ (some : Kinds). IsAmong (kind_of e) some) none among)
-for_memory faults usage.NoMemory none h = refl

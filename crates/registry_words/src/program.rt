@@ -1,7 +1,7 @@
 //! The program's command line, as `clap` is told of it.
 
-ghost use Rattle.std.specs.Prelude.{◌≡◌, IfOk, false, codes};
-ghost use Rattle.clap.specs.Words.{app_of, rule_of, new_app, with_rule, with_subcommand};
+ghost use Rattle.std.specs.Prelude.{◌≡◌, ◌∷◌, [], IfOk, Some, false, codes};
+ghost use Rattle.clap.specs.Words.{app_of, items_of, rule_of, new_app, with_rule, with_subcommand};
 ghost use Rattle.clap.specs.declared.builder.command.Command.TheViews.{out-Command};
 ghost use Rattle.registry_words.specs.Commands.{apply_app, bare_app, export_app, found_app, import_app, lookup_app, needed_option, numeric, option, report_app, serve_app, trial_app, usbreg_app, word};
 
@@ -13,6 +13,7 @@ use std::alloc::{AllocError, Global};
 fn word<'a>(alloc: Global, name: &'a str, shown: &'a str, help: &'a str) -> Arg<'a>
     ensures rule { rule_of result ≡ word name.entry.now }
     ensures local { result.global ≡ false }
+    ensures texts { (result.help ≡ Some help.entry) × (items_of result.val_names ≡ shown.entry ∷ []) }
 {
     Arg::new(alloc, name)
         .required(true)
@@ -24,6 +25,7 @@ fn word<'a>(alloc: Global, name: &'a str, shown: &'a str, help: &'a str) -> Arg<
 fn option<'a>(alloc: Global, name: &'a str, shown: &'a str, help: &'a str) -> Arg<'a>
     ensures rule { rule_of result ≡ option name.entry.now }
     ensures local { result.global ≡ false }
+    ensures texts { (result.help ≡ Some help.entry) × (items_of result.val_names ≡ shown.entry ∷ []) }
 {
     Arg::new(alloc, name)
         .long(name)
@@ -35,6 +37,7 @@ fn option<'a>(alloc: Global, name: &'a str, shown: &'a str, help: &'a str) -> Ar
 fn needed_option<'a>(alloc: Global, name: &'a str, shown: &'a str, help: &'a str) -> Arg<'a>
     ensures rule { rule_of result ≡ needed_option name.entry.now }
     ensures local { result.global ≡ false }
+    ensures texts { (result.help ≡ Some help.entry) × (items_of result.val_names ≡ shown.entry ∷ []) }
 {
     option(alloc, name, shown, help).required(true)
 }
@@ -42,6 +45,7 @@ fn needed_option<'a>(alloc: Global, name: &'a str, shown: &'a str, help: &'a str
 /// The same argument, with a decimal number between the two as its value.
 fn numeric<'a>(arg: Arg<'a>, low: u64, high: u64) -> Arg<'a>
     ensures rule { rule_of result ≡ numeric low high (rule_of arg.entry) }
+    ensures others { result ≡ record arg.entry { value_parser = result.value_parser } }
     ensures local { result.global ≡ arg.entry.global }
 {
     arg.value_parser(ValueParser::Unsigned(low, high))
@@ -51,6 +55,7 @@ fn numeric<'a>(arg: Arg<'a>, low: u64, high: u64) -> Arg<'a>
 fn subcommand<'a>(alloc: Global, name: &'a str, about: &'a str, example: &'a str) -> Command<'a>
     ensures app { app_of result ≡ new_app name.entry.now }
     ensures local { (out-Command result).has_globals ≡ false }
+    ensures texts { ((out-Command result).about ≡ Some about.entry) × ((out-Command result).after_help ≡ Some example.entry) }
 {
     Command::new(alloc, name).about(about).after_help(example)
 }

@@ -3,6 +3,7 @@ use Rattle.std.specs.Prelude.{IsSome}
 use Rattle.clap.specs.Words.{Text}
 use Rattle.registry_words.specs.Commands.{asked_by, command_of}
 use Rattle.registry_words.specs.declared.command.Command.{Command}
+use Rattle.registry_words.proofs.Accepted.{accepted}
 use Rattle.registry_words.proofs.CommandValues.{asks_for_a_command}
 use Rattle.registry_words.proofs.command.command_of.Goals as goal
 
@@ -10,6 +11,12 @@ use Rattle.registry_words.proofs.command.command_of.Goals as goal
 pub unreachable-requires : goal.unreachable-requires
 unreachable-requires c =
     let words : List Text = map string_bytes c.args.words.now in
-    let there : IsSome (command_of words) = asks_for_a_command words c.in_ok-matches.ensures.taken in
+    let there : IsSome (command_of words) = asks_for_a_command words ((accepted words).0 c.in_ok-matches.ensures.taken) in
     let gone : None ≡ command_of words = c.in-None.ensures ∙ ap asked_by c.in_ok-matches.ensures.ok in
     true≢false (sym there ∙ ap (λ (o : Option (Command Text)). is_some o) (sym gone))
+
+pub returns-clause-faultless : goal.returns-clause-faultless
+returns-clause-faultless c = accepted _
+
+pub returns-in_err-matches-clause-faultless : goal.returns-in_err-matches-clause-faultless
+returns-in_err-matches-clause-faultless c = accepted _
