@@ -1,6 +1,7 @@
 #!/usr/bin/env python3
 """Holds `usbreg` against a plain history in Python (`plain_history.py`): the cases in `cases/`, histories at the edges of
-limits, and requests made up by chance, the same ones in each run. Replies and all tables have to be the same.
+limits, and requests made up by chance, the same ones in each run. Replies, all tables and the exported list have to be
+the same, and another reader has to find the held numbers and their titles in the list.
 
 Usage: scripts/compare_with_plain_history.py [PROGRAM], by default the one that `make` builds. The status is 0 where all
 is as it should be.
@@ -17,6 +18,7 @@ from itertools import groupby
 
 import plain_history
 from plain_history import REFUSALS, History
+from show_in_files import devices
 from usbreg import TOP, content, folder, found, opened, program, run, write, write_requests
 
 LINK = "http://a.example/"
@@ -64,6 +66,7 @@ class Registry:
             if plain != given:
                 sys.exit(f"{what}: usbreg replies {given} to {request}, where {plain} is expected")
         self.compare_tables(what)
+        self.compare_list(what)
         return expected
 
     def compare_tables(self, what):
@@ -72,6 +75,15 @@ class Registry:
                 stored = sorted(connection.execute(f"SELECT * FROM {name}"), key=repr)
                 if stored != sorted(rows, key=repr):
                     sys.exit(f"{what}: the table {name} is {stored}, where {rows} is expected")
+
+    def compare_list(self, what):
+        """The exported list is the plain history's to the byte, and so is what another reader takes from it."""
+        lines = self.ended(["export", self.store])
+        if lines != self.history.list_lines():
+            sys.exit(f"{what}: the list is {lines}, where {self.history.list_lines()} is expected")
+        held = {(f"{vid:04x}", f"{pid:04x}"): title for (vid, pid), title in self.history.titles().items()}
+        if devices("\n".join(lines)) != held:
+            sys.exit(f"{what}: another reader takes {devices(chr(10).join(lines))} from the list, where {held} is held")
 
 
 class Room:

@@ -272,6 +272,24 @@ class History:
         check(len(self.licences()) < 1024, 18)
         return {"reply": f"added licence {request['licence']}"}
 
+    # The list.
+
+    def owned(self):
+        """The numbers that have an owner, ascending."""
+        return sorted({number for deed in self.deeds for number in deed.get("gives", {})})
+
+    def titles(self):
+        """The title of each held number."""
+        return {it: self.card(it)[0] for it in self.owned() if self.is_held(it)}
+
+    def list_lines(self):
+        """The lines of the list: each vendor with its held numbers."""
+        titles, lines = self.titles(), ["# List of USB numbers in the syntax of usb.ids", ""]
+        for vid, name in sorted(self.vendors().items()):
+            lines.append(f"{vid:04x}  {name}")
+            lines += [f"\t{it[1]:04x}  {title}" for it, title in titles.items() if it[0] == vid]
+        return lines
+
     # The tables.
 
     def card(self, number):
@@ -308,7 +326,6 @@ class History:
 
     def tables(self):
         """The rows of each table, ascending."""
-        owned = sorted({number for deed in self.deeds for number in deed.get("gives", {})})
         return {
             "meta": [(1, 3, self.founder, self.founding["name"])],
             "curators": sorted((it,) for it in self.founding["curators"]),
@@ -317,7 +334,7 @@ class History:
             "orgs": sorted(self.described(it["org"]) for it in self.of_order("enrol")),
             "vendors": sorted(self.vendors().items()),
             "spans3": self.reserved_spans(),
-            "entries3": [(*it, self.owner(it), int(self.is_held(it)), *self.card(it)) for it in owned],
+            "entries3": [(*it, self.owner(it), int(self.is_held(it)), *self.card(it)) for it in self.owned()],
             "petitions3": [self.petition_row(*it) for it in enumerate(self.of_order("ask"), 1)],
             "kept": sorted((it["caller"], it["key"], it["form"].encode(), it["reply"]) for it in self.deeds),
             **{older: [] for older in ("petitions", "entries", "reserved", "spans")},

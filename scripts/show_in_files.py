@@ -17,6 +17,9 @@ VENDOR = "\n1209  Shared products\n"
 LINK = "https://acme.example/"
 FIRST = ["enrolled acme", "petition 1", "granted 0011 to acme by petition 1"]
 
+OTHER_KINDS = "\nC 00  (Defined at Interface level)\nHID 21  HID\nBIAS 0  Not Applicable\nL 0001  Arabic\n"
+LISTED = f"# Version: 2024.01.30\n{VENDOR}\t0011  Blinker\n{OTHER_KINDS}"
+ORPHAN = "1209  A\n\t\t01  x\n"
 USUAL = "1209  One\n\t0011  First\n\t0011  Second\n1210  Two\n\t0012  Other\n1209  Again\n\t0012  Late\n\t0000  \n"
 FAULTY = "1209  One\n\t0011  First\n\t11  x\n"
 
@@ -57,7 +60,7 @@ def exports(room):
     empty = room.founded("shown")
     room.case(["export", empty], output=HEADER + VENDOR)
     room.case(["export", empty, "--stamp", "2024-01-30 20:34:02"], output=HEADER + STAMP + VENDOR)
-    for bad in ("2024-13-30 20:34:02", "2024-01-30 20:34:60", "2024-01-30", ""):
+    for bad in ("2024-13-30 20:34:02", "2024-01-30 20:34:60", "2024-13-30", "2024-01-30", ""):
         room.case(["export", empty, "--stamp", bad], 2, errors="bad word: stamp\n")
     room.case(["export", f"{room.folder}/none.db"], 1, errors="fault: file\n")
     store = first(room, "one")
@@ -154,6 +157,10 @@ def imports(room):
 
 def look_ups(room):
     """The first match of several, no match, a match of a faulty list, and arguments that are no numbers."""
+    listed, orphan = room.file("other_kinds.ids", LISTED), room.file("orphan.ids", ORPHAN)
+    room.case(["lookup", listed, "1209", "0011"], output="Blinker\n")
+    room.case(["lookup", listed, "1209", "0012"], 2, errors="not found\n")
+    room.case(["lookup", orphan, "1209", "0011"], 2, errors='{"detail":"line 2: NoParent","name":"BadList","refused":29}\n')
     usual, faulty = room.file("usual.ids", USUAL), room.file("faulty.ids", FAULTY)
     for vid, pid, name in (("1209", "0011", "First"), ("1209", "0012", "Late"), ("1210", "0012", "Other"), ("1209", "0000", "")):
         room.case(["lookup", usual, vid, pid], output=f"{name}\n")
@@ -166,13 +173,17 @@ def look_ups(room):
 
 
 def devices(text):
-    """The devices of a list as `lsusb` reads one: a vendor is four digits and two spaces, a device a tab before them."""
+    """The devices of a list as `lsusb` reads one: a vendor is four digits and two spaces, a device a tab before them.
+    Below an entry of another kind there are none."""
     found, vendor = {}, None
-    for it in text.splitlines():
-        if entry := re.fullmatch(r"(\t?)([0-9a-f]{4})  (.*)", it):
-            vendor, device = (vendor, entry[2]) if entry[1] else (entry[2], None)
-            if device:
-                found.setdefault((vendor, device), entry[3])
+    for it in text.split("\n"):
+        entry = re.fullmatch(r"(\t?)([0-9a-f]{4})  (.*)", it)
+        if entry and not entry[1]:
+            vendor = entry[2]
+        elif entry and vendor:
+            found.setdefault((vendor, entry[2]), entry[3])
+        elif it[:1] not in ("", "\t", "#"):
+            vendor = None
     return found
 
 
