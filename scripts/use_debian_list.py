@@ -20,7 +20,7 @@ def is_title(name):
         text = name.encode("latin-1").decode()
     except UnicodeDecodeError:
         return False
-    return 1 <= len(name) <= 200 and text == text.strip(" ") and not any(ord(it) < 32 or 127 <= ord(it) < 160 for it in text)
+    return 1 <= len(name) <= 200 and text == text.strip(" ") and not any(ord(it) < 32 or ord(it) == 127 for it in text)
 
 
 def look_up(usbreg, path, listed):
@@ -52,7 +52,7 @@ def main():
     usbreg = program(*sys.argv[1:2])
     path = sys.argv[2] if len(sys.argv) > 2 else LIST
     if not os.path.exists(path):
-        print(f"the list {path} is not here: apt-get install usb.ids")
+        print(f"SKIPPED: Debian's list of USB numbers is not used: {path} is not here: apt-get install usb.ids")
         return
     listed = {it: name.rstrip(" \t\r") for it, name in devices(content(path).decode("latin-1")).items()}
     look_up(usbreg, path, listed)

@@ -126,8 +126,9 @@ fn apply<'a>(alloc: Global) -> Result<Command<'a>, AllocError>
         "apply",
         "Run the request lines of a file over a registry",
         "After a stop, count the reply lines that were printed and run the same file again with \
-         that count: no request is acted on twice.\n\nExample:\n  usbreg apply numbers.db \
-         examples/first.jsonl\n  usbreg apply numbers.db examples/first.jsonl --answered 3",
+         that count: no request is acted on twice.\n\nExample:\n  usbreg found numbers.db \
+         examples/founding.toml\n  usbreg apply numbers.db examples/first.jsonl\n  usbreg apply \
+         numbers.db examples/first.jsonl --answered 3",
     );
     let command = with_arg(
         command,
@@ -155,7 +156,9 @@ fn import<'a>(alloc: Global) -> Result<Command<'a>, AllocError>
         alloc,
         "import",
         "Give an organisation the devices of a list, as far as they are free",
-        "Example:\n  usbreg import numbers.db usb.ids --caller cora --key first-list --org acme",
+        "Example:\n  usbreg found numbers.db examples/founding.toml\n  usbreg apply numbers.db \
+         examples/first.jsonl\n  usbreg import numbers.db examples/devices.ids --caller cora --key \
+         first-list --org acme",
     );
     let command = with_arg(
         command,
@@ -190,7 +193,7 @@ fn serve<'a>(alloc: Global) -> Result<Command<'a>, AllocError>
         alloc,
         "serve",
         "Serve a registry by HTTP on 127.0.0.1, one connection after another",
-        "Example:\n  usbreg serve numbers.db --port 8080",
+        "Example:\n  usbreg found numbers.db examples/founding.toml\n  usbreg serve numbers.db --port 8080",
     );
     let command = with_arg(
         command,
@@ -211,7 +214,8 @@ fn export<'a>(alloc: Global) -> Result<Command<'a>, AllocError>
         alloc,
         "export",
         "Print the held numbers as a list in the syntax of usb.ids",
-        "Example:\n  usbreg export numbers.db --stamp '2024-01-30 20:34:13' > usb.ids",
+        "Example:\n  usbreg found numbers.db examples/founding.toml\n  usbreg export numbers.db \
+         --stamp '2024-01-30 20:34:13' > usb.ids",
     );
     let command = with_arg(
         command,
@@ -230,7 +234,7 @@ fn report<'a>(alloc: Global) -> Result<Command<'a>, AllocError>
         alloc,
         "report",
         "Print what is free and held, who holds it, or the open petitions",
-        "Example:\n  usbreg report numbers.db census",
+        "Example:\n  usbreg found numbers.db examples/founding.toml\n  usbreg report numbers.db census",
     );
     let command = with_arg(
         command,
@@ -249,7 +253,7 @@ fn lookup<'a>(alloc: Global) -> Result<Command<'a>, AllocError>
         alloc,
         "lookup",
         "Print the name of a device in a list",
-        "Example:\n  usbreg lookup usb.ids 1209 0011",
+        "Example:\n  usbreg lookup examples/devices.ids 1209 0011",
     );
     let command = with_arg(command, word(alloc, "list", "LIST", "A list as in usb.ids"))?;
     let command = with_arg(
@@ -272,7 +276,7 @@ fn bare<'a>(alloc: Global) -> Command<'a>
         .about("A registry of shared USB product numbers, which loses and doubles no grant")
         .after_help(
             "With no command it is `trial`. `found`, `apply`, `import` and `serve` change a store; \
-             the other commands leave it as it is.\n\nExit status: 0, 1 after a fault of the store, of \
+             the other commands leave its registry as it is.\n\nExit status: 0, 1 after a fault of the store, of \
              memory or of a file, 2 for words or lines that are refused.",
         )
 }
