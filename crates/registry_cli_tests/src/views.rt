@@ -1,7 +1,9 @@
 //! What commands show of a registry in memory, what an import does to it, and look-ups.
 
 use crate::shared::{Written, applied, founded, wrote};
-use registry_commands::{export, import_list, import_of_arguments, look_up, report, report_named};
+use registry_commands::{
+    export, import_list, import_of_arguments, look_up, reject_word, report, report_named,
+};
 use registry_store::Registry;
 use registry_wire::stamp_from_text;
 use sqlite::Alter;
@@ -275,8 +277,21 @@ fn an_export_is_imported(rt: HostRuntime) {
     );
 }
 
+/// A list as the usual one is written, with entries of other kinds.
+const USUAL: &str =
+    "# Version: 2024.01.30\n\n1209  Shared products\n\t0011  Blinker\n\nC 00  (Defined at Interface level)\nHID 21  HID\nBIAS 0  Not Applicable\nL 0001  Arabic\n";
+
 /// A list, a device, and the status, the output and the errors of looking it up.
 const LOOK_UPS: &[(&str, u16, u8, &str, &str)] = &[
+    (USUAL, 0x11, 0, "Blinker\n", ""),
+    (USUAL, 0x12, 2, "", "not found\n"),
+    (
+        "1209  A\n\t\t01  x\n",
+        0x11,
+        2,
+        "",
+        "{\"detail\":\"line 2: NoParent\",\"name\":\"BadList\",\"refused\":29}\n",
+    ),
     (
         "1209  One\n\t0011  First\n\t0011  Second\n",
         0x11,
@@ -312,4 +327,25 @@ fn look_ups(rt: HostRuntime) -> Result<(), Fail> {
         wrote(&rt, &written(ended, out, err), *status, output, errors);
     }
     Ok(())
+}
+
+/// The caller, the key, the organisation and the vendor of an import, and what is said of the first bad one.
+const BAD_ARGUMENTS: &[(&str, &str, &str, Option<&str>, &str)] = &[
+    ("Cora", "", "Acme", Some("0"), "bad word: caller\n"),
+    ("cora", "", "Acme", Some("0"), "bad word: key\n"),
+    ("cora", "i1", "Acme", Some("0"), "bad word: org\n"),
+    ("cora", "i1", "acme", Some("0000"), "bad word: vendor\n"),
+];
+
+#[test]
+fn the_first_bad_argument_of_an_import_is_told(rt: HostRuntime) {
+    for (caller, key, org, vendor, told) in BAD_ARGUMENTS {
+        let word = import_of_arguments(rt.alloc(), caller, key, org, *vendor)
+            .expect(&rt, "memory")
+            .err()
+            .expect(&rt, "a bad argument");
+        let mut errors = Outlet::new(Vec::new(rt.alloc()));
+        assert_eq!(rt; reject_word(&mut errors, word), 2);
+        assert_eq!(rt; errors.into_inner().as_slice(), told.as_bytes());
+    }
 }
