@@ -1,7 +1,7 @@
 #!/usr/bin/env python3
 """The gate: `rt ci` over a copy of the repository, and beside it the must-fail edits, as many in one check as can be,
-over the libraries that `rt ci` has just proved; then the tests over the program's crates, compiled with checks and not
-proved; then the scripts that try the program.
+over the libraries that `rt ci` has just proved; then the tests of the program, compiled with checks and not proved;
+then the scripts that try the program.
 
 The copy has the files as they stand, committed or not, and lies in a temporary folder, without the edits and without
 the crates of tests that are not proved here. What `rt ci` says of these, and of each edit by itself, `make gate` shows,
@@ -29,7 +29,7 @@ COUNT = re.compile(r"(\d+) passed, (\d+) failed\n?")
 
 # Crates of tests whose functions hold a registry over files. To prove a test shows that it keeps to what its calls
 # require and does not overflow; of these it takes longer than the proof of all that they call, so `make gate` does it.
-TRIED = ("registry_store_tests", "registry_cli_tests")
+TRIED = ("registry_cli_tests",)
 
 # How many crates have their edits tried while `rt ci` runs, which leaves about half of four processors idle, and the
 # bytes of memory that have to be free for one more.
@@ -120,7 +120,9 @@ class Part:
     def lines(self):
         """What it prints, line by line."""
         how = {"stdin": subprocess.DEVNULL, "stdout": subprocess.PIPE, "stderr": subprocess.STDOUT}
-        with subprocess.Popen(self.words, cwd=self.at, text=True, errors="replace", start_new_session=True, **how) as ran:
+        # a group of its own, to be ended as a whole, and not a session: Linux shares processors out among sessions
+        # first, and `nice` counts only within one
+        with subprocess.Popen(self.words, cwd=self.at, text=True, errors="replace", process_group=0, **how) as ran:
             self.running.add(ran.pid)
             yield from ran.stdout
             _, status, used = os.wait4(ran.pid, 0)
