@@ -34,7 +34,7 @@ TRIED = ("registry_cli_tests",)
 # How many crates have their edits tried while `rt ci` runs, which leaves about half of four processors idle, and the
 # bytes of memory that have to be free for one more.
 LANES = 2
-ROOM = 6 * 2**30
+ROOM = 8 * 2**30
 
 
 def files():
