@@ -3,7 +3,6 @@ pub mod EndLemmas
 pub mod FailureLemmas
 pub mod ImportLemmas
 pub mod LineLemmas
-pub mod ListLemmas
 pub mod ReopenLemmas
 pub mod ReplyLemmas
 pub mod ReportLemmas

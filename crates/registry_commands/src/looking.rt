@@ -10,7 +10,7 @@ use crate::messages::{Failure, fail, tell};
 use crate::printing::print;
 use registry_wire::WireRefusal;
 use std::alloc::Global;
-use usbids_text::{Broken, Name, ReadFault, Scan, Sink, Source, scan_all};
+use usbids_text::{Broken, Name, ReadFault, Scan, Sink, Source, feed_all};
 use usbnum_core::{NoMemory, Vid};
 
 fn name_line(alloc: Global, name: &Name) -> Result<Vec<u8>, NoMemory>
@@ -97,7 +97,7 @@ pub fn look_up<R: Source, W: Sink, E: Sink>(
 {
     let mut scan = Scan::new(alloc, vendor, code);
     let mut room = [0u8; 32768];
-    match scan_all(source, &mut scan, &mut room) {
+    match feed_all(source, &mut scan, &mut room) {
         Ok(()) => put_answer(alloc, scan.finish(), output, errors),
         Err(Broken) => fail(errors, Failure::File),
     }

@@ -18,4 +18,4 @@ pub mod WrittenLemmas
 pub mod TextLemmas
 pub mod TagLemmas
 pub mod ScanLemmas
-pub mod SearchLemmas
+pub mod IntakeLemmas

@@ -10,6 +10,7 @@ ghost use Rattle.usbids_text.specs.declared.fault.ReadFault.{ReadFault};
 use crate::builder::Builder;
 use crate::document::Document;
 use crate::fault::ReadFault;
+use crate::intake::Intake;
 use crate::line::Why;
 use crate::pieces::{front, line_feed, past};
 use crate::taken::Taken;
@@ -167,6 +168,18 @@ impl Reader {
             Err(NoMemory) => Err(ReadFault::NoMemory),
             Ok(()) => self.taken.finish(),
         }
+    }
+}
+
+impl Intake for Reader {
+    ghost use Rattle.usbids_text.specs.Readers.{Stands};
+
+    type Wanted = ();
+
+    ghost was_fed = { λ reader _ text. Stands reader text };
+
+    fn take_in(&mut self, piece: &[u8]) {
+        let _ = self.feed(piece);
     }
 }
 

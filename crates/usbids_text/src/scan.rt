@@ -7,6 +7,7 @@ ghost use Rattle.usbids_text.specs.Feeding.{Fed, fed};
 
 use crate::document::Name;
 use crate::fault::ReadFault;
+use crate::intake::Intake;
 use crate::line::Why;
 use crate::pieces::{front, line_feed, past};
 use crate::seen::{Over, Seen, Wanted};
@@ -155,5 +156,17 @@ impl Scan {
             Err(NoMemory) => Err(ReadFault::NoMemory),
             Ok(()) => self.seen.into_answer(),
         }
+    }
+}
+
+impl Intake for Scan {
+    ghost use Rattle.usbids_text.specs.Scans.{Seeks};
+
+    type Wanted = Wanted;
+
+    ghost was_fed = { λ scan wanted text. Seeks scan wanted text };
+
+    fn take_in(&mut self, piece: &[u8]) {
+        self.feed(piece);
     }
 }

@@ -4,7 +4,7 @@ ghost use Rattle.std.specs.Prelude.{◌<◌, length};
 
 use std::process::Abort;
 use std::test::Fail;
-use usbids_text::{Inlet, LineFault, ReadFault, Scan, Why, scan_all};
+use usbids_text::{Inlet, LineFault, ReadFault, Scan, Why, feed_all};
 use usbnum_core::Vid;
 
 /// A vendor that is there twice, devices that are there twice, and a class with the vendor's number.
@@ -31,7 +31,7 @@ fn has_name(
     let (vendor, code, name) = row;
     let vendor = Vid::new(*vendor).ok_or("a vendor")?;
     let mut scan = Scan::new(rt.alloc(), vendor, *code);
-    scan_all(&mut Inlet::new(LIST), &mut scan, room).map_err(|_| "a source")?;
+    feed_all(&mut Inlet::new(LIST), &mut scan, room).map_err(|_| "a source")?;
     let found = scan.finish()?;
     assert_eq!(rt;
         found.as_ref().map(|found| found.as_bytes()),
@@ -63,7 +63,7 @@ fn tells_a_fault_before_any_match(rt: HostRuntime) -> Result<(), Fail> {
         let vendor = Vid::new(0x1209).ok_or("a vendor")?;
         let mut scan = Scan::new(rt.alloc(), vendor, 0x11);
         let mut room = [0u8; 5];
-        scan_all(&mut Inlet::new(*list), &mut scan, &mut room).map_err(|_| "a source")?;
+        feed_all(&mut Inlet::new(*list), &mut scan, &mut room).map_err(|_| "a source")?;
         let fault = ReadFault::Line(LineFault {
             line: *line,
             why: *why,
