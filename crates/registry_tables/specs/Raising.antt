@@ -1,11 +1,12 @@
 -- One step from a schema to the next.
-use Rattle.std.specs.Prelude.{◌≡◌, ◌≤◌, ◌⊎◌, ℕ, ◌+◌, [], ◌∷◌, Result, Ok, Err, IsTrue}
+use Rattle.std.specs.Prelude.{◌≡◌, ◌≤◌, ◌⊎◌, ℕ, ◌+◌, [], ◌∷◌, Some, Result, Ok, Err, IsTrue}
 use Rattle.sqlite.specs.Effect.{Database}
 use Rattle.sqlite.specs.State.{State}
 use Rattle.sqlite.specs.Tree.{Trees}
 use Rattle.table_laws.specs.Inside.{GoesOn}
 use Rattle.registry_schema.specs.declared.fault.TableFault.{TableFault}
 use Rattle.registry_schema.specs.declared.fault.TableFault.TheVariants.{Foreign}
+use Rattle.registry_schema.specs.Version.{version_named}
 use Rattle.registry_rules.specs.History.{History}
 use Rattle.registry_rows.specs.declared.meta.Meta.{Meta}
 use Rattle.registry_rows.specs.Tables.{Tables}
@@ -43,6 +44,10 @@ CommitsTwo old db = IsTrue old.is_open × ((h : History) → Rows 1 old.now.tree
 -- what a migration may commit: the rows of the same history in a later schema
 abbrev pub CommitsLater : State → Trees → Type 0
 CommitsLater old db = IsTrue old.is_open × ((h : History) (version : ℕ) → Rows version old.now.trees h → (later : ℕ) × (version ≤ later) × Rows later db h)
+
+-- the names of the tables are those of an older schema
+abbrev pub IsNamedOlder : State → Type 0
+IsNamedOlder s = (version_named s.now.schema.tables ≡ Some 1) ⊎ (version_named s.now.schema.tables ≡ Some 2)
 
 -- a connection is open where it was
 abbrev pub StaysOpen : State → State → Type 0

@@ -1,6 +1,6 @@
 //! From an older schema to the newest, one version at a time.
 
-ghost use Rattle.std.specs.Prelude.{◌≡◌, ◌≢◌, ℕ, Ok, false, IsTrue, OnOk, Err};
+ghost use Rattle.std.specs.Prelude.{◌≡◌, ◌≢◌, ◌⊎◌, ℕ, Ok, false, IsTrue, OnOk, Err};
 ghost use Rattle.sqlite.specs.State.{HasCleanDisk, Survives};
 ghost use Rattle.sqlite.specs.Held.{state};
 ghost use Rattle.table_laws.specs.Inside.{GoesOn};
@@ -8,7 +8,7 @@ ghost use Rattle.table_laws.specs.Making.{HasTables};
 ghost use Rattle.registry_schema.specs.Texts.{texts_3};
 ghost use Rattle.registry_rules.specs.History.{History};
 ghost use Rattle.registry_tables.specs.Rows.{newest, Rows};
-ghost use Rattle.registry_tables.specs.Raising.{IsMadeBy, CommitsStep, CommitsTwo, EndsTwo, CommitsLater, IsAtRest, StaysOpen};
+ghost use Rattle.registry_tables.specs.Raising.{IsMadeBy, CommitsStep, CommitsTwo, EndsTwo, CommitsLater, IsAtRest, IsNamedOlder, StaysOpen};
 
 use crate::second::first_to_second;
 use crate::third::second_to_third;
@@ -61,7 +61,8 @@ fn unknown<S: Alter>(conn: &mut Connection<S>) -> TableFault
 /// Brings the tables of an older schema to the newest, one version at a time, each in a transaction of its own.
 ///
 /// `TableFault::Foreign` comes only where the tables are those of no history in any schema. After a fault a crash leaves
-/// the rows of the same history, in the schema that they had or in a later one. Tables of the newest schema are left alone.
+/// the rows of the same history, in the schema that they had or in a later one. Nothing is committed where the names of the
+/// tables are not those of an older schema.
 pub fn migrate<S: Alter>(alloc: Global, conn: &mut Connection<S>) -> Result<(), TableFault>
     requires { conn.old.in_transaction ≡ false }
     ensures idle { conn.new.in_transaction ≡ false }
@@ -70,6 +71,7 @@ pub fn migrate<S: Alter>(alloc: Global, conn: &mut Connection<S>) -> Result<(), 
     ensures newest { IsTrue (state S.Store conn.old).is_open → HasTables texts_3 (state S.Store conn.old).now.trees → (result ≡ Ok _) × (conn.new ≡ conn.old) }
     ensures foreign { HasCleanDisk (state S.Store conn.new) → result ≡ Err TableFault.Foreign → IsTrue (state S.Store conn.old).is_open × ((h : History) (version : ℕ) → ¬ Rows version (state S.Store conn.old).now.trees h) }
     ensures survives { Survives (state S.Store conn.old) (state S.Store conn.new) (CommitsLater (state S.Store conn.old)) }
+    ensures untouched { IsNamedOlder (state S.Store conn.old) ⊎ Survives (state S.Store conn.old) (state S.Store conn.new) (λ _. ⊥) }
 {
     let version = version_of(conn);
     if version == Some(1) {

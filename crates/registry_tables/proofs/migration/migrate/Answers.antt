@@ -66,3 +66,13 @@ returns-else-eq-3-clause-foreign g c clean foreign =
             | inr (inr three) ↦ option_own c.version_of-version.result 3 three c.eq-else-eq-2.result c.eq-else-eq-2.ensures c.if-eq-3.false
           ],
     )
+
+pub returns-then-eq-clause-untouched : goal.returns-then-eq-clause-untouched
+returns-then-eq-clause-untouched g c =
+    let is : c.version_of-version.result ≡ Some 1 = option_is c.version_of-version.result 1 (sym c.eq.ensures ∙ c.if-eq.true) in
+    inl (inl (sym c.version_of-version.ensures.named ∙ is))
+
+pub returns-then-eq-2-clause-untouched : goal.returns-then-eq-2-clause-untouched
+returns-then-eq-2-clause-untouched g c =
+    let is : c.version_of-version.result ≡ Some 2 = option_is c.version_of-version.result 2 (sym c.eq-else-eq.ensures ∙ c.if-eq-2.true) in
+    inl (inr (sym c.version_of-version.ensures.named ∙ is))

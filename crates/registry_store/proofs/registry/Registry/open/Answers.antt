@@ -1,4 +1,4 @@
-use Rattle.std.proofs.Common.{◌≡◌, Err, IsTrue, MatchResult, subst, ap, ◌∙◌, arith, rules}
+use Rattle.std.proofs.Common.{◌≡◌, inl, inr, Err, IsTrue, MatchResult, subst, ap, ◌∙◌, arith, rules}
 use Rattle.sqlite.specs.State.{HasCleanDisk, Survives}
 use Rattle.sqlite.specs.Held.{state}
 use Rattle.registry_schema.specs.declared.fault.TableFault.TheVariants.{Foreign}
@@ -45,7 +45,7 @@ returns-in-Ok-clause-foreign g c =
 
 pub returns-in-Err-clause-foreign : goal.returns-in-Err-clause-foreign
 returns-in-Err-clause-foreign g c clean foreign version h legal =
-    let told : c.migrate.result ≡ Err Foreign = c.in-Err.is ∙ ap Err (c.fault_of.ensures.foreign foreign) in
+    let told : c.migrate.result ≡ Err Foreign = c.in-Err.is ∙ ap Err (c.fault_of.ensures.foreign.0 foreign) in
     (c.migrate.ensures.foreign clean told).1 h version
 
 pub returns-in-Ok-clause-newest : goal.returns-in-Ok-clause-newest
@@ -58,3 +58,9 @@ returns-in-Err-clause-newest g c is_open has =
     let fine = (c.migrate.ensures.newest is_open has).0 in
     let failed = c.in-Err.is in
     absurd cc
+
+pub returns-in-Ok-clause-untouched : goal.returns-in-Ok-clause-untouched
+returns-in-Ok-clause-untouched g c = elim c.migrate.ensures.untouched [
+    | inl older ↦ inl older
+    | inr quiet ↦ inr (commits_then (state g.S.Store c.args.conn) (state g.S.Store c.migrate.new.conn) (λ _. ⊥) state_of (λ e. state g.S.Store e.1) quiet c.open_newest.result c.open_newest.ensures.survives)
+  ]
