@@ -1,6 +1,7 @@
 //! A store that a command has done with.
 
 ghost use Rattle.std.specs.Prelude.{◌≡◌, ◌≢◌, ◌⊎◌, ℕ};
+ghost use Rattle.sqlite.specs.Closing.{IsCopied};
 ghost use Rattle.sqlite.specs.Files.{file_state};
 ghost use Rattle.sqlite.specs.State.{HasCleanDisk};
 ghost use Rattle.sqlite.specs.WalReads.{AreClean};
@@ -30,6 +31,7 @@ pub fn close_store<D: Disk + Drop, E: Sink>(
     ensures well { status ≡ 0 → ((result.0 ≡ 0) × (errors.new ≡ errors.old))
         ⊎ ((result.0 ≡ 1) × TellsFailure IsOfStore (told_to E.contents E.failures errors.old errors.new)) }
     ensures closed { AreClosed conn result.1 }
+    ensures copied { status ≡ 0 → result.0 ≡ 0 → AreClean D.Disk result.1.log result.1.db → IsCopied conn result.1 }
     ensures holds { result.0 ≡ status → (from : ℕ) (h next : History) → (HasCleanDisk (file_state conn) → LeavesFrom from (file_state conn) (IsEither h next))
         → AreClean D.Disk result.1.log result.1.db → HoldEither D.Disk from result.1 h next }
 {

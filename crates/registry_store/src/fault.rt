@@ -23,7 +23,7 @@ pub enum Fault {
 pub(crate) fn fault_of(fault: TableFault) -> Fault
     ensures unspent { result ≢ Fault.Spent }
     ensures found { result ≢ Fault.Taken }
-    ensures foreign { result ≡ Fault.Foreign → fault ≡ TableFault.Foreign }
+    ensures foreign { (result ≡ Fault.Foreign) ↔ (fault ≡ TableFault.Foreign) }
     ensures memory { (result ≡ Fault.NoMemory) ↔ (fault ≡ TableFault.NoMemory) }
 {
     match fault {

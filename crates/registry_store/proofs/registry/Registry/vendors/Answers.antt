@@ -17,7 +17,7 @@ returns-in-Err-clause-kind g c h stands clean =
     let new = state g.S.Store c.list_vendors.new.conn in
     let kept = c.list_vendors.ensures in
     let named = c.fault_of.ensures in
-    kind_of old new h stands.at stands.counts.legal (earlier old new _ kept.survives clean) c.list_vendors.result c.in-Err.fault c.fault_of.result (kept.foreign clean) c.in-Err.is named.unspent named.found named.foreign
+    kind_of old new h stands.at stands.counts.legal (earlier old new _ kept.survives clean) c.list_vendors.result c.in-Err.fault c.fault_of.result (kept.foreign clean) c.in-Err.is named.unspent named.found named.foreign.0
 
 pub returns-in-Ok-clause-stays : goal.returns-in-Ok-clause-stays
 returns-in-Ok-clause-stays g c h stands =
