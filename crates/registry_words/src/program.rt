@@ -1,9 +1,9 @@
 //! The program's command line, as `clap` is told of it.
 
-ghost use Rattle.std.specs.Prelude.{◌≡◌, ◌∷◌, [], IfOk, Some, false, codes};
+ghost use Rattle.std.specs.Prelude.{◌≡◌, ◌∷◌, [], IfOk, Some, false, codes, option_copied};
 ghost use Rattle.clap.specs.Words.{app_of, items_of, rule_of, new_app, with_rule, with_subcommand};
 ghost use Rattle.clap.specs.declared.builder.command.Command.TheViews.{out-Command};
-ghost use Rattle.registry_words.specs.Commands.{apply_app, bare_app, export_app, found_app, import_app, lookup_app, needed_option, numeric, option, report_app, serve_app, trial_app, usbreg_app, word};
+ghost use Rattle.registry_words.specs.Commands.{apply_app, export_app, found_app, import_app, lookup_app, needed_option, numeric, option, report_app, serve_app, trial_app, usbreg_app, versioned, word};
 
 use clap::builder::ValueParser;
 use clap::{Arg, Command};
@@ -266,13 +266,11 @@ fn lookup<'a>(alloc: Global) -> Result<Command<'a>, AllocError>
     )
 }
 
-/// The program without its subcommands.
-#[tactic(auto, unfolding(crate::specs::Commands::bare_app))]
+/// The program without its version and its subcommands.
 fn bare<'a>(alloc: Global) -> Command<'a>
-    ensures { app_of result ≡ bare_app }
+    ensures { app_of result ≡ new_app (codes "usbreg") }
 {
     Command::new(alloc, "usbreg")
-        .version("0.1.0")
         .about("A registry of shared USB product numbers, which loses and doubles no grant")
         .after_help(
             "With no command it is `trial`. `found`, `apply`, `import` and `serve` change a store; \
@@ -303,10 +301,21 @@ fn with_views<'a>(alloc: Global, program: Command<'a>) -> Result<Command<'a>, Al
     with_command(program, lookup(alloc)?)
 }
 
+/// The program with its version, which comes last: `clap` says of no other call that it keeps it.
+fn with_version<'a>(program: Command<'a>) -> Command<'a>
+    ensures app { app_of result ≡ versioned (app_of program.entry) }
+    ensures version { option_copied (out-Command result).version ≡ Some (codes "0.1.0") }
+{
+    program.version("0.1.0")
+}
+
 /// `usbreg` with all its subcommands.
+#[tactic(auto, unfolding(crate::specs::Commands::bare_app))]
 pub fn usbreg<'a>(alloc: Global) -> Result<Command<'a>, AllocError>
-    ensures { IfOk result (λ c. app_of c ≡ usbreg_app) }
+    ensures app { IfOk result (λ c. app_of c ≡ usbreg_app) }
+    ensures version { IfOk result (λ c. option_copied (out-Command c).version ≡ Some (codes "0.1.0")) }
 {
     let program = with_requests(alloc, bare(alloc))?;
-    with_views(alloc, program)
+    let program = with_views(alloc, program)?;
+    Ok(with_version(program))
 }
