@@ -1,15 +1,34 @@
-//! A registry by example: what it answers, over disks that stop in the middle of a write, and closed and opened again.
+//! A registry by example: over disks that stop at each call in turn, closed and opened in each way, brought up from older
+//! schemas, and what it answers.
 #![tactic(auto)]
 
 #[cfg(test)]
+mod disks;
+#[cfg(test)]
+mod foundings;
+#[cfg(test)]
 mod memory;
+#[cfg(test)]
+mod migrations;
+#[cfg(test)]
+mod older;
+#[cfg(test)]
+mod openings;
 #[cfg(test)]
 mod queries;
 #[cfg(test)]
 mod reopening;
 #[cfg(test)]
-mod stops;
+mod rounds;
 #[cfg(test)]
-mod transcripts;
+mod runs;
+#[cfg(test)]
+mod steps;
+#[cfg(test)]
+mod through;
+#[cfg(test)]
+mod told;
 #[cfg(test)]
 mod values;
+#[cfg(test)]
+mod ways;

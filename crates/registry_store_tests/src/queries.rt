@@ -1,7 +1,7 @@
 //! What a registry answers of its history.
 
-use crate::transcripts::{ASK, ENROL, ENROL_BOLT, GRANT, Step, read};
-use crate::values::{founded, founding, lines_of};
+use crate::steps::{ENROL, Step};
+use crate::values::{founding, lines_of, replies_to, requests_of, slug};
 use registry_rules::{Entry, Founding, Org, Petition, PetitionState, Request, Vendor};
 use registry_store::{Fault, Registry, RunEnd};
 use sqlite::{Alter, Connection};
@@ -9,14 +9,23 @@ use std::alloc::Global;
 use std::fmt::Write;
 use std::process::Abort;
 use std::test::Fail;
-use usbnum_core::{Number, Spans, Vid};
+use usbnum_core::{Number, Pid, Slug, Spans, Vid};
 
 // Two organisations, a further vendor, a span that is reserved, a number of each vendor that is granted, one that is imported, and one that is returned.
 const STEPS: &[Step] = &[
-    ENROL_BOLT,
+    (
+        r#"{"caller":"bob","key":"b1","order":"enrol","org":"bolt","title":"Bolt","site":"https://bolt.example/"}"#,
+        r#"{"done":"enrolled bolt"}"#,
+    ),
     ENROL,
-    ASK,
-    GRANT,
+    (
+        r#"{"caller":"ann","key":"k2","order":"ask","org":"acme","number":"0011","title":"Blinker","licence":"MIT","site":"https://acme.example/blinker","source":"https://acme.example/src"}"#,
+        r#"{"done":"petition 1"}"#,
+    ),
+    (
+        r#"{"caller":"cora","key":"k3","order":"grant","petition":1,"number":"0011"}"#,
+        r#"{"done":"granted 0011 to acme by petition 1"}"#,
+    ),
     (
         r#"{"caller":"cora","key":"c1","order":"add-vendor","vendor":"1000","name":"Further"}"#,
         r#"{"done":"added vendor 1000"}"#,
@@ -34,7 +43,7 @@ const STEPS: &[Step] = &[
         r#"{"done":"granted 1000:0001 to acme by petition 2"}"#,
     ),
     (
-        "i1\n1209  x\n\t0011  Taken\n\t0012  New board\n\t0012  New board again\n",
+        "i1 acme\n1209  x\n\t0011  Taken\n\t0012  New board\n\t0012  New board again\n",
         r#"{"done":"imported fresh 1, owned 1, reserved 0, doubled 1, untitled 0, zero 0"}"#,
     ),
     (
@@ -81,7 +90,7 @@ fn ask<S: Alter + Drop>(mut registry: Registry<S>, requests: &[Request], vid: Vi
 // The same of a new registry in memory.
 fn answers_after(alloc: Global, founding: &Founding, requests: &[Request]) -> Option<Answers> {
     let conn = Connection::open_in_memory(alloc).ok()?;
-    let registry = founded(alloc, conn, founding)?;
+    let registry = Registry::found(alloc, conn, founding).ok()?;
     Some(ask(registry, requests, founding.vendor))
 }
 
@@ -135,7 +144,8 @@ fn vendors_text(alloc: Global, vendors: &[Vendor]) -> Result<String, Fail> {
 fn answers_what_it_was_asked_to_do(rt: HostRuntime) -> Result<(), Fail> {
     let alloc = rt.alloc();
     let founding = founding(alloc)?;
-    let (requests, wanted) = read(alloc, STEPS)?;
+    let requests = requests_of(alloc, STEPS)?;
+    let wanted = replies_to(alloc, STEPS)?;
     let answers = answers_after(alloc, &founding, requests.as_slice()).ok_or("no answers")?;
     let replies = lines_of(alloc, answers.end.replies.as_slice())?;
     assert_eq!(rt; replies.as_str(), wanted.as_str());
@@ -148,5 +158,143 @@ fn answers_what_it_was_asked_to_do(rt: HostRuntime) -> Result<(), Fail> {
     let vendors = vendors_text(alloc, answers.vendors?.as_slice())?;
     assert_eq!(rt; vendors.as_str(), "1000 Further\n1209 Shared products\n");
     assert_eq!(rt; answers.reserved?.count(), 16 + 256);
+    Ok(())
+}
+
+// What is there of single keys, as lines: some that there are, and some that there aren't.
+#[derive(Drop)]
+struct Keys {
+    numbers: Vec<Number>,
+    petitions: [u32; 4],
+    slugs: Vec<Slug>,
+}
+
+fn some_keys(alloc: Global) -> Result<Keys, Fail> {
+    let mut numbers = Vec::new(alloc);
+    for (vid, pid) in [
+        (0x1209, 0x10),
+        (0x1209, 0x11),
+        (0x1209, 0x12),
+        (0x1209, 0x20ff),
+        (0x1209, 0x2100),
+        (0x1000, 1),
+        (0x1000, 2),
+        (0xcafe, 1),
+    ] {
+        numbers.push(Number {
+            vid: Vid::new(vid).ok_or("no vendor")?,
+            pid: Pid::new(pid).ok_or("no product")?,
+        })?;
+    }
+    let mut slugs = Vec::new(alloc);
+    slugs.push(slug(alloc, "acme")?)?;
+    slugs.push(slug(alloc, "bolt")?)?;
+    slugs.push(slug(alloc, "clock")?)?;
+    Ok(Keys {
+        numbers,
+        petitions: [1, 2, 3, u32::MAX],
+        slugs,
+    })
+}
+
+fn add_number<S: Alter>(registry: &mut Registry<S>, number: Number, text: &mut String) -> bool {
+    let (vid, pid) = (number.vid, number.pid);
+    let reserved = registry.is_reserved(number);
+    let vendor = registry.has_vendor(vid);
+    match registry.entry(number) {
+        Ok(Some(Entry { org, held, card })) => {
+            let title = card.title;
+            writeln!(
+                text,
+                "{vid}:{pid} {vendor:?} {reserved:?} {org} {held} {title}"
+            )
+            .is_ok()
+        }
+        Ok(None) => writeln!(text, "{vid}:{pid} {vendor:?} {reserved:?}").is_ok(),
+        Err(_) => false,
+    }
+}
+
+fn add_petition<S: Alter>(registry: &mut Registry<S>, id: u32, text: &mut String) -> bool {
+    match registry.petition(id) {
+        Ok(Some(petition)) => {
+            let (vid, org, title) = (petition.vid, &petition.org, &petition.title);
+            writeln!(text, "{id} {vid} {org} {title}").is_ok()
+        }
+        Ok(None) => writeln!(text, "{id}").is_ok(),
+        Err(_) => false,
+    }
+}
+
+fn add_org<S: Alter>(registry: &mut Registry<S>, slug: &Slug, text: &mut String) -> bool {
+    match registry.org(slug) {
+        Ok(Some(org)) => {
+            let (title, keeper) = (&org.title, &org.keeper);
+            writeln!(text, "{slug} {title}, {keeper}").is_ok()
+        }
+        Ok(None) => writeln!(text, "{slug}").is_ok(),
+        Err(_) => false,
+    }
+}
+
+// Looks each key up.
+fn look_up<S: Alter>(registry: &mut Registry<S>, keys: &Keys, text: &mut String) -> bool {
+    for number in &keys.numbers {
+        if !add_number(registry, *number, text) {
+            return false;
+        }
+    }
+    for id in keys.petitions {
+        if !add_petition(registry, id, text) {
+            return false;
+        }
+    }
+    for slug in &keys.slugs {
+        if !add_org(registry, slug, text) {
+            return false;
+        }
+    }
+    true
+}
+
+fn found_after(
+    alloc: Global,
+    founding: &Founding,
+    requests: &[Request],
+    keys: &Keys,
+) -> Option<String> {
+    let conn = Connection::open_in_memory(alloc).ok()?;
+    let mut registry = Registry::found(alloc, conn, founding).ok()?;
+    let mut text = String::new(alloc);
+    let end = registry.run_from(requests, 0);
+    let all = end.fault.is_none() && look_up(&mut registry, keys, &mut text);
+    let _conn = registry.close();
+    if all { Some(text) } else { None }
+}
+
+const FOUND: &str = "1209:0010 Ok(true) Ok(true)
+1209:0011 Ok(true) Ok(false) acme true Blinker
+1209:0012 Ok(true) Ok(false) acme true New board
+1209:20ff Ok(true) Ok(true)
+1209:2100 Ok(true) Ok(false)
+1000:0001 Ok(true) Ok(false) acme false Lamp
+1000:0002 Ok(true) Ok(false)
+cafe:0001 Ok(false) Ok(false)
+1 1209 acme Blinker
+2 1000 acme Lamp
+3
+4294967295
+acme Acme Tools, ann
+bolt Bolt, bob
+clock
+";
+
+#[test]
+fn looks_up_one_thing_by_its_key(rt: HostRuntime) -> Result<(), Fail> {
+    let alloc = rt.alloc();
+    let requests = requests_of(alloc, STEPS)?;
+    let keys = some_keys(alloc)?;
+    let text = found_after(alloc, &founding(alloc)?, requests.as_slice(), &keys).ok_or("no text")?;
+    assert_eq!(rt; text.as_str(), FOUND);
     Ok(())
 }

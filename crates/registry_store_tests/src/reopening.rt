@@ -1,7 +1,8 @@
 //! A registry in files in memory, which is closed and opened again. Each time another is founded first, in vain.
 
-use crate::transcripts::{ASK, ENROL, GRANT, Step, read};
-use crate::values::{connect, founding, lines_of};
+use crate::disks::{PLAIN, connected};
+use crate::steps::{ENROL, Step};
+use crate::values::{founding, lines_of, replies_to, requests_of};
 use registry_rules::{Founding, Request};
 use registry_store::{Fault, Registry, RunEnd};
 use sqlite::{Alter, Connection, FileStore, Files};
@@ -68,7 +69,7 @@ fn visit<D: Disk + Drop>(
     founding: &Founding,
     requests: &[Request],
 ) -> Option<(Outcome, Files<D>)> {
-    let conn = connect(alloc, files)?;
+    let conn = connected(alloc, files, PLAIN).ok()?;
     let (was_there, registry) = founded_or_opened(alloc, conn, founding)?;
     Some(act(registry, was_there, requests))
 }
@@ -81,8 +82,20 @@ fn bytes_of(alloc: Global, files: &Files<Memory>) -> Result<Vec<u8>, Fail> {
     Ok(bytes)
 }
 
-const ADD_LICENCE: &str =
-    r#"{"caller":"cora","key":"l1","order":"add-licence","licence":"CERN-OHL-S-2.0"}"#;
+const ASK: Step = (
+    r#"{"caller":"ann","key":"k2","order":"ask","org":"acme","number":"0011","title":"Blinker","licence":"MIT","site":"https://acme.example/blinker","source":"https://acme.example/src"}"#,
+    r#"{"done":"petition 1"}"#,
+);
+
+const GRANT: Step = (
+    r#"{"caller":"cora","key":"k3","order":"grant","petition":1,"number":"0011"}"#,
+    r#"{"done":"granted 0011 to acme by petition 1"}"#,
+);
+
+const ADD_LICENCE: Step = (
+    r#"{"caller":"cora","key":"l1","order":"add-licence","licence":"CERN-OHL-S-2.0"}"#,
+    r#"{"done":"added licence CERN-OHL-S-2.0"}"#,
+);
 
 // An opening of the files, whether it found a registry and left other bytes, and how many licences there are then.
 #[derive(Clone, Copy)]
@@ -96,12 +109,7 @@ struct Opening {
 // Repeats and refusals write nothing, and neither does opening.
 const OPENINGS: [Opening; 4] = [
     Opening {
-        steps: &[
-            ENROL,
-            ASK,
-            GRANT,
-            (ADD_LICENCE, r#"{"done":"added licence CERN-OHL-S-2.0"}"#),
-        ],
+        steps: &[ENROL, ASK, GRANT, ADD_LICENCE],
         finds: false,
         writes: true,
         licences: 3,
@@ -109,7 +117,7 @@ const OPENINGS: [Opening; 4] = [
     Opening {
         steps: &[
             GRANT,
-            (ADD_LICENCE, r#"{"done":"added licence CERN-OHL-S-2.0"}"#),
+            ADD_LICENCE,
             (
                 r#"{"caller":"cora","key":"l2","order":"add-licence","licence":"CERN-OHL-S-2.0"}"#,
                 r#"{"name":"LicenceTaken","refused":35}"#,
@@ -145,7 +153,8 @@ fn goes_on_where_it_was_closed(rt: HostRuntime) -> Result<(), Fail> {
         db: Memory::new(alloc),
     };
     for opening in OPENINGS {
-        let (requests, wanted) = read(alloc, opening.steps)?;
+        let requests = requests_of(alloc, opening.steps)?;
+        let wanted = replies_to(alloc, opening.steps)?;
         let before = bytes_of(alloc, &files)?;
         let (outcome, left) = visit(alloc, files, &founding, requests.as_slice()).ok_or(
             "not opened",

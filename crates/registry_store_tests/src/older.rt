@@ -1,0 +1,267 @@
+//! Stores of schemas 1 and 2, made by statements, and the requests after which they are so: each kind of order that these
+//! schemas know.
+
+use crate::disks::{Image, PLAIN, closed, connected, nothing, whole};
+use crate::steps::Step;
+use sqlite::types::ValueRef;
+use sqlite::{Alter, Connection, Files};
+use sqlite_disk::Disk;
+use std::alloc::Global;
+use std::test::Fail;
+
+/// The requests that the stores were made by.
+pub const ONE_VENDOR: [Step; 19] = [
+    (
+        r#"{"caller":"ann","key":"a1","order":"enrol","org":"acme","title":"Acme Tools","site":"https://acme.example/"}"#,
+        r#"{"done":"enrolled acme"}"#,
+    ),
+    (
+        r#"{"caller":"ann","key":"a2","order":"amend-org","org":"acme","title":"Acmé","site":"http://acme.example/"}"#,
+        r#"{"done":"amended organisation acme"}"#,
+    ),
+    (
+        r#"{"caller":"bob","key":"b1","order":"enrol","org":"bolt","title":"Bolt","site":"https://bolt.example/"}"#,
+        r#"{"done":"enrolled bolt"}"#,
+    ),
+    RESERVE,
+    (
+        r#"{"caller":"cora","key":"c2","order":"release","first":"2010","last":"201f"}"#,
+        r#"{"done":"released 2010-201f"}"#,
+    ),
+    (
+        r#"{"caller":"ann","key":"a3","order":"ask","org":"acme","number":"2010","title":"Lamp","licence":"MIT","site":"https://acme.example/lamp","source":"https://acme.example/src"}"#,
+        r#"{"done":"petition 1"}"#,
+    ),
+    (
+        r#"{"caller":"ann","key":"a4","order":"ask","org":"acme","title":"Ann's lamp","licence":"MIT","site":"https://acme.example/lamp","source":"https://acme.example/src"}"#,
+        r#"{"done":"petition 2"}"#,
+    ),
+    (
+        r#"{"caller":"ann","key":"a5","order":"ask","org":"acme","title":"Lamp","licence":"MIT","site":"https://acme.example/lamp","source":"https://acme.example/src"}"#,
+        r#"{"done":"petition 3"}"#,
+    ),
+    (
+        r#"{"caller":"ann","key":"a6","order":"ask","org":"acme","title":"Lamp","licence":"MIT","site":"https://acme.example/lamp","source":"https://acme.example/src"}"#,
+        r#"{"done":"petition 4"}"#,
+    ),
+    (
+        r#"{"caller":"cora","key":"c3","order":"grant","petition":1}"#,
+        r#"{"done":"granted 2010 to acme by petition 1"}"#,
+    ),
+    (
+        r#"{"caller":"cora","key":"c4","order":"grant","petition":2,"number":null}"#,
+        r#"{"done":"granted 0011 to acme by petition 2"}"#,
+    ),
+    (
+        r#"{"caller":"cora","key":"c5","order":"decline","petition":3}"#,
+        r#"{"done":"declined petition 3"}"#,
+    ),
+    (
+        r#"{"caller":"ann","key":"a7","order":"withdraw","petition":4}"#,
+        r#"{"done":"withdrawn petition 4"}"#,
+    ),
+    (
+        r#"{"caller":"ann","key":"a8","order":"amend","number":"2010","title":"Lamp 2","licence":"GPL-3.0-only","site":"https://acme.example/lamp","source":"https://acme.example/src"}"#,
+        r#"{"done":"amended 2010"}"#,
+    ),
+    (
+        r#"{"caller":"ann","key":"a9","order":"return","number":"0011"}"#,
+        r#"{"done":"returned 0011"}"#,
+    ),
+    (
+        "c6 bolt\n1209  Shared products\n\t0001  Fixed\n\t0011  Taken\n\t0300  Probe\n\t0301  Probe 2\n\t2000  Reserved\n",
+        r#"{"done":"imported fresh 2, owned 1, reserved 2, doubled 0, untitled 0, zero 0"}"#,
+    ),
+    (
+        r#"{"caller":"bob","key":"b2","order":"return","number":"0301"}"#,
+        r#"{"done":"returned 0301"}"#,
+    ),
+    (
+        r#"{"caller":"bob","key":"b3","order":"ask","org":"bolt","number":"0400","title":"Drive","licence":"MIT","site":"https://bolt.example/lamp","source":"https://bolt.example/src"}"#,
+        r#"{"done":"petition 5"}"#,
+    ),
+    (
+        r#"{"caller":"bob","key":"b4","order":"ask","org":"bolt","title":"Clock","licence":"MIT","site":"https://bolt.example/lamp","source":"https://bolt.example/src"}"#,
+        r#"{"done":"petition 6"}"#,
+    ),
+];
+
+/// The reservation of 256 numbers, of which 16 were released later.
+pub const RESERVE: Step = (
+    r#"{"caller":"cora","key":"c1","order":"reserve","first":"2000","last":"20ff"}"#,
+    r#"{"done":"reserved 2000-20ff"}"#,
+);
+
+/// The tables of schema 1.
+const TABLES: &str =
+    "CREATE TABLE meta (id INTEGER PRIMARY KEY, version INTEGER NOT NULL, vendor INTEGER NOT NULL, name TEXT NOT NULL) STRICT;
+CREATE TABLE curators (name TEXT PRIMARY KEY NOT NULL) STRICT;
+CREATE TABLE licences (name TEXT PRIMARY KEY NOT NULL) STRICT;
+CREATE TABLE fixed (lo INTEGER PRIMARY KEY, hi INTEGER NOT NULL) STRICT;
+CREATE TABLE orgs (slug TEXT PRIMARY KEY NOT NULL, title TEXT NOT NULL, site TEXT NOT NULL, keeper TEXT NOT NULL) STRICT;
+CREATE TABLE petitions (id INTEGER PRIMARY KEY, org TEXT NOT NULL, want INTEGER, title TEXT NOT NULL, licence TEXT NOT NULL, site TEXT NOT NULL, source TEXT NOT NULL, state INTEGER NOT NULL, pid INTEGER) STRICT;
+CREATE TABLE entries (pid INTEGER PRIMARY KEY, org TEXT NOT NULL, held INTEGER NOT NULL, title TEXT NOT NULL, licence TEXT, site TEXT, source TEXT) STRICT;
+CREATE TABLE reserved (pid INTEGER PRIMARY KEY) STRICT;
+CREATE TABLE kept (caller TEXT NOT NULL, request_key TEXT NOT NULL, request BLOB NOT NULL, reply TEXT NOT NULL, PRIMARY KEY (caller, request_key)) STRICT";
+
+/// The rows that both schemas have alike, but for the kept replies.
+const ROWS: &str = "INSERT INTO curators VALUES ('cora');
+INSERT INTO licences VALUES ('GPL-3.0-only'), ('MIT');
+INSERT INTO fixed VALUES (1, 16);
+INSERT INTO orgs VALUES ('acme', 'Acmé', 'http://acme.example/', 'ann'), ('bolt', 'Bolt', 'https://bolt.example/', 'bob');
+INSERT INTO petitions VALUES (1, 'acme', 8208, 'Lamp', 'MIT', 'https://acme.example/lamp', 'https://acme.example/src', 1, 8208);
+INSERT INTO petitions VALUES (2, 'acme', NULL, 'Ann''s lamp', 'MIT', 'https://acme.example/lamp', 'https://acme.example/src', 1, 17);
+INSERT INTO petitions VALUES (3, 'acme', NULL, 'Lamp', 'MIT', 'https://acme.example/lamp', 'https://acme.example/src', 2, NULL);
+INSERT INTO petitions VALUES (4, 'acme', NULL, 'Lamp', 'MIT', 'https://acme.example/lamp', 'https://acme.example/src', 3, NULL);
+INSERT INTO petitions VALUES (5, 'bolt', 1024, 'Drive', 'MIT', 'https://bolt.example/lamp', 'https://bolt.example/src', 0, NULL);
+INSERT INTO petitions VALUES (6, 'bolt', NULL, 'Clock', 'MIT', 'https://bolt.example/lamp', 'https://bolt.example/src', 0, NULL);
+INSERT INTO entries VALUES (17, 'acme', 0, 'Ann''s lamp', 'MIT', 'https://acme.example/lamp', 'https://acme.example/src');
+INSERT INTO entries VALUES (768, 'bolt', 1, 'Probe', NULL, NULL, NULL);
+INSERT INTO entries VALUES (769, 'bolt', 0, 'Probe 2', NULL, NULL, NULL);
+INSERT INTO entries VALUES (8208, 'acme', 1, 'Lamp 2', 'GPL-3.0-only', 'https://acme.example/lamp', 'https://acme.example/src')";
+
+/// In schema 1: 2000 to 20ff, but for 2010 to 201f, a row for each number.
+const FIRST: &str = "INSERT INTO meta VALUES (1, 1, 4617, 'Shared products');
+INSERT INTO reserved WITH RECURSIVE n (i) AS (SELECT 8192 UNION ALL SELECT i + 1 FROM n LIMIT 256) SELECT i FROM n WHERE i < 8208 OR i > 8223";
+
+/// In schema 2: a row for each span.
+const SECOND: &str = "CREATE TABLE spans (lo INTEGER PRIMARY KEY, hi INTEGER NOT NULL) STRICT;
+INSERT INTO meta VALUES (1, 2, 4617, 'Shared products');
+INSERT INTO spans VALUES (8192, 8207), (8224, 8447)";
+
+/// The statements that make a store of schema 1, but for the kept replies.
+pub const OF_FIRST: [&str; 3] = [TABLES, ROWS, FIRST];
+
+/// The same of schema 2.
+pub const OF_SECOND: [&str; 3] = [TABLES, ROWS, SECOND];
+
+/// Caller, key, spelling and reply of each accepted request.
+const KEPT: [(&str, &str, &str, &str); 19] = [
+    (
+        "ann",
+        "a1",
+        "enrol\tacme\tAcme Tools\thttps://acme.example/",
+        "enrolled acme",
+    ),
+    (
+        "ann",
+        "a2",
+        "amend-org\tacme\tAcmé\thttp://acme.example/",
+        "amended organisation acme",
+    ),
+    (
+        "bob",
+        "b1",
+        "enrol\tbolt\tBolt\thttps://bolt.example/",
+        "enrolled bolt",
+    ),
+    ("cora", "c1", "reserve\t2000\t20ff", "reserved 2000-20ff"),
+    ("cora", "c2", "release\t2010\t201f", "released 2010-201f"),
+    (
+        "ann",
+        "a3",
+        "ask\tacme\t2010\tLamp\tMIT\thttps://acme.example/lamp\thttps://acme.example/src",
+        "petition 1",
+    ),
+    (
+        "ann",
+        "a4",
+        "ask\tacme\t-\tAnn's lamp\tMIT\thttps://acme.example/lamp\thttps://acme.example/src",
+        "petition 2",
+    ),
+    (
+        "ann",
+        "a5",
+        "ask\tacme\t-\tLamp\tMIT\thttps://acme.example/lamp\thttps://acme.example/src",
+        "petition 3",
+    ),
+    (
+        "ann",
+        "a6",
+        "ask\tacme\t-\tLamp\tMIT\thttps://acme.example/lamp\thttps://acme.example/src",
+        "petition 4",
+    ),
+    (
+        "cora",
+        "c3",
+        "grant\t1\t-",
+        "granted 2010 to acme by petition 1",
+    ),
+    (
+        "cora",
+        "c4",
+        "grant\t2\t-",
+        "granted 0011 to acme by petition 2",
+    ),
+    ("cora", "c5", "decline\t3", "declined petition 3"),
+    ("ann", "a7", "withdraw\t4", "withdrawn petition 4"),
+    (
+        "ann",
+        "a8",
+        "amend\t2010\tLamp 2\tGPL-3.0-only\thttps://acme.example/lamp\thttps://acme.example/src",
+        "amended 2010",
+    ),
+    ("ann", "a9", "return\t0011", "returned 0011"),
+    (
+        "cora",
+        "c6",
+        "import\tbolt\t0001=Fixed\t0011=Taken\t0300=Probe\t0301=Probe 2\t2000=Reserved",
+        "imported fresh 2, owned 1, reserved 2, doubled 0, untitled 0, zero 0",
+    ),
+    ("bob", "b2", "return\t0301", "returned 0301"),
+    (
+        "bob",
+        "b3",
+        "ask\tbolt\t0400\tDrive\tMIT\thttps://bolt.example/lamp\thttps://bolt.example/src",
+        "petition 5",
+    ),
+    (
+        "bob",
+        "b4",
+        "ask\tbolt\t-\tClock\tMIT\thttps://bolt.example/lamp\thttps://bolt.example/src",
+        "petition 6",
+    ),
+];
+
+// Puts in what a request left in `kept`.
+fn keep<S: Alter>(
+    conn: &mut Connection<S>,
+    (caller, key, request, reply): (&str, &str, &str, &str),
+) -> bool {
+    let values = [
+        ValueRef::Text(caller.as_bytes()),
+        ValueRef::Text(key.as_bytes()),
+        ValueRef::Blob(request.as_bytes()),
+        ValueRef::Text(reply.as_bytes()),
+    ];
+    conn.execute("INSERT INTO kept VALUES (?1, ?2, ?3, ?4)", &values)
+        .is_ok()
+}
+
+fn run_all<S: Alter>(conn: &mut Connection<S>, batches: &[&str]) -> bool {
+    batches
+        .iter()
+        .all(|batch| conn.execute_batch(batch).is_ok())
+}
+
+// In one transaction, which takes less time than one for each statement.
+fn make<S: Alter>(conn: &mut Connection<S>, batches: &[&str]) -> bool {
+    run_all(conn, &["BEGIN"])
+        && run_all(conn, batches)
+        && KEPT.iter().all(|row| keep(conn, *row))
+        && run_all(conn, &["COMMIT"])
+}
+
+fn make_in<D: Disk + Drop>(alloc: Global, files: Files<D>, batches: &[&str]) -> Option<Files<D>> {
+    let mut conn = connected(alloc, files, PLAIN).ok()?;
+    let made = make(&mut conn, batches);
+    let files = conn.into_store().close();
+    if made { Some(files) } else { None }
+}
+
+/// The files of a store that these statements make, with the kept replies.
+pub fn older(alloc: Global, batches: &[&str]) -> Result<Image, Fail> {
+    let files = whole(alloc, &nothing(alloc))?;
+    let files = make_in(alloc, files, batches).ok_or("not made")?;
+    closed(alloc, files)
+}

@@ -1,0 +1,235 @@
+//! An opening is stopped at each call of a file in turn: opened again, the registry is the one of an opening without a stop.
+
+use crate::disks::{
+    Fate, Image, PLAIN, Part, Stopping, Stops, closed, files_of, founded, has_not_stopped,
+    image_of, left_by, opened, was_seen, whole,
+};
+use crate::runs::{first_in, second_in};
+use crate::steps::EACH_KIND;
+use crate::values::{founding, requests_of};
+use registry_rules::Request;
+use registry_store::{Fault, leave};
+use sqlite::Files;
+use sqlite_disk::Disk;
+use std::alloc::Global;
+use std::process::Abort;
+use std::test::Fail;
+
+// Whether the registry is opened, else its fault, if it came to that.
+fn open_in<D: Disk + Drop>(
+    alloc: Global,
+    files: Files<D>,
+) -> (Result<(), Option<Fault>>, Files<D>) {
+    match opened(alloc, files, PLAIN) {
+        Ok(registry) => (Ok(()), leave(registry)),
+        Err((fault, files)) => (Err(fault), files),
+    }
+}
+
+/// What is told, and which rows there are, once files are opened without a stop.
+#[derive(Drop)]
+pub struct Wanted {
+    pub stands: String,
+    pub rows: String,
+}
+
+/// Opens files with a stop at a call: what the stop leaves, and whether there was none.
+pub fn left_at(
+    rt: &impl Abort,
+    alloc: Global,
+    image: &Image,
+    stops: Stops,
+    fate: Fate,
+    calls: u64,
+) -> Result<(Image, bool), Fail> {
+    let files = files_of(alloc, image, stops, calls)?;
+    let (outcome, mut files) = open_in(alloc, files);
+    let is_whole = has_not_stopped(&mut files, stops);
+    match outcome {
+        Ok(()) => {}
+        Err(fault) => {
+            assert!(rt; matches!(fault, None | Some(Fault::Store)), "at {calls}");
+            assert!(rt; !is_whole, "at {calls}");
+        }
+    }
+    Ok((left_by(alloc, files, fate)?, is_whole))
+}
+
+// Opens the files with a stop at each call of a part, until there is no stop: how many calls an opening makes. Files that hold
+// what those before did are not opened again.
+fn stop_at_each(
+    rt: &impl Abort,
+    alloc: Global,
+    image: &Image,
+    stops: Stops,
+    fate: Fate,
+    part: Part,
+) -> Result<Option<u64>, Fail> {
+    let wanted = wanted_of(alloc, image)?;
+    let mut last: Option<Image> = None;
+    for calls in part.first..=part.last {
+        let (left, is_whole) = left_at(rt, alloc, image, stops, fate, calls)?;
+        if !was_seen(&last, &left) {
+            let files = whole(alloc, &left)?;
+            let second = second_in(alloc, files, &[], 0).ok_or("not opened")?;
+            assert_eq!(rt;
+                second.stands.as_str(),
+                wanted.stands.as_str(),
+                "at {calls}"
+            );
+            assert_eq!(rt; second.rows.as_str(), wanted.rows.as_str(), "at {calls}");
+        }
+        if is_whole {
+            return Ok(Some(calls));
+        }
+        last = Some(left);
+    }
+    Ok(None)
+}
+
+// What an opening without a stop tells.
+fn wanted_of(alloc: Global, image: &Image) -> Result<Wanted, Fail> {
+    let second = second_in(alloc, whole(alloc, image)?, &[], 0).ok_or("not opened")?;
+    Ok(Wanted {
+        stands: second.stands,
+        rows: second.rows,
+    })
+}
+
+fn stop_in(
+    rt: &impl Abort,
+    alloc: Global,
+    image: &Image,
+    stops: Stops,
+    fate: Fate,
+    part: Part,
+) -> Result<(), Fail> {
+    let end = stop_at_each(rt, alloc, image, stops, fate, part)?;
+    assert!(rt; part.ends_at(end), "{end:?}");
+    Ok(())
+}
+
+// The files of a registry that acted on the requests, of which the log stops after so many calls.
+fn after_run(
+    alloc: Global,
+    requests: &[Request],
+    calls: u64,
+    fate: Fate,
+) -> Result<(usize, Stopping), Fail> {
+    let image = founded(alloc, &founding(alloc)?)?;
+    let files = files_of(alloc, &image, Stops::Log, calls)?;
+    let (first, files) = first_in(alloc, files, PLAIN, requests);
+    let count = first.replies.len();
+    Ok((count, whole(alloc, &left_by(alloc, files, fate)?)?))
+}
+
+// The requests that are in a log: two, since a longer one has further frames of the same form.
+fn few(alloc: Global) -> Result<Vec<Request>, Fail> {
+    requests_of(alloc, EACH_KIND.get(..2).ok_or("too few")?)
+}
+
+// What was left by a process that came to its end, with all in the log. A crash leaves the same, or fewer whole commits.
+fn with_log(alloc: Global) -> Result<Image, Fail> {
+    let (_, files) = after_run(alloc, few(alloc)?.as_slice(), u64::MAX, Fate::Exit)?;
+    image_of(alloc, &files)
+}
+
+// The same of each kind of order, once it was closed.
+fn without_log(alloc: Global) -> Result<Image, Fail> {
+    let requests = requests_of(alloc, &EACH_KIND)?;
+    let (_, files) = after_run(alloc, requests.as_slice(), u64::MAX, Fate::Exit)?;
+    closed(alloc, files)
+}
+
+// What was left by a process that stopped at the last call before the second reply, with a part of its commit.
+fn with_part(alloc: Global) -> Result<Image, Fail> {
+    let requests = few(alloc)?;
+    let mut calls: u64 = 0;
+    for step in [64, 32, 16, 8, 4, 2, 1] {
+        let more = calls.saturating_add(step);
+        let (count, _) = after_run(alloc, requests.as_slice(), more, Fate::Exit)?;
+        if count < 2 {
+            calls = more;
+        }
+    }
+    let (_, files) = after_run(alloc, requests.as_slice(), calls, Fate::Exit)?;
+    image_of(alloc, &files)
+}
+
+#[test]
+fn with_a_log_as_the_log_stops(rt: HostRuntime) -> Result<(), Fail> {
+    let alloc = rt.alloc();
+    stop_in(
+        &rt,
+        alloc,
+        &with_log(alloc)?,
+        Stops::Log,
+        Fate::Crash,
+        Part::ALL,
+    )
+}
+
+#[test]
+fn with_a_log_as_the_main_file_stops(rt: HostRuntime) -> Result<(), Fail> {
+    let alloc = rt.alloc();
+    stop_in(
+        &rt,
+        alloc,
+        &with_log(alloc)?,
+        Stops::Db,
+        Fate::Crash,
+        Part::ALL,
+    )
+}
+
+#[test]
+fn closed_as_the_log_stops(rt: HostRuntime) -> Result<(), Fail> {
+    let alloc = rt.alloc();
+    stop_in(
+        &rt,
+        alloc,
+        &without_log(alloc)?,
+        Stops::Log,
+        Fate::Crash,
+        Part::ALL,
+    )
+}
+
+#[test]
+fn closed_as_the_main_file_stops(rt: HostRuntime) -> Result<(), Fail> {
+    let alloc = rt.alloc();
+    stop_in(
+        &rt,
+        alloc,
+        &without_log(alloc)?,
+        Stops::Db,
+        Fate::Exit,
+        Part::up_to(40),
+    )
+}
+
+#[test]
+fn closed_as_the_main_file_stops_later(rt: HostRuntime) -> Result<(), Fail> {
+    let alloc = rt.alloc();
+    stop_in(
+        &rt,
+        alloc,
+        &without_log(alloc)?,
+        Stops::Db,
+        Fate::Exit,
+        Part::from(40),
+    )
+}
+
+#[test]
+fn with_a_part_of_a_commit_as_the_log_stops(rt: HostRuntime) -> Result<(), Fail> {
+    let alloc = rt.alloc();
+    stop_in(
+        &rt,
+        alloc,
+        &with_part(alloc)?,
+        Stops::Log,
+        Fate::Exit,
+        Part::ALL,
+    )
+}

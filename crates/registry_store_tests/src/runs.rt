@@ -1,0 +1,243 @@
+//! A run over files that may stop, what goes on from there, and the same run without stops.
+
+use crate::disks::{COPYING, Image, are_same, closed, opened, whole};
+use crate::told::{rows_of, tell_lists, told};
+use crate::values::lines_of;
+use registry_rules::{Reply, Request};
+use registry_store::{Fault, Registry, RunEnd, leave, leave_store, open_files};
+use sqlite::{Alter, Files, Options};
+use sqlite_disk::Disk;
+use std::alloc::Global;
+use std::test::Fail;
+
+/// What a run gave, and what the registry answered after its stop.
+#[derive(Drop)]
+pub struct First {
+    /// The fault of the run. There is none where it came to its end, or not to its beginning.
+    pub fault: Option<Fault>,
+    /// Whether the registry was opened.
+    pub is_open: bool,
+    pub replies: Vec<Reply>,
+    pub spent: Option<String>,
+}
+
+/// What a spent registry answers to a request, to a run and to what it is asked for.
+pub const SPENT: &str =
+    "Some(Spent)\nSome(Spent), 0 replies\nErr(Spent)\nErr(Spent)\nErr(Spent)\nErr(Spent)\n";
+
+fn tell_act<S: Alter>(registry: &mut Registry<S>, requests: &[Request], text: &mut String) -> bool {
+    match requests.first() {
+        Some(request) => {
+            let fault = registry.act(request).err();
+            writeln!(text, "{fault:?}").is_ok()
+        }
+        None => false,
+    }
+}
+
+fn tell_run<S: Alter>(registry: &mut Registry<S>, requests: &[Request], text: &mut String) -> bool {
+    let RunEnd { replies, fault } = registry.run_from(requests, 0);
+    let count = replies.len();
+    writeln!(text, "{fault:?}, {count} replies").is_ok()
+}
+
+// What a registry answers after a stop.
+fn answers<S: Alter>(
+    alloc: Global,
+    registry: &mut Registry<S>,
+    requests: &[Request],
+) -> Option<String> {
+    let mut text = String::new(alloc);
+    if tell_act(registry, requests, &mut text)
+        && tell_run(registry, requests, &mut text)
+        && tell_lists(registry, &mut text)
+    {
+        Some(text)
+    } else {
+        None
+    }
+}
+
+fn run_first<S: Alter>(alloc: Global, registry: &mut Registry<S>, requests: &[Request]) -> First {
+    let RunEnd { replies, fault } = registry.run_from(requests, 0);
+    let spent = match fault {
+        Some(_) => answers(alloc, registry, requests),
+        None => None,
+    };
+    First {
+        fault,
+        is_open: true,
+        replies,
+        spent,
+    }
+}
+
+fn not_run(alloc: Global, fault: Option<Fault>) -> First {
+    First {
+        fault,
+        is_open: false,
+        replies: Vec::new(alloc),
+        spent: None,
+    }
+}
+
+/// Opens the registry in the files, acts on the requests up to the first fault, and lets go of the files.
+pub fn first_in<D: Disk + Drop>(
+    alloc: Global,
+    files: Files<D>,
+    options: Options,
+    requests: &[Request],
+) -> (First, Files<D>) {
+    match opened(alloc, files, options) {
+        Ok(mut registry) => {
+            let first = run_first(alloc, &mut registry, requests);
+            (first, leave(registry))
+        }
+        Err((fault, files)) => (not_run(alloc, fault), files),
+    }
+}
+
+/// What stands after a stop, the replies from the first unanswered request on, and the rows of all tables then.
+#[derive(Drop)]
+pub struct Second {
+    pub stands: String,
+    pub replies: Vec<Reply>,
+    pub fault: Option<Fault>,
+    pub rows: String,
+}
+
+/// What a registry tells, and then replies and holds when it has gone on.
+pub fn go_on<S: Alter + Drop>(
+    alloc: Global,
+    mut registry: Registry<S>,
+    requests: &[Request],
+    answered: usize,
+) -> Option<Second> {
+    let stands = told(alloc, &mut registry);
+    let answered = usize::min(answered, requests.len());
+    let RunEnd { replies, fault } = registry.run_from(requests, answered);
+    let mut conn = registry.close();
+    let rows = rows_of(alloc, &mut conn);
+    Some(Second {
+        stands: stands?,
+        replies,
+        fault,
+        rows: rows?,
+    })
+}
+
+/// The same of the registry in the files.
+pub fn second_in<D: Disk + Drop>(
+    alloc: Global,
+    files: Files<D>,
+    requests: &[Request],
+    answered: usize,
+) -> Option<Second> {
+    if !(files.log.may_be_used() && files.db.may_be_used()) {
+        return None;
+    }
+    let registry = open_files(alloc, files, COPYING)?;
+    go_on(alloc, registry, requests, answered)
+}
+
+/// What came of the files that a stop left.
+#[derive(Drop)]
+pub struct Seen {
+    image: Image,
+    answered: usize,
+    pub second: Second,
+}
+
+/// What comes of the files that a stop left: the same as of those before, where they hold the same.
+pub fn seen_after(
+    alloc: Global,
+    before: Option<Seen>,
+    left: Image,
+    requests: &[Request],
+    answered: usize,
+) -> Result<Seen, Fail> {
+    if let Some(seen) = before {
+        if seen.answered == answered && are_same(&seen.image, &left) {
+            return Ok(seen);
+        }
+    }
+    let files = whole(alloc, &left)?;
+    let second = second_in(alloc, files, requests, answered).ok_or("not opened")?;
+    Ok(Seen {
+        image: left,
+        answered,
+        second,
+    })
+}
+
+/// A run without stops.
+#[derive(Drop)]
+pub struct Plain {
+    /// What the registry tells before the first request, and after each.
+    pub stands: Vec<String>,
+    /// The replies as lines.
+    pub replies: String,
+    pub rows: String,
+    /// What the files hold then.
+    pub image: Image,
+}
+
+fn add_told<S: Alter>(alloc: Global, registry: &mut Registry<S>, stands: &mut Vec<String>) -> bool {
+    match told(alloc, registry) {
+        Some(text) => stands.push(text).is_ok(),
+        None => false,
+    }
+}
+
+// Acts on one request after the other, and tells after each.
+fn act_on_each<S: Alter>(
+    alloc: Global,
+    registry: &mut Registry<S>,
+    requests: &[Request],
+    stands: &mut Vec<String>,
+    replies: &mut Vec<Reply>,
+) -> bool {
+    for request in requests {
+        let Ok(reply) = registry.act(request) else {
+            return false;
+        };
+        if replies.push(reply).is_err() || !add_told(alloc, registry, stands) {
+            return false;
+        }
+    }
+    true
+}
+
+fn plain_in<D: Disk + Drop>(
+    alloc: Global,
+    files: Files<D>,
+    requests: &[Request],
+    stands: &mut Vec<String>,
+    replies: &mut Vec<Reply>,
+) -> Option<(String, Files<D>)> {
+    let Ok(mut registry) = opened(alloc, files, COPYING) else {
+        return None;
+    };
+    let went = add_told(alloc, &mut registry, stands)
+        && act_on_each(alloc, &mut registry, requests, stands, replies);
+    let mut conn = registry.close();
+    let rows = rows_of(alloc, &mut conn);
+    let files = leave_store(conn);
+    if went { Some((rows?, files)) } else { None }
+}
+
+/// What a run over files with this gives, which do not stop.
+pub fn plain_over(alloc: Global, image: &Image, requests: &[Request]) -> Result<Plain, Fail> {
+    let files = whole(alloc, image)?;
+    let mut stands = Vec::new(alloc);
+    let mut replies = Vec::new(alloc);
+    let (rows, files) = plain_in(alloc, files, requests, &mut stands, &mut replies).ok_or(
+        "not run",
+    )?;
+    Ok(Plain {
+        image: closed(alloc, files)?,
+        stands,
+        replies: lines_of(alloc, replies.as_slice())?,
+        rows,
+    })
+}
