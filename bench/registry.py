@@ -5,7 +5,7 @@ Python over sqlite3, on the same made-up requests: whole programs, from request 
 Prints requests a second and their ratios, in memory and in a file on tmpfs (/dev/shm), best and median of
 five runs that take turns (of 100,000 in memory one alone: there a table is a sorted list); then what a request
 costs on a store with 60,000 entries and 100,000 petitions over what it costs on an empty one. Wants the program
-that `make` builds, and says what is missing."""
+that `make` builds, or the one whose path is in USBREG, and says what is missing."""
 
 import os
 import shutil

@@ -1,7 +1,7 @@
 #!/usr/bin/env python3
 """The gate: `rt ci` over a copy of the repository, and beside it the must-fail edits, as many in one check as can be,
-over the libraries that `rt ci` has just proved; then the tests of the program, compiled with checks and not proved;
-then the scripts that try the program.
+over the libraries that `rt ci` has just proved; then the tests of the store and of the program, compiled with checks and
+not proved; then the scripts that try the program.
 
 The copy has the files as they stand, committed or not, and lies in a temporary folder, without the edits and without
 the crates of tests that are not proved here. What `rt ci` says of these, and of each edit by itself, `make gate` shows,
@@ -29,7 +29,7 @@ COUNT = re.compile(r"(\d+) passed, (\d+) failed\n?")
 
 # Crates of tests whose functions hold a registry over files. To prove a test shows that it keeps to what its calls
 # require and does not overflow; of these it takes longer than the proof of all that they call, so `make gate` does it.
-TRIED = ("registry_cli_tests",)
+TRIED = ("registry_store_tests", "registry_cli_tests")
 
 # How many crates have their edits tried while `rt ci` runs, which leaves about half of four processors idle, and the
 # bytes of memory that have to be free for one more.
@@ -205,7 +205,8 @@ def gate(room):
         # what the scripts leave where they are stopped goes with the copy
         os.environ["TMPDIR"] = room
         copy(["crates.txt", *tried], top)
-        parts += [Tried(it, top).run() for it in TRIED]
+        with concurrent.futures.ThreadPoolExecutor() as side:
+            parts += side.map(lambda it: Tried(it, top).run(), TRIED)
         parts += trials.end()
     copy([it for it in names if EDITS.match(it)], top)
     return parts + [Part([f"scripts/{it}"], top).run() for it in ("test_wrong_bodies.py", "try_the_program.sh")]

@@ -13,22 +13,23 @@ opens again as the same history.
 The same with `usbids_bench` and a list that it reads, writes and reads again: it says so, or that there is
 no memory, and never counts other entries or names a fault of a line.
 
-Of such an opening some hundred allocations are refused, evenly spread; with --all it is each of them.
+Usage: scripts/refuse_allocations.py [--only PART] [--every N] [PROGRAM [BENCH]], by default all parts with the program that
+`make` builds and the one that `rt run` builds in crates/usbids_bench. PART is trial, which is part of `make test`, or
+found, apply, show, import, open or list; --every N refuses every N-th allocation alone. Wants cc. The status is 0 where
+all of this held. docs/proving.md says how long each part takes."""
 
-Usage: scripts/refuse_allocations.py [--trial] [--all] [PROGRAM [BENCH]], by default the one that `make` builds, and the one
-that `rt run` builds in crates/usbids_bench; with --trial the two trials alone, which are part of `make test`. Wants cc.
-The status is 0 where all of this held."""
-
+import argparse
+import collections
 import os
 import sys
 
 from refusing import asked_in, each, refusal, run_refused
 from usbreg import EXAMPLES, FOUNDING, apply, content, copy, done, found, older, program, remove, run, tables, write
 
-# So many allocations, evenly spread, of an opening that asks for thousands.
-MOST = 400
 FAULTS = {b"fault: memory\n", b"fault: store\n"}
 REPORTS = ("census", "holders", "petitions")
+# One allocation of so many is refused.
+EVERY = 1
 LIST = """# a list
 1209  Shared products
 \t0011  Blinker
@@ -42,25 +43,32 @@ L 0001  Arabic
 
 
 def look(what, ran, wanted):
-    """The whole reply lines of a run that was refused an allocation, or that did without it."""
+    """The whole reply lines of a run that was refused an allocation, or that did without it, and how it ended."""
     status, output, errors = ran
     is_whole = (status, output, errors) == (0, wanted, b"")
     is_cut = status == 1 and wanted.startswith(output) and errors in FAULTS
     if not is_whole and not is_cut:
         sys.exit(f"{what}: status {status}, printed {output!r} and {errors!r}")
-    return output.count(b"\n"), is_whole
+    return output.count(b"\n"), errors.decode().strip() or "did without it"
+
+
+def refuse_each(what, words, room, shim, attempt, lines=os.devnull):
+    """Refuses the allocations of a command in turn, and says how the attempts ended. The words name files that may change."""
+    count = asked_in(words, shim, room, lines)
+    refused = range(1, count + 1, EVERY)
+    ended = collections.Counter(each(refused, room, attempt))
+    said = ", ".join(f"{number} {how}" for how, number in sorted(ended.items()))
+    print(f"{what}: {len(refused)} of {count} allocations refused: {said}", flush=True)
 
 
 def trials(usbreg, shim, room, lines):
     words = [usbreg, "trial"]
     _, wanted, _ = run(words, content(lines))
-    count = asked_in(words, shim, room, lines)
 
     def attempt(number, _):
         return look(f"a trial without allocation {number}", run_refused(words, shim, number, lines), wanted)[1]
 
-    whole = sum(each(range(1, count + 1), room, attempt))
-    print(f"trial of {os.path.basename(lines)}: each of {count} allocations refused; {whole} runs did without it, the others said so", flush=True)
+    refuse_each(f"trial of {os.path.basename(lines)}", words, room, shim, attempt, lines)
 
 
 def stores(usbreg, shim, room, lines):
@@ -70,15 +78,13 @@ def stores(usbreg, shim, room, lines):
 
     def attempt(number, folder):
         words = [usbreg, "apply", copy(founded, f"{folder}/store.db"), lines]
-        answered, is_whole = look(f"apply without allocation {number}", run_refused(words, shim, number), wanted)
+        answered, ended = look(f"apply without allocation {number}", run_refused(words, shim, number), wanted)
         status, rest, errors = run([*words, "--answered", str(answered)])
         if (status, rest.splitlines(), errors) != (0, replies[answered:], b"") or tables(words[2]) != end:
             sys.exit(f"apply after allocation {number} was refused does not go on as it should: {errors!r}")
-        return is_whole
+        return ended
 
-    count = asked_in([usbreg, "apply", copy(founded, f"{room}/counted.db"), lines], shim, room)
-    whole = sum(each(range(1, count + 1), room, attempt))
-    print(f"apply: each of {count} allocations refused; {whole} runs did without it, the others said so and went on", flush=True)
+    refuse_each("apply", [usbreg, "apply", copy(founded, f"{room}/counted.db"), lines], room, shim, attempt)
 
 
 def views(usbreg, shim, room, lines):
@@ -90,18 +96,15 @@ def views(usbreg, shim, room, lines):
 
         def attempt(number, folder, words=words, wanted=wanted):
             own = [copy(store, f"{folder}/store.db") if it == store else it for it in words]
-            is_whole = look(f"{words[1]} without allocation {number}", run_refused(own, shim, number), wanted)[1]
+            ended = look(f"{words[1]} without allocation {number}", run_refused(own, shim, number), wanted)[1]
             if run(own) != (0, wanted, b"") or (store in words and tables(own[2]) != end):
                 sys.exit(f"{words[1]} after allocation {number} was refused is not what it was")
-            return is_whole
+            return ended
 
-        count = asked_in(words, shim, room)
-        whole = sum(each(range(1, count + 1), room, attempt))
-        name = " ".join(words[1:2] + words[3:])
-        print(f"{name}: each of {count} allocations refused; {whole} runs did without it, the others said so", flush=True)
+        refuse_each(" ".join(words[1:2] + words[3:]), words, room, shim, attempt)
 
 
-def older_stores(usbreg, shim, room, version, every):
+def older_stores(usbreg, shim, room, version):
     """The first opening of a store of an older schema. Opened again it holds the same history."""
     store = older(f"{room}/older{version}.db", version)
     other = [usbreg, "report", copy(store, f"{room}/raised.db"), "census"]
@@ -110,15 +113,12 @@ def older_stores(usbreg, shim, room, version, every):
 
     def attempt(number, folder):
         words = [usbreg, "report", copy(store, f"{folder}/store.db"), "census"]
-        is_whole = look(f"opening schema {version} without allocation {number}", run_refused(words, shim, number), wanted)[1]
+        ended = look(f"opening schema {version} without allocation {number}", run_refused(words, shim, number), wanted)[1]
         if run(words) != (0, wanted, b"") or tables(words[2]) != end:
             sys.exit(f"a store of schema {version} does not open as it should after allocation {number} was refused")
-        return is_whole
+        return ended
 
-    count = asked_in([usbreg, "report", copy(store, f"{room}/counted.db"), "census"], shim, room)
-    refused = range(1, count + 1, 1 if every else max(1, count // MOST))
-    whole = sum(each(refused, room, attempt))
-    print(f"opening schema {version}: {len(refused)} of {count} allocations refused; {whole} runs did without it, the others said so and opened again", flush=True)
+    refuse_each(f"opening schema {version}", [usbreg, "report", copy(store, f"{room}/counted.db"), "census"], room, shim, attempt)
 
 
 def imports(usbreg, shim, room, lines):
@@ -132,14 +132,12 @@ def imports(usbreg, shim, room, lines):
 
     def attempt(number, folder):
         words = [usbreg, "import", copy(before, f"{folder}/store.db"), *asked]
-        is_whole = look(f"import without allocation {number}", run_refused(words, shim, number), wanted)[1]
+        ended = look(f"import without allocation {number}", run_refused(words, shim, number), wanted)[1]
         if run(words) != (0, wanted, b"") or tables(words[2]) != end:
             sys.exit(f"an import after allocation {number} was refused does not end as it should")
-        return is_whole
+        return ended
 
-    count = asked_in([usbreg, "import", copy(before, f"{room}/counted.db"), *asked], shim, room)
-    whole = sum(each(range(1, count + 1), room, attempt))
-    print(f"import: each of {count} allocations refused; {whole} runs did without it, the others said so and were done under their key again", flush=True)
+    refuse_each("import", [usbreg, "import", copy(before, f"{room}/counted.db"), *asked], room, shim, attempt)
 
 
 def foundings(usbreg, shim, room, lines):
@@ -151,17 +149,15 @@ def foundings(usbreg, shim, room, lines):
         store = f"{folder}/new.db"
         remove(store)
         words = [usbreg, "found", store, FOUNDING]
-        _, is_whole = look(f"found without allocation {number}", run_refused(words, shim, number), b"")
+        _, ended = look(f"found without allocation {number}", run_refused(words, shim, number), b"")
         again = run(words)
         if again not in ((0, b"", b""), (1, b"", b"fault: taken\n")):
             sys.exit(f"found again after allocation {number} was refused: {again}")
         if run([usbreg, "apply", store, lines]) != (0, wanted, b"") or tables(store) != end:
             sys.exit(f"what was founded after allocation {number} was refused is not whole")
-        return is_whole
+        return ended
 
-    count = asked_in([usbreg, "found", f"{room}/counted.db", FOUNDING], shim, room)
-    whole = sum(each(range(1, count + 1), room, attempt))
-    print(f"found: each of {count} allocations refused; {whole} runs did without it, the others said so", flush=True)
+    refuse_each("found", [usbreg, "found", f"{room}/counted.db", FOUNDING], room, shim, attempt)
 
 
 def lists(bench, shim, room):
@@ -174,30 +170,35 @@ def lists(bench, shim, room):
         ran = run_refused(words, shim, number)
         if ran != wanted and ran[:2] not in cut:
             sys.exit(f"a list without allocation {number}: {ran}")
-        return ran == wanted
+        return "did without it" if ran == wanted else "said so"
 
-    count = asked_in(words, shim, room)
-    whole = sum(each(range(1, count + 1), room, attempt))
-    print(f"a list: each of {count} allocations refused; {whole} runs did without it, the others said so", flush=True)
+    refuse_each("a list", words, room, shim, attempt)
+
+
+PARTS = ("trial", "found", "apply", "show", "import", "open", "list")
 
 
 def main():
-    alone = "--trial" in sys.argv
-    given = [it for it in sys.argv[1:] if it not in ("--trial", "--all")]
-    usbreg = program(*given[:1])
+    global EVERY
+    parser = argparse.ArgumentParser()
+    parser.add_argument("--only", choices=PARTS)
+    parser.add_argument("--every", type=int, default=1)
+    parser.add_argument("programs", nargs="*")
+    given = parser.parse_args()
+    parts, EVERY = {given.only} if given.only else set(PARTS), given.every
+    usbreg = program(*given.programs[:1])
     first, orders = (f"{EXAMPLES}/{it}.jsonl" for it in ("first", "orders"))
     with refusal() as (room, shim):
-        trials(usbreg, shim, room, first)
-        trials(usbreg, shim, room, orders)
-        if alone:
-            return
-        foundings(usbreg, shim, room, first)
-        stores(usbreg, shim, room, first)
-        views(usbreg, shim, room, first)
-        imports(usbreg, shim, room, first)
-        for version in (1, 2):
-            older_stores(usbreg, shim, room, version, "--all" in sys.argv)
-        lists(program(*given[1:2], crate="usbids_bench"), shim, room)
+        if "trial" in parts:
+            trials(usbreg, shim, room, first)
+            trials(usbreg, shim, room, orders)
+        for part, refuse in (("found", foundings), ("apply", stores), ("show", views), ("import", imports)):
+            if part in parts:
+                refuse(usbreg, shim, room, first)
+        for version in (1, 2) if "open" in parts else ():
+            older_stores(usbreg, shim, room, version)
+        if "list" in parts:
+            lists(program(*given.programs[1:2], crate="usbids_bench"), shim, room)
 
 
 if __name__ == "__main__":

@@ -8,22 +8,30 @@ right one fails here: want of memory has changed an answer.
 Of a test that asks for many allocations some hundred are refused, evenly spread, but for two that make the tables and
 each statement on them once; with --all it is each of them.
 
-Usage: scripts/refuse_in_tests.py [--all] [PROGRAM..], by default the test programs of the crates below the store, as
-`rt test` builds them. Wants cc. The status is 0 where all of this held."""
+The tests of the store are proved and built by `make gate` alone. Where they are built, the one on memory is tried too: it
+says by itself which answers are right where memory is short.
+
+Usage: scripts/refuse_in_tests.py [--all] [PROGRAM..], by default the test programs of these crates, as `rt test` builds
+them. Wants cc. The status is 0 where all of this held."""
 
 import itertools
+import os
 import re
 import sys
 
 from refusing import asked_in, each, refusal, run_refused
-from usbreg import program, run
+from usbreg import TOP, program, run
 
 CRATES = ["usbnum_core", "usbids_text", "registry_rules", "registry_wire", "registry_tables"]
+STORE = f"{TOP}/crates/registry_store_tests/out/registry_store_tests_tests"
 MOST = 650
 WHOLE = {"lists::a_store_has_what_was_put_in", "lookups::a_request_finds_what_it_needs"}
 
 # `write` takes no memory: what runs short in these tests is the writer that they hand it, which then has a beginning.
 LEFT_OUT = "writing::"
+
+# The other tests of the store compare what files hold, and take a disk that finds no room for one that stops.
+OF_STORE = "memory::"
 
 # How a test ends that was refused memory: by an error, one of its own values among them (a sink over bytes that are
 # not gathered is broken), by what it expected to have memory, or by a comparison.
@@ -47,7 +55,8 @@ def says_so(errors):
 
 def tests_of(tests):
     listed = run([tests, "--list"])[1].decode().splitlines()
-    return [it.removesuffix(": test") for it in listed if it.endswith(": test") and not it.startswith(LEFT_OUT)]
+    named = [it.removesuffix(": test") for it in listed if it.endswith(": test") and not it.startswith(LEFT_OUT)]
+    return [it for it in named if tests != STORE or it.startswith(OF_STORE)]
 
 
 def try_test(tests, test, shim, room, most):
@@ -68,6 +77,10 @@ def try_test(tests, test, shim, room, most):
 def main():
     given = [it for it in sys.argv[1:] if it != "--all"]
     built = [program(it) for it in given] or [program(crate=f"{it}_tests", name=f"{it}_tests_tests") for it in CRATES]
+    if not given and os.path.exists(STORE):
+        built.append(STORE)
+    elif not given:
+        print("SKIPPED: the test of the store on memory, which `make gate` builds")
     most = sys.maxsize if "--all" in sys.argv else MOST
     with refusal() as (room, shim):
         for tests in built:

@@ -87,12 +87,28 @@ pub fn cut_twice(rope: &mut Rope)
     rope.cut(1);
 }
 
+/// The shorter of two lengths, by a function whose name is so long that what is said of it goes on in a second line.
+pub fn the_shorter_of_the_lengths_of_two_ropes_that_lie_on_one_cart(first: u32, second: u32) -> u32
+    ensures { result ≤ second }
+{
+    if first < second { first } else { second }
+}
+
 /// Cuts a rope to nothing.
 pub fn cut_to_nothing(rope: &mut Rope)
     ensures { rope.new.length ≡ 0 }
 {
     rope.cut(0);
 }
+"""
+
+# The answer to a goal of the function with the long name.
+LONG = "the_shorter_of_the_lengths_of_two_ropes_that_lie_on_one_cart"
+ANSWERS = f"""use Rattle.std.proofs.Common.{{rules}}
+use Rattle.ropes.proofs.{LONG}.Goals as goal
+
+pub returns-then-first-second : goal.returns-then-first-second
+returns-then-first-second g c = search rules
 """
 
 # Each edit's old and new text, and what must become of it: refused, or failed with these words.
@@ -111,6 +127,7 @@ EDITS = {
     "changes_a_contract": ("{ result ≡ 8 }", "{ result ≡ 9 }", "it changes the contract"),
     "is_not_of_the_type": ("    2 * WHEELS", "    true", "the compiler refuses it"),
     "moves_the_loan": ("    rope.cut(0);", "    let _ = (rope, 1);", "the borrow checker does not cover it"),
+    "a_right_body_without_the_goal_of_an_answer": ("if first < second {", "if second > first {", "not refused"),
     "changes_nothing": ("self.length < most", "self.length < most", "it changes nothing"),
 }
 
@@ -125,6 +142,8 @@ def repository(top):
     """Writes a repository with the crate and its edits."""
     write(f"{top}/crates.txt", "# one crate\nropes:\n")
     write(f"{top}/crates/ropes/src/lib.rt", SOURCE)
+    write(f"{top}/crates/ropes/proofs/Lib.antt", "")
+    write(f"{top}/crates/ropes/proofs/{LONG}/Answers.antt", ANSWERS)
     for name, (old, new, _) in EDITS.items():
         write(f"{top}/crates/ropes/must-fail/{name}.edit", f"file: src/lib.rt\nold: {old}\nnew: {new}\n")
     return crates_of(top)["ropes"]

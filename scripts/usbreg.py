@@ -22,8 +22,10 @@ def folder():
 
 
 def program(given=None, crate="registry_cli", name=None):
-    """The path of the given program, or else of the one that is built in a crate. It ends the script where there is none."""
-    path = os.path.abspath(given or f"{TOP}/crates/{crate}/out/{name or crate}")
+    """The path of the given program, or else of usbreg in the variable USBREG, or else of the one that is built in a crate.
+    It ends the script where there is none."""
+    meant = os.environ.get("USBREG") if crate == "registry_cli" else None
+    path = os.path.abspath(given or meant or f"{TOP}/crates/{crate}/out/{name or crate}")
     if not os.path.exists(path):
         sys.exit(f"{path} is not there: `make` builds usbreg, and in the folder of another crate `rt run` or `rt test` builds it")
     return path

@@ -41,7 +41,8 @@ UNCOVERED = "the borrow checker does not cover this function"
 VERDICT = re.compile(r"^fn (\S+): (.*)$", re.MULTILINE)
 ENDED = re.compile(r"^only=\d+ proved=\d+$", re.MULTILINE)
 GOAL = re.compile(r"^note: (?:\./)?((src/\S+?):(\d+):\d+: it is not proved that .*)$", re.MULTILINE)
-ANSWER = re.compile(r"^(?:\./)?(proofs/(\S+)/(?:Answers|Invariants|Proof)\.antt:\d+:\d+: error: .*)$", re.MULTILINE)
+# A long message goes on in further lines.
+ANSWER = re.compile(r"^(?:\./)?(proofs/(\S+)/(?:Answers|Invariants|Proof)\.antt:\d+:\d+: error: .*(?:\n  .*)*)$", re.MULTILINE)
 REJECTED = re.compile(r"^(?:\./)?((src/\S+?):(\d+):\d+: error\b.*)$", re.MULTILINE)
 UNKNOWN = re.compile(r"^rattle: error: `\S+` has no function `([^`]+)`", re.MULTILINE)
 SEVERAL = re.compile(r"^rattle: error: several functions are named `[^`]+`: help: write one of (.*)$", re.MULTILINE)
@@ -157,7 +158,7 @@ class Trial:
             goal = said.refusal(edit) if said.has_ended else None
             if goal:
                 self.refused.append(edit.name)
-                print(f"{self.crate.name}/{edit.name}: refused: {goal[:200]}", flush=True)
+                print(f"{self.crate.name}/{edit.name}: refused: {goal[:200].splitlines()[0]}", flush=True)
             else:
                 missed.append((edit, said))
         return missed
