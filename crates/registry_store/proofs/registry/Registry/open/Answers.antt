@@ -61,6 +61,6 @@ returns-in-Err-clause-newest g c is_open has =
 
 pub returns-in-Ok-clause-untouched : goal.returns-in-Ok-clause-untouched
 returns-in-Ok-clause-untouched g c = elim c.migrate.ensures.untouched [
-    | inl older ↦ inl older
-    | inr quiet ↦ inr (commits_then (state g.S.Store c.args.conn) (state g.S.Store c.migrate.new.conn) (λ _. ⊥) state_of (λ e. state g.S.Store e.1) quiet c.open_newest.result c.open_newest.ensures.survives)
-  ]
+  | inl older ↦ inl older
+  | inr quiet ↦ inr (commits_then (state g.S.Store c.args.conn) (state g.S.Store c.migrate.new.conn) (λ _. ⊥) state_of (λ e. state g.S.Store e.1) quiet c.open_newest.result c.open_newest.ensures.survives)
+]
