@@ -1,7 +1,8 @@
 #!/usr/bin/env python3
-"""The gate: `rt ci` over a copy of the repository, and beside it the must-fail edits, as many in one check as can be,
-over the libraries that `rt ci` has just proved; then the tests of the store and of the program, compiled with checks and
-not proved; then the scripts that try the program.
+"""The gate: the layout of all files; then `rt ci` over a copy of the repository, and beside it the must-fail edits, as
+many in one check as can be, over the libraries that `rt ci` has just proved; then the tests of the store and of the
+program, compiled with checks and not proved; then the scripts that try the program. Where a file is not laid out, which
+`rt ci` would refuse much later, the gate ends with that.
 
 The copy has the files as they stand, committed or not, and lies in a temporary folder, without the edits and without
 the crates of tests that are not proved here. What `rt ci` says of these, and of each edit by itself, `make gate` shows,
@@ -194,6 +195,9 @@ def gate(room):
     """Runs all parts over copies in a folder, and returns them."""
     top, edits, names = f"{room}/top", f"{room}/edits", [*files()]
     tried = [it for it in names if it.startswith(tuple(f"crates/{crate}/" for crate in TRIED))]
+    layout = Part(["scripts/layout.py"], TOP).run()
+    if layout.failed:
+        return [layout]
     # so that it is the top of a repository, as `rt ci` wants it, wherever the folder lies
     os.makedirs(f"{top}/.git")
     copy([it for it in names if EDITS.match(it)], edits)
@@ -201,7 +205,7 @@ def gate(room):
     leave_out(TRIED, top)
     with concurrent.futures.ThreadPoolExecutor(LANES) as pool:
         trials = Edits(top, edits, pool)
-        parts = [Part(["rt", "ci"], top).run(trials.hear)]
+        parts = [layout, Part(["rt", "ci"], top).run(trials.hear)]
         # what the scripts leave where they are stopped goes with the copy
         os.environ["TMPDIR"] = room
         copy(["crates.txt", *tried], top)
@@ -233,7 +237,7 @@ def main():
     print(f"All: {minutes:.1f} minutes, {of_processor:.1f} of processor, {memory}")
     for part in parts:
         print("".join(f"{it}\n" for it in part.named), end="")
-    if parts[0].failed:
+    if any(it.failed and it.name == "rt ci" for it in parts):
         print("A crate alone: rt check, rt test or rt run in its folder; all of rt ci: make gate")
     failed = sum(it.failed for it in parts)
     print(f"{sum(it.passed for it in parts)} passed, {failed} failed")
