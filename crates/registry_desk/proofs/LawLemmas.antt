@@ -58,8 +58,13 @@ one_census_line numbers p q vid spans =
     let open_at : (B : ℕ → Bool) (n : ℕ) → (not (spans_have p.1 n) && B n) ≡ (not (spans_have q.1 n) && B n) = λ B n. ap (λ (b : Bool). not b && B n) (spans n) in
     let reserved = count_alike (spans_have p.1) (spans_have q.1) 65535 (λ n low high. spans n) in
     let count = λ (B : ℕ → Bool). count_alike (λ n. not (spans_have p.1 n) && B n) (λ n. not (spans_have q.1 n) && B n) 65535 (λ n low high. open_at B n) in
-    rw (vid, reserved, count (λ n. is_none (listed numbers (number q.0 n))), count (λ n. holds (λ pair. pair.1.held) (listed numbers (number q.0 n))),
-        count (λ n. holds (λ pair. not pair.1.held) (listed numbers (number q.0 n)))) refl
+    rw (
+      vid,
+      reserved,
+      count (λ n. is_none (listed numbers (number q.0 n))),
+      count (λ n. holds (λ pair. pair.1.held) (listed numbers (number q.0 n))),
+      count (λ n. holds (λ pair. not pair.1.held) (listed numbers (number q.0 n))),
+    ) refl
 
 one_census : (h : History) (numbers : List (Number × Entry)) (ps qs : List Reserved) → map (λ pair. pair.0) ps ≡ map (λ pair. pair.0) qs
     → All (HasReserved h) ps → All (HasReserved h) qs → census_lines numbers ps ≡ census_lines numbers qs

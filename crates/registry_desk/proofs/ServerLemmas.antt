@@ -58,7 +58,7 @@ module _ {S : Type 0} {g : Ghosts S} where
       )
   served_visit new h bytes text exchange served same (inr it) =
       subst (λ (f : Option Fault). EndsVisit new h (record { bytes = bytes; text = text; end = Ok exchange }) f) (sym (same ∙ ap (λ (s : Served). s.fault) it.served_is))
-          (given_up_visit new h bytes text exchange it.fault it.next it.kind it.text_is it.next_is it.left)
+      (given_up_visit new h bytes text exchange it.fault it.next it.kind it.text_is it.next_is it.left)
 
   -- the history after one connection more
   pub represents_more : (mid new : TheRegistry S g) (h : History) (visits : List Visit) (visit : Visit) → Represents mid h visits

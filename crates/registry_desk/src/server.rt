@@ -7,7 +7,7 @@ ghost use Rattle.registry_rules.specs.History.{History};
 ghost use Rattle.registry_store.specs.Promise.{Stands, Endures, state_of};
 ghost use Rattle.registry_desk.specs.Server.{Visit, IsVisit, IsWritten, HaveVisited, EndsVisit, EndsServing, IfVisited, fault_in};
 
-use crate::serve::exchange;
+use crate::serve::serve_message;
 use registry_store::{Fault, Registry};
 use sqlite::Alter;
 use std::alloc::Global;
@@ -57,7 +57,7 @@ fn serve_between<R: Source, W: Sink, S: Alter>(
         × ((h : History) → Stands registry.old h → HasCleanDisk (state_of registry.new) → EndsVisit registry.new h visit result) }
     ensures endures { Endures (state_of registry.old) (state_of registry.new) }
 {
-    match exchange(alloc, reader, writer, registry) {
+    match serve_message(alloc, reader, writer, registry) {
         Ok(exchange) => exchange.fault,
         Err(Broken) => None,
     }

@@ -14,14 +14,8 @@ fn orders_and_queries(rt: HostRuntime) -> Result<(), Fail> {
         told(alloc, &mut registry, short).as_str(),
         "HTTP/1.1 400 Bad Request\r\ncontent-type: application/json\r\ncontent-length: 34\r\nconnection: close\r\n\r\n{\"name\":\"ShortBody\",\"refused\":23}\n"
     );
-    assert_eq!(rt;
-        told(alloc, &mut registry, ENROL).as_str(),
-        ENROLLED
-    );
-    assert_eq!(rt;
-        dripped(alloc, &mut registry, ENROL).as_str(),
-        ENROLLED
-    );
+    assert_eq!(rt; told(alloc, &mut registry, ENROL).as_str(), ENROLLED);
+    assert_eq!(rt; dripped(alloc, &mut registry, ENROL).as_str(), ENROLLED);
     assert_eq!(rt;
         dripped(alloc, &mut registry, b"POST /x HTTP/1.1\r\n\r\n").as_str(),
         "HTTP/1.1 404 Not Found\r\ncontent-type: application/json\r\ncontent-length: 32\r\nconnection: close\r\n\r\n{\"name\":\"NoRoute\",\"refused\":24}\n"
@@ -71,16 +65,32 @@ fn lists_and_reports(rt: HostRuntime) -> Result<(), Fail> {
         return Ok(());
     };
     assert_eq!(rt;
-        told(alloc, &mut registry, b"GET /reports/petitions HTTP/1.1\r\n\r\n").as_str(),
+        told(
+            alloc,
+            &mut registry,
+            b"GET /reports/petitions HTTP/1.1\r\n\r\n"
+        )
+        .as_str(),
         "HTTP/1.1 200 OK\r\ncontent-type: text/plain; charset=utf-8\r\ncontent-length: 0\r\nconnection: close\r\n\r\n"
     );
     assert_eq!(rt;
-        told(alloc, &mut registry, b"GET /reports/nothing HTTP/1.1\r\n\r\n").as_str(),
+        told(
+            alloc,
+            &mut registry,
+            b"GET /reports/nothing HTTP/1.1\r\n\r\n"
+        )
+        .as_str(),
         "HTTP/1.1 404 Not Found\r\ncontent-type: application/json\r\ncontent-length: 32\r\nconnection: close\r\n\r\n{\"name\":\"NoRoute\",\"refused\":24}\n"
     );
     let list = told(alloc, &mut registry, b"GET /list?x HTTP/1.1\r\n\r\n");
-    assert!(rt; list.as_str().starts_with("HTTP/1.1 200 OK\r\ncontent-type: text/plain; charset=utf-8\r\n"));
-    let census = told(alloc, &mut registry, b"GET /reports/census HTTP/1.1\r\n\r\n");
+    assert!(rt;
+        list.as_str().starts_with("HTTP/1.1 200 OK\r\ncontent-type: text/plain; charset=utf-8\r\n")
+    );
+    let census = told(
+        alloc,
+        &mut registry,
+        b"GET /reports/census HTTP/1.1\r\n\r\n",
+    );
     assert!(rt; census.as_str().ends_with("total      65535\n"));
     drop(registry.close().into_store());
     Ok(())

@@ -56,11 +56,20 @@ fn serves_one_after_another(rt: HostRuntime) -> Result<(), Fail> {
         opened: 0,
         written: Vec::new(alloc),
     };
-    assert_eq!(rt; serve_all(alloc, &mut connections, &mut registry, 0), Ok(()));
+    assert_eq!(rt;
+        serve_all(alloc, &mut connections, &mut registry, 0),
+        Ok(())
+    );
     assert_eq!(rt; connections.opened, 0);
-    assert_eq!(rt; serve_all(alloc, &mut connections, &mut registry, 3), Ok(()));
+    assert_eq!(rt;
+        serve_all(alloc, &mut connections, &mut registry, 3),
+        Ok(())
+    );
     assert_eq!(rt; connections.opened, 3);
-    assert_eq!(rt; serve_all(alloc, &mut connections, &mut registry, 1), Err(ServerStop::Connections));
+    assert_eq!(rt;
+        serve_all(alloc, &mut connections, &mut registry, 1),
+        Err(ServerStop::Connections)
+    );
     let Messages {
         alloc: _,
         messages: _,
