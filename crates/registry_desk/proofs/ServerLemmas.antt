@@ -1,6 +1,6 @@
 -- One connection after another.
-use Rattle.std.proofs.Common.{◌≡◌, ◌⊎◌, inl, inr, ℕ, List, [], ◌∷◌, ◌++◌, refl, sym, ap, subst, ◌∙◌}
-use Rattle.std.specs.Prelude.{Option, Some, None, Result, Ok, Err}
+use Rattle.std.proofs.Common.{◌≡◌, ◌⊎◌, inl, inr, ℕ, ◌+◌, ◌<◌, ◌≤◌, List, [], ◌∷◌, ◌++◌, length, refl, sym, ap, subst, ◌∙◌, arith, length-append}
+use Rattle.std.specs.Prelude.{Option, Some, None, Result, Ok, Err, OnOk}
 use Rattle.sqlite.specs.Store.{Ghosts}
 use Rattle.sqlite.specs.State.{HasCleanDisk}
 use Rattle.usbids_text.specs.declared.ends.Broken.{Broken}
@@ -16,10 +16,12 @@ use Rattle.registry_desk.specs.declared.serve.Exchange.{Exchange}
 use Rattle.registry_desk.specs.Faults.{fault_of, unavailable_of}
 use Rattle.registry_desk.specs.Acting.{after_message, IsOfStanding, IsLeftAt}
 use Rattle.registry_desk.specs.Serving.{IsNext, IsServed, IsAnswered, IsGivenUp, given_up}
-use Rattle.registry_desk.specs.Server.{Visit, IsVisit, HaveVisited, IsTurn, Turns, Represents, IsHaltedAt, IsHalted, EndsVisit}
+use Rattle.registry_desk.specs.declared.server.ServerStop.{ServerStop}
+use Rattle.registry_desk.specs.declared.server.ServerStop.TheVariants as stops
+use Rattle.registry_desk.specs.Server.{Visit, IsVisit, HaveVisited, IsTurn, Turns, Represents, IsHaltedAt, IsHalted, EndsVisit, EndsServing, IfVisited, fault_in}
 
 -- one connection more
-pub visited_more : {C R W : Type 0} (opens closes : C → C → R → W → Type 0) (remaining : R → Option (List ℕ)) (contents : W → Option (List ℕ)) (failures : W → ℕ)
+pub visited_more : {C R W : Type 0} (opens : C → C → R → W → Type 0) (closes : C → C → R → W → Option ℕ → Type 0) (remaining : R → Option (List ℕ)) (contents : W → Option (List ℕ)) (failures : W → ℕ)
     (old middle new : C) (visits : List Visit) (visit : Visit) → HaveVisited opens closes remaining contents failures old middle visits
     → IsVisit opens closes remaining contents failures middle new visit → HaveVisited opens closes remaining contents failures old new (visits ++ visit ∷ [])
 visited_more opens closes remaining contents failures old middle new [] visit same one =
@@ -72,3 +74,52 @@ module _ {S : Type 0} {g : Ghosts S} where
       → ((x : History) → Stands mid x → EndsVisit new x visit (Some fault)) → IsHalted new h (visits ++ visit ∷ []) fault
   halted_more mid new h visits visit fault before one =
       record { before = visits; last = visit; all = refl; middle = before.0; turns = before.1; halted = one before.0 before.2 }
+
+pub length_more : (visits : List Visit) (visit : Visit) (n : ℕ) → length visits ≡ n → length (visits ++ visit ∷ []) ≡ n + 1
+length_more visits visit n is = length-append visits (visit ∷ []) ∙ ap (λ (k : ℕ). k + 1) is
+
+module _ {S C R W : Type 0} {g : Ghosts S} (opens : C → C → R → W → Type 0) (closes : C → C → R → W → Option ℕ → Type 0) (remaining : R → Option (List ℕ)) (contents : W → Option (List ℕ)) (failures : W → ℕ) where
+  abbrev Ends : C → C → TheRegistry S g → TheRegistry S g → ℕ → Result (Unit {0}) ServerStop → Type 0
+  Ends old new first last count result = (visits : List Visit) × (middle : C)
+      × HaveVisited opens closes remaining contents failures old middle visits
+      × IfVisited result (new ≡ middle)
+      × (length visits ≤ count) × OnOk result (length visits ≡ count)
+      × ((h : History) → Stands first h → HasCleanDisk (state_of last) → EndsServing last h visits (fault_in result))
+
+  -- a server stops at a connection that does not come, or at a fault
+  pub stops_at : (old middle new : C) (first mid last : TheRegistry S g) (count : ℕ) (visits : List Visit) (stop : ServerStop)
+      → HaveVisited opens closes remaining contents failures old middle visits → length visits < count
+      → (HasCleanDisk (state_of last) → HasCleanDisk (state_of mid))
+      → ((h : History) → Stands first h → HasCleanDisk (state_of mid) → Represents mid h visits)
+      → IfVisited (Err stop) ((visit : Visit) × IsVisit opens closes remaining contents failures middle new visit
+          × ((h : History) → Stands mid h → HasCleanDisk (state_of last) → EndsVisit last h visit (fault_in (Err stop))))
+      → (stop ≡ stops.Connections → last ≡ mid) → Ends old new first last count (Err stop)
+  stops_at old middle new first mid last count visits stops.Connections before less early so_far came none = (
+    visits,
+    middle,
+    before,
+    tt,
+    omega (arith, less),
+    tt,
+    λ h stands clean. subst (λ it. Represents it h visits) (sym (none refl)) (so_far h stands (early clean)),
+  )
+  stops_at old middle new first mid last count visits (stops.Registry fault) before less early so_far came none =
+      let longer = length_more visits came.0 (length visits) refl in (
+        visits ++ came.0 ∷ [],
+        new,
+        visited_more opens closes remaining contents failures old middle new visits came.0 before came.1,
+        refl,
+        omega (arith, less, longer),
+        tt,
+        λ h stands clean. halted_more mid last h visits came.0 fault (so_far h stands (early clean)) (λ x at. came.2 x at clean),
+      )
+
+  pub stopped_at : (result : Result (Unit {0}) ServerStop) (stop : ServerStop) → result ≡ Err stop → (old middle new : C) (first mid last : TheRegistry S g) (count : ℕ) (visits : List Visit)
+      → HaveVisited opens closes remaining contents failures old middle visits → length visits < count
+      → (HasCleanDisk (state_of last) → HasCleanDisk (state_of mid))
+      → ((h : History) → Stands first h → HasCleanDisk (state_of mid) → Represents mid h visits)
+      → IfVisited (Err stop) ((visit : Visit) × IsVisit opens closes remaining contents failures middle new visit
+          × ((h : History) → Stands mid h → HasCleanDisk (state_of last) → EndsVisit last h visit (fault_in (Err stop))))
+      → (stop ≡ stops.Connections → last ≡ mid) → Ends old new first last count result
+  stopped_at result stop is old middle new first mid last count visits before less early so_far came none =
+      subst (λ (r : Result (Unit {0}) ServerStop). Ends old new first last count r) (sym is) (stops_at old middle new first mid last count visits stop before less early so_far came none)

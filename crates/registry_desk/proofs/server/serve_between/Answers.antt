@@ -11,6 +11,7 @@ returns-in-Ok-clause-served g c =
       record { bytes = it.0; text = sent.0; end = Ok c.in-Ok.exchange },
       it.1,
       sent.2,
+      c.status_in.ensures,
       λ h stands clean. served_visit c.serve_message.new.registry h it.0 sent.0 c.in-Ok.exchange sent.1 sent.3.fault (sent.4 h stands clean),
     )
 
@@ -21,5 +22,6 @@ returns-in-Err-clause-served g c =
       record { bytes = it.0; text = []; end = Err c.in-Err.field-0 },
       it.1,
       read.1,
+      refl,
       λ h stands clean. (h, refl, subst (λ it. Stands it h) (sym read.2) stands),
     )
