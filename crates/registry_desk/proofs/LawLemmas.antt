@@ -1,6 +1,6 @@
 -- A message has one response.
-use Rattle.std.proofs.Common.{◌≡◌, ℕ, ◌≤◌, Bool, true, false, not, ◌&&◌, List, [], ◌∷◌, ◌++◌, Option, Some, None, refl, sym, ap, subst, ◌∙◌}
-use Rattle.std.specs.Prelude.{map, Result, Ok, Err, is_none, bytes_eq}
+use Rattle.std.proofs.Common.{◌≡◌, ℕ, Bool, not, ◌&&◌, List, [], ◌∷◌, ◌++◌, Some, None, refl, sym, ap, subst, ◌∙◌}
+use Rattle.std.specs.Prelude.{map, Ok, Err, is_none, bytes_eq}
 use Rattle.std.specs.Cmp.Lexicographic.{slice_cmp}
 use Rattle.std.specs.Ordering.{nat_cmp}
 use Rattle.std.specs.List.{All}
@@ -8,7 +8,7 @@ use Rattle.std.proofs.lemmas.Cmp.{nat_list_cmp_total}
 use Rattle.std.proofs.lemmas.List.Elements.{All-head, All-tail}
 use Rattle.std.proofs.lemmas.Map.Keys.{sorted_from_strictly_increasing}
 use Rattle.std.proofs.lemmas.Map.Text.{is_eq-slice_cmp}
-use Rattle.usbnum_core.specs.Spans.{spans_have, count_to}
+use Rattle.usbnum_core.specs.Spans.{spans_have}
 use Rattle.usbnum_core.specs.declared.number.Number.{Number}
 use Rattle.usbnum_core.specs.declared.number.Span.{Span}
 use Rattle.registry_rules.specs.History.{History}
@@ -27,16 +27,14 @@ use Rattle.registry_tables.proofs.AscendLemmas.{one_order}
 use Rattle.registry_tables.proofs.ViewLemmas.{same_bytes}
 use Rattle.registry_commands.specs.Reports.{HasReserved, IsCensus, IsHoldersReport, IsPetitionsReport}
 use Rattle.registry_http.specs.declared.response.Response.{Response}
-use Rattle.registry_http.specs.declared.refusal.HttpRefusal.{HttpRefusal}
 use Rattle.registry_http.specs.declared.route.Query.TheVariants as queries
 use Rattle.registry_http.specs.declared.route.Query.{Query}
 use Rattle.registry_http.specs.declared.route.Report.TheVariants as reports
-use Rattle.registry_http.specs.declared.message.Message.{Message}
 use Rattle.registry_http.specs.declared.message.Message.TheVariants as messages
 use Rattle.registry_http.specs.Responses.{text_response}
 use Rattle.usbids_text.specs.Entries.{TopEntry}
 use Rattle.usbids_text.specs.Writing.{written}
-use Rattle.registry_desk.specs.Acting.{IsQueryResponse, IsReportResponse, IsResponse, HasOneResponse}
+use Rattle.registry_desk.specs.Acting.{IsQueryResponse, HasOneResponse}
 use Rattle.registry_desk.proofs.OnceLemmas.{one_number_list}
 
 one_vendor_list : (h : History) (a b : List Vendor) → IsVendorList h a → IsVendorList h b → a ≡ b

@@ -1,5 +1,5 @@
 -- What serving one message comes to.
-use Rattle.std.proofs.Common.{sym, subst, ◌≡◌, inl, inr, ℕ, List, refl, ap, ◌∙◌}
+use Rattle.std.proofs.Common.{sym, ◌≡◌, inl, inr, ℕ, List, refl, ap, ◌∙◌}
 use Rattle.std.specs.Prelude.{Some, ◌≢◌, Result, Ok, Err, IfOk, IfErr, IsOk}
 use Rattle.sqlite.specs.Store.{Ghosts}
 use Rattle.sqlite.specs.State.{HasCleanDisk}

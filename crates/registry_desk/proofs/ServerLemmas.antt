@@ -3,7 +3,6 @@ use Rattle.std.proofs.Common.{◌≡◌, ◌⊎◌, inl, inr, ℕ, ◌+◌, ◌<
 use Rattle.std.specs.Prelude.{Option, Some, None, Result, Ok, Err, OnOk}
 use Rattle.sqlite.specs.Store.{Ghosts}
 use Rattle.sqlite.specs.State.{HasCleanDisk}
-use Rattle.usbids_text.specs.declared.ends.Broken.{Broken}
 use Rattle.registry_rules.specs.History.{History}
 use Rattle.registry_store.specs.declared.fault.Fault.{Fault}
 use Rattle.registry_store.specs.declared.registry.Registry.{Registry as TheRegistry}
@@ -15,10 +14,10 @@ use Rattle.registry_desk.specs.declared.serve.Served.{Served}
 use Rattle.registry_desk.specs.declared.serve.Exchange.{Exchange}
 use Rattle.registry_desk.specs.Faults.{fault_of, unavailable_of}
 use Rattle.registry_desk.specs.Acting.{after_message, IsOfStanding, IsLeftAt}
-use Rattle.registry_desk.specs.Serving.{IsNext, IsServed, IsAnswered, IsGivenUp, given_up}
+use Rattle.registry_desk.specs.Serving.{IsNext, IsServed}
 use Rattle.registry_desk.specs.declared.server.ServerStop.{ServerStop}
 use Rattle.registry_desk.specs.declared.server.ServerStop.TheVariants as stops
-use Rattle.registry_desk.specs.Server.{Visit, IsVisit, HaveVisited, IsTurn, Turns, Represents, IsHaltedAt, IsHalted, EndsVisit, EndsServing, IfVisited, fault_in}
+use Rattle.registry_desk.specs.Server.{Visit, IsVisit, HaveVisited, IsTurn, Turns, Represents, IsHalted, EndsVisit, EndsServing, IfVisited, fault_in}
 
 -- one connection more
 pub visited_more : {C R W : Type 0} (opens : C → C → R → W → Type 0) (closes : C → C → R → W → Option ℕ → Type 0) (remaining : R → Option (List ℕ)) (contents : W → Option (List ℕ)) (failures : W → ℕ)
@@ -92,7 +91,7 @@ module _ {S C R W : Type 0} {g : Ghosts S} (opens : C → C → R → W → Type
       → (HasCleanDisk (state_of last) → HasCleanDisk (state_of mid))
       → ((h : History) → Stands first h → HasCleanDisk (state_of mid) → Represents mid h visits)
       → IfVisited (Err stop) ((visit : Visit) × IsVisit opens closes remaining contents failures middle new visit
-          × ((h : History) → Stands mid h → HasCleanDisk (state_of last) → EndsVisit last h visit (fault_in (Err stop))))
+      × ((h : History) → Stands mid h → HasCleanDisk (state_of last) → EndsVisit last h visit (fault_in (Err stop))))
       → (stop ≡ stops.Connections → last ≡ mid) → Ends old new first last count (Err stop)
   stops_at old middle new first mid last count visits stops.Connections before less early so_far came none = (
     visits,
@@ -119,7 +118,7 @@ module _ {S C R W : Type 0} {g : Ghosts S} (opens : C → C → R → W → Type
       → (HasCleanDisk (state_of last) → HasCleanDisk (state_of mid))
       → ((h : History) → Stands first h → HasCleanDisk (state_of mid) → Represents mid h visits)
       → IfVisited (Err stop) ((visit : Visit) × IsVisit opens closes remaining contents failures middle new visit
-          × ((h : History) → Stands mid h → HasCleanDisk (state_of last) → EndsVisit last h visit (fault_in (Err stop))))
+      × ((h : History) → Stands mid h → HasCleanDisk (state_of last) → EndsVisit last h visit (fault_in (Err stop))))
       → (stop ≡ stops.Connections → last ≡ mid) → Ends old new first last count result
   stopped_at result stop is old middle new first mid last count visits before less early so_far came none =
       subst (λ (r : Result (Unit {0}) ServerStop). Ends old new first last count r) (sym is) (stops_at old middle new first mid last count visits stop before less early so_far came none)

@@ -6,13 +6,14 @@ use std::alloc::Global;
 use std::test::Fail;
 use usbids_text::{Broken, Inlet, Outlet};
 
-/// Messages, one a connection, and what was written for the last.
+/// Messages, one a connection, and what was written for the last, with its status.
 #[derive(Drop)]
 struct Messages<'a> {
     alloc: Global,
     messages: &'a [&'a [u8]],
     opened: usize,
     written: Vec<u8>,
+    status: Option<u16>,
 }
 
 impl<'a> Connections for Messages<'a> {
@@ -24,7 +25,7 @@ impl<'a> Connections for Messages<'a> {
 
     ghost opens = { λ _ _ _ _. ⊤ };
 
-    ghost closes = { λ _ _ _ _. ⊤ };
+    ghost closes = { λ _ _ _ _ _. ⊤ };
 
     fn open(&mut self) -> Result<(Inlet<&'a [u8]>, Outlet<Vec<u8>>), Broken> {
         if self.opened >= self.messages.len() {
@@ -35,8 +36,9 @@ impl<'a> Connections for Messages<'a> {
         Ok((Inlet::new(message), Outlet::new(Vec::new(self.alloc))))
     }
 
-    fn close(&mut self, reader: Inlet<&'a [u8]>, writer: Outlet<Vec<u8>>) {
+    fn close(&mut self, reader: Inlet<&'a [u8]>, writer: Outlet<Vec<u8>>, status: Option<u16>) {
         drop(reader);
+        self.status = status;
         self.written = writer.into_inner();
     }
 }
@@ -55,6 +57,7 @@ fn serves_one_after_another(rt: HostRuntime) -> Result<(), Fail> {
         messages: &messages,
         opened: 0,
         written: Vec::new(alloc),
+        status: None,
     };
     assert_eq!(rt;
         serve_all(alloc, &mut connections, &mut registry, 0),
@@ -70,11 +73,13 @@ fn serves_one_after_another(rt: HostRuntime) -> Result<(), Fail> {
         serve_all(alloc, &mut connections, &mut registry, 1),
         Err(ServerStop::Connections)
     );
+    assert_eq!(rt; connections.status, Some(200));
     let Messages {
         alloc: _,
         messages: _,
         opened: _,
         written,
+        status: _,
     } = connections;
     assert_eq!(rt; text(alloc, written).as_str(), ENROLLED);
     drop(registry.close().into_store());
