@@ -19,6 +19,7 @@ const REST_SECONDS: u64 = 2;
 const REST_BYTES: usize = 16 * 1024 * 1024;
 
 /// The connections of a listener.
+#[derive(Drop)]
 struct Accepted<'a> {
     rt: &'a HostRuntime,
     listener: &'a TcpListener,
