@@ -15,7 +15,7 @@ import subprocess
 import sys
 import time
 
-from serving import HOST, Serving, command, connected, exchange, free_port, get, message, post, refused, serving
+from serving import Serving, command, connected, exchange, free_port, get, message, post, refused, serving
 from talk_to_the_desk import ENROL, LIST, ORDER, ask, asked, same
 from usbreg import EXAMPLES, content, folder, found, program, write
 
