@@ -20,12 +20,12 @@ import re
 import resource
 import shutil
 import signal
-import subprocess
 import sys
+import threading
 import time
 
 from serving import TEXT, command, connected, done, exchange, get, message, post, read_to_end, refusals, refused, response, serving
-from stop_and_go_on import look
+from stop_and_go_on import kept, look
 from usbreg import EXAMPLES, TOP, apply, content, done as printed, folder, found, program, rounds, run, tables, write, write_requests
 
 PAGE = f"{TOP}/docs/http.md"
@@ -37,7 +37,7 @@ OF_RESOURCES = {30, 31}
 # Most bytes of a message's head, of an order and of a list.
 HEAD, ORDER, LIST = 8192, 16384, 4194304
 # How many connections are made one after another, and how many organisations enrol, ask and are granted while it is killed.
-MANY, ROUNDS = 200, 1000
+MANY, ROUNDS = 200, 100
 
 
 def same(what, got, wanted):
@@ -323,44 +323,50 @@ def ends(usbreg, room):
         sys.exit("a server that acted on nothing changed its store")
 
 
-def commands_until_killed(server, requests, seconds):
-    """The bodies of the whole responses that came until it was killed after so many seconds, or else all of them."""
-    replies, until = [], time.monotonic() + seconds
-    killer = subprocess.Popen(["sh", "-c", f"sleep {seconds}; kill -9 {server.process.pid}"])
+def bodies(server, requests):
+    """The bodies of the responses to commands that are acted on, up to the first that doesn't come whole."""
     for request in requests:
         try:
-            sent = exchange(server.port, command(request))
+            head, _, body = exchange(server.port, command(request)).partition(b"\r\n\r\n")
         except OSError:
-            break
-        head, _, body = sent.partition(b"\r\n\r\n")
+            return
         if not body.endswith(b"\n"):
-            break
+            return
         same(f"{request}", head[:15], b"HTTP/1.1 200 OK")
-        replies.append(body)
-    killer.wait()
-    server.process.wait()
-    if time.monotonic() < until:
-        sys.exit(f"{' '.join(server.words)}: it ended before it was killed")
-    return replies
+        yield body
+
+
+def unstopped(usbreg, room, requests):
+    """The bodies of all responses, the seconds that they took, and the store then: that of the same request lines."""
+    store, other = (found(usbreg, f"{room}/{name}.db") for name in ("unstopped", "applied"))
+    with serving(usbreg, store, count=len(requests)).up() as server:
+        began = time.monotonic()
+        replies = list(bodies(server, requests))
+        seconds = time.monotonic() - began
+        same("the end", server.ended(), (0, b"", b""))
+    same("replies over HTTP", b"".join(replies), apply(usbreg, other, write_requests(f"{room}/requests.jsonl", requests)))
+    same("tables over HTTP", tables(store), tables(other))
+    return replies, seconds, store
 
 
 def killed(usbreg, room, stops):
+    """Kills it so many times, opens the store again each time, and goes on from the first command without a response."""
     requests = list(rounds(1, ROUNDS))
-    store, other = (found(usbreg, f"{room}/{name}.db") for name in ("killed", "whole"))
-    wanted = apply(usbreg, other, write_requests(f"{room}/requests.jsonl", requests)).splitlines(keepends=True)
-    replies = []
+    wanted, seconds, other = unstopped(usbreg, room, requests)
+    store, replies, between = found(usbreg, f"{room}/killed.db"), [], 0
     for _ in range(stops):
-        with serving(usbreg, store) as server:
-            if server.is_up():
-                replies += commands_until_killed(server, requests[len(replies):], random.uniform(0.002, 0.1))
+        with serving(usbreg, store).up() as server:
+            killer = threading.Timer(random.uniform(0, 2 * seconds / stops), server.process.kill)
+            killer.start()
+            replies += bodies(server, requests[len(replies):])
+            killer.join()
         look(store, room, requests, replies)
-    count = len(replies)
+        between += len(kept(store, room)) > len(replies)
     with serving(usbreg, store).up() as server:
-        replies += [exchange(server.port, command(it)).partition(b"\r\n\r\n")[2] for it in requests[count:]]
-        server.kill()
+        replies += bodies(server, requests[len(replies):])
     if replies != wanted or tables(store) != tables(other):
         sys.exit("replies or tables are not those of a run without stops")
-    return count
+    return f"{stops} stops in {len(requests)} commands, {between} of them between a commit and its response"
 
 
 def main():
@@ -376,7 +382,7 @@ def main():
         own_client(usbreg, room)
         ends(usbreg, room)
         print(f"a store that failed after {full(usbreg, room)} commands")
-        print(f"{stops} stops in {killed(usbreg, room, stops)} commands: each one whose response came stands, and the end is that of a run without stops")
+        print(f"{killed(usbreg, room, stops)}: each one whose response came stands, and the end is that of a run without stops")
 
 
 if __name__ == "__main__":
