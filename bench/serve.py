@@ -4,8 +4,8 @@ Python by http.server and sqlite3: the same messages, one connection each, from 
 
 Prints messages a second and their ratios, in a file on tmpfs (/dev/shm), best and median of five runs that take turns:
 orders on a new store, and numbers and the list of a store with 60,000 numbers and 100,000 petitions. Then, of usbreg
-alone, what a query costs on that store over what it costs on one with 100 numbers; and the most memory that the process
-has had, once its store is open, after the longest order, after the longest list and after a query for the list. Wants
+alone, what a query costs on that store over what it costs on one with 100 numbers; and how much the most memory that the
+process has had grows by the longest order, the longest list, the most devices and a query for the list. Wants
 the program that `make` builds, or the one whose path is in USBREG, and cc, and says what is missing."""
 
 import os
@@ -151,14 +151,15 @@ def memory(usbreg, room, full):
     """The most memory after messages of the greatest sizes."""
     listed = (b"# \n" * 4194304)[:4194304]
     devices = b"1209  x\n" + b"".join(b"\t%04x  %s\n" % (1 + at % 0xfff0, b"D" * 200) for at in range(8192))
-    organisation = '{"order":"enrol","org":"acme","title":"Acme","site":"https://acme.example/"}'
+    enrolment = b'{"order":"enrol","org":"acme","title":"Acme","site":"https://acme.example/"}'
     for title, store, sent in (
-        ("an order of 16,384 bytes", None, post("ann", "k1", organisation.encode().ljust(16384))),
+        ("an order of 16,384 bytes", None, post("ann", "k2", enrolment.replace(b"enrol", b"amend-org").ljust(16384))),
         ("a list of 4,194,304 bytes without devices", None, post("cora", "i1", listed, "/imports/acme")),
         (f"a list of 8,192 devices, {len(devices):,} bytes", None, post("cora", "i1", devices, "/imports/acme")),
         (f"the list of {NUMBERS:,} numbers", full, get("/list")),
     ):
         with usbreg.serve(store or usbreg.new(f"{room}/peak.db")) as server:
+            exchange(server.port, post("ann", "k1", enrolment))
             before = peak(server)
             size = len(exchange(server.port, sent))
             print(f"{title}: {(peak(server) - before) / 1e6:.1f} MB more than the {before / 1e6:.1f} MB before it; the response has {size:,} bytes")
