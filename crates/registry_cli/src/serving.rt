@@ -43,8 +43,20 @@ fn is_of_peer(error: &io::Error) -> bool {
     )
 }
 
-/// Reads what the peer still sends, up to its end or to the bounds, so that no reset takes its response away.
+/// Whether bytes lie there that the peer sent behind its message.
+fn has_more(stream: &TcpStream) -> bool {
+    let mut room = [0u8; 1];
+    match stream.set_nonblocking(true) {
+        Ok(()) => matches!(stream.peek(&mut room), Ok(1)),
+        Err(_) => false,
+    }
+}
+
+/// Ends the response, and reads what the peer still sends, up to its end or to the bounds, so that no reset takes the
+/// response away.
 fn read_rest(rt: &HostRuntime, mut stream: &TcpStream) -> io::Result<()> {
+    stream.set_nonblocking(false)?;
+    stream.shutdown(Shutdown::Write)?;
     let start = Instant::now(rt)?;
     let time = Duration::from_secs(REST_SECONDS);
     let mut room = [0u8; 16_384];
@@ -69,7 +81,7 @@ impl Connections for Accepted<'_> {
 
     ghost opens = { λ _ _ _ _. ⊤ };
 
-    ghost closes = { λ _ _ _ _. ⊤ };
+    ghost closes = { λ _ _ _ _ _. ⊤ };
 
     fn open(&mut self) -> Result<(Inlet<TcpStream>, Outlet<TcpStream>), Broken> {
         for accepted in self.listener.incoming() {
@@ -89,10 +101,18 @@ impl Connections for Accepted<'_> {
         Err(Broken)
     }
 
-    fn close(&mut self, reader: Inlet<TcpStream>, _writer: Outlet<TcpStream>) {
+    fn close(
+        &mut self,
+        reader: Inlet<TcpStream>,
+        _writer: Outlet<TcpStream>,
+        status: Option<u16>,
+    ) {
         let stream = reader.into_inner();
-        if stream.shutdown(Shutdown::Write).is_ok() {
-            let _ = read_rest(self.rt, &stream);
+        if let Some(status) = status {
+            // A message with status 200 was read to its end, so its peer has nothing more to send.
+            if status != 200 || has_more(&stream) {
+                let _ = read_rest(self.rt, &stream);
+            }
         }
     }
 }
