@@ -193,7 +193,7 @@ def look_served(what, responses, ended, wanted):
     is_cut = status == 1 and output == b"" and errors in FAULTS and (responses == [] or responses[-1] in faults)
     if strange or not is_whole and not is_cut:
         sys.exit(f"{what}: {responses}, status {status}, {errors!r}")
-    return errors.decode().strip() or ("answered 31 and went on" if faults else "did without it")
+    return errors.decode().strip() or ("got 31 and went on" if faults else "did without it")
 
 
 def connections(usbreg, shim, room, lines):
