@@ -93,3 +93,7 @@ module _ {S : Type 0} {g : Ghosts S} where
   pub record IsLeftAt (fault : DeskFault) (it : TheRegistry S g) (h next : History) : Type 0 where
     pub leaves : Leaves newest (state_of it) (IsEither h next)
     pub ends : EndsAt fault it h next
+
+-- a history has one response to what a message says
+abbrev pub HasOneResponse : Type 0
+HasOneResponse = (h : History) (said : Result Message HttpRefusal) (a b : Response) → IsResponse h said a → IsResponse h said b → a ≡ b

@@ -32,6 +32,15 @@ pub record Visit : Type 0 where
   pub text : List ℕ
   pub end : Result Exchange Broken
 
+-- the status that was written, where a response was written whole
+abbrev pub status_in : Result ℕ Broken → Option ℕ
+status_in (Ok status) = Some status
+status_in (Err broken) = None
+
+abbrev pub status_of : Result Exchange Broken → Option ℕ
+status_of (Ok exchange) = status_in exchange.sent
+status_of (Err broken) = None
+
 -- all of the text was written, or the writer failed; where the reader failed nothing was
 abbrev pub IsWritten : {W : Type 0} → (W → Option (List ℕ)) → (W → ℕ) → W → W → Visit → Type 0
 IsWritten contents failures old new visit = WrittenAt visit.end
@@ -40,7 +49,7 @@ IsWritten contents failures old new visit = WrittenAt visit.end
     WrittenAt (Ok exchange) = Writes (contents old) (contents new) (failures old) (failures new) exchange.sent visit.text
     WrittenAt (Err broken) = new ≡ old
 
-module _ {C R W : Type 0} (opens closes : C → C → R → W → Type 0) (remaining : R → Option (List ℕ)) (contents : W → Option (List ℕ)) (failures : W → ℕ) where
+module _ {C R W : Type 0} (opens : C → C → R → W → Type 0) (closes : C → C → R → W → Option ℕ → Type 0) (remaining : R → Option (List ℕ)) (contents : W → Option (List ℕ)) (failures : W → ℕ) where
   -- a connection was opened, its message was served, and it was closed
   pub record IsVisit (old new : C) (visit : Visit) : Type 0 where
     pub opened : C
@@ -51,7 +60,9 @@ module _ {C R W : Type 0} (opens closes : C → C → R → W → Type 0) (remai
     pub opens_with : opens old opened reader writer
     pub gives : MayGive (remaining reader) visit.bytes
     pub written : IsWritten contents failures writer writer_new visit
-    pub closes_with : closes opened new reader_new writer_new
+    pub status : Option ℕ
+    pub status_is : status ≡ status_of visit.end
+    pub closes_with : closes opened new reader_new writer_new status
 
   -- the same of connections one after another
   abbrev pub HaveVisited : C → C → List Visit → Type 0
@@ -113,13 +124,13 @@ module _ {S : Type 0} {g : Ghosts S} where
   EndsVisit it h visit (Some fault) = IsHaltedAt it h visit fault
 
 -- the registry's fault that stopped a server
-abbrev pub fault_in : {A : Type 0} → Result A ServerStop → Option Fault
+abbrev pub fault_in : Result (Unit {0}) ServerStop → Option Fault
 fault_in (Ok done) = None
 fault_in (Err stops.Connections) = None
 fault_in (Err (stops.Registry fault)) = Some fault
 
 -- where a connection came, this holds
-abbrev pub IfVisited : {A : Type 0} → Result A ServerStop → Type 0 → Type 0
+abbrev pub IfVisited : Result (Unit {0}) ServerStop → Type 0 → Type 0
 IfVisited (Ok done) P = P
 IfVisited (Err stops.Connections) P = ⊤
 IfVisited (Err (stops.Registry fault)) P = P

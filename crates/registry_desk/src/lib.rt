@@ -4,9 +4,11 @@
 
 mod acting;
 mod fault;
+mod laws;
 mod queries;
 mod serve;
 mod server;
 
+pub use laws::has_one_response;
 pub use serve::{PeerFault, Served, serve_one};
 pub use server::{Connections, ServerStop, serve_all, serve_next};

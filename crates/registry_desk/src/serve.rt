@@ -79,7 +79,7 @@ fn send<W: Sink>(alloc: Global, sink: &mut W, done: Result<Response, DeskFault>)
 /// Reads one message from the source, acts on it, and writes its response to the sink.
 ///
 /// `Broken` comes only where the source failed in this call: then nothing is written and nothing was acted on.
-pub(crate) fn exchange<R: Source, W: Sink, S: Alter>(
+pub(crate) fn serve_message<R: Source, W: Sink, S: Alter>(
     alloc: Global,
     source: &mut R,
     sink: &mut W,
@@ -141,7 +141,7 @@ pub fn serve_one<R: Source, W: Sink, S: Alter>(
     ensures read { result ≡ Err PeerFault.Read → HasFailed (R.failures source.old) (R.failures source.new) × (sink.new ≡ sink.old) × (registry.new ≡ registry.old) }
     ensures endures { Endures (state_of registry.old) (state_of registry.new) }
 {
-    match exchange(alloc, source, sink, registry) {
+    match serve_message(alloc, source, sink, registry) {
         Ok(exchange) => served_of(exchange),
         Err(Broken) => Err(PeerFault::Read),
     }

@@ -1,13 +1,13 @@
 //! The server: one connection after another, over one registry.
 
-ghost use Rattle.std.specs.Prelude.{◌≡◌, ◌≤◌, ℕ, List, length, IfOk, OnOk, Err};
+ghost use Rattle.std.specs.Prelude.{◌≡◌, ◌≤◌, ℕ, List, Option, length, IfOk, OnOk, Err};
 ghost use Rattle.sqlite.specs.State.{HasCleanDisk};
 ghost use Rattle.usbids_text.specs.Ends.{MayGive};
 ghost use Rattle.registry_rules.specs.History.{History};
 ghost use Rattle.registry_store.specs.Promise.{Stands, Endures, state_of};
-ghost use Rattle.registry_desk.specs.Server.{Visit, IsVisit, IsWritten, HaveVisited, EndsVisit, EndsServing, IfVisited, fault_in};
+ghost use Rattle.registry_desk.specs.Server.{Visit, IsVisit, IsWritten, HaveVisited, EndsVisit, EndsServing, IfVisited, fault_in, status_in, status_of};
 
-use crate::serve::exchange;
+use crate::serve::serve_message;
 use registry_store::{Fault, Registry};
 use sqlite::Alter;
 use std::alloc::Global;
@@ -24,16 +24,18 @@ pub trait Connections {
     /// The next connection was opened, with this reader and this writer.
     ghost opens: { Self → Self → Self.Reader → Self.Writer → Type 0 };
 
-    /// The connection was closed, with its reader and its writer as serving left them.
-    ghost closes: { Self → Self → Self.Reader → Self.Writer → Type 0 };
+    /// The connection was closed, with its reader and its writer as serving left them, and this status.
+    ghost closes: { Self → Self → Self.Reader → Self.Writer → Option ℕ → Type 0 };
 
     /// Waits for the next connection. `Broken` says that none can come.
     fn open(&mut self) -> Result<(Self::Reader, Self::Writer), Broken>
         ensures { IfOk result (λ ends. opens self.old self.new ends.0 ends.1) };
 
-    /// Closes a connection whose message is served.
-    fn close(&mut self, reader: Self::Reader, writer: Self::Writer)
-        ensures { closes self.old self.new reader writer };
+    /// Closes a connection whose message is served, with the status of its response, or `None` where its peer failed.
+    ///
+    /// A message that is refused before its end leaves bytes unread.
+    fn close(&mut self, reader: Self::Reader, writer: Self::Writer, status: Option<u16>)
+        ensures { closes self.old self.new reader writer status };
 }
 
 /// Why a server stops before its last connection.
@@ -45,21 +47,44 @@ pub enum ServerStop {
     Registry(Fault),
 }
 
-/// Serves the message of one connection, and gives the registry's fault where it had one.
+/// What the serving of one connection came to: the registry's fault, and the status where a response was written whole.
+#[derive(Clone, Copy, Debug, Drop, PartialEq, Eq)]
+struct Outcome {
+    fault: Option<Fault>,
+    status: Option<u16>,
+}
+
+fn status_in(sent: Result<u16, Broken>) -> Option<u16>
+    ensures { result ≡ status_in sent }
+{
+    match sent {
+        Ok(status) => Some(status),
+        Err(Broken) => None,
+    }
+}
+
+/// Serves the message of one connection.
 fn serve_between<R: Source, W: Sink, S: Alter>(
     alloc: Global,
     reader: &mut R,
     writer: &mut W,
     registry: &mut Registry<S>,
-) -> Option<Fault>
+) -> Outcome
     ensures served { (visit : Visit) × MayGive (R.remaining reader.old) visit.bytes
         × IsWritten W.contents W.failures writer.old writer.new visit
-        × ((h : History) → Stands registry.old h → HasCleanDisk (state_of registry.new) → EndsVisit registry.new h visit result) }
+        × (result.status ≡ status_of visit.end)
+        × ((h : History) → Stands registry.old h → HasCleanDisk (state_of registry.new) → EndsVisit registry.new h visit result.fault) }
     ensures endures { Endures (state_of registry.old) (state_of registry.new) }
 {
-    match exchange(alloc, reader, writer, registry) {
-        Ok(exchange) => exchange.fault,
-        Err(Broken) => None,
+    match serve_message(alloc, reader, writer, registry) {
+        Ok(exchange) => Outcome {
+            fault: exchange.fault,
+            status: status_in(exchange.sent),
+        },
+        Err(Broken) => Outcome {
+            fault: None,
+            status: None,
+        },
     }
 }
 
@@ -81,9 +106,9 @@ pub fn serve_next<C: Connections, S: Alter>(
     match connections.open() {
         Ok(ends) => {
             let (mut reader, mut writer) = ends;
-            let fault = serve_between(alloc, &mut reader, &mut writer, registry);
-            connections.close(reader, writer);
-            match fault {
+            let outcome = serve_between(alloc, &mut reader, &mut writer, registry);
+            connections.close(reader, writer, outcome.status);
+            match outcome.fault {
                 None => Ok(()),
                 Some(fault) => Err(ServerStop::Registry(fault)),
             }
