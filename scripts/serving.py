@@ -117,7 +117,10 @@ def command(request):
 
 
 def connected(port):
-    return socket.create_connection((HOST, port), timeout=PATIENCE)
+    """A connection whose bytes are sent as they come."""
+    connection = socket.create_connection((HOST, port), timeout=PATIENCE)
+    connection.setsockopt(socket.IPPROTO_TCP, socket.TCP_NODELAY, 1)
+    return connection
 
 
 def read_to_end(connection):

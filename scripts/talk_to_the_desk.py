@@ -245,6 +245,12 @@ def early(desk):
     large = b"x" * 5_000_000
     same("5 MB", exchange(desk.port, post("ann", "k9", large)), refused(22))
     same("5 MB to no path", exchange(desk.port, post("ann", "k9", large, "/none")), refused(24))
+    with connected(desk.port) as connection:
+        head, end, body = post("ann", "k9", large).partition(b"\r\n\r\n")
+        connection.sendall(head + end)
+        time.sleep(0.5)
+        connection.sendall(body)
+        same("5 MB after a while", read_to_end(connection), refused(22))
     if desk.has_curl:
         path = write(f"{desk.room}/large", large.decode())
         for expect in ("expect:", "expect: 100-continue"):
