@@ -1,9 +1,9 @@
 #!/usr/bin/env python3
 """Runs examples/nginx.conf as it stands, but for its two ports, in front of `usbreg serve`.
 
-The desk gets the name that nginx has authenticated, whatever the client says of itself; no order passes without one.
+The server gets the name that nginx has authenticated, whatever the client says of itself; no order passes without one.
 Bodies of the greatest sizes pass, and greater ones do not. A client that stops in the middle keeps nobody waiting. The list is
-kept, also while the desk is down.
+kept, also while the server is down.
 
 Usage: scripts/serve_behind_nginx.py [PROGRAM], by default the one that `make` builds. Wants nginx, and says that it was
 skipped where it is not installed. The status is 0 where all of this held."""
@@ -45,10 +45,10 @@ class Gate:
             sys.exit(f"{what}: status {got}, {text!r}, where {status} {body!r} is wanted")
 
 
-def conf(room, gate, desk):
+def conf(room, gate, server):
     """The recipe with these ports, and the names that it lets in."""
     text = content(f"{EXAMPLES}/nginx.conf").decode()
-    for port, other in ((":8000;", gate), (":8080", desk)):
+    for port, other in ((":8000;", gate), (":8080", server)):
         if port not in text:
             sys.exit(f"examples/nginx.conf has no {port}")
         text = text.replace(port, f":{other}" + port[5:])
@@ -69,7 +69,7 @@ def refusal(number):
 
 
 def names(gate):
-    """Who the desk believes a caller to be."""
+    """Who the server believes a caller to be."""
     gate.gives("no name", command(ENROL), 401)
     gate.gives("a wrong password", signed("ann", command(ENROL), "cora"), 401)
     gate.gives("no name for a list", post("cora", "i1", b"1209  x\n", "/imports/acme"), 401)
@@ -87,7 +87,7 @@ def names(gate):
 
 
 def sizes(gate):
-    """The greatest bodies pass to the desk, and no greater ones; a body in chunks has its length when it gets there."""
+    """The greatest bodies pass to the server, and no greater ones; a body in chunks has its length when it gets there."""
     body = command(ENROL).partition(b"\r\n\r\n")[2]
     gate.gives("the longest order", signed("ann", post("", "k1", body.ljust(ORDER))), 200, told("enrolled acme"))
     gate.gives("a longer order", signed("ann", post("", "k1", body.ljust(ORDER + 1))), 413)
@@ -114,15 +114,15 @@ def slow_clients(gate):
 
 
 def the_list(gate, server):
-    """The list is kept, and stays while the desk is down."""
+    """The list is kept, and stays while the server is down."""
     listed = b"# List of USB numbers in the syntax of usb.ids\n\n1209  Shared products\n\t0011  Lamp\n"
     for what in ("miss", "hit"):
         status, body, lines = gate.ask(get("/list"))
         if (status, body) != (200, listed) or f"cache-status: {what}" not in lines:
             sys.exit(f"the list: status {status}, {lines}, {body!r}, where a {what} is wanted")
     server.kill()
-    gate.gives("the list without the desk", get("/list"), 200, listed)
-    gate.gives("a number without the desk", get("/numbers/0011"), 502)
+    gate.gives("the list without the server", get("/list"), 200, listed)
+    gate.gives("a number without the server", get("/numbers/0011"), 502)
 
 
 def main():
