@@ -8,9 +8,9 @@
 # gate:    the same with the latter tests proved too, and each edit in a check of its own,
 #          as a bare `rt ci` does it: more than twice the time, for a release.
 # install: puts the program that `make` built into PREFIX/bin, and its page into PREFIX/share/man/man1.
-# bench:   reads and writes lists and looks devices up beside plain readers, and acts on requests beside plain
-#          registries, and prints ratios; opens a large store of an older schema. Not part of the gate; it
-#          says which packages are missing.
+# bench:   reads and writes lists and looks devices up beside plain readers, acts on requests and serves messages
+#          beside plain registries, and prints ratios; opens a large store of an older schema. Not part of the gate;
+#          it says which packages are missing.
 
 PREFIX ?= /usr/local
 PROGRAM := crates/registry_cli/out/registry_cli
@@ -41,4 +41,5 @@ bench:
 	bench/run.sh
 	bench/look_up.py
 	bench/registry.py
+	bench/serve.py
 	bench/open_older.py

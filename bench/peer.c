@@ -237,12 +237,12 @@ static long long number(const char *text) {
     return found;
 }
 
-int main(int count, char **words) {
-    if (count != 4) return 2;
-    int is_new = !strcmp(words[1], ":memory:") || access(words[1], F_OK);
-    must(sqlite3_open(words[1], &db) == SQLITE_OK);
+// Opens a store, a new one by the statements of a file, and reads the totals.
+static void open_store(const char *store, const char *tables) {
+    int is_new = !strcmp(store, ":memory:") || access(store, F_OK);
+    must(sqlite3_open(store, &db) == SQLITE_OK);
     must(sqlite3_exec(db, "PRAGMA journal_mode = WAL; PRAGMA synchronous = FULL", NULL, NULL, NULL) == SQLITE_OK);
-    if (is_new) must(sqlite3_exec(db, whole(words[3]), NULL, NULL, NULL) == SQLITE_OK);
+    if (is_new) must(sqlite3_exec(db, whole(tables), NULL, NULL, NULL) == SQLITE_OK);
     for (int at = 0; at < STATEMENTS; at++) must(sqlite3_prepare_v3(db, texts[at], -1, SQLITE_PREPARE_PERSISTENT, &made[at], NULL) == SQLITE_OK);
     organisations = number("SELECT count(*) FROM orgs");
     last_petition = number("SELECT coalesce(max(id), 0) FROM petitions3");
@@ -254,13 +254,29 @@ int main(int count, char **words) {
     while (finds(it)) ++*open_count((const char *)sqlite3_column_text(it, 0));
     sqlite3_finalize(it);
     while (least < PIDS - 1 && owned[least]) least++;
+}
 
-    char reply[2 * TEXT], shown[2 * TEXT + 64];
-    for (char *line = strtok(whole(words[2]), "\n"); line; line = strtok(NULL, "\n")) {
-        int refused = act(line, reply);
-        int length = refused ? sprintf(shown, "{\"refused\":%d}\n", refused) : sprintf(shown, "{\"done\":\"%s\"}\n", reply);
-        if (write(1, shown, (size_t)length) != length) return 1;
-    }
+static inline int close_store(void) {
     for (int at = 0; at < STATEMENTS; at++) sqlite3_finalize(made[at]);
     return sqlite3_close(db) != SQLITE_OK;
 }
+
+// Acts on a line, and puts the reply line into the room, which has 2 * TEXT + 64 bytes.
+static int reply_line(const char *line, char *shown) {
+    char reply[2 * TEXT];
+    int refused = act(line, reply);
+    return refused ? sprintf(shown, "{\"refused\":%d}\n", refused) : sprintf(shown, "{\"done\":\"%s\"}\n", reply);
+}
+
+#ifndef NO_MAIN
+int main(int count, char **words) {
+    if (count != 4) return 2;
+    open_store(words[1], words[3]);
+    char shown[2 * TEXT + 64];
+    for (char *line = strtok(whole(words[2]), "\n"); line; line = strtok(NULL, "\n")) {
+        int length = reply_line(line, shown);
+        if (write(1, shown, (size_t)length) != length) return 1;
+    }
+    return close_store();
+}
+#endif

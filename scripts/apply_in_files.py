@@ -151,13 +151,11 @@ def repeats(room):
 
 
 def words(room):
-    """No words are a trial; a command that has still to come says so."""
+    """No words are a trial."""
     lines = content(f"{EXAMPLES}/first.jsonl")
     replies = '{"done":"enrolled acme"}\n{"done":"petition 1"}\n{"done":"granted 0011 to acme by petition 1"}\n'
     for said in ([], ["trial"]):
         room.case(said, output=replies, lines=lines)
-    store = f"{room.folder}/whole.db"
-    room.case(["serve", store, "--port", "8080"], 2, errors="usbreg serve: not in this version\n")
 
 
 def main():

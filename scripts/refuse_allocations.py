@@ -8,22 +8,26 @@ first of these applied to a store in a file: each run prints the whole answers, 
 founded in the same way: where that fails it can be founded again, or was founded already, and is whole. The
 commands that show something print the whole of it or a beginning, and change nothing; an import that fails
 is done under its key again, with the same reply and the same tables. A store of an older schema that is opened
-opens again as the same history.
+opens again as the same history. Over HTTP an order, an import and a query each have the response that they should have,
+or refusal 31 and the next one is served, or refusal 30 or 31 and the program ends with its fault; sent again to the
+store that is opened anew they have the responses, and the tables are those, of a run in which nothing was refused.
 
 The same with `usbids_bench` and a list that it reads, writes and reads again: it says so, or that there is
 no memory, and never counts other entries or names a fault of a line.
 
 Usage: scripts/refuse_allocations.py [--only PART] [--every N] [PROGRAM [BENCH]], by default all parts with the program that
 `make` builds and the one that `rt run` builds in crates/usbids_bench. PART is trial, which is part of `make test`, or
-found, apply, show, import, open or list; --every N refuses every N-th allocation alone. Wants cc. The status is 0 where
+found, apply, show, import, serve, open or list; --every N refuses every N-th allocation alone. Wants cc. The status is 0 where
 all of this held. docs/proving.md says how long each part takes."""
 
 import argparse
 import collections
+import functools
 import os
 import sys
 
-from refusing import asked_in, each, refusal, run_refused
+from refusing import asked_in, each, refusal, refusing, run_refused
+from serving import command, exchange, free_port, get, post, refused, serving
 from usbreg import EXAMPLES, FOUNDING, apply, content, copy, done, found, older, program, remove, run, tables, write
 
 FAULTS = {b"fault: memory\n", b"fault: store\n"}
@@ -52,13 +56,17 @@ def look(what, ran, wanted):
     return output.count(b"\n"), errors.decode().strip() or "did without it"
 
 
-def refuse_each(what, words, room, shim, attempt, lines=os.devnull):
-    """Refuses the allocations of a command in turn, and says how the attempts ended. The words name files that may change."""
-    count = asked_in(words, shim, room, lines)
-    refused = range(1, count + 1, EVERY)
-    ended = collections.Counter(each(refused, room, attempt))
+def refuse_in_turn(what, count, room, attempt):
+    """Has so many allocations refused in turn, and says how the attempts ended."""
+    numbers = range(1, count + 1, EVERY)
+    ended = collections.Counter(each(numbers, room, attempt))
     said = ", ".join(f"{number} {how}" for how, number in sorted(ended.items()))
-    print(f"{what}: {len(refused)} of {count} allocations refused: {said}", flush=True)
+    print(f"{what}: {len(numbers)} of {count} allocations refused: {said}", flush=True)
+
+
+def refuse_each(what, words, room, shim, attempt, lines=os.devnull):
+    """Refuses the allocations of a command in turn. The words name files that may change."""
+    refuse_in_turn(what, asked_in(words, shim, room, lines), room, attempt)
 
 
 def trials(usbreg, shim, room, lines):
@@ -160,6 +168,62 @@ def foundings(usbreg, shim, room, lines):
     refuse_each("found", [usbreg, "found", f"{room}/counted.db", FOUNDING], room, shim, attempt)
 
 
+# One port for each folder of attempts, which run one after another.
+port_of = functools.cache(lambda _: free_port())
+
+
+def served(server, messages):
+    """The responses to the messages, up to the first that none came to, and how the program ended."""
+    responses = []
+    if server.is_up():
+        for message in messages:
+            try:
+                responses.append(exchange(server.port, message))
+            except OSError:
+                break
+    return responses, server.ended()
+
+
+def look_served(what, responses, ended, wanted):
+    """How a run ended whose responses are those that are wanted, or refusals 30 and 31, the last one of a fault."""
+    status, output, errors = ended
+    faults = [it for it in responses if it in (refused(30), refused(31))]
+    strange = [(it, other) for it, other in zip(responses, wanted) if it != other and it not in faults]
+    is_whole = (status, output, errors) == (0, b"", b"") and len(responses) == len(wanted) and refused(30) not in faults
+    is_cut = status == 1 and output == b"" and errors in FAULTS and (responses == [] or responses[-1] in faults)
+    if strange or not is_whole and not is_cut:
+        sys.exit(f"{what}: {responses}, status {status}, {errors!r}")
+    return errors.decode().strip() or ("got 31 and went on" if faults else "did without it")
+
+
+def connections(usbreg, shim, room, lines):
+    """An order, an import and a query over HTTP. None has another response where one before it was not acted on."""
+    before, other = (found(usbreg, f"{room}/{it}.db") for it in ("unserved", "served"))
+    for store in (before, other):
+        apply(usbreg, store, lines)
+    ask = {"order": "ask", "org": "acme", "title": "Lamp", "licence": "MIT", "site": "https://acme.example/", "source": "https://acme.example/"}
+    listed = b"1209  x\n\t0001  Fixed\n\t0011  Taken\n\t0012  New board\n\t0013\n"
+    messages = [command({"caller": "ann", "key": "k4"} | ask), post("cora", "i1", listed, "/imports/acme"), get("/numbers/0011")]
+    with serving(usbreg, other, count=3) as server:
+        wanted, _ = served(server, messages)
+    # in the order of their texts, since an order that was refused memory may come after the import
+    end, counted = sorted(tables(other)), f"{room}/counted"
+    with serving(usbreg, copy(before, f"{room}/counted.db"), count=3, env=refusing(shim, 0, counted)) as server:
+        served(server, messages)
+
+    def attempt(number, folder):
+        what, store = f"served without allocation {number}", copy(before, f"{folder}/store.db")
+        with serving(usbreg, store, count=3, port=port_of(folder), env=refusing(shim, number)) as server:
+            ended = look_served(what, *served(server, messages), wanted)
+        with serving(usbreg, store, count=3, port=port_of(folder)) as server:
+            again = served(server, messages)
+        if again != (wanted, (0, b"", b"")) or sorted(tables(store)) != end:
+            sys.exit(f"{what}: sent again the responses are {again}, or the tables are not those of a run without it")
+        return ended
+
+    refuse_in_turn("serve", int(content(counted)), room, attempt)
+
+
 def lists(bench, shim, room):
     words = [bench, write(f"{room}/usb.ids", LIST)]
     wanted = run(words)
@@ -175,7 +239,7 @@ def lists(bench, shim, room):
     refuse_each("a list", words, room, shim, attempt)
 
 
-PARTS = ("trial", "found", "apply", "show", "import", "open", "list")
+PARTS = ("trial", "found", "apply", "show", "import", "serve", "open", "list")
 
 
 def main():
@@ -192,7 +256,7 @@ def main():
         if "trial" in parts:
             trials(usbreg, shim, room, first)
             trials(usbreg, shim, room, orders)
-        for part, refuse in (("found", foundings), ("apply", stores), ("show", views), ("import", imports)):
+        for part, refuse in (("found", foundings), ("apply", stores), ("show", views), ("import", imports), ("serve", connections)):
             if part in parts:
                 refuse(usbreg, shim, room, first)
         for version in (1, 2) if "open" in parts else ():

@@ -22,10 +22,15 @@ def refusal():
         yield room, shim
 
 
+def refusing(shim, refused, counted=None):
+    """The variables of a run that is refused the allocation of this number, or none for 0. It says in a file how many
+    it asked for, where one is named."""
+    return {"LD_PRELOAD": shim, "REFUSED": str(refused), **({"COUNTED": counted} if counted else {})}
+
+
 def run_refused(words, shim, refused, lines=os.devnull, counted=None):
     """Status, output and errors of a run that is refused the allocation of this number, or none for 0."""
-    env = {"LD_PRELOAD": shim, "REFUSED": str(refused), **({"COUNTED": counted} if counted else {})}
-    return run(words, content(lines), env)
+    return run(words, content(lines), refusing(shim, refused, counted))
 
 
 def asked_in(words, shim, room, lines=os.devnull):

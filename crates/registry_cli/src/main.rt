@@ -3,12 +3,14 @@
 
 mod files;
 mod imports;
+mod serving;
 mod views;
 
 use files::{run_apply, run_found, run_trial};
 use imports::run_import;
 use registry_commands::import_of_arguments;
 use registry_words::{Command, Usage, command_of};
+use serving::run_serve;
 use std::io;
 use std::process::ExitCode;
 use views::{run_export, run_lookup, run_report};
@@ -61,17 +63,11 @@ fn perform(rt: &HostRuntime, command: Command<&str>) -> u8 {
             let asked = import_of_arguments(rt.alloc(), caller, key, org, vendor);
             run_import(rt, store, list, asked)
         }
-        Command::Serve { .. } => not_yet(rt, "serve"),
+        Command::Serve { store, port, count } => run_serve(rt, store, port, count),
         Command::Export { store, stamp } => run_export(rt, store, stamp),
         Command::Report { store, name } => run_report(rt, store, name),
         Command::Lookup { list, vid, pid } => run_lookup(rt, list, vid, pid),
     }
-}
-
-/// Says that a command has still to come, and answers the status.
-fn not_yet(rt: &HostRuntime, name: &str) -> u8 {
-    let _ = eprintln!(rt; "usbreg {name}: not in this version");
-    2
 }
 
 /// Shows why there is no command, or the help or the version that was asked for, and answers the

@@ -53,8 +53,13 @@ fn list_under<S: Alter>(
     }
 }
 
-/// The list of what the registry holds.
-fn document_of<S: Alter>(alloc: Global, registry: &mut Registry<S>) -> Result<Document, Failure>
+/// The list of what the registry holds. Nothing is changed.
+///
+/// It fails where the registry does, or where memory is short.
+pub fn document_of<S: Alter>(
+    alloc: Global,
+    registry: &mut Registry<S>,
+) -> Result<Document, Failure>
     ensures answered { (h : History) → Stands registry.old h → HasCleanDisk (state_of registry.new) → IfOk result (λ doc. IsListing h doc) }
     ensures failure { IfErr result (IsOfReading registry.old registry.new) }
     ensures left { IsLeft registry.old registry.new }

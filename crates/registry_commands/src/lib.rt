@@ -22,7 +22,7 @@ mod words;
 
 pub use apply::apply_lines;
 pub use closing::close_store;
-pub use exporting::export;
+pub use exporting::{document_of, export};
 pub use found::found_registry;
 pub use importing::{Import, import_list, import_of_arguments};
 pub use input::{InputFault, read_all};
@@ -30,6 +30,6 @@ pub use lines::{BadLine, requests_in};
 pub use looking::look_up;
 pub use messages::{Failure, fail, failure_of, store_failure};
 pub use reopening::{apply_and_crash, apply_and_open};
-pub use reporting::{ReportKind, report, report_named};
+pub use reporting::{ReportKind, report, report_named, report_of};
 pub use trials::{trial, trial_founding};
 pub use words::{BadWord, reject_word};

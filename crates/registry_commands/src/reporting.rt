@@ -212,7 +212,10 @@ fn open_ones_of<S: Alter>(alloc: Global, registry: &mut Registry<S>) -> Result<S
     }
 }
 
-fn report_of<S: Alter>(
+/// The text of a report on the registry. Nothing is changed.
+///
+/// It fails where the registry does, or where memory is short.
+pub fn report_of<S: Alter>(
     alloc: Global,
     registry: &mut Registry<S>,
     name: ReportKind,

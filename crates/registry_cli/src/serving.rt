@@ -1,0 +1,153 @@
+//! The command that serves a registry over HTTP: it listens on a port of this machine, and hands on each connection.
+
+ghost use Rattle.std.specs.Prelude.{⊤};
+
+use crate::files::open_registry;
+use registry_commands::{close_store, fail, failure_of};
+use registry_desk::{Connections, ServerStop, serve_all};
+use std::io;
+use std::io::{ErrorKind, Read};
+use std::net::{Ipv4Addr, Shutdown, TcpListener, TcpStream};
+use std::time::{Duration, Instant};
+use usbids_text::{Broken, Inlet, Outlet};
+
+/// How many seconds a peer may take for each read of its message, and for each write of its response.
+const PEER_SECONDS: u64 = 10;
+
+/// For how many seconds, and how many bytes, what a peer still sends after its response is read.
+const REST_SECONDS: u64 = 2;
+const REST_BYTES: usize = 16 * 1024 * 1024;
+
+/// The connections of a listener.
+#[derive(Drop)]
+struct Accepted<'a> {
+    rt: &'a HostRuntime,
+    listener: &'a TcpListener,
+}
+
+/// A stream whose reads and writes end in time, and whose writes are sent at once; as a reader and a writer.
+fn ends_of(stream: TcpStream) -> io::Result<(Inlet<TcpStream>, Outlet<TcpStream>)> {
+    let time = Some(Duration::from_secs(PEER_SECONDS));
+    stream.set_read_timeout(time)?;
+    stream.set_write_timeout(time)?;
+    stream.set_nodelay(true)?;
+    let writer = stream.try_clone()?;
+    Ok((Inlet::new(stream), Outlet::new(writer)))
+}
+
+/// Whether a connection was given up by its peer before it was accepted.
+fn is_of_peer(error: &io::Error) -> bool {
+    matches!(
+        error.kind(),
+        ErrorKind::ConnectionAborted | ErrorKind::ConnectionReset | ErrorKind::Interrupted
+    )
+}
+
+/// Whether bytes lie there that the peer sent behind its message.
+fn has_more(stream: &TcpStream) -> bool {
+    let mut room = [0u8; 1];
+    match stream.set_nonblocking(true) {
+        Ok(()) => matches!(stream.peek(&mut room), Ok(1)),
+        Err(_) => false,
+    }
+}
+
+/// Ends the response, and reads what the peer still sends, up to its end or to the bounds, so that no reset takes the
+/// response away.
+fn read_rest(rt: &HostRuntime, mut stream: &TcpStream) -> io::Result<()> {
+    stream.set_nonblocking(false)?;
+    stream.shutdown(Shutdown::Write)?;
+    let start = Instant::now(rt)?;
+    let time = Duration::from_secs(REST_SECONDS);
+    let mut room = [0u8; 16_384];
+    let mut count: usize = 0;
+    for _ in 0..u64::MAX {
+        let left = time.saturating_sub(start.elapsed(rt)?);
+        if left.is_zero() || count >= REST_BYTES {
+            return Ok(());
+        }
+        stream.set_read_timeout(Some(left))?;
+        match stream.read(&mut room)? {
+            0 => return Ok(()),
+            more => count = count.saturating_add(more),
+        }
+    }
+    Ok(())
+}
+
+impl Connections for Accepted<'_> {
+    type Reader = Inlet<TcpStream>;
+    type Writer = Outlet<TcpStream>;
+
+    ghost opens = { λ _ _ _ _. ⊤ };
+
+    ghost closes = { λ _ _ _ _ _. ⊤ };
+
+    fn open(&mut self) -> Result<(Inlet<TcpStream>, Outlet<TcpStream>), Broken> {
+        for accepted in self.listener.incoming() {
+            match accepted {
+                Ok(stream) => {
+                    if let Ok(ends) = ends_of(stream) {
+                        return Ok(ends);
+                    }
+                }
+                Err(error) => {
+                    if !is_of_peer(&error) {
+                        return Err(Broken);
+                    }
+                }
+            }
+        }
+        Err(Broken)
+    }
+
+    fn close(
+        &mut self,
+        reader: Inlet<TcpStream>,
+        _writer: Outlet<TcpStream>,
+        status: Option<u16>,
+    ) {
+        let stream = reader.into_inner();
+        if let Some(status) = status {
+            // A message with status 200 was read to its end, so its peer has nothing more to send.
+            if status != 200 || has_more(&stream) {
+                let _ = read_rest(self.rt, &stream);
+            }
+        }
+    }
+}
+
+/// Says that the port failed, and returns the status.
+fn fail_socket(rt: &HostRuntime) -> u8 {
+    let _ = rt.eprintln("fault: socket");
+    1
+}
+
+/// Serves the registry in a file on a port, for so many connections where a count is given.
+pub fn run_serve(rt: &HostRuntime, store: &str, port: u16, count: Option<u32>) -> u8 {
+    let mut errors = Outlet::new(rt.stderr());
+    let mut registry = match open_registry(rt, store) {
+        Ok(registry) => registry,
+        Err(failure) => return fail(&mut errors, failure),
+    };
+    let count = match count {
+        Some(count) => u64::from(count),
+        None => u64::MAX,
+    };
+    let status = match TcpListener::bind(rt, (Ipv4Addr::new(127, 0, 0, 1), port)) {
+        Ok(listener) => {
+            let mut accepted = Accepted {
+                rt,
+                listener: &listener,
+            };
+            match serve_all(rt.alloc(), &mut accepted, &mut registry, count) {
+                Ok(()) => 0,
+                Err(ServerStop::Connections) => fail_socket(rt),
+                Err(ServerStop::Registry(fault)) => fail(&mut errors, failure_of(fault)),
+            }
+        }
+        Err(_) => fail_socket(rt),
+    };
+    let (status, _files) = close_store(registry.close(), &mut errors, status);
+    status
+}

@@ -1,0 +1,117 @@
+-- A message has one response.
+use Rattle.std.proofs.Common.{◌≡◌, ℕ, Bool, not, ◌&&◌, List, [], ◌∷◌, ◌++◌, Some, None, refl, sym, ap, subst, ◌∙◌}
+use Rattle.std.specs.Prelude.{map, Ok, Err, is_none, bytes_eq}
+use Rattle.std.specs.Cmp.Lexicographic.{slice_cmp}
+use Rattle.std.specs.Ordering.{nat_cmp}
+use Rattle.std.specs.List.{All}
+use Rattle.std.proofs.lemmas.Cmp.{nat_list_cmp_total}
+use Rattle.std.proofs.lemmas.List.Elements.{All-head, All-tail}
+use Rattle.std.proofs.lemmas.Map.Keys.{sorted_from_strictly_increasing}
+use Rattle.std.proofs.lemmas.Map.Text.{is_eq-slice_cmp}
+use Rattle.usbnum_core.specs.Spans.{spans_have}
+use Rattle.usbnum_core.specs.declared.number.Number.{Number}
+use Rattle.usbnum_core.specs.declared.number.Span.{Span}
+use Rattle.registry_rules.specs.History.{History}
+use Rattle.registry_rules.specs.Number.{number}
+use Rattle.registry_rules.specs.Texts.{AreInOrder}
+use Rattle.registry_rules.specs.declared.record.Entry.{Entry}
+use Rattle.registry_rules.specs.declared.record.Petition.{Petition}
+use Rattle.registry_rules.specs.declared.record.Vendor.{Vendor}
+use Rattle.registry_rules.proofs.OpenLemmas.{count_alike}
+use Rattle.registry_reports.specs.Census.{census_lines, census_of, free_count, held_count, returned_count, reserved_count, holds, listed}
+use Rattle.registry_reports.specs.Holders.{IsHolders, holder_lines}
+use Rattle.registry_reports.specs.Petitions.{petition_lines}
+use Rattle.registry_reports.proofs.OneLemmas.{one-list, one}
+use Rattle.registry_tables.specs.Lists.{IsPetitionList, IsVendorList}
+use Rattle.registry_tables.proofs.AscendLemmas.{one_order}
+use Rattle.registry_tables.proofs.ViewLemmas.{same_bytes}
+use Rattle.registry_commands.specs.Reports.{HasReserved, IsCensus, IsHoldersReport, IsPetitionsReport}
+use Rattle.registry_http.specs.declared.response.Response.{Response}
+use Rattle.registry_http.specs.declared.route.Query.TheVariants as queries
+use Rattle.registry_http.specs.declared.route.Query.{Query}
+use Rattle.registry_http.specs.declared.route.Report.TheVariants as reports
+use Rattle.registry_http.specs.declared.message.Message.TheVariants as messages
+use Rattle.registry_http.specs.Responses.{text_response}
+use Rattle.usbids_text.specs.Entries.{TopEntry}
+use Rattle.usbids_text.specs.Writing.{written}
+use Rattle.registry_desk.specs.Acting.{IsQueryResponse, HasOneResponse}
+use Rattle.registry_desk.proofs.OnceLemmas.{one_number_list}
+
+one_vendor_list : (h : History) (a b : List Vendor) → IsVendorList h a → IsVendorList h b → a ≡ b
+one_vendor_list h a b is_a is_b =
+    one-list (λ (v : Vendor). v.vid) a b (sorted_from_strictly_increasing _ is_a.ascend) (sorted_from_strictly_increasing _ is_b.ascend) (λ vid. is_a.each vid ∙ sym (is_b.each vid))
+
+one_petition_list : (h : History) (a b : List (ℕ × Petition)) → IsPetitionList h a → IsPetitionList h b → a ≡ b
+one_petition_list h a b is_a is_b =
+    one-list (λ (p : ℕ × Petition). p.0) a b (sorted_from_strictly_increasing _ is_a.ascend) (sorted_from_strictly_increasing _ is_b.ascend) (λ i. is_a.each i ∙ sym (is_b.each i))
+
+-- ---- reports
+
+abbrev Reserved : Type 0
+Reserved = ℕ × List Span
+
+one_census_line : (numbers : List (Number × Entry)) (p q : Reserved) → p.0 ≡ q.0 → ((pid : ℕ) → spans_have p.1 pid ≡ spans_have q.1 pid) → census_of numbers p ≡ census_of numbers q
+unfolding free_count held_count returned_count reserved_count
+one_census_line numbers p q vid spans =
+    let open_at : (B : ℕ → Bool) (n : ℕ) → (not (spans_have p.1 n) && B n) ≡ (not (spans_have q.1 n) && B n) = λ B n. ap (λ (b : Bool). not b && B n) (spans n) in
+    let reserved = count_alike (spans_have p.1) (spans_have q.1) 65535 (λ n low high. spans n) in
+    let count = λ (B : ℕ → Bool). count_alike (λ n. not (spans_have p.1 n) && B n) (λ n. not (spans_have q.1 n) && B n) 65535 (λ n low high. open_at B n) in
+    rw (
+      vid,
+      reserved,
+      count (λ n. is_none (listed numbers (number q.0 n))),
+      count (λ n. holds (λ pair. pair.1.held) (listed numbers (number q.0 n))),
+      count (λ n. holds (λ pair. not pair.1.held) (listed numbers (number q.0 n))),
+    ) refl
+
+one_census : (h : History) (numbers : List (Number × Entry)) (ps qs : List Reserved) → map (λ pair. pair.0) ps ≡ map (λ pair. pair.0) qs
+    → All (HasReserved h) ps → All (HasReserved h) qs → census_lines numbers ps ≡ census_lines numbers qs
+one_census h numbers [] [] same of_p of_q = refl
+one_census h numbers [] (q ∷ qs) same of_p of_q = absurd cc
+one_census h numbers (p ∷ ps) [] same of_p of_q = absurd cc
+one_census h numbers (p ∷ ps) (q ∷ qs) same of_p of_q =
+    let vid : p.0 ≡ q.0 = cc in
+    let rest : map (λ (pair : Reserved). pair.0) ps ≡ map (λ (pair : Reserved). pair.0) qs = cc in
+    let here = All-head (HasReserved h) p ps of_p in
+    let there = All-head (HasReserved h) q qs of_q in
+    let line = one_census_line numbers p q vid (λ pid. here pid ∙ sym (rw vid (there pid))) in
+    ap (λ (t : List ℕ). t ++ census_lines numbers ps) line ∙ ap (λ (t : List ℕ). census_of numbers q ++ t) (one_census h numbers ps qs rest (All-tail (HasReserved h) p ps of_p) (All-tail (HasReserved h) q qs of_q))
+
+one_census_text : (h : History) (a b : List ℕ) → IsCensus h a → IsCensus h b → a ≡ b
+one_census_text h a b is_a is_b =
+    let vendors = one_vendor_list h is_a.vendors is_b.vendors is_a.all_vendors is_b.all_vendors in
+    let numbers = one_number_list h is_a.numbers is_b.numbers is_a.all_numbers is_b.all_numbers in
+    let same = is_a.reserved.same ∙ (ap (λ (l : List Vendor). map (λ vendor. vendor.vid) l) vendors ∙ sym is_b.reserved.same) in
+    is_a.lines ∙ (ap (λ (l : List (Number × Entry)). census_lines l is_a.pairs) numbers ∙ (one_census h is_b.numbers is_a.pairs is_b.pairs same is_a.reserved.each is_b.reserved.each ∙ sym is_b.lines))
+
+one_order_of : (given a b : List (List ℕ)) → AreInOrder given a → AreInOrder given b → a ≡ b
+one_order_of given a b is_a is_b = one_order (slice_cmp nat_cmp) nat_list_cmp_total bytes_eq is_eq-slice_cmp same_bytes a b is_a.ascending is_b.ascending (λ text. is_a.same text ∙ sym (is_b.same text))
+
+one_holders : (numbers : List (Number × Entry)) (a b : List ℕ) → IsHolders numbers a → IsHolders numbers b → a ≡ b
+one_holders numbers a b is_a is_b = is_a.lines ∙ (ap (holder_lines numbers) (one_order_of _ is_a.slugs is_b.slugs is_a.order is_b.order) ∙ sym is_b.lines)
+
+one_holders_text : (h : History) (a b : List ℕ) → IsHoldersReport h a → IsHoldersReport h b → a ≡ b
+one_holders_text h a b is_a is_b =
+    let numbers = one_number_list h is_a.numbers is_b.numbers is_a.all_numbers is_b.all_numbers in
+    one_holders is_b.numbers a b (subst (λ (l : List (Number × Entry)). IsHolders l a) numbers is_a.holders) is_b.holders
+
+one_petitions_text : (h : History) (a b : List ℕ) → IsPetitionsReport h a → IsPetitionsReport h b → a ≡ b
+one_petitions_text h a b is_a is_b =
+    is_a.lines ∙ (ap (petition_lines h.founding.vendor) (one_petition_list h is_a.petitions is_b.petitions is_a.all_petitions is_b.all_petitions) ∙ sym is_b.lines)
+
+-- ---- responses
+
+one_of_query : (h : History) (query : Query) (a b : Response) → IsQueryResponse h query a → IsQueryResponse h query b → a ≡ b
+one_of_query h queries.List a b is_a is_b = is_a.2 ∙ (ap (λ (doc : List TopEntry). text_response (written doc None)) (one h is_a.0 is_b.0 is_a.1 is_b.1) ∙ sym is_b.2)
+one_of_query h (queries.Number None pid) a b is_a is_b = is_a ∙ sym is_b
+one_of_query h (queries.Number (Some vid) pid) a b is_a is_b = is_a ∙ sym is_b
+one_of_query h (queries.Org org) a b is_a is_b = is_a ∙ sym is_b
+one_of_query h (queries.Petition id) a b is_a is_b = is_a ∙ sym is_b
+one_of_query h (queries.Report reports.Census) a b is_a is_b = is_a.2 ∙ (ap text_response (one_census_text h is_a.0 is_b.0 is_a.1 is_b.1) ∙ sym is_b.2)
+one_of_query h (queries.Report reports.Holders) a b is_a is_b = is_a.2 ∙ (ap text_response (one_holders_text h is_a.0 is_b.0 is_a.1 is_b.1) ∙ sym is_b.2)
+one_of_query h (queries.Report reports.Petitions) a b is_a is_b = is_a.2 ∙ (ap text_response (one_petitions_text h is_a.0 is_b.0 is_a.1 is_b.1) ∙ sym is_b.2)
+
+pub one_response : HasOneResponse
+one_response h (Err refusal) a b is_a is_b = is_a ∙ sym is_b
+one_response h (Ok (messages.Query query)) a b is_a is_b = one_of_query h query a b is_a is_b
+one_response h (Ok (messages.Request request)) a b is_a is_b = is_a ∙ sym is_b

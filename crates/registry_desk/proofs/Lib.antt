@@ -1,0 +1,5 @@
+pub mod AskLemmas
+pub mod LawLemmas
+pub mod OnceLemmas
+pub mod ServeLemmas
+pub mod ServerLemmas

@@ -1,0 +1,111 @@
+-- Lists that ascend by a key and find the same are one.
+use Rattle.std.proofs.Common.{◌≡◌, ℕ, Bool, true, false, List, [], ◌∷◌, Option, Some, None, find, Ordering, Less, Equal, Greater, is_eq, refl, sym, ap, subst, ◌∙◌, arith}
+use Rattle.std.specs.Ordering.{nat_cmp, ordering_then, ordering_reverse}
+use Rattle.std.specs.List.{AllByRecursion}
+use Rattle.std.specs.List.Sorted.{IsStrictlySortedBy}
+use Rattle.std.specs.Cmp.{IsTotalOrder}
+use Rattle.std.proofs.lemmas.Bool.Decides.{nat_tests}
+use Rattle.std.proofs.lemmas.Cmp.{nat_cmp_total, on_total, then_total}
+use Rattle.sqlite_keyed.proofs.ListLemmas.{all_weaker}
+use Rattle.usbnum_core.specs.declared.number.Number.{Number}
+use Rattle.registry_rules.specs.Number.{is_number}
+use Rattle.registry_rules.specs.History.{History}
+use Rattle.registry_rules.specs.declared.record.Entry.{Entry}
+use Rattle.registry_rows.specs.Rows.{by_number}
+use Rattle.registry_tables.specs.Lists.{IsNumberList}
+use Rattle.registry_tables.proofs.ViewLemmas.{same_number, number_same}
+
+module _ {X K : Type 0} (key : X → K) (cmp : X → X → Ordering) (total : IsTotalOrder cmp) (same : K → K → Bool)
+    (told : (a b : X) → is_eq (cmp a b) ≡ same (key a) (key b)) (exact : (a b : K) → same a b ≡ true → a ≡ b) where
+  abbrev at : K → List X → Option X
+  at k xs = find (λ x. same k (key x)) xs
+
+  lacks : (x : X) (xs : List X) → AllByRecursion (λ y. cmp x y ≡ Less) xs → at (key x) xs ≡ None
+  lacks x [] below = refl
+  lacks x (y ∷ ys) below = let apart : same (key x) (key y) ≡ false = sym (told x y) ∙ ap is_eq below.0 in rw apart (lacks x ys below.1)
+
+  itself : (x : X) → same (key x) (key x) ≡ true
+  itself x = go (cmp x x) refl
+    where
+      go : (o : Ordering) → cmp x x ≡ o → same (key x) (key x) ≡ true
+      go Equal is = sym (told x x) ∙ ap is_eq is
+      go Less is = absurd (let turned : cmp x x ≡ Greater = total.antisymm x x ∙ ap ordering_reverse is in cc)
+      go Greater is = absurd (let turned : cmp x x ≡ Less = total.antisymm x x ∙ ap ordering_reverse is in cc)
+
+  first : (x : X) (xs : List X) → at (key x) (x ∷ xs) ≡ Some x
+  first x xs = rw (itself x) refl
+
+  below_both : (x y : X) (ys : List X) → cmp x y ≡ Less → AllByRecursion (λ z. cmp y z ≡ Less) ys → at (key x) (y ∷ ys) ≡ None
+  below_both x y ys less above = lacks x (y ∷ ys) (less, all_weaker (λ z. cmp y z ≡ Less) (λ z. cmp x z ≡ Less) (λ z more. total.trans x y z less more) ys above)
+
+  rest_same : (x : X) (xs ys : List X) → AllByRecursion (λ z. cmp x z ≡ Less) xs → AllByRecursion (λ z. cmp x z ≡ Less) ys
+      → ((k : K) → at k (x ∷ xs) ≡ at k (x ∷ ys)) → (k : K) → at k xs ≡ at k ys
+  rest_same x xs ys low high agree k = go (same k (key x)) refl
+    where
+      go : (b : Bool) → same k (key x) ≡ b → at k xs ≡ at k ys
+      go true is = let here = exact k (key x) is in rw here (lacks x xs low ∙ sym (lacks x ys high))
+      go false is =
+          let left : at k (x ∷ xs) ≡ at k xs = rw is refl in
+          let right : at k (x ∷ ys) ≡ at k ys = rw is refl in
+          sym left ∙ (agree k ∙ right)
+
+  pub one_list : (xs ys : List X) → IsStrictlySortedBy cmp xs → IsStrictlySortedBy cmp ys → ((k : K) → at k xs ≡ at k ys) → xs ≡ ys
+  unfolding IsStrictlySortedBy
+  one_list [] [] up rise agree = refl
+  one_list [] (y ∷ ys) up rise agree = absurd (let there = agree (key y) ∙ first y ys in cc)
+  one_list (x ∷ xs) [] up rise agree = absurd (let there = sym (agree (key x)) ∙ first x xs in cc)
+  one_list (x ∷ xs) (y ∷ ys) up rise agree = go (cmp x y) refl (one_list xs ys up.1 rise.1)
+    where
+      go : (o : Ordering) → cmp x y ≡ o → (((k : K) → at k xs ≡ at k ys) → xs ≡ ys) → x ∷ xs ≡ y ∷ ys
+      go Less is more = absurd (let there = sym (first x xs) ∙ (agree (key x) ∙ below_both x y ys is rise.0) in cc)
+      go Greater is more =
+          let turned : cmp y x ≡ Less = total.antisymm y x ∙ ap ordering_reverse is in
+          absurd (let there = sym (first y ys) ∙ (sym (agree (key y)) ∙ below_both y x xs turned up.0) in cc)
+      go Equal is more =
+          let keys : key x ≡ key y = exact (key x) (key y) (sym (told x y) ∙ ap is_eq is) in
+          let found : at (key x) (y ∷ ys) ≡ Some y = ap (λ (k : K). at k (y ∷ ys)) keys ∙ first y ys in
+          let both : Some x ≡ Some y = sym (first x xs) ∙ (agree (key x) ∙ found) in
+          let here : x ≡ y = cc in
+          let rise_x : AllByRecursion (λ z. cmp x z ≡ Less) ys = subst (λ k. AllByRecursion (λ z. cmp k z ≡ Less) ys) (sym here) rise.0 in
+          let agree_x = subst (λ l. (k : K) → at k (x ∷ xs) ≡ at k (l ∷ ys)) (sym here) agree in
+          let rest : xs ≡ ys = more (rest_same x xs ys up.0 rise_x agree_x) in
+          rw (here, rest) refl
+
+-- ---- the numbers of a history
+
+number_total : IsTotalOrder by_number
+number_total =
+    then_total {R = λ (a b : Number × Entry). nat_cmp a.0.vid b.0.vid} {S = λ (a b : Number × Entry). nat_cmp a.0.pid b.0.pid}
+    (on_total (λ (a : Number × Entry). a.0.vid) nat_cmp_total) (on_total (λ (a : Number × Entry). a.0.pid) nat_cmp_total)
+
+both_equal : (o p : Ordering) → is_eq (ordering_then o p) ≡ true → (o ≡ Equal) × (p ≡ Equal)
+both_equal Equal Equal is = (refl, refl)
+both_equal Equal Less is = absurd cc
+both_equal Equal Greater is = absurd cc
+both_equal Less p is = absurd cc
+both_equal Greater p is = absurd cc
+
+level : (x y : ℕ) → nat_cmp x y ≡ Equal → x ≡ y
+level x y is = grind (arith, nat_tests)
+
+even : (n : ℕ) → nat_cmp n n ≡ Equal
+even n = grind arith
+
+number_told : (a b : Number × Entry) → is_eq (by_number a b) ≡ is_number a.0 b.0
+number_told a b = go (is_eq (by_number a b)) (is_number a.0 b.0) refl refl
+  where
+    go : (e i : Bool) → is_eq (by_number a b) ≡ e → is_number a.0 b.0 ≡ i → e ≡ i
+    go true true is at = refl
+    go false false is at = refl
+    go true false is at =
+        let both = both_equal (nat_cmp a.0.vid b.0.vid) (nat_cmp a.0.pid b.0.pid) is in
+        let v = level a.0.vid b.0.vid both.0 in
+        let p = level a.0.pid b.0.pid both.1 in
+        absurd (let here : is_number a.0 b.0 ≡ true = rw (v, p) (number_same b.0) in cc)
+    go false true is at =
+        let one : a.0 ≡ b.0 = same_number a.0 b.0 at in
+        absurd (let here : is_eq (by_number a b) ≡ true = rw one (rw (even b.0.vid, even b.0.pid) refl) in cc)
+
+pub one_number_list : (h : History) (a b : List (Number × Entry)) → IsNumberList h a → IsNumberList h b → a ≡ b
+one_number_list h a b is_a is_b =
+    one_list (λ (pair : Number × Entry). pair.0) by_number number_total is_number number_told same_number a b is_a.ascend is_b.ascend (λ n. is_a.each n ∙ sym (is_b.each n))

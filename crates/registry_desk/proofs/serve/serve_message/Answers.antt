@@ -1,0 +1,47 @@
+use Rattle.std.proofs.Common.{ℕ, subst}
+use Rattle.registry_http.specs.Messages.{Says}
+use Rattle.registry_http.specs.Responses.{response_bytes, unavailable_response}
+use Rattle.registry_http.proofs.MessageLemmas.{gives_some}
+use Rattle.registry_desk.specs.declared.fault.DeskFault.TheVariants.{NoMemory}
+use Rattle.registry_desk.specs.Faults.{unavailable_of}
+use Rattle.registry_desk.specs.Serving.{given_up}
+use Rattle.registry_desk.proofs.ServeLemmas.{served_early, served_then}
+use Rattle.registry_desk.proofs.serve.serve_message.Goals as goal
+
+pub returns-in-Ok-clause-served : goal.returns-in-Ok-clause-served
+returns-in-Ok-clause-served g c =
+    let says = c.in-Ok.ensures.ok in
+    let told = c.send.ensures.told in
+    let acted = c.response_to-done.ensures in (
+      says.0,
+      says.1,
+      (
+        told.0,
+        told.1,
+        told.3,
+        told.4,
+        λ h stands clean.
+            served_then c.response_to-done.new.registry h says.0 told.0 told.1 c.in-Ok.said c.response_to-done.result
+            (subst (λ (founding : ℕ). Says founding says.0 c.in-Ok.said) (c.founding.ensures h stands).vendor says.2)
+            clean (acted.answered h stands clean) (acted.left h stands clean) acted.asked told.2,
+      ),
+    )
+
+pub returns-in-Err-Broken-clause-served : goal.returns-in-Err-Broken-clause-served
+returns-in-Err-Broken-clause-served g c =
+    let all = gives_some (g.R.Source.remaining c.args.source.now) in
+    (all.0, all.1, tt)
+
+pub returns-in-Err-NoMemory-clause-served : goal.returns-in-Err-NoMemory-clause-served
+returns-in-Err-NoMemory-clause-served g c =
+    let all = gives_some (g.R.Source.remaining c.args.source.now) in (
+      all.0,
+      all.1,
+      (
+        response_bytes (unavailable_response (unavailable_of NoMemory)),
+        given_up NoMemory,
+        c.give_up.ensures.writes,
+        c.give_up.ensures.told,
+        λ h stands clean. served_early c.args.registry.now h all.0 stands clean,
+      ),
+    )

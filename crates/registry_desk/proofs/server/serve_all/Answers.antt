@@ -1,0 +1,33 @@
+use Rattle.std.proofs.Common.{rules, ◌≡◌, [], ◌∷◌, ◌++◌, ap, arith}
+use Rattle.std.specs.Prelude.{Err}
+use Rattle.sqlite.specs.State.{HasCleanDisk}
+use Rattle.registry_store.specs.Promise.{state_of}
+use Rattle.registry_desk.proofs.ServerLemmas.{length_more, represents_more, stopped_at, visited_more}
+use Rattle.registry_desk.proofs.server.serve_all.Goals as goal
+
+pub loop-preserved : goal.loop-preserved
+loop-preserved g c =
+    let so_far = c.loop.invariant.served in
+    let came = c.in_ok-serve_next.ensures.visited in
+    record {
+      endures = search rules;
+      served = (
+        so_far.0 ++ came.0 ∷ [],
+        visited_more g.C.Connections.opens g.C.Connections.closes g.C.Reader.Source.remaining g.C.Writer.Sink.contents g.C.Writer.Sink.failures _ c.loop.connections _ so_far.0 came.0 so_far.1 came.1,
+        length_more so_far.0 came.0 c.loop.counter so_far.2,
+        λ h stands clean.
+            let early : HasCleanDisk (state_of c.loop.registry) = omega (arith, c.serve_next.ensures.endures.clean, clean) in
+            represents_more c.loop.registry c.serve_next.new.registry h so_far.0 came.0 (so_far.3 h stands early) (λ x at. came.2 x at clean),
+      );
+    }
+
+pub returns-in_err-serve_next-clause-served : goal.returns-in_err-serve_next-clause-served
+returns-in_err-serve_next-clause-served g c =
+    let so_far = c.loop.invariant.served in
+    let stop = c.in_err-serve_next.field-0.0 in
+    let is : c.from_residual.result ≡ Err stop = search rules in
+    stopped_at g.C.Connections.opens g.C.Connections.closes g.C.Reader.Source.remaining g.C.Writer.Sink.contents g.C.Writer.Sink.failures
+    c.from_residual.result stop is c.args.connections.now c.loop.connections c.serve_next.new.connections c.args.registry.now c.loop.registry c.serve_next.new.registry c.args.count so_far.0
+    so_far.1 (omega (arith, so_far.2, c.loop-test.true))
+    (λ clean. omega (arith, c.serve_next.ensures.endures.clean, clean))
+    so_far.3 c.in_err-serve_next.ensures.visited (λ same. c.in_err-serve_next.ensures.none (ap Err same))

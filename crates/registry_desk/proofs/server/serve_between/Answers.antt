@@ -1,0 +1,27 @@
+use Rattle.std.proofs.Common.{[], refl, sym, subst}
+use Rattle.std.specs.Prelude.{Ok, Err}
+use Rattle.registry_store.specs.Promise.{Stands}
+use Rattle.registry_desk.proofs.ServerLemmas.{served_visit}
+use Rattle.registry_desk.proofs.server.serve_between.Goals as goal
+
+pub returns-in-Ok-clause-served : goal.returns-in-Ok-clause-served
+returns-in-Ok-clause-served g c =
+    let it = c.in-Ok.ensures.served in
+    let sent = it.2 in (
+      record { bytes = it.0; text = sent.0; end = Ok c.in-Ok.exchange },
+      it.1,
+      sent.2,
+      c.status_in.ensures,
+      λ h stands clean. served_visit c.serve_message.new.registry h it.0 sent.0 c.in-Ok.exchange sent.1 sent.3.fault (sent.4 h stands clean),
+    )
+
+pub returns-in-Err-clause-served : goal.returns-in-Err-clause-served
+returns-in-Err-clause-served g c =
+    let it = c.in-Err.ensures.served in
+    let read = c.in-Err.ensures.read in (
+      record { bytes = it.0; text = []; end = Err c.in-Err.field-0 },
+      it.1,
+      read.1,
+      refl,
+      λ h stands clean. (h, refl, subst (λ it. Stands it h) (sym read.2) stands),
+    )

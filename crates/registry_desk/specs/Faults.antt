@@ -1,0 +1,33 @@
+-- What is sent where the registry has a fault or memory is short.
+use Rattle.std.specs.Prelude.{Option, Some, None}
+use Rattle.registry_store.specs.declared.fault.Fault.{Fault}
+use Rattle.registry_store.specs.declared.fault.Fault.TheVariants as faults
+use Rattle.registry_commands.specs.declared.messages.Failure.{Failure}
+use Rattle.registry_commands.specs.declared.messages.Failure.TheVariants as failures
+use Rattle.registry_http.specs.declared.unavailable.Unavailable.{Unavailable}
+use Rattle.registry_http.specs.declared.unavailable.Unavailable.TheVariants as unavailable
+use Rattle.registry_desk.specs.declared.fault.DeskFault.{DeskFault}
+use Rattle.registry_desk.specs.declared.fault.DeskFault.TheVariants.{Registry, NoMemory}
+
+-- want of memory is refusal 31, any other fault is 30
+abbrev pub unavailable_of : DeskFault → Unavailable
+unavailable_of NoMemory = unavailable.NoMemory
+unavailable_of (Registry faults.NoMemory) = unavailable.NoMemory
+unavailable_of (Registry faults.Store) = unavailable.StoreFault
+unavailable_of (Registry faults.Foreign) = unavailable.StoreFault
+unavailable_of (Registry faults.Taken) = unavailable.StoreFault
+unavailable_of (Registry faults.Spent) = unavailable.StoreFault
+
+-- the registry's fault behind it
+abbrev pub fault_of : DeskFault → Option Fault
+fault_of (Registry fault) = Some fault
+fault_of NoMemory = None
+
+-- the fault that a failure of a list or a report is; those have no input and no output that could fail
+abbrev pub failed_by : Failure → DeskFault
+failed_by failures.Memory = NoMemory
+failed_by failures.Store = Registry faults.Store
+failed_by failures.File = Registry faults.Store
+failed_by failures.Foreign = Registry faults.Foreign
+failed_by failures.Taken = Registry faults.Taken
+failed_by failures.Spent = Registry faults.Spent

@@ -1,0 +1,4 @@
+pub mod Faults
+pub mod Acting
+pub mod Serving
+pub mod Server

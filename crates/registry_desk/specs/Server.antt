@@ -1,0 +1,141 @@
+-- What a server makes of one connection after another.
+--
+-- A message has its response over the history before it, and the history after it is that of the next message. Two connections
+-- differ: that whose reader failed, which has no message, and that which got refusal 31 for want of memory, whose message may
+-- have been acted on.
+use Rattle.std.specs.Prelude.{◌≡◌, ◌⊎◌, ⊤, ℕ, List, [], ◌∷◌, ◌++◌, Option, Some, None, Result, Ok, Err}
+use Rattle.sqlite.specs.Store.{Ghosts}
+use Rattle.usbids_text.specs.Ends.{MayGive, Writes}
+use Rattle.registry_rules.specs.History.{History}
+use Rattle.registry_store.specs.declared.fault.Fault.{Fault}
+use Rattle.registry_store.specs.declared.registry.Registry.{Registry as TheRegistry}
+use Rattle.registry_store.specs.Promise.{Stands}
+use Rattle.registry_http.specs.declared.response.Response.{Response}
+use Rattle.registry_http.specs.declared.refusal.HttpRefusal.{HttpRefusal}
+use Rattle.registry_http.specs.declared.message.Message.{Message}
+use Rattle.registry_http.specs.Responses.{response_bytes, unavailable_response}
+use Rattle.registry_http.specs.Messages.{Says}
+use Rattle.usbids_text.specs.declared.ends.Broken.{Broken}
+use Rattle.registry_desk.specs.declared.fault.DeskFault.TheVariants.{Registry, NoMemory}
+use Rattle.registry_desk.specs.declared.serve.Exchange.{Exchange}
+use Rattle.registry_desk.specs.declared.server.ServerStop.{ServerStop}
+use Rattle.registry_desk.specs.declared.server.ServerStop.TheVariants as stops
+use Rattle.registry_desk.specs.Faults.{unavailable_of}
+use Rattle.registry_desk.specs.Acting.{IsResponse, after_message, IsOfStanding, IsLeftAt}
+use Rattle.registry_desk.specs.Serving.{IsNext}
+
+-- ---- connections
+
+-- one connection: all bytes that its reader would give, the text that was to be written for them, and how its serving ended; an error says that its reader failed
+pub record Visit : Type 0 where
+  pub bytes : List ℕ
+  pub text : List ℕ
+  pub end : Result Exchange Broken
+
+-- the status that was written, where a response was written whole
+abbrev pub status_in : Result ℕ Broken → Option ℕ
+status_in (Ok status) = Some status
+status_in (Err broken) = None
+
+abbrev pub status_of : Result Exchange Broken → Option ℕ
+status_of (Ok exchange) = status_in exchange.sent
+status_of (Err broken) = None
+
+-- all of the text was written, or the writer failed; where the reader failed nothing was
+abbrev pub IsWritten : {W : Type 0} → (W → Option (List ℕ)) → (W → ℕ) → W → W → Visit → Type 0
+IsWritten contents failures old new visit = WrittenAt visit.end
+  where
+    WrittenAt : Result Exchange Broken → Type 0
+    WrittenAt (Ok exchange) = Writes (contents old) (contents new) (failures old) (failures new) exchange.sent visit.text
+    WrittenAt (Err broken) = new ≡ old
+
+module _ {C R W : Type 0} (opens : C → C → R → W → Type 0) (closes : C → C → R → W → Option ℕ → Type 0) (remaining : R → Option (List ℕ)) (contents : W → Option (List ℕ)) (failures : W → ℕ) where
+  -- a connection was opened, its message was served, and it was closed
+  pub record IsVisit (old new : C) (visit : Visit) : Type 0 where
+    pub opened : C
+    pub reader : R
+    pub reader_new : R
+    pub writer : W
+    pub writer_new : W
+    pub opens_with : opens old opened reader writer
+    pub gives : MayGive (remaining reader) visit.bytes
+    pub written : IsWritten contents failures writer writer_new visit
+    pub status : Option ℕ
+    pub status_is : status ≡ status_of visit.end
+    pub closes_with : closes opened new reader_new writer_new status
+
+  -- the same of connections one after another
+  abbrev pub HaveVisited : C → C → List Visit → Type 0
+  HaveVisited old new [] = new ≡ old
+  HaveVisited old new (visit ∷ visits) = (middle : C) × IsVisit old middle visit × HaveVisited middle new visits
+
+-- ---- histories
+
+-- the text is the response to all bytes over the history, and the next history is that after the message
+pub record IsResponded (h : History) (bytes text : List ℕ) (next : History) : Type 0 where
+  pub said : Result Message HttpRefusal
+  pub says : Says h.founding.vendor bytes said
+  pub response : Response
+  pub is : IsResponse h said response
+  pub text_is : text ≡ response_bytes response
+  pub next_is : next ≡ after_message h said
+
+-- from one history to the next
+abbrev pub IsTurn : History → Visit → History → Type 0
+IsTurn h visit next = TurnAt visit.end
+  where
+    TurnAt : Result Exchange Broken → Type 0
+    TurnAt (Ok exchange) = IsResponded h visit.bytes visit.text next
+        ⊎ ((visit.text ≡ response_bytes (unavailable_response (unavailable_of NoMemory))) × IsNext h visit.bytes NoMemory next)
+    TurnAt (Err broken) = next ≡ h
+
+-- from the first history to the last, message by message
+abbrev pub Turns : History → List Visit → History → Type 0
+Turns h [] next = next ≡ h
+Turns h (visit ∷ visits) next = (middle : History) × IsTurn h visit middle × Turns middle visits next
+
+-- ---- the registry
+
+module _ {S : Type 0} {g : Ghosts S} where
+  -- the registry stands at the history after the messages of all these connections, in their order
+  abbrev pub Represents : TheRegistry S g → History → List Visit → Type 0
+  Represents it h visits = (next : History) × Turns h visits next × Stands it next
+
+  -- The registry had a fault at this connection. A crash leaves the history with or without its message.
+  pub record IsHaltedAt (it : TheRegistry S g) (h : History) (visit : Visit) (fault : Fault) : Type 0 where
+    pub kind : IsOfStanding (Registry fault)
+    pub text_is : visit.text ≡ response_bytes (unavailable_response (unavailable_of (Registry fault)))
+    pub next : History
+    pub next_is : IsNext h visit.bytes (Registry fault) next
+    pub left : IsLeftAt (Registry fault) it h next
+
+  -- The same of the last of these connections: all messages before it are in the history that a crash leaves, and at most its own besides.
+  pub record IsHalted (it : TheRegistry S g) (h : History) (visits : List Visit) (fault : Fault) : Type 0 where
+    pub before : List Visit
+    pub last : Visit
+    pub all : visits ≡ before ++ last ∷ []
+    pub middle : History
+    pub turns : Turns h before middle
+    pub halted : IsHaltedAt it middle last fault
+
+  -- one connection, without a fault of the registry or with one
+  abbrev pub EndsVisit : TheRegistry S g → History → Visit → Option Fault → Type 0
+  EndsVisit it h visit None = (next : History) × IsTurn h visit next × Stands it next
+  EndsVisit it h visit (Some fault) = IsHaltedAt it h visit fault
+
+-- the registry's fault that stopped a server
+abbrev pub fault_in : Result (Unit {0}) ServerStop → Option Fault
+fault_in (Ok done) = None
+fault_in (Err stops.Connections) = None
+fault_in (Err (stops.Registry fault)) = Some fault
+
+-- where a connection came, this holds
+abbrev pub IfVisited : Result (Unit {0}) ServerStop → Type 0 → Type 0
+IfVisited (Ok done) P = P
+IfVisited (Err stops.Connections) P = ⊤
+IfVisited (Err (stops.Registry fault)) P = P
+
+module _ {S : Type 0} {g : Ghosts S} where
+  abbrev pub EndsServing : TheRegistry S g → History → List Visit → Option Fault → Type 0
+  EndsServing it h visits None = Represents it h visits
+  EndsServing it h visits (Some fault) = IsHalted it h visits fault

@@ -1,0 +1,55 @@
+//! Why a message has no response of its own: the registry has a fault, or memory is short.
+
+ghost use Rattle.std.specs.Prelude.{◌≡◌};
+ghost use Rattle.registry_desk.specs.Faults.{unavailable_of, fault_of, failed_by};
+
+use registry_commands::Failure;
+use registry_http::Unavailable;
+use registry_store::Fault;
+
+/// Why a message has no response of its own.
+#[derive(Clone, Copy, Debug, Drop, PartialEq, Eq)]
+pub(crate) enum DeskFault {
+    /// The registry had a fault.
+    Registry(Fault),
+    /// Memory is short for the message or its response.
+    NoMemory,
+}
+
+/// The refusal that is sent then: 31 for want of memory, 30 for any other fault.
+pub(crate) fn unavailable_of(fault: DeskFault) -> Unavailable
+    ensures { result ≡ unavailable_of fault }
+{
+    match fault {
+        DeskFault::NoMemory => Unavailable::NoMemory,
+        DeskFault::Registry(Fault::NoMemory) => Unavailable::NoMemory,
+        DeskFault::Registry(Fault::Store) => Unavailable::StoreFault,
+        DeskFault::Registry(Fault::Foreign) => Unavailable::StoreFault,
+        DeskFault::Registry(Fault::Taken) => Unavailable::StoreFault,
+        DeskFault::Registry(Fault::Spent) => Unavailable::StoreFault,
+    }
+}
+
+/// The registry's fault behind it, where there is one.
+pub(crate) fn fault_of(fault: DeskFault) -> Option<Fault>
+    ensures { result ≡ fault_of fault }
+{
+    match fault {
+        DeskFault::Registry(fault) => Some(fault),
+        DeskFault::NoMemory => None,
+    }
+}
+
+/// The fault that a failure of a list or a report is.
+pub(crate) fn failed_by(failure: Failure) -> DeskFault
+    ensures { result ≡ failed_by failure }
+{
+    match failure {
+        Failure::Memory => DeskFault::NoMemory,
+        Failure::Store => DeskFault::Registry(Fault::Store),
+        Failure::File => DeskFault::Registry(Fault::Store),
+        Failure::Foreign => DeskFault::Registry(Fault::Foreign),
+        Failure::Taken => DeskFault::Registry(Fault::Taken),
+        Failure::Spent => DeskFault::Registry(Fault::Spent),
+    }
+}

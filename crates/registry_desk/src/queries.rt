@@ -1,0 +1,205 @@
+//! Queries: one function for each kind, from a registry to the response.
+
+ghost use Rattle.std.specs.Prelude.{◌≡◌, true, None, Err, IfOk, IfErr};
+ghost use Rattle.sqlite.specs.State.{HasCleanDisk};
+ghost use Rattle.usbids_text.specs.Writing.{written};
+ghost use Rattle.registry_rules.specs.History.{History};
+ghost use Rattle.registry_rules.specs.Number.{number};
+ghost use Rattle.registry_rules.specs.Query.{is_reserved, has_vendor, org_of, petition_of};
+ghost use Rattle.registry_rules.specs.Rows.{entry_of};
+ghost use Rattle.registry_rules.specs.declared.verdict.Reply.TheVariants as replies;
+ghost use Rattle.registry_rules.specs.declared.refusal.Refusal.TheVariants as rule_refusals;
+ghost use Rattle.registry_store.specs.Promise.{Stands, is_spent, state_of};
+ghost use Rattle.registry_store.specs.declared.fault.Fault.TheVariants as faults;
+ghost use Rattle.registry_commands.specs.Shown.{IsLeft};
+ghost use Rattle.registry_http.specs.Responses.{reply_response, text_response};
+ghost use Rattle.registry_http.specs.Resources.{number_response, org_response, petition_response};
+ghost use Rattle.registry_desk.specs.declared.fault.DeskFault.TheVariants as desk_faults;
+ghost use Rattle.registry_desk.specs.Acting.{IsListResponse, IsQueryResponse, IsReportResponse, IsOfStanding, kind_of, vendor_number_at};
+
+use crate::fault::{DeskFault, failed_by};
+use registry_commands::{ReportKind, document_of, report_of};
+use registry_http::{
+    Query, Report, Response, number_response, org_response, petition_response, reply_response,
+    text_response,
+};
+use registry_rules::{Refusal, Reply};
+use registry_store::Registry;
+use sqlite::Alter;
+use std::alloc::Global;
+use usbids_text::{Document, Outlet, WriteFault, write};
+use usbnum_core::{NoMemory, Number, Pid, Slug, Vid};
+
+/// Asks for a number of a vendor, which the response names if it is to.
+fn ask_number<S: Alter>(
+    alloc: Global,
+    registry: &mut Registry<S>,
+    vendor: Option<Vid>,
+    vid: Vid,
+    pid: Pid,
+) -> Result<Response, DeskFault>
+    ensures answered { (h : History) → Stands registry.old h → HasCleanDisk (state_of registry.new) → IfOk result (λ response. response ≡ number_response vendor pid (is_reserved h (number vid pid)) (entry_of h (number vid pid))) }
+    ensures kind { (h : History) → Stands registry.old h → HasCleanDisk (state_of registry.new) → IfErr result IsOfStanding }
+    ensures left { IsLeft registry.old registry.new }
+    ensures only_spent { result ≡ Err (desk_faults.Registry faults.Spent) → is_spent registry.old ≡ true }
+{
+    let reserved = match registry.is_reserved(Number { vid, pid }) {
+        Ok(reserved) => reserved,
+        Err(fault) => return Err(DeskFault::Registry(fault)),
+    };
+    match registry.entry(Number { vid, pid }) {
+        Ok(entry) => match number_response(alloc, vendor, pid, reserved, entry.as_ref()) {
+            Ok(response) => Ok(response),
+            Err(NoMemory) => Err(DeskFault::NoMemory),
+        },
+        Err(fault) => Err(DeskFault::Registry(fault)),
+    }
+}
+
+fn no_vendor(alloc: Global) -> Result<Response, DeskFault>
+    ensures ok { IfOk result (λ response. response ≡ reply_response (replies.Refused rule_refusals.NoVendor)) }
+    ensures err { IfErr result (λ fault. fault ≡ desk_faults.NoMemory) }
+{
+    match reply_response(alloc, &Reply::Refused(Refusal::NoVendor)) {
+        Ok(response) => Ok(response),
+        Err(NoMemory) => Err(DeskFault::NoMemory),
+    }
+}
+
+/// Asks for a number of a vendor that is named; refusal 34 where there is no such vendor.
+fn ask_vendor_number<S: Alter>(
+    alloc: Global,
+    registry: &mut Registry<S>,
+    vid: Vid,
+    pid: Pid,
+) -> Result<Response, DeskFault>
+    ensures answered { (h : History) → Stands registry.old h → HasCleanDisk (state_of registry.new) → IfOk result (λ response. response ≡ vendor_number_at h vid pid) }
+    ensures kind { (h : History) → Stands registry.old h → HasCleanDisk (state_of registry.new) → IfErr result IsOfStanding }
+    ensures left { IsLeft registry.old registry.new }
+    ensures only_spent { result ≡ Err (desk_faults.Registry faults.Spent) → is_spent registry.old ≡ true }
+{
+    match registry.has_vendor(vid) {
+        Ok(true) => ask_number(alloc, registry, Some(vid), vid, pid),
+        Ok(false) => no_vendor(alloc),
+        Err(fault) => Err(DeskFault::Registry(fault)),
+    }
+}
+
+/// Asks for an organisation.
+fn ask_org<S: Alter>(
+    alloc: Global,
+    registry: &mut Registry<S>,
+    slug: &Slug,
+) -> Result<Response, DeskFault>
+    ensures answered { (h : History) → Stands registry.old h → HasCleanDisk (state_of registry.new) → IfOk result (λ response. response ≡ org_response (org_of h slug.now)) }
+    ensures kind { (h : History) → Stands registry.old h → HasCleanDisk (state_of registry.new) → IfErr result IsOfStanding }
+    ensures left { IsLeft registry.old registry.new }
+    ensures only_spent { result ≡ Err (desk_faults.Registry faults.Spent) → is_spent registry.old ≡ true }
+{
+    match registry.org(slug) {
+        Ok(org) => match org_response(alloc, org.as_ref()) {
+            Ok(response) => Ok(response),
+            Err(NoMemory) => Err(DeskFault::NoMemory),
+        },
+        Err(fault) => Err(DeskFault::Registry(fault)),
+    }
+}
+
+/// Asks for a petition.
+fn ask_petition<S: Alter>(
+    alloc: Global,
+    registry: &mut Registry<S>,
+    id: u32,
+) -> Result<Response, DeskFault>
+    ensures answered { (h : History) → Stands registry.old h → HasCleanDisk (state_of registry.new) → IfOk result (λ response. response ≡ petition_response h.founding.vendor id (petition_of h id)) }
+    ensures kind { (h : History) → Stands registry.old h → HasCleanDisk (state_of registry.new) → IfErr result IsOfStanding }
+    ensures left { IsLeft registry.old registry.new }
+    ensures only_spent { result ≡ Err (desk_faults.Registry faults.Spent) → is_spent registry.old ≡ true }
+{
+    let founding = registry.founding().vendor;
+    match registry.petition(id) {
+        Ok(petition) => match petition_response(alloc, founding, id, petition.as_ref()) {
+            Ok(response) => Ok(response),
+            Err(NoMemory) => Err(DeskFault::NoMemory),
+        },
+        Err(fault) => Err(DeskFault::Registry(fault)),
+    }
+}
+
+/// The response of a list: the document as it is written, without a stamp.
+fn list_response(alloc: Global, document: &Document) -> Result<Response, DeskFault>
+    ensures ok { IfOk result (λ response. response ≡ text_response (written document.now None)) }
+    ensures err { IfErr result (λ fault. fault ≡ desk_faults.NoMemory) }
+{
+    let mut output = Outlet::new(Vec::new(alloc));
+    match write(document, None, &mut output) {
+        Ok(()) => Ok(text_response(output.into_inner())),
+        Err(WriteFault) => Err(DeskFault::NoMemory),
+    }
+}
+
+/// Asks for the list of the numbers that are held.
+fn ask_list<S: Alter>(alloc: Global, registry: &mut Registry<S>) -> Result<Response, DeskFault>
+    ensures answered { (h : History) → Stands registry.old h → HasCleanDisk (state_of registry.new) → IfOk result (IsListResponse h) }
+    ensures kind { (h : History) → Stands registry.old h → HasCleanDisk (state_of registry.new) → IfErr result IsOfStanding }
+    ensures left { IsLeft registry.old registry.new }
+    ensures only_spent { result ≡ Err (desk_faults.Registry faults.Spent) → is_spent registry.old ≡ true }
+{
+    match document_of(alloc, registry) {
+        Ok(document) => list_response(alloc, &document),
+        Err(failure) => Err(failed_by(failure)),
+    }
+}
+
+fn kind_of(report: Report) -> ReportKind
+    ensures { result ≡ kind_of report }
+{
+    match report {
+        Report::Census => ReportKind::Census,
+        Report::Holders => ReportKind::Holders,
+        Report::Petitions => ReportKind::Petitions,
+    }
+}
+
+/// Asks for a report.
+fn ask_report<S: Alter>(
+    alloc: Global,
+    registry: &mut Registry<S>,
+    report: Report,
+) -> Result<Response, DeskFault>
+    ensures answered { (h : History) → Stands registry.old h → HasCleanDisk (state_of registry.new) → IfOk result (IsReportResponse h report) }
+    ensures kind { (h : History) → Stands registry.old h → HasCleanDisk (state_of registry.new) → IfErr result IsOfStanding }
+    ensures left { IsLeft registry.old registry.new }
+    ensures only_spent { result ≡ Err (desk_faults.Registry faults.Spent) → is_spent registry.old ≡ true }
+{
+    match report_of(alloc, registry, kind_of(report)) {
+        Ok(text) => Ok(text_response(text.into_bytes())),
+        Err(failure) => Err(failed_by(failure)),
+    }
+}
+
+/// The response to a query.
+pub(crate) fn ask<S: Alter>(
+    alloc: Global,
+    registry: &mut Registry<S>,
+    query: &Query,
+) -> Result<Response, DeskFault>
+    ensures answered { (h : History) → Stands registry.old h → HasCleanDisk (state_of registry.new) → IfOk result (IsQueryResponse h query.now) }
+    ensures kind { (h : History) → Stands registry.old h → HasCleanDisk (state_of registry.new) → IfErr result IsOfStanding }
+    ensures left { IsLeft registry.old registry.new }
+    ensures only_spent { result ≡ Err (desk_faults.Registry faults.Spent) → is_spent registry.old ≡ true }
+{
+    match query {
+        Query::Number { vendor, pid } => match vendor {
+            None => {
+                let vid = registry.founding().vendor;
+                ask_number(alloc, registry, None, vid, *pid)
+            }
+            Some(vid) => ask_vendor_number(alloc, registry, *vid, *pid),
+        },
+        Query::List => ask_list(alloc, registry),
+        Query::Org(slug) => ask_org(alloc, registry, slug),
+        Query::Petition(id) => ask_petition(alloc, registry, *id),
+        Query::Report(report) => ask_report(alloc, registry, *report),
+    }
+}

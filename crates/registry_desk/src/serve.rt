@@ -1,0 +1,148 @@
+//! One message: read, acted on, and its response written.
+
+ghost use Rattle.std.specs.Prelude.{◌≡◌, ◌≢◌, ◌⊎◌, true, ℕ, List, Option, Err, Some, IfOk, OnErr};
+ghost use Rattle.sqlite.specs.State.{HasCleanDisk};
+ghost use Rattle.usbids_text.specs.Ends.{HasFailed, MayGive, Writes};
+ghost use Rattle.registry_rules.specs.History.{History};
+ghost use Rattle.registry_store.specs.Promise.{Stands, Endures, is_spent, state_of};
+ghost use Rattle.registry_store.specs.declared.fault.Fault.TheVariants as faults;
+ghost use Rattle.registry_http.specs.Responses.{response_bytes, unavailable_response};
+ghost use Rattle.registry_desk.specs.declared.serve.Served.{Served};
+ghost use Rattle.registry_desk.specs.Faults.{unavailable_of};
+ghost use Rattle.registry_desk.specs.Serving.{IsOfServed, IsSent, IsTold, IsServed, given_up};
+
+use crate::acting::response_to;
+use crate::fault::{DeskFault, fault_of, unavailable_of};
+use registry_http::{InputFault, Response, read_message, write_response, write_unavailable};
+use registry_store::{Fault, Registry};
+use sqlite::Alter;
+use std::alloc::Global;
+use usbids_text::{Broken, Sink, Source};
+
+/// What was sent.
+#[derive(Clone, Copy, Debug, Drop, PartialEq, Eq)]
+pub struct Served {
+    /// The status of the response.
+    pub status: u16,
+    /// The registry's fault behind a 503. A 503 without one is for want of memory alone.
+    pub fault: Option<Fault>,
+}
+
+/// Why a connection is given up.
+#[derive(Clone, Copy, Debug, PartialEq, Eq)]
+pub enum PeerFault {
+    /// The source failed.
+    Read,
+    /// The sink failed.
+    Write,
+}
+
+/// The registry's fault behind what was to be sent, and the status where all of it was written.
+#[derive(Clone, Copy, Debug, Drop, PartialEq, Eq)]
+pub(crate) struct Exchange {
+    pub(crate) fault: Option<Fault>,
+    pub(crate) sent: Result<u16, Broken>,
+}
+
+/// Writes refusal 30 or 31.
+fn give_up<W: Sink>(sink: &mut W, fault: DeskFault) -> Exchange
+    ensures writes { Writes (W.contents sink.old) (W.contents sink.new) (W.failures sink.old) (W.failures sink.new) result.sent (response_bytes (unavailable_response (unavailable_of fault))) }
+    ensures told { IsOfServed result (given_up fault) }
+{
+    let sent = write_unavailable(sink, unavailable_of(fault));
+    Exchange {
+        fault: fault_of(fault),
+        sent,
+    }
+}
+
+/// Writes a response.
+fn send_response<W: Sink>(alloc: Global, sink: &mut W, response: &Response) -> Exchange
+    ensures told { (text : List ℕ) × (served : Served) × IsSent response.now text served
+        × Writes (W.contents sink.old) (W.contents sink.new) (W.failures sink.old) (W.failures sink.new) result.sent text × IsOfServed result served }
+{
+    let sent = write_response(alloc, sink, response);
+    Exchange { fault: None, sent }
+}
+
+/// Writes the response of what was done.
+fn send<W: Sink>(alloc: Global, sink: &mut W, done: Result<Response, DeskFault>) -> Exchange
+    ensures told { (text : List ℕ) × (served : Served) × IsTold done text served
+        × Writes (W.contents sink.old) (W.contents sink.new) (W.failures sink.old) (W.failures sink.new) result.sent text × IsOfServed result served }
+{
+    match done {
+        Ok(response) => send_response(alloc, sink, &response),
+        Err(fault) => give_up(sink, fault),
+    }
+}
+
+/// Reads one message from the source, acts on it, and writes its response to the sink.
+///
+/// `Broken` comes only where the source failed in this call: then nothing is written and nothing was acted on.
+pub(crate) fn serve_message<R: Source, W: Sink, S: Alter>(
+    alloc: Global,
+    source: &mut R,
+    sink: &mut W,
+    registry: &mut Registry<S>,
+) -> Result<Exchange, Broken>
+    ensures served { (bytes : List ℕ) × MayGive (R.remaining source.old) bytes × IfOk result (λ exchange. (text : List ℕ) × (served : Served)
+        × Writes (W.contents sink.old) (W.contents sink.new) (W.failures sink.old) (W.failures sink.new) exchange.sent text
+        × IsOfServed exchange served
+        × ((h : History) → Stands registry.old h → HasCleanDisk (state_of registry.new) → IsServed registry.new h bytes text served)) }
+    ensures spent { IfOk result (λ exchange. exchange.fault ≡ Some faults.Spent → is_spent registry.old ≡ true) }
+    ensures read { OnErr result (HasFailed (R.failures source.old) (R.failures source.new) × (sink.new ≡ sink.old) × (registry.new ≡ registry.old)) }
+    ensures endures { Endures (state_of registry.old) (state_of registry.new) }
+{
+    let founding = registry.founding().vendor;
+    match read_message(alloc, source, founding) {
+        Ok(said) => {
+            let done = response_to(alloc, registry, said);
+            Ok(send(alloc, sink, done))
+        }
+        Err(InputFault::Broken) => Err(Broken),
+        Err(InputFault::NoMemory) => Ok(give_up(sink, DeskFault::NoMemory)),
+    }
+}
+
+/// What is told of an exchange.
+fn served_of(exchange: Exchange) -> Result<Served, PeerFault>
+    ensures written { (old : Option (List ℕ)) (new : Option (List ℕ)) (failures : ℕ) (failures_new : ℕ) (text : List ℕ) → Writes old new failures failures_new exchange.sent text → Writes old new failures failures_new result text }
+    ensures ok { (served : Served) → IsOfServed exchange served → IfOk result (λ it. it ≡ served) }
+    ensures kind { result ≢ Err PeerFault.Read }
+{
+    match exchange.sent {
+        Ok(status) => Ok(Served {
+            status,
+            fault: exchange.fault,
+        }),
+        Err(Broken) => Err(PeerFault::Write),
+    }
+}
+
+/// Reads one message from the source, acts on it, and writes its response to the sink.
+///
+/// `Read` comes only where the source failed in this call: then nothing is written and nothing was acted on. `Write`
+/// comes only where the sink failed: then a beginning of the response was written, and an order may have been acted on.
+/// Its repeat under its key has the same reply.
+///
+/// The message takes at most 8,192 bytes of memory for its head, and 16,384 for the body of an order in JSON besides the
+/// request itself; a list that is imported takes that of its document. Refusals 30 and 31 take none.
+pub fn serve_one<R: Source, W: Sink, S: Alter>(
+    alloc: Global,
+    source: &mut R,
+    sink: &mut W,
+    registry: &mut Registry<S>,
+) -> Result<Served, PeerFault>
+    ensures served { (bytes : List ℕ) × MayGive (R.remaining source.old) bytes × (text : List ℕ) × (served : Served)
+        × ((result ≡ Err PeerFault.Read) ⊎ (Writes (W.contents sink.old) (W.contents sink.new) (W.failures sink.old) (W.failures sink.new) result text
+        × IfOk result (λ it. it ≡ served)
+        × ((h : History) → Stands registry.old h → HasCleanDisk (state_of registry.new) → IsServed registry.new h bytes text served))) }
+    ensures spent { IfOk result (λ it. it.fault ≡ Some faults.Spent → is_spent registry.old ≡ true) }
+    ensures read { result ≡ Err PeerFault.Read → HasFailed (R.failures source.old) (R.failures source.new) × (sink.new ≡ sink.old) × (registry.new ≡ registry.old) }
+    ensures endures { Endures (state_of registry.old) (state_of registry.new) }
+{
+    match serve_message(alloc, source, sink, registry) {
+        Ok(exchange) => served_of(exchange),
+        Err(Broken) => Err(PeerFault::Read),
+    }
+}

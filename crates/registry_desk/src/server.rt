@@ -1,0 +1,142 @@
+//! The server: one connection after another, over one registry.
+
+ghost use Rattle.std.specs.Prelude.{◌≡◌, ◌≤◌, ℕ, List, Option, length, IfOk, OnOk, Err};
+ghost use Rattle.sqlite.specs.State.{HasCleanDisk};
+ghost use Rattle.usbids_text.specs.Ends.{MayGive};
+ghost use Rattle.registry_rules.specs.History.{History};
+ghost use Rattle.registry_store.specs.Promise.{Stands, Endures, state_of};
+ghost use Rattle.registry_desk.specs.Server.{Visit, IsVisit, IsWritten, HaveVisited, EndsVisit, EndsServing, IfVisited, fault_in, status_in, status_of};
+
+use crate::serve::serve_message;
+use registry_store::{Fault, Registry};
+use sqlite::Alter;
+use std::alloc::Global;
+use usbids_text::{Broken, Sink, Source};
+
+/// Where connections come from, one after another.
+pub trait Connections {
+    /// What the message of a connection is read from.
+    type Reader: Source + Drop;
+
+    /// What its response is written to.
+    type Writer: Sink + Drop;
+
+    /// The next connection was opened, with this reader and this writer.
+    ghost opens: { Self → Self → Self.Reader → Self.Writer → Type 0 };
+
+    /// The connection was closed, with its reader and its writer as serving left them, and this status.
+    ghost closes: { Self → Self → Self.Reader → Self.Writer → Option ℕ → Type 0 };
+
+    /// Waits for the next connection. `Broken` says that none can come.
+    fn open(&mut self) -> Result<(Self::Reader, Self::Writer), Broken>
+        ensures { IfOk result (λ ends. opens self.old self.new ends.0 ends.1) };
+
+    /// Closes a connection whose message is served, with the status of its response, or `None` where its peer failed.
+    ///
+    /// A message that is refused before its end leaves bytes unread.
+    fn close(&mut self, reader: Self::Reader, writer: Self::Writer, status: Option<u16>)
+        ensures { closes self.old self.new reader writer status };
+}
+
+/// Why a server stops before its last connection.
+#[derive(Clone, Copy, Debug, Drop, PartialEq, Eq)]
+pub enum ServerStop {
+    /// No connection can come.
+    Connections,
+    /// The registry had a fault at the last connection.
+    Registry(Fault),
+}
+
+/// What the serving of one connection came to: the registry's fault, and the status where a response was written whole.
+#[derive(Clone, Copy, Debug, Drop, PartialEq, Eq)]
+struct Outcome {
+    fault: Option<Fault>,
+    status: Option<u16>,
+}
+
+fn status_in(sent: Result<u16, Broken>) -> Option<u16>
+    ensures { result ≡ status_in sent }
+{
+    match sent {
+        Ok(status) => Some(status),
+        Err(Broken) => None,
+    }
+}
+
+/// Serves the message of one connection.
+fn serve_between<R: Source, W: Sink, S: Alter>(
+    alloc: Global,
+    reader: &mut R,
+    writer: &mut W,
+    registry: &mut Registry<S>,
+) -> Outcome
+    ensures served { (visit : Visit) × MayGive (R.remaining reader.old) visit.bytes
+        × IsWritten W.contents W.failures writer.old writer.new visit
+        × (result.status ≡ status_of visit.end)
+        × ((h : History) → Stands registry.old h → HasCleanDisk (state_of registry.new) → EndsVisit registry.new h visit result.fault) }
+    ensures endures { Endures (state_of registry.old) (state_of registry.new) }
+{
+    match serve_message(alloc, reader, writer, registry) {
+        Ok(exchange) => Outcome {
+            fault: exchange.fault,
+            status: status_in(exchange.sent),
+        },
+        Err(Broken) => Outcome {
+            fault: None,
+            status: None,
+        },
+    }
+}
+
+/// Opens the next connection, serves its message, and closes it.
+///
+/// `ServerStop::Registry` comes where the registry had a fault, whether its response was written or the peer was gone. A peer's
+/// fault alone, and a 503 for want of memory alone, are no stop.
+pub fn serve_next<C: Connections, S: Alter>(
+    alloc: Global,
+    connections: &mut C,
+    registry: &mut Registry<S>,
+) -> Result<(), ServerStop>
+    ensures visited { IfVisited result ((visit : Visit)
+        × IsVisit C.opens C.closes C.Reader.remaining C.Writer.contents C.Writer.failures connections.old connections.new visit
+        × ((h : History) → Stands registry.old h → HasCleanDisk (state_of registry.new) → EndsVisit registry.new h visit (fault_in result))) }
+    ensures none { result ≡ Err ServerStop.Connections → registry.new ≡ registry.old }
+    ensures endures { Endures (state_of registry.old) (state_of registry.new) }
+{
+    match connections.open() {
+        Ok(ends) => {
+            let (mut reader, mut writer) = ends;
+            let outcome = serve_between(alloc, &mut reader, &mut writer, registry);
+            connections.close(reader, writer, outcome.status);
+            match outcome.fault {
+                None => Ok(()),
+                Some(fault) => Err(ServerStop::Registry(fault)),
+            }
+        }
+        Err(Broken) => Err(ServerStop::Connections),
+    }
+}
+
+/// Serves connections one after another, at most so many, up to the first fault of the registry.
+///
+/// Of a registry that stands at a history, each message has its response over the history before it, and the registry then
+/// stands at the history after all of them, in order. At a fault of the registry a crash leaves the history after all messages
+/// before the last one, with or without that one.
+pub fn serve_all<C: Connections, S: Alter>(
+    alloc: Global,
+    connections: &mut C,
+    registry: &mut Registry<S>,
+    count: u64,
+) -> Result<(), ServerStop>
+    ensures served { (visits : List Visit) × (middle : C)
+        × HaveVisited C.opens C.closes C.Reader.remaining C.Writer.contents C.Writer.failures connections.old middle visits
+        × IfVisited result (connections.new ≡ middle)
+        × (length visits ≤ count) × OnOk result (length visits ≡ count)
+        × ((h : History) → Stands registry.old h → HasCleanDisk (state_of registry.new) → EndsServing registry.new h visits (fault_in result)) }
+    ensures endures { Endures (state_of registry.old) (state_of registry.new) }
+{
+    for _ in 0..count {
+        serve_next(alloc, connections, registry)?;
+    }
+    Ok(())
+}

@@ -1,0 +1,395 @@
+#!/usr/bin/env python3
+"""Talks HTTP to `usbreg serve`, as real clients do, and compares what comes back to the byte.
+
+The examples of docs/http.md run as they are written, by `curl`; then each refusal that its table of statuses has, by
+`curl` too, but for those that want a message that `curl` does not send. A client of its own sends each byte alone, sends
+half of a message and closes, sends nothing, sends a message and more after it, sends 5 MB that are refused unread, and
+makes 200 connections one after another. A port that is taken, a count of connections, a store that is open already and a
+file that grows no more end the program as docs/requests.md says. And the program is killed as `kill -9` does it in the
+middle of commands: each one whose response came stands, at most one more does, and in the end the tables are those of
+a run without stops.
+
+Usage: scripts/talk_to_the_desk.py [STOPS [PROGRAM]], by default 20 stops of the program that `make` builds. Wants curl:
+where it is not installed only what needs it is skipped, in so many words. The status is 0 where all of this held."""
+
+import itertools
+import json
+import os
+import random
+import re
+import resource
+import shutil
+import signal
+import sys
+import threading
+import time
+
+from serving import TEXT, command, connected, done, exchange, get, message, post, read_to_end, refusals, refused, response, serving
+from stop_and_go_on import kept, look
+from usbreg import EXAMPLES, TOP, apply, content, done as printed, folder, found, program, rounds, run, tables, write, write_requests
+
+PAGE = f"{TOP}/docs/http.md"
+LINK = "https://acme.example/"
+ENROL = {"caller": "ann", "key": "k1", "order": "enrol", "org": "acme", "title": "Acme Tools", "site": LINK}
+ENROLLED = done("enrolled acme")
+# Refusals that no message alone brings about: the store's, and want of memory.
+OF_RESOURCES = {30, 31}
+# Most bytes of a message's head, of an order and of a list.
+HEAD, ORDER, LIST = 8192, 16384, 4194304
+# How many connections are made one after another, and how many organisations enrol, ask and are granted while it is killed.
+MANY, ROUNDS = 200, 100
+
+
+def same(what, got, wanted):
+    if got != wanted:
+        sys.exit(f"{what}: {got[:600]!r}, where {wanted[:600]!r} is wanted")
+
+
+def asked(key, order, caller="ann", **fields):
+    return {"caller": caller, "key": key, "order": order, **fields}
+
+
+def ask(key, **fields):
+    return asked(key, "ask", **{"org": "acme", "title": "Lamp", "licence": "MIT", "site": LINK, "source": LINK, **fields})
+
+
+# The page.
+
+
+def examples(page):
+    """The command lines of a page with what each prints, which ends at the next one."""
+    for block in re.findall(r"^```\n(.*?)^```$", page, re.MULTILINE | re.DOTALL):
+        for text in re.split(r"^\$ ", block, flags=re.MULTILINE)[1:]:
+            words = re.match(r"(?:.*\\\n)*.*\n", text)[0]
+            yield words, text[len(words):]
+
+
+def run_page(usbreg, room):
+    """Runs the examples of docs/http.md in order, but on a port that is free."""
+    os.symlink(usbreg, f"{room}/usbreg")
+    os.symlink(EXAMPLES, f"{room}/examples")
+    count, server = 0, None
+    for words, wanted in examples(content(PAGE).decode()):
+        if words.endswith(" &\n"):
+            server = serving(usbreg, f"{room}/{words.split()[2]}").__enter__().up()
+            continue
+        line = words.replace(":8080", f":{server.port}") if server else words
+        status, output, errors = run(["sh", "-c", f'cd "$0" && {line}', room], env={"PATH": f"{room}:{os.environ['PATH']}"})
+        if (status, output.decode().replace("\r\n", "\n"), errors) != (0, wanted, b""):
+            sys.exit(f"docs/http.md: {words}: status {status}, {errors!r}, printed\n{output.decode()}")
+        count += 1
+    server.__exit__()
+    return count
+
+
+# Refusals.
+
+
+class Desk:
+    """A server that messages are sent to, and the refusals that were seen."""
+
+    def __init__(self, server, room):
+        self.port, self.room, self.seen = server.port, room, set()
+        self.has_curl = shutil.which("curl")
+
+    def send(self, request, wanted):
+        same(f"{request}", exchange(self.port, command(request)), wanted)
+
+    def curl(self, *words):
+        """What curl gets, head and all."""
+        status, output, errors = run(["curl", "-si", "--max-time", "60", *words[:-1], f"127.0.0.1:{self.port}{words[-1]}"])
+        if status or errors:
+            sys.exit(f"curl {' '.join(words)}: status {status}, {errors!r}")
+        return output
+
+    def refuses(self, number, *words, detail=None, allow=None):
+        self.seen.add(number)
+        if self.has_curl:
+            same(f"curl {' '.join(words)}", self.curl(*words), refused(number, detail, allow))
+
+    def refuses_order(self, number, request, detail=None):
+        body = json.dumps({name: value for name, value in request.items() if name not in ("caller", "key")})
+        self.refuses(number, *fields(request["caller"], request["key"]), "-d", body, "/commands", detail=detail)
+
+    def refuses_list(self, number, text, *more, caller="cora", path="/imports/acme", detail=None):
+        listed = write(f"{self.room}/list.ids", text)
+        self.refuses(number, *fields(caller, "list"), *more, "--data-binary", f"@{listed}", path, detail=detail)
+
+    def refuses_bytes(self, number, sent, last=True, detail=None):
+        """A message that curl doesn't send."""
+        self.seen.add(number)
+        same(f"{sent[:120]!r}", exchange(self.port, sent, last), refused(number, detail))
+
+
+def fields(caller, key):
+    return "-H", f"registry-caller: {caller}", "-H", f"registry-key: {key}"
+
+
+def by_rules(desk):
+    """Orders that the rules refuse, in an order in which each can be met."""
+    desk.refuses_order(4, ask("k2"))
+    desk.send(ENROL, ENROLLED)
+    desk.refuses_order(1, asked("k1", "amend-org", org="acme", title="Acme", site=LINK))
+    desk.refuses_order(5, asked("k2", "enrol", org="acme", title="Acme", site=LINK))
+    desk.refuses_order(3, ask("k2") | {"caller": "bob"})
+    desk.refuses_order(34, ask("k2", vendor="cafe"))
+    desk.refuses_order(13, ask("k2", licence="BSD"))
+    desk.refuses_order(8, ask("k2", number="0010"))
+    desk.send(ask("k2", number="0011"), done("petition 1"))
+    desk.refuses_order(2, asked("k3", "grant", petition=1))
+    desk.refuses_order(6, asked("k3", "grant", "cora", petition=2))
+    desk.send(asked("k3", "grant", "cora", petition=1), done("granted 0011 to acme by petition 1"))
+    desk.refuses_order(7, asked("k4", "grant", "cora", petition=1))
+    desk.refuses_order(10, ask("k4", number="0011"))
+    desk.send(asked("k4", "enrol", "bob", org="bolt", title="Bolt", site=LINK), done("enrolled bolt"))
+    desk.refuses_order(9, ask("k5", org="bolt", number="0011") | {"caller": "bob"}, "acme")
+    desk.refuses_order(11, asked("k5", "return", number="0012"))
+    desk.refuses_order(15, asked("k5", "reserve", "cora", first="0011", last="0020"), "0011")
+    desk.refuses_order(16, asked("k5", "reserve", "cora", first="0010", last="0020"))
+    desk.refuses_order(17, asked("k5", "release", "cora", first="0012", last="0020"))
+    desk.refuses_order(35, asked("k5", "add-licence", "cora", licence="MIT"))
+    desk.refuses_order(33, asked("k5", "add-vendor", "cora", vendor="1209", name="Other"))
+    desk.refuses_list(19, "1209  x\n" + "\t0000  y\n" * 8193)
+
+
+def by_limits(desk):
+    """All numbers reserved, sixteen open petitions, and 256 vendors."""
+    desk.send(asked("r1", "reserve", "cora", first="0012", last="ffff"), done("reserved 0012-ffff"))
+    for number in range(2, 18):
+        desk.send(ask(f"a{number}"), done(f"petition {number}"))
+    desk.refuses_order(14, ask("a18"))
+    desk.refuses_order(12, asked("g2", "grant", "cora", petition=2))
+    for number in range(1, 256):
+        desk.send(asked(f"v{number}", "add-vendor", "cora", vendor=f"{number:04x}", name="Other"), done(f"added vendor {number:04x}"))
+    desk.refuses_order(18, asked("v256", "add-vendor", "cora", vendor="cafe", name="Other"))
+
+
+def by_messages(desk):
+    """Messages that are refused before any rule is asked."""
+    enrol = fields("ann", "k9")
+    desk.refuses(20, *itertools.chain(*(("-H", f"x-{number}: 1") for number in range(65))), "/list")
+    desk.refuses(20, "-H", "x: " + "a" * HEAD, "/list")
+    for path in ("/", "/lists", "/list/", "/numbers/12", "/numbers/0000", "/orgs/Acme", "/petitions/0", "/petitions/01", "/reports/all", "/numbers/%30%30%31%31"):
+        desk.refuses(24, path)
+    desk.refuses(24, "-d", "", "/imports/Acme")
+    for method, path, allow in (("DELETE", "/list", "GET"), ("POST", "/numbers/0011", "GET"), ("GET", "/commands", "POST"), ("PUT", "/imports/acme", "POST")):
+        desk.refuses(25, "-X", method, path, allow=allow)
+    desk.refuses(21, *enrol, "-H", "transfer-encoding: chunked", "-d", "{}", "/commands")
+    desk.refuses(21, *enrol, "-X", "POST", "/commands")
+    for length in ("99999999999", "-1", "+2", ""):
+        desk.refuses_bytes(21, message("POST", "/commands", content_length=length))
+    desk.refuses_bytes(21, post("ann", "k9", b"{}").replace(b"content-length", b"content-length: 2\r\ncontent-length"))
+    large = write(f"{desk.room}/large", "x" * (ORDER + 1))
+    desk.refuses(22, *enrol, "--data-binary", f"@{large}", "/commands")
+    desk.refuses_bytes(22, message("POST", "/imports/acme", content_length=LIST + 1))
+    for words, field in ((("-H", "registry-key: k9"), "caller"), (fields("Ann", "k9"), "caller"), (fields("ann", "k 9"), "key"), (("-H", "registry-caller: ann"), "key")):
+        desk.refuses(26, *words, "-d", "{}", "/commands", detail=f"registry-{field}")
+    desk.refuses(26, *enrol, *enrol, "-d", "{}", "/commands", detail="registry-caller")
+    desk.refuses_bytes(23, command(ENROL)[:-1])
+    desk.refuses(27, *enrol, "-d", "[]", "/commands")
+    desk.refuses(27, *enrol, "-d", "", "/commands")
+    desk.refuses_order(28, asked("k9", "withdraw", petition=0), "petition")
+    desk.refuses_order(28, asked("k9", "import"), "order")
+    desk.refuses_list(29, "1209  A\n\t\t01  x\n", detail="line 2: NoParent")
+    desk.refuses_list(29, "1209  A\n\t11  x", path="/imports/acme/1209", detail="line 2: BadCode")
+
+
+def each_refusal(usbreg, room):
+    with serving(usbreg, found(usbreg, f"{room}/refused.db")).up() as server:
+        desk = Desk(server, room)
+        for cases in (by_rules, by_messages, by_limits):
+            cases(desk)
+    missing = set(refusals()) - desk.seen - OF_RESOURCES
+    if missing:
+        sys.exit(f"docs/http.md has refusals that no message met: {missing}")
+    return len(desk.seen)
+
+
+# A client of its own.
+
+
+def slowly(port, sent):
+    """What comes back where each byte is sent alone."""
+    with connected(port) as connection:
+        for byte in sent:
+            connection.send(bytes([byte]))
+        return read_to_end(connection)
+
+
+def cut(port):
+    """A message that ends early, at some places of its head and its body, or never begins. No order is acted on."""
+    whole = command(ENROL)
+    head = whole.index(b"\r\n\r\n") + 4
+    for length in (0, 1, 16, head - 1, head, head + 1, len(whole) - 1):
+        same(f"{length} bytes and no more", exchange(port, whole[:length], last=True), refused(20 if length < head else 23))
+    for length in (0, 16, head, len(whole) - 1):
+        with connected(port) as connection:
+            connection.sendall(whole[:length])
+    same("after messages that were cut", exchange(port, get("/orgs/acme")), refused(4))
+
+
+def silent(port):
+    """A peer that sends nothing, or stops in the middle, is let go without a response, and the next one is served."""
+    for sent in (b"", command(ENROL)[:-1]):
+        began = time.monotonic()
+        with connected(port) as connection:
+            connection.sendall(sent)
+            same("a peer that stops", read_to_end(connection), b"")
+        if not 9 < time.monotonic() - began < 13:
+            sys.exit(f"a peer that stops was let go after {time.monotonic() - began:.1f} seconds")
+    same("after peers that stopped", exchange(port, get("/orgs/acme")), refused(4))
+
+
+def early(desk):
+    """5 MB that are refused unread, to a client that sends them all before it reads: it gets the whole response."""
+    large = b"x" * 5_000_000
+    same("5 MB", exchange(desk.port, post("ann", "k9", large)), refused(22))
+    same("5 MB to no path", exchange(desk.port, post("ann", "k9", large, "/none")), refused(24))
+    with connected(desk.port) as connection:
+        head, end, body = post("ann", "k9", large).partition(b"\r\n\r\n")
+        connection.sendall(head + end)
+        time.sleep(0.5)
+        connection.sendall(body)
+        same("5 MB after a while", read_to_end(connection), refused(22))
+    if desk.has_curl:
+        path = write(f"{desk.room}/large", large.decode())
+        for expect in ("expect:", "expect: 100-continue"):
+            same("5 MB by curl", desk.curl("-H", expect, *fields("ann", "k9"), "--data-binary", f"@{path}", "/commands"), refused(22))
+
+
+def own_client(usbreg, room):
+    """Messages in many pieces, cut, early, late and many."""
+    store = found(usbreg, f"{room}/pieces.db")
+    with serving(usbreg, store).up() as server:
+        port = server.port
+        cut(port)
+        silent(port)
+        early(Desk(server, room))
+        same("single bytes", slowly(port, command(ENROL)), ENROLLED)
+        same("a message and more after it", exchange(port, command(ENROL) + command(ask("k2")) + b"x" * 100_000), ENROLLED)
+        same("an order once more", exchange(port, command(ENROL)), ENROLLED)
+        same("a query with a body", exchange(port, message("GET", "/petitions/1", b"x" * 100)), refused(6))
+        same("no petition", exchange(port, get("/reports/petitions?x=1")), response(b"", kind=TEXT))
+        for number in range(1, MANY + 1):
+            same(f"connection {number}", exchange(port, command(asked(f"m{number}", "enrol", org=f"m{number}", title="Many", site=LINK))), done(f"enrolled m{number}"))
+    with serving(usbreg, store, count=1).up() as server:
+        same("the list", exchange(server.port, get("/list")), response(LISTED, kind=TEXT))
+        same("the end", server.ended(), (0, b"", b""))
+    same("the list", printed([usbreg, "export", store]), LISTED)
+
+
+LISTED = b"# List of USB numbers in the syntax of usb.ids\n\n1209  Shared products\n"
+
+
+# How it ends.
+
+
+def no_growth():
+    """A process whose files grow no more: its writes fail, and no signal ends it."""
+    signal.signal(signal.SIGXFSZ, signal.SIG_IGN)
+    resource.setrlimit(resource.RLIMIT_FSIZE, (1 << 17, 1 << 17))
+
+
+def full(usbreg, room):
+    """A store that fails: its fault is the response and ends the program, and what had a response stands."""
+    store = found(usbreg, f"{room}/full.db")
+    answered = []
+    with serving(usbreg, store, limit=no_growth).up() as server:
+        for request in rounds(1, 10_000):
+            sent = exchange(server.port, command(request))
+            if sent == refused(30):
+                break
+            same(f"{request}", sent[:15], b"HTTP/1.1 200 OK")
+            answered.append((request, sent))
+        else:
+            sys.exit("no write of a file that grows no more failed")
+        same("a store that failed", server.ended(), (1, b"", b"fault: store\n"))
+    with serving(usbreg, store).up() as server:
+        for request, sent in answered:
+            same(f"{request}, after the store had failed", exchange(server.port, command(request)), sent)
+    return len(answered)
+
+
+def ends(usbreg, room):
+    """A count of none, a port that is taken, a store that is open already or is not there."""
+    store, other = (found(usbreg, f"{room}/{name}.db") for name in ("store", "other"))
+    before = tables(store)
+    with serving(usbreg, store, count=0) as server:
+        same("no connection", server.ended(), (0, b"", b""))
+    with serving(usbreg, store).up() as server:
+        words = [usbreg, "serve", other, "--port", str(server.port)]
+        same("a port that is taken", run(words), (1, b"", b"fault: socket\n"))
+        for words in ([usbreg, "export", store], [usbreg, "serve", store, "--port", str(server.port)]):
+            same("a store that is open", run(words), (1, b"", b"fault: store\n"))
+        server.process.terminate()
+        same("the end", server.ended()[1:], (b"", b""))
+    words = [usbreg, "serve", f"{room}/none.db", "--port", "8080"]
+    same("no store", run(words), (1, b"", b"fault: file\n"))
+    if tables(store) != before:
+        sys.exit("a server that acted on nothing changed its store")
+
+
+def bodies(server, requests):
+    """The bodies of the responses to commands that are acted on, up to the first that doesn't come whole."""
+    for request in requests:
+        try:
+            head, _, body = exchange(server.port, command(request)).partition(b"\r\n\r\n")
+        except OSError:
+            return
+        if not body.endswith(b"\n"):
+            return
+        same(f"{request}", head[:15], b"HTTP/1.1 200 OK")
+        yield body
+
+
+def unstopped(usbreg, room, requests):
+    """The bodies of all responses, the seconds that they took, and the store then: that of the same request lines."""
+    store, other = (found(usbreg, f"{room}/{name}.db") for name in ("unstopped", "applied"))
+    with serving(usbreg, store, count=len(requests)).up() as server:
+        began = time.monotonic()
+        replies = list(bodies(server, requests))
+        seconds = time.monotonic() - began
+        same("the end", server.ended(), (0, b"", b""))
+    same("replies over HTTP", b"".join(replies), apply(usbreg, other, write_requests(f"{room}/requests.jsonl", requests)))
+    same("tables over HTTP", tables(store), tables(other))
+    return replies, seconds, store
+
+
+def killed(usbreg, room, stops):
+    """Kills it so many times, opens the store again each time, and goes on from the first command without a response."""
+    requests = list(rounds(1, ROUNDS))
+    wanted, seconds, other = unstopped(usbreg, room, requests)
+    store, replies, between = found(usbreg, f"{room}/killed.db"), [], 0
+    for _ in range(stops):
+        with serving(usbreg, store).up() as server:
+            killer = threading.Timer(random.uniform(0, 2 * seconds / stops), server.process.kill)
+            killer.start()
+            replies += bodies(server, requests[len(replies):])
+            killer.join()
+        look(store, room, requests, replies)
+        between += len(kept(store, room)) > len(replies)
+    with serving(usbreg, store).up() as server:
+        replies += bodies(server, requests[len(replies):])
+    if replies != wanted or tables(store) != tables(other):
+        sys.exit("replies or tables are not those of a run without stops")
+    return f"{stops} stops in {len(requests)} commands, {between} of them between a commit and its response"
+
+
+def main():
+    stops = int(sys.argv[1]) if len(sys.argv) > 1 else 20
+    usbreg = program(*sys.argv[2:3])
+    with folder() as room:
+        if shutil.which("curl"):
+            count = run_page(usbreg, room)
+            print(f"docs/http.md: {count} lines of examples ran as they are written")
+        else:
+            print("SKIPPED: curl is not installed, so no message was sent by it")
+        print(f"{each_refusal(usbreg, room)} refusals")
+        own_client(usbreg, room)
+        ends(usbreg, room)
+        print(f"a store that failed after {full(usbreg, room)} commands")
+        print(f"{killed(usbreg, room, stops)}: each one whose response came stands, and the end is that of a run without stops")
+
+
+if __name__ == "__main__":
+    main()
