@@ -1,20 +1,13 @@
 -- What is left where a registry stands at one of two histories.
-use Rattle.std.proofs.Common.{◌≡◌, ◌⊎◌, inl, inr, sym, subst}
-use Rattle.std.specs.Prelude.{true}
+use Rattle.std.proofs.Common.{◌⊎◌, inl, inr}
 use Rattle.sqlite.specs.Store.{Ghosts}
 use Rattle.sqlite.specs.State.{HasCleanDisk}
 use Rattle.registry_rules.specs.History.{History}
-use Rattle.registry_store.specs.declared.fault.Fault.{Fault}
-use Rattle.registry_store.specs.declared.fault.Fault.TheVariants as faults
 use Rattle.registry_store.specs.declared.registry.Registry.{Registry as TheRegistry}
-use Rattle.registry_store.specs.Promise.{Endures, Stands, is_spent, state_of}
-use Rattle.registry_commands.specs.declared.messages.Failure.{Failure}
-use Rattle.registry_commands.specs.declared.messages.Failure.TheVariants as failures
-use Rattle.registry_commands.specs.Shown.{IsLeft, IsOfReading}
+use Rattle.registry_store.specs.Promise.{Stands, state_of}
 use Rattle.registry_desk.specs.declared.fault.DeskFault.{DeskFault}
 use Rattle.registry_desk.specs.declared.fault.DeskFault.TheVariants.{NoMemory, Registry}
-use Rattle.registry_desk.specs.Faults.{failed_by}
-use Rattle.registry_desk.specs.Acting.{EndsAt, IsLeftAt, IsOfStanding}
+use Rattle.registry_desk.specs.Acting.{EndsAt, IsLeftAt}
 
 module _ {S : Type 0} {g : Ghosts S} where
   pub ends_either : (fault : DeskFault) (it : TheRegistry S g) (h next : History) → Stands it h ⊎ Stands it next → EndsAt fault it h next
