@@ -16,6 +16,7 @@ const PEER_SECONDS: u64 = 10;
 
 /// For how many seconds, and how many bytes, what a peer still sends after its response is read.
 const REST_SECONDS: u64 = 2;
+
 const REST_BYTES: usize = 16 * 1024 * 1024;
 
 /// The connections of a listener.
@@ -77,6 +78,7 @@ fn read_rest(rt: &HostRuntime, mut stream: &TcpStream) -> io::Result<()> {
 
 impl Connections for Accepted<'_> {
     type Reader = Inlet<TcpStream>;
+
     type Writer = Outlet<TcpStream>;
 
     ghost opens = { λ _ _ _ _. ⊤ };
@@ -101,12 +103,7 @@ impl Connections for Accepted<'_> {
         Err(Broken)
     }
 
-    fn close(
-        &mut self,
-        reader: Inlet<TcpStream>,
-        _writer: Outlet<TcpStream>,
-        status: Option<u16>,
-    ) {
+    fn close(&mut self, reader: Inlet<TcpStream>, _writer: Outlet<TcpStream>, status: Option<u16>) {
         let stream = reader.into_inner();
         if let Some(status) = status {
             // A message with status 200 was read to its end, so its peer has nothing more to send.

@@ -56,10 +56,7 @@ fn list_under<S: Alter>(
 /// The list of what the registry holds. Nothing is changed.
 ///
 /// It fails where the registry does, or where memory is short.
-pub fn document_of<S: Alter>(
-    alloc: Global,
-    registry: &mut Registry<S>,
-) -> Result<Document, Failure>
+pub fn document_of<S: Alter>(alloc: Global, registry: &mut Registry<S>) -> Result<Document, Failure>
     ensures answered { (h : History) → Stands registry.old h → HasCleanDisk (state_of registry.new) → IfOk result (λ doc. IsListing h doc) }
     ensures failure { IfErr result (IsOfReading registry.old registry.new) }
     ensures left { IsLeft registry.old registry.new }
