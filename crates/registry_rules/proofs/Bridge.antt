@@ -18,7 +18,7 @@ use Rattle.registry_rules.specs.FactsOf.{AreFactsOf, slug_concerned, petition_na
 use Rattle.registry_rules.specs.OnFacts.{outcome_on, standing_in, standing_in_at, least_owned_in}
 use Rattle.registry_rules.specs.declared.deed.Deed.{Deed}
 use Rattle.registry_rules.specs.declared.deed.Act.{Act}
-use Rattle.registry_rules.specs.declared.deed.Act.TheVariants.{Enrolled, OrgAmended, Asked, Granted, Declined, Withdrawn, CardAmended, Returned, Reserved, Released, Imported, VendorAdded, LicenceAdded}
+use Rattle.registry_rules.specs.declared.deed.Act.TheVariants.{Granted, Returned, Imported}
 use Rattle.registry_rules.specs.declared.refusal.Refusal.{Refusal}
 use Rattle.registry_rules.specs.declared.verdict.Verdict.{Verdict}
 use Rattle.registry_rules.specs.declared.verdict.Verdict.TheVariants.{New, Refused}
@@ -43,16 +43,7 @@ held_given n (Imported vid org fresh tally) owner held e h =
     [ None ↦ λ no. h no | Some item ↦ λ no. absurd cc ] e
 held_given n (Returned vid name) owner held e h =
     elim (is_number n (number vid name.pid)) as (λ b. unwrap_or (option_or (given b false) held) false ≡ false) [ true ↦ refl | false ↦ h e ]
-held_given n (Enrolled org) owner held e h = h e
-held_given n (OrgAmended org) owner held e h = h e
-held_given n (Asked id petition) owner held e h = h e
-held_given n (Declined id petition) owner held e h = h e
-held_given n (Withdrawn id petition) owner held e h = h e
-held_given n (CardAmended vid name card) owner held e h = h e
-held_given n (Reserved vid name) owner held e h = h e
-held_given n (Released vid name) owner held e h = h e
-held_given n (VendorAdded vendor name) owner held e h = h e
-held_given n (LicenceAdded licence) owner held e h = h e
+held_given n _ owner held e h = h e
 
 -- a number without an owner isn't held
 pub unowned : (n : Number) (deeds : List Deed) → first_of (λ deed. receiver n deed.act) deeds ≡ None → unwrap_or (last_of (λ deed. holds n deed.act) deeds) false ≡ false

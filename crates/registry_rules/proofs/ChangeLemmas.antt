@@ -51,17 +51,7 @@ described_given slug caller (Enrolled org) first last e h =
     elim (bytes_eq org.slug slug) as (λ b. option_or (given b org) last ≡ None → sooner first (given b caller) ≡ None) [ true ↦ λ no. absurd cc | false ↦ λ no. h no ] e
 described_given slug caller (OrgAmended org) first last e h =
     elim (bytes_eq org.slug slug) as (λ b. option_or (given b org) last ≡ None → first ≡ None) [ true ↦ λ no. absurd cc | false ↦ λ no. h no ] e
-described_given slug caller (Asked id petition) first last e h = h e
-described_given slug caller (Granted id petition name) first last e h = h e
-described_given slug caller (Declined id petition) first last e h = h e
-described_given slug caller (Withdrawn id petition) first last e h = h e
-described_given slug caller (CardAmended vid name card) first last e h = h e
-described_given slug caller (Returned vid name) first last e h = h e
-described_given slug caller (Reserved vid name) first last e h = h e
-described_given slug caller (Released vid name) first last e h = h e
-described_given slug caller (Imported vid org fresh tally) first last e h = h e
-described_given slug caller (VendorAdded vendor name) first last e h = h e
-described_given slug caller (LicenceAdded licence) first last e h = h e
+described_given slug caller _ first last e h = h e
 
 undescribed : (slug : List ℕ) (deeds : List Deed) → last_of (λ deed. described slug deed.act) deeds ≡ None → first_of (λ deed. enroller slug deed.caller deed.act) deeds ≡ None
 undescribed slug [] e = refl

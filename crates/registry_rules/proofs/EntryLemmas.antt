@@ -20,7 +20,7 @@ use Rattle.registry_rules.proofs.RunLemmas.{legal_before}
 use Rattle.registry_rules.specs.declared.change.Change.TheVariants.{PutEntry}
 use Rattle.registry_rules.specs.declared.deed.Deed.{Deed}
 use Rattle.registry_rules.specs.declared.deed.Act.{Act}
-use Rattle.registry_rules.specs.declared.deed.Act.TheVariants.{Enrolled, OrgAmended, Asked, Granted, Declined, Withdrawn, CardAmended, Returned, Reserved, Released, Imported, VendorAdded, LicenceAdded}
+use Rattle.registry_rules.specs.declared.deed.Act.TheVariants.{Granted, CardAmended, Imported}
 use Rattle.registry_rules.specs.declared.founding.Founding.{Founding}
 use Rattle.registry_rules.specs.declared.item.Item.{Item}
 use Rattle.registry_rules.specs.declared.record.Petition.{Petition}
@@ -87,16 +87,7 @@ carded_by : (h : History) (caller : List ℕ) (act : Act) (n : Number) (owner : 
 carded_by h caller (Granted id petition name) n owner card follows was = carded_grant (is_number n (number petition.vid name.pid)) owner card petition.org (card_asked petition) was
 carded_by h caller (CardAmended vid name new) n owner card follows was = carded_amendment (is_number n (number vid name.pid)) owner card new was
 carded_by h caller (Imported vid org fresh tally) n owner card follows was = carded_import n vid org (standing_at h vid) fresh (item_of vid fresh n) owner card follows.each refl was
-carded_by h caller (Enrolled org) n owner card follows was = was
-carded_by h caller (OrgAmended org) n owner card follows was = was
-carded_by h caller (Asked id petition) n owner card follows was = was
-carded_by h caller (Declined id petition) n owner card follows was = was
-carded_by h caller (Withdrawn id petition) n owner card follows was = was
-carded_by h caller (Returned vid name) n owner card follows was = was
-carded_by h caller (Reserved vid name) n owner card follows was = was
-carded_by h caller (Released vid name) n owner card follows was = was
-carded_by h caller (VendorAdded vendor name) n owner card follows was = was
-carded_by h caller (LicenceAdded licence) n owner card follows was = was
+carded_by h caller _ n owner card follows was = was
 
 carded_deeds : (founding : Founding) (deeds : List Deed) (n : Number) → Legal (record { founding = founding; deeds = deeds }) →
     IsCarded (first_of (λ deed. receiver n deed.act) deeds) (last_of (λ deed. card_given n deed.act) deeds)

@@ -18,7 +18,7 @@ use Rattle.registry_rules.proofs.ImportLemmas.{IsFreshItem, item_is}
 use Rattle.registry_rules.proofs.FollowLemmas.{Follows, legal_follows}
 use Rattle.registry_rules.specs.declared.deed.Deed.{Deed}
 use Rattle.registry_rules.specs.declared.deed.Act.{Act}
-use Rattle.registry_rules.specs.declared.deed.Act.TheVariants.{Enrolled, OrgAmended, Asked, Granted, Declined, Withdrawn, CardAmended, Returned, Reserved, Released, Imported, VendorAdded, LicenceAdded}
+use Rattle.registry_rules.specs.declared.deed.Act.TheVariants.{Granted, Returned, Reserved, Released, Imported}
 use Rattle.registry_rules.specs.declared.founding.Founding.{Founding}
 use Rattle.registry_rules.specs.declared.item.Item.{Item}
 
@@ -82,17 +82,7 @@ receiver_allowed h caller (Granted id petition name) n org can e =
 receiver_allowed h caller (Imported vid to fresh tally) n org can e =
     let found = item_found (item_of vid fresh n) to org e in
     allows_none (owner_of h n) org (fresh_number h vid fresh n found.0 can.each found.1).0
-receiver_allowed h caller (Enrolled o) n org can e = absurd cc
-receiver_allowed h caller (OrgAmended o) n org can e = absurd cc
-receiver_allowed h caller (Asked id petition) n org can e = absurd cc
-receiver_allowed h caller (Declined id petition) n org can e = absurd cc
-receiver_allowed h caller (Withdrawn id petition) n org can e = absurd cc
-receiver_allowed h caller (CardAmended vid name card) n org can e = absurd cc
-receiver_allowed h caller (Returned vid name) n org can e = absurd cc
-receiver_allowed h caller (Reserved vid name) n org can e = absurd cc
-receiver_allowed h caller (Released vid name) n org can e = absurd cc
-receiver_allowed h caller (VendorAdded vid name) n org can e = absurd cc
-receiver_allowed h caller (LicenceAdded licence) n org can e = absurd cc
+receiver_allowed h caller _ n org can e = absurd cc
 
 owner_now : (owner given : Option (List ℕ)) (org : List ℕ) → Allows owner org → given ≡ Some org → sooner owner given ≡ Some org
 owner_now None None org fits e = e
@@ -153,16 +143,7 @@ unheld_now n (Granted id petition name) so_far r e =
 unheld_now n (Imported vid to fresh tally) so_far r e =
     unheld_before (option_map (λ item. true) (item_of vid fresh n)) so_far (ap (option_map (λ item. true)) (unmapped (λ item. to) (item_of vid fresh n) r)) e
 unheld_now n (Returned vid name) so_far r e = unheld_if (is_number n (number vid name.pid)) so_far e
-unheld_now n (Enrolled o) so_far r e = e
-unheld_now n (OrgAmended o) so_far r e = e
-unheld_now n (Asked id petition) so_far r e = e
-unheld_now n (Declined id petition) so_far r e = e
-unheld_now n (Withdrawn id petition) so_far r e = e
-unheld_now n (CardAmended vid name card) so_far r e = e
-unheld_now n (Reserved vid name) so_far r e = e
-unheld_now n (Released vid name) so_far r e = e
-unheld_now n (VendorAdded vid name) so_far r e = e
-unheld_now n (LicenceAdded licence) so_far r e = e
+unheld_now n _ so_far r e = e
 
 unheld_in : (n : Number) (deeds : List Deed) → first_of (λ deed. receiver n deed.act) deeds ≡ None → unwrap_or (last_of (λ deed. holds n deed.act) deeds) false ≡ false
 unheld_in n [] e = refl
@@ -191,17 +172,7 @@ unreserved_receiver h caller (Granted id petition name) n org can e =
 unreserved_receiver h caller (Imported vid to fresh tally) n org can e =
     let found = item_found (item_of vid fresh n) to org e in
     (fresh_number h vid fresh n found.0 can.each found.1).1
-unreserved_receiver h caller (Enrolled o) n org can e = absurd cc
-unreserved_receiver h caller (OrgAmended o) n org can e = absurd cc
-unreserved_receiver h caller (Asked id petition) n org can e = absurd cc
-unreserved_receiver h caller (Declined id petition) n org can e = absurd cc
-unreserved_receiver h caller (Withdrawn id petition) n org can e = absurd cc
-unreserved_receiver h caller (CardAmended vid name card) n org can e = absurd cc
-unreserved_receiver h caller (Returned vid name) n org can e = absurd cc
-unreserved_receiver h caller (Reserved vid name) n org can e = absurd cc
-unreserved_receiver h caller (Released vid name) n org can e = absurd cc
-unreserved_receiver h caller (VendorAdded vid name) n org can e = absurd cc
-unreserved_receiver h caller (LicenceAdded licence) n org can e = absurd cc
+unreserved_receiver h caller _ n org can e = absurd cc
 
 given_apart : (owner given : Option (List ℕ)) (reserved : Bool) → OwnedOrReserved owner reserved → ((org : List ℕ) → given ≡ Some org → reserved ≡ false) → OwnedOrReserved (sooner owner given) reserved
 given_apart owner None reserved apart new = apart
@@ -224,17 +195,7 @@ apart_now h caller (Released vid name) n can apart =
     span_cases vid n (span_has name.span n.pid) (λ b. OwnedOrReserved (owner_of h n) (reserved_by (is_fixed h n) (given b false) (last_of (λ deed. reserves n deed.act) h.deeds)))
     (λ same has. inr (or_from (is_fixed h n) false (subst (λ v. is_fixed h (number v n.pid) ≡ false) same (can.unfixed n.pid has)) refl))
     apart
-apart_now h caller (Granted id petition name) n can apart = given_apart (owner_of h n) (receiver n (Granted id petition name)) (is_reserved h n) apart (λ org e. unreserved_receiver h caller (Granted id petition name) n org can e)
-apart_now h caller (Imported vid to fresh tally) n can apart = given_apart (owner_of h n) (receiver n (Imported vid to fresh tally)) (is_reserved h n) apart (λ org e. unreserved_receiver h caller (Imported vid to fresh tally) n org can e)
-apart_now h caller (Enrolled o) n can apart = given_apart (owner_of h n) (receiver n (Enrolled o)) (is_reserved h n) apart (λ org e. unreserved_receiver h caller (Enrolled o) n org can e)
-apart_now h caller (OrgAmended o) n can apart = given_apart (owner_of h n) (receiver n (OrgAmended o)) (is_reserved h n) apart (λ org e. unreserved_receiver h caller (OrgAmended o) n org can e)
-apart_now h caller (Asked id petition) n can apart = given_apart (owner_of h n) (receiver n (Asked id petition)) (is_reserved h n) apart (λ org e. unreserved_receiver h caller (Asked id petition) n org can e)
-apart_now h caller (Declined id petition) n can apart = given_apart (owner_of h n) (receiver n (Declined id petition)) (is_reserved h n) apart (λ org e. unreserved_receiver h caller (Declined id petition) n org can e)
-apart_now h caller (Withdrawn id petition) n can apart = given_apart (owner_of h n) (receiver n (Withdrawn id petition)) (is_reserved h n) apart (λ org e. unreserved_receiver h caller (Withdrawn id petition) n org can e)
-apart_now h caller (CardAmended vid name card) n can apart = given_apart (owner_of h n) (receiver n (CardAmended vid name card)) (is_reserved h n) apart (λ org e. unreserved_receiver h caller (CardAmended vid name card) n org can e)
-apart_now h caller (Returned vid name) n can apart = given_apart (owner_of h n) (receiver n (Returned vid name)) (is_reserved h n) apart (λ org e. unreserved_receiver h caller (Returned vid name) n org can e)
-apart_now h caller (VendorAdded vid name) n can apart = given_apart (owner_of h n) (receiver n (VendorAdded vid name)) (is_reserved h n) apart (λ org e. unreserved_receiver h caller (VendorAdded vid name) n org can e)
-apart_now h caller (LicenceAdded licence) n can apart = given_apart (owner_of h n) (receiver n (LicenceAdded licence)) (is_reserved h n) apart (λ org e. unreserved_receiver h caller (LicenceAdded licence) n org can e)
+apart_now h caller act n can apart = given_apart (owner_of h n) (receiver n act) (is_reserved h n) apart (λ org e. unreserved_receiver h caller act n org can e)
 
 apart_in : (founding : Founding) (n : Number) (deeds : List Deed) → Legal (record { founding = founding; deeds = deeds }) →
     OwnedOrReserved (owner_of (record { founding = founding; deeds = deeds }) n) (is_reserved (record { founding = founding; deeds = deeds }) n)

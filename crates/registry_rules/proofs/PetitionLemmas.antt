@@ -10,7 +10,7 @@ use Rattle.registry_rules.proofs.RunLemmas.{legal_before}
 use Rattle.registry_rules.proofs.FollowLemmas.{Follows, legal_follows}
 use Rattle.registry_rules.specs.declared.deed.Deed.{Deed}
 use Rattle.registry_rules.specs.declared.deed.Act.{Act}
-use Rattle.registry_rules.specs.declared.deed.Act.TheVariants.{Enrolled, OrgAmended, Asked, Granted, Declined, Withdrawn, CardAmended, Returned, Reserved, Released, Imported, VendorAdded, LicenceAdded}
+use Rattle.registry_rules.specs.declared.deed.Act.TheVariants.{Asked, Granted, Declined, Withdrawn}
 use Rattle.registry_rules.specs.declared.founding.Founding.{Founding}
 use Rattle.registry_rules.specs.declared.record.Petition.{Petition}
 use Rattle.registry_rules.specs.declared.record.PetitionState.{PetitionState}
@@ -67,15 +67,7 @@ unclosed_now h caller (Declined id petition) i can before past =
     let within = asked_within h id petition can.there in given_other id i _ _ (omega arith) (before past)
 unclosed_now h caller (Withdrawn id petition) i can before past =
     let within = asked_within h id petition can.there in given_other id i _ _ (omega arith) (before past)
-unclosed_now h caller (Enrolled o) i can before past = before past
-unclosed_now h caller (OrgAmended o) i can before past = before past
-unclosed_now h caller (CardAmended vid name card) i can before past = before past
-unclosed_now h caller (Returned vid name) i can before past = before past
-unclosed_now h caller (Reserved vid name) i can before past = before past
-unclosed_now h caller (Released vid name) i can before past = before past
-unclosed_now h caller (Imported vid to fresh tally) i can before past = before past
-unclosed_now h caller (VendorAdded vid name) i can before past = before past
-unclosed_now h caller (LicenceAdded licence) i can before past = before past
+unclosed_now h caller _ i can before past = before past
 
 unclosed_in : (founding : Founding) (i : ℕ) (deeds : List Deed) → Legal (record { founding = founding; deeds = deeds }) →
     length (all_of (λ deed. asks deed.act) deeds) < i → last_of (λ deed. closes i deed.act) deeds ≡ None
