@@ -29,6 +29,7 @@ use Rattle.registry_rules.specs.declared.item.Item.{Item}
 use Rattle.registry_rules.specs.declared.item.Tally.{Tally}
 use Rattle.registry_rules.specs.declared.item.ItemClass.{ItemClass}
 use Rattle.registry_rules.specs.declared.order.Request.{Request}
+use Rattle.registry_rules.specs.declared.limits.TheConstants.{MOST_ITEMS}
 use Rattle.registry_rules.specs.declared.record.Entry.{Entry}
 use Rattle.registry_rules.specs.declared.record.Org.{Org}
 use Rattle.registry_rules.specs.declared.refusal.Refusal.{Refusal}
@@ -155,10 +156,10 @@ entries_by h vid org doc deed tally titles free act n =
 -- ---- the verdict
 
 row : (curators : List (List ℕ)) (known : Option Org) (there : Bool) (classes : List ItemClass) (caller : List ℕ) (vid : ℕ) (org : List ℕ) (items : List Item) →
-    list_any (bytes_eq caller) curators ≡ true → is_some known ≡ true → there ≡ true → length items ≤ 8192 →
+    list_any (bytes_eq caller) curators ≡ true → is_some known ≡ true → there ≡ true → length items ≤ MOST_ITEMS →
     import_row curators known there classes caller vid org items ≡ Ok (Imported vid org (fresh_of classes items) (tally_of classes))
 row curators None there classes caller vid org items c k t s = absurd cc
-row curators (Some o) there classes caller vid org items c k t s = let short : nat_le (length items) 8192 ≡ true = grind arith in rw (c, t, short) refl
+row curators (Some o) there classes caller vid org items c k t s = let short : nat_le (length items) MOST_ITEMS ≡ true = grind arith in rw (c, t, short) refl
 
 new_by : (under : Option Deed) (request : Request) (out : Result Act Refusal) (act : Act) → under ≡ None → out ≡ Ok act → verdict_by (option_map kept_of under) request out ≡ New (deed_for request act)
 new_by under request out act u o = ap (λ (k : Option Deed). verdict_by (option_map kept_of k) request out) u ∙ ap (λ (r : Result Act Refusal). verdict_by None request r) o

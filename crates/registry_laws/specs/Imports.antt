@@ -17,6 +17,7 @@ use Rattle.registry_rules.specs.Rows.{entry_of}
 use Rattle.registry_rules.specs.Run.{after_one}
 use Rattle.registry_rules.specs.Verdict.{verdict}
 use Rattle.registry_rules.specs.declared.deed.Deed.{Deed}
+use Rattle.registry_rules.specs.declared.limits.TheConstants.{MOST_ITEMS}
 use Rattle.registry_rules.specs.declared.order.Request.{Request}
 use Rattle.registry_rules.specs.declared.record.Entry.{Entry}
 use Rattle.registry_rules.specs.declared.record.Vendor.{Vendor}
@@ -31,7 +32,7 @@ pub record MayImport (h : History) (caller key org : List ℕ) (vid : ℕ) (item
   pub curator : list_any (bytes_eq caller) h.founding.curators ≡ true
   pub known : is_some (org_of h org) ≡ true
   pub vendor : has_vendor h vid ≡ true
-  pub short : items ≤ 8192
+  pub short : items ≤ MOST_ITEMS
   pub unused : kept h caller key ≡ None
 
 -- each code that the list has under the vendor is a number, and its name a title

@@ -20,6 +20,7 @@ use Rattle.registry_rules.specs.declared.deed.Act.{Act}
 use Rattle.registry_rules.specs.declared.deed.Act.TheVariants.{Enrolled, OrgAmended, Asked, Granted, Declined, Withdrawn, CardAmended, Returned, Reserved, Released, Imported, VendorAdded, LicenceAdded}
 use Rattle.registry_rules.specs.declared.founding.Founding.{Founding}
 use Rattle.registry_rules.specs.declared.item.Item.{Item}
+use Rattle.registry_rules.specs.declared.limits.TheConstants.{MOST_ORGS, MOST_OPEN, MOST_PETITIONS, MOST_VENDORS, MOST_LICENCES}
 use Rattle.registry_rules.specs.declared.name.NumberName.{NumberName}
 use Rattle.registry_rules.specs.declared.name.SpanName.{SpanName}
 use Rattle.registry_rules.specs.declared.order.Order.{Order}
@@ -34,7 +35,7 @@ use Rattle.registry_rules.specs.declared.verdict.Verdict.TheVariants.{New}
 
 pub record CanEnrol (h : History) (caller : List ℕ) (org : Org) : Type 0 where
   pub unknown : org_of h org.slug ≡ None
-  pub below : nat_lt (length (enrolled h)) 65536 ≡ true
+  pub below : nat_lt (length (enrolled h)) MOST_ORGS ≡ true
   pub keeper : org.keeper ≡ caller
 
 pub record CanAmendOrg (h : History) (caller : List ℕ) (org : Org) : Type 0 where
@@ -49,8 +50,8 @@ pub record CanAsk (h : History) (caller : List ℕ) (id : ℕ) (petition : Petit
   pub keeper : org.keeper ≡ caller
   pub vendor : has_vendor h petition.vid ≡ true
   pub licence : is_licence h petition.terms.licence ≡ true
-  pub few_open : nat_lt (open_count h petition.org) 16 ≡ true
-  pub below : nat_lt (length (asked h)) 1000000 ≡ true
+  pub few_open : nat_lt (open_count h petition.org) MOST_OPEN ≡ true
+  pub below : nat_lt (length (asked h)) MOST_PETITIONS ≡ true
   pub next : id ≡ length (asked h) + 1
   pub is_open : petition.state ≡ Open
 
@@ -89,11 +90,11 @@ pub record CanImport (h : History) (vid : ℕ) (org : List ℕ) (fresh : List It
 
 pub record CanAddVendor (h : History) (vid : ℕ) : Type 0 where
   pub unknown : has_vendor h vid ≡ false
-  pub below : nat_lt (length (vendors h)) 256 ≡ true
+  pub below : nat_lt (length (vendors h)) MOST_VENDORS ≡ true
 
 pub record CanAddLicence (h : History) (licence : List ℕ) : Type 0 where
   pub unknown : is_licence h licence ≡ false
-  pub below : nat_lt (length (licences h)) 1024 ≡ true
+  pub below : nat_lt (length (licences h)) MOST_LICENCES ≡ true
 
 -- what an act of the caller says of the history before it
 abbrev pub Follows : History → List ℕ → Act → Type 0

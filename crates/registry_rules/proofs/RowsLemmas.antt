@@ -13,6 +13,7 @@ use Rattle.registry_rules.specs.declared.deed.Act.{Act}
 use Rattle.registry_rules.specs.declared.deed.Act.TheVariants.{Enrolled, OrgAmended, Asked, Granted, Declined, Withdrawn, CardAmended, Returned, Reserved, Released, Imported, VendorAdded, LicenceAdded}
 use Rattle.registry_rules.specs.declared.item.Item.{Item}
 use Rattle.registry_rules.specs.declared.item.ItemClass.{ItemClass}
+use Rattle.registry_rules.specs.declared.limits.TheConstants.{MOST_ORGS, MOST_OPEN, MOST_PETITIONS, MOST_ITEMS, MOST_VENDORS, MOST_LICENCES}
 use Rattle.registry_rules.specs.declared.record.Org.{Org}
 use Rattle.registry_rules.specs.declared.record.Petition.{Petition}
 use Rattle.registry_rules.specs.declared.record.PetitionState.{PetitionState}
@@ -88,12 +89,12 @@ given_ok standing org x e =
 
 pub record IsEnrolment (known : Option Org) (orgs : ℕ) (org : Org) (act : Act) : Type 0 where
   pub unknown : known ≡ None
-  pub below : nat_lt orgs 65536 ≡ true
+  pub below : nat_lt orgs MOST_ORGS ≡ true
   pub does : act ≡ Enrolled org
 
 pub enrol_ok : (known : Option Org) (orgs : ℕ) (org : Org) (act : Act) → enrol_row known orgs org ≡ Ok act → IsEnrolment known orgs org act
 enrol_ok None orgs org act e =
-    let room = passed (nat_lt orgs 65536) _ _ act e in
+    let room = passed (nat_lt orgs MOST_ORGS) _ _ act e in
     let same : Ok (Enrolled org) ≡ Ok act = room.1 in
     record { unknown = refl; below = room.0; does = cc }
 enrol_ok (Some known) orgs org act e = absurd cc
@@ -117,8 +118,8 @@ pub record IsAsk (known : Option Org) (vendor_there allowed : Bool) (still_open 
   pub keeper : org.keeper ≡ caller
   pub vendor : vendor_there ≡ true
   pub licence : allowed ≡ true
-  pub few_open : nat_lt still_open 16 ≡ true
-  pub below : nat_lt petitions 1000000 ≡ true
+  pub few_open : nat_lt still_open MOST_OPEN ≡ true
+  pub below : nat_lt petitions MOST_PETITIONS ≡ true
   pub want : wanted_can_be_given wanted petition.org ≡ Ok tt
   pub does : act ≡ Asked (petitions + 1) petition
 
@@ -129,8 +130,8 @@ ask_ok (Some org) vendor_there allowed still_open petitions wanted caller petiti
     let a = passed (bytes_eq org.keeper caller) _ _ act e in
     let b = passed vendor_there _ _ act a.1 in
     let c = passed allowed _ _ act b.1 in
-    let d = passed (nat_lt still_open 16) _ _ act c.1 in
-    let f = passed (nat_lt petitions 1000000) _ _ act d.1 in
+    let d = passed (nat_lt still_open MOST_OPEN) _ _ act c.1 in
+    let f = passed (nat_lt petitions MOST_PETITIONS) _ _ act d.1 in
     let g = then_ok (wanted_can_be_given wanted petition.org) _ act f.1 in
     let same : Ok (Asked (petitions + 1) petition) ≡ Ok act = g.1 in
     record {
@@ -289,7 +290,7 @@ pub record IsImport (curators : List (List ℕ)) (known : Option Org) (vendor_th
   pub curator : list_any (bytes_eq caller) curators ≡ true
   pub there : known ≡ Some receiver
   pub vendor : vendor_there ≡ true
-  pub few : nat_le (length items) 8192 ≡ true
+  pub few : nat_le (length items) MOST_ITEMS ≡ true
   pub does : act ≡ Imported vid org (fresh_of classes items) (tally_of classes)
 
 pub import_ok : (curators : List (List ℕ)) (known : Option Org) (vendor_there : Bool) (classes : List ItemClass) (caller : List ℕ) (vid : ℕ) (org : List ℕ) (items : List Item) (act : Act) →
@@ -298,14 +299,14 @@ import_ok curators known vendor_there classes caller vid org items act e =
     let a = passed (list_any (bytes_eq caller) curators) _ _ act e in
     let b = was_there known _ _ act a.1 in
     let c = passed vendor_there _ _ act b.2 in
-    let d = passed (nat_le (length items) 8192) _ _ act c.1 in
+    let d = passed (nat_le (length items) MOST_ITEMS) _ _ act c.1 in
     let same : Ok (Imported vid org (fresh_of classes items) (tally_of classes)) ≡ Ok act = d.1 in
     record { receiver = b.0; curator = a.0; there = b.1; vendor = c.0; few = d.0; does = cc }
 
 pub record IsVendorAddition (curators : List (List ℕ)) (vendor_there : Bool) (vendors : ℕ) (caller : List ℕ) (vid : ℕ) (name : List ℕ) (act : Act) : Type 0 where
   pub curator : list_any (bytes_eq caller) curators ≡ true
   pub unknown : vendor_there ≡ false
-  pub below : nat_lt vendors 256 ≡ true
+  pub below : nat_lt vendors MOST_VENDORS ≡ true
   pub does : act ≡ VendorAdded vid name
 
 pub add_vendor_ok : (curators : List (List ℕ)) (vendor_there : Bool) (vendors : ℕ) (caller : List ℕ) (vid : ℕ) (name : List ℕ) (act : Act) →
@@ -313,14 +314,14 @@ pub add_vendor_ok : (curators : List (List ℕ)) (vendor_there : Bool) (vendors 
 add_vendor_ok curators vendor_there vendors caller vid name act e =
     let a = passed (list_any (bytes_eq caller) curators) _ _ act e in
     let b = passed (not vendor_there) _ _ act a.1 in
-    let c = passed (nat_lt vendors 256) _ _ act b.1 in
+    let c = passed (nat_lt vendors MOST_VENDORS) _ _ act b.1 in
     let same : Ok (VendorAdded vid name) ≡ Ok act = c.1 in
     record { curator = a.0; unknown = not_false vendor_there b.0; below = c.0; does = cc }
 
 pub record IsLicenceAddition (curators : List (List ℕ)) (allowed : Bool) (licences : ℕ) (caller licence : List ℕ) (act : Act) : Type 0 where
   pub curator : list_any (bytes_eq caller) curators ≡ true
   pub unknown : allowed ≡ false
-  pub below : nat_lt licences 1024 ≡ true
+  pub below : nat_lt licences MOST_LICENCES ≡ true
   pub does : act ≡ LicenceAdded licence
 
 pub add_licence_ok : (curators : List (List ℕ)) (allowed : Bool) (licences : ℕ) (caller licence : List ℕ) (act : Act) →
@@ -328,6 +329,6 @@ pub add_licence_ok : (curators : List (List ℕ)) (allowed : Bool) (licences : �
 add_licence_ok curators allowed licences caller licence act e =
     let a = passed (list_any (bytes_eq caller) curators) _ _ act e in
     let b = passed (not allowed) _ _ act a.1 in
-    let c = passed (nat_lt licences 1024) _ _ act b.1 in
+    let c = passed (nat_lt licences MOST_LICENCES) _ _ act b.1 in
     let same : Ok (LicenceAdded licence) ≡ Ok act = c.1 in
     record { curator = a.0; unknown = not_false allowed b.0; below = c.0; does = cc }

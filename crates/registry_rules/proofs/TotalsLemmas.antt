@@ -32,6 +32,7 @@ use Rattle.registry_rules.specs.declared.deed.Act.TheVariants.{Enrolled, OrgAmen
 use Rattle.registry_rules.specs.declared.founding.Founding.{Founding}
 use Rattle.registry_rules.specs.declared.item.Item.{Item}
 use Rattle.registry_rules.specs.declared.item.Tally.{Tally}
+use Rattle.registry_rules.specs.declared.limits.TheConstants.{MOST_ORGS, MOST_PETITIONS, MOST_OPEN}
 use Rattle.registry_rules.specs.declared.order.Order.{Order}
 use Rattle.registry_rules.specs.declared.order.Request.{Request}
 use Rattle.registry_rules.specs.declared.record.Org.{Org}
@@ -74,7 +75,7 @@ enrolled_more : (h : History) (caller key : List ℕ) (order : Order) (org : Org
     → (old.orgs < 4294967295 → new ≡ record old { orgs = old.orgs + 1 }) → IsSummary h old → IsSummary (with_deed h (the_deed caller key order (Enrolled org))) new
 enrolled_more h caller key order org old new can is s =
     let deed = the_deed caller key order (Enrolled org) in
-    let few : length (enrolled h) < 4294967295 = below_limit (length (enrolled h)) 65536 4294967295 can.below (omega arith) in
+    let few : length (enrolled h) < 4294967295 = below_limit (length (enrolled h)) MOST_ORGS 4294967295 can.below (omega arith) in
     let count : old.orgs ≡ length (enrolled h) = s.orgs in
     let now : new ≡ record old { orgs = old.orgs + 1 } = is (omega (arith, few, count)) in
     let more : length (enrolled h ++ org ∷ []) ≡ length (enrolled h) + 1 = length-append (enrolled h) (org ∷ []) in
@@ -95,8 +96,8 @@ asked_more : (h : History) (caller key : List ℕ) (order : Order) (id : ℕ) (p
     → Asks old new petition.org → IsSummary h old → IsSummary (with_deed h (the_deed caller key order (Asked id petition))) new
 asked_more h caller key order id petition old new can leads is s =
     let deed = the_deed caller key order (Asked id petition) in
-    let few : length (asked h) < 4294967295 = below_limit (length (asked h)) 1000000 4294967295 can.below (omega arith) in
-    let few_open : open_count h petition.org < 4294967295 = below_limit (open_count h petition.org) 16 4294967295 can.few_open (omega arith) in
+    let few : length (asked h) < 4294967295 = below_limit (length (asked h)) MOST_PETITIONS 4294967295 can.below (omega arith) in
+    let few_open : open_count h petition.org < 4294967295 = below_limit (open_count h petition.org) MOST_OPEN 4294967295 can.few_open (omega arith) in
     let count : old.petitions ≡ length (asked h) = s.petitions in
     let count_open : count_at old.still_open petition.org ≡ open_count h petition.org = s.still_open petition.org in
     let more : length (asked h ++ petition ∷ []) ≡ length (asked h) + 1 = length-append (asked h) (petition ∷ []) in

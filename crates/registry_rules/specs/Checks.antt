@@ -10,6 +10,7 @@ use Rattle.registry_rules.specs.declared.deed.Act.{Act}
 use Rattle.registry_rules.specs.declared.deed.Act.TheVariants.{Enrolled, OrgAmended, Asked, Granted, Declined, Withdrawn, CardAmended, Returned, Reserved, Released, Imported, VendorAdded, LicenceAdded}
 use Rattle.registry_rules.specs.declared.item.Item.{Item}
 use Rattle.registry_rules.specs.declared.item.ItemClass.{ItemClass}
+use Rattle.registry_rules.specs.declared.limits.TheConstants.{MOST_ORGS, MOST_OPEN, MOST_PETITIONS, MOST_ITEMS, MOST_VENDORS, MOST_LICENCES}
 use Rattle.registry_rules.specs.declared.record.Org.{Org}
 use Rattle.registry_rules.specs.declared.record.Petition.{Petition}
 use Rattle.registry_rules.specs.declared.record.Card.{Card}
@@ -89,7 +90,7 @@ held_by_keeper standing known caller = do
 abbrev pub enrol_row : Option Org → ℕ → Org → Result Act Refusal
 enrol_row known orgs org = do
   check (is_none known) OrgTaken
-  check (nat_lt orgs 65536) Full
+  check (nat_lt orgs MOST_ORGS) Full
   Ok (Enrolled org)
 
 -- AmendOrg: 4, 3
@@ -106,8 +107,8 @@ ask_row known vendor_there allowed still_open petitions wanted caller petition =
   by_keeper org caller
   check vendor_there NoVendor
   check allowed LicenceUnknown
-  check (nat_lt still_open 16) TooManyOpen
-  check (nat_lt petitions 1000000) Full
+  check (nat_lt still_open MOST_OPEN) TooManyOpen
+  check (nat_lt petitions MOST_PETITIONS) Full
   wanted_can_be_given wanted petition.org
   Ok (Asked (petitions + 1) petition)
 
@@ -177,7 +178,7 @@ import_row curators known vendor_there classes caller vid org items = do
   by_curator curators caller
   known ← present known NoOrg
   check vendor_there NoVendor
-  check (nat_le (length items) 8192) ImportTooLong
+  check (nat_le (length items) MOST_ITEMS) ImportTooLong
   Ok (Imported vid org (fresh_of classes items) (tally_of classes))
 
 -- AddVendor: 2, 33, 18
@@ -185,7 +186,7 @@ abbrev pub add_vendor_row : List (List ℕ) → Bool → ℕ → List ℕ → �
 add_vendor_row curators vendor_there vendors caller vid name = do
   by_curator curators caller
   check (not vendor_there) VendorTaken
-  check (nat_lt vendors 256) Full
+  check (nat_lt vendors MOST_VENDORS) Full
   Ok (VendorAdded vid name)
 
 -- AddLicence: 2, 35, 18
@@ -193,5 +194,5 @@ abbrev pub add_licence_row : List (List ℕ) → Bool → ℕ → List ℕ → L
 add_licence_row curators allowed licences caller licence = do
   by_curator curators caller
   check (not allowed) LicenceTaken
-  check (nat_lt licences 1024) Full
+  check (nat_lt licences MOST_LICENCES) Full
   Ok (LicenceAdded licence)

@@ -5,6 +5,7 @@ use Rattle.std.specs.Str.{bytes_eq}
 use Rattle.std.specs.Ordering.{nat_cmp}
 use Rattle.std.specs.Cmp.Lexicographic.{slice_cmp}
 use Rattle.std.specs.List.Sorted.{IsStrictlySortedBy}
+use Rattle.registry_rules.specs.declared.limits.TheConstants.{MOST_CURATORS, MOST_LICENCES}
 
 -- the texts are in the order of their bytes, and none is there twice
 abbrev pub IsAscending : List (List ℕ) → Type 0
@@ -15,14 +16,14 @@ pub record AreInOrder (given ordered : List (List ℕ)) : Type 0 where
   pub ascending : IsAscending ordered
   pub same : (text : List ℕ) → list_any (bytes_eq text) ordered ≡ list_any (bytes_eq text) given
 
--- 1 to 64 slugs, each once, in the order of their bytes
+-- one to so many slugs, each once, in the order of their bytes
 pub record IsCurators (slugs : List (List ℕ)) : Type 0 where
   pub some : 1 ≤ length slugs
-  pub most : length slugs ≤ 64
+  pub most : length slugs ≤ MOST_CURATORS
   pub ascending : IsAscending slugs
 
--- 1 to 1,024 titles, each once, in the order of their bytes
+-- one to so many titles, each once, in the order of their bytes
 pub record IsLicences (titles : List (List ℕ)) : Type 0 where
   pub some : 1 ≤ length titles
-  pub most : length titles ≤ 1024
+  pub most : length titles ≤ MOST_LICENCES
   pub ascending : IsAscending titles

@@ -6,6 +6,7 @@ ghost use Rattle.registry_rules.specs.Import.{is_doubled, class_of, classes_from
 ghost use Rattle.registry_rules.specs.OnFacts.{standing_in_at, vendor_there};
 
 use crate::checks::{check_curator, check_vendor};
+use crate::limits::MOST_ITEMS;
 use crate::stop::Stop;
 use crate::{Act, Facts, Item, ItemClass, Items, Refusal, Tally};
 use std::alloc::{AllocError, Global};
@@ -73,7 +74,7 @@ fn fresh(alloc: Global, classes: &[ItemClass], items: &[Item]) -> Result<Vec<Ite
 
 // A tally with one item more.
 fn count(tally: Tally, class: ItemClass) -> Tally
-    requires { IsTallyWithin tally 8192 }
+    requires { IsTallyWithin tally MOST_ITEMS }
     ensures { result ≡ counted class tally }
 {
     match class {
@@ -106,7 +107,7 @@ fn count(tally: Tally, class: ItemClass) -> Tally
 
 // How many there are of each class.
 fn tally(classes: &[ItemClass]) -> Tally
-    requires { length classes.now ≤ 8192 }
+    requires { length classes.now ≤ MOST_ITEMS }
     ensures { result ≡ tally_of classes.now }
 {
     let mut tally = Tally {
@@ -142,7 +143,7 @@ pub(crate) fn import(
     }
     check_vendor(facts, vid)?;
     let items = items.as_slice();
-    if items.len() > 8192 {
+    if items.len() > MOST_ITEMS {
         return Err(Stop::Refused(Refusal::ImportTooLong));
     }
     let classes = classes(alloc, facts, vid, items)?;

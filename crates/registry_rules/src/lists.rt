@@ -3,11 +3,12 @@ ghost use Rattle.std.specs.List.{list_any};
 ghost use Rattle.std.specs.Str.{bytes_eq};
 ghost use Rattle.registry_rules.specs.Texts.{AreInOrder};
 
+use crate::limits::{MOST_CURATORS, MOST_LICENCES};
 use std::alloc::AllocError;
 use std::marker::Model;
 use usbnum_core::{NoMemory, Slug, Text, TextRule, Title};
 
-/// The curators of a registry: 1 to 64, each once, in the order of their bytes.
+/// The curators of a registry: one to `MOST_CURATORS`, each once, in the order of their bytes.
 #[derive(Debug, Drop)]
 pub struct Curators {
     slugs: Vec<Slug>,
@@ -27,13 +28,13 @@ impl Model for Curators {
 impl Curators {
     ghost use Rattle.registry_rules.specs.Texts.{IsCurators};
 
-    /// These slugs, each once and in order, or None where there are none or more than 64, repeats
-    /// counted.
+    /// These slugs, each once and in order, or None where there are none or more than
+    /// `MOST_CURATORS`, repeats counted.
     pub fn new(slugs: Vec<Slug>) -> Option<Curators>
-        ensures counted { IsSome result ↔ ((1 ≤ length slugs.items) × (length slugs.items ≤ 64)) }
+        ensures counted { IsSome result ↔ ((1 ≤ length slugs.items) × (length slugs.items ≤ MOST_CURATORS)) }
         ensures same { IfSome result (AreInOrder slugs.items) }
     {
-        if slugs.is_empty() || slugs.len() > 64 {
+        if slugs.is_empty() || slugs.len() > MOST_CURATORS {
             return None;
         }
         Some(Curators {
@@ -77,7 +78,7 @@ impl Clone for Curators {
     }
 }
 
-/// The allowed licences of a registry: 1 to 1,024, each once, in the order of their bytes.
+/// The allowed licences of a registry: one to `MOST_LICENCES`, each once, in the order of their bytes.
 #[derive(Debug, Drop)]
 pub struct Licences {
     titles: Vec<Title>,
@@ -97,13 +98,13 @@ impl Model for Licences {
 impl Licences {
     ghost use Rattle.registry_rules.specs.Texts.{IsLicences};
 
-    /// These titles, each once and in order, or None where there are none or more than 1,024,
-    /// repeats counted.
+    /// These titles, each once and in order, or None where there are none or more than
+    /// `MOST_LICENCES`, repeats counted.
     pub fn new(titles: Vec<Title>) -> Option<Licences>
-        ensures counted { IsSome result ↔ ((1 ≤ length titles.items) × (length titles.items ≤ 1024)) }
+        ensures counted { IsSome result ↔ ((1 ≤ length titles.items) × (length titles.items ≤ MOST_LICENCES)) }
         ensures same { IfSome result (AreInOrder titles.items) }
     {
-        if titles.is_empty() || titles.len() > 1024 {
+        if titles.is_empty() || titles.len() > MOST_LICENCES {
             return None;
         }
         Some(Licences {
@@ -111,12 +112,12 @@ impl Licences {
         })
     }
 
-    // One title more. 1,024 are all that there may be: then it answers NoMemory, as where memory is
-    // short, and nothing is changed.
+    // One title more. With `MOST_LICENCES` of them it answers NoMemory, as where memory is short, and
+    // nothing is changed.
     pub(crate) fn add(&mut self, title: Title) -> Result<(), NoMemory>
         ensures { OnOk result (AreInOrder (self.old ++ title ∷ []) self.new) }
     {
-        if self.titles.len() >= 1024 {
+        if self.titles.len() >= MOST_LICENCES {
             return Err(NoMemory);
         }
         let mut titles = self.titles.clone()?;

@@ -34,7 +34,7 @@ pub enum Refusal {
     NoneFree,
     /// The licence isn't allowed.
     LicenceUnknown,
-    /// The organisation has 16 open petitions.
+    /// The organisation has `MOST_OPEN` open petitions.
     TooManyOpen,
     /// An owned number is in the span; the least one is named.
     RangeOwned(NumberName),
@@ -44,7 +44,7 @@ pub enum Refusal {
     RangeNotReserved,
     /// There are as many organisations, petitions, vendors or licences as there may be.
     Full,
-    /// The import has more than 8,192 items.
+    /// The import has more than `MOST_ITEMS` items.
     ImportTooLong,
     /// The vendor is there already.
     VendorTaken,

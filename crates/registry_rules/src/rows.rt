@@ -10,6 +10,7 @@ use crate::checks::{
     check_curator, check_held, check_keeper, check_known_keeper, check_licence, check_number,
     check_petition, check_vendor, check_wanted, number_name, span_name,
 };
+use crate::limits::{MOST_LICENCES, MOST_OPEN, MOST_ORGS, MOST_PETITIONS, MOST_VENDORS};
 use crate::stop::Stop;
 use crate::{Act, Card, Facts, Org, Petition, PetitionState, Refusal, Terms};
 use usbnum_core::{Link, Number, Pid, Slug, Span, Title, Vid};
@@ -26,7 +27,7 @@ pub(crate) fn enrol(
     if facts.org.is_some() {
         return Err(Stop::Refused(Refusal::OrgTaken));
     }
-    if facts.orgs >= 65_536 {
+    if facts.orgs >= MOST_ORGS {
         return Err(Stop::Refused(Refusal::Full));
     }
     Ok(Act::Enrolled(Org {
@@ -95,10 +96,10 @@ pub(crate) fn ask(
     check_keeper(known, caller)?;
     check_vendor(facts, vid)?;
     check_licence(facts.founding, &terms.licence)?;
-    if facts.open_count >= 16 {
+    if facts.open_count >= MOST_OPEN {
         return Err(Stop::Refused(Refusal::TooManyOpen));
     }
-    if facts.petitions >= 1_000_000 {
+    if facts.petitions >= MOST_PETITIONS {
         return Err(Stop::Refused(Refusal::Full));
     }
     check_wanted(facts, vid, want, org)?;
@@ -203,7 +204,7 @@ pub(crate) fn add_vendor(
     if facts.vendors.contains(vid) {
         return Err(Stop::Refused(Refusal::VendorTaken));
     }
-    if facts.vendors.len() >= 256 {
+    if facts.vendors.len() >= MOST_VENDORS {
         return Err(Stop::Refused(Refusal::Full));
     }
     Ok(Act::VendorAdded {
@@ -220,7 +221,7 @@ pub(crate) fn add_licence(facts: &Facts<'_>, caller: &Slug, licence: &Title) -> 
     if facts.founding.licences.contains(licence) {
         return Err(Stop::Refused(Refusal::LicenceTaken));
     }
-    if facts.founding.licences.len() >= 1024 {
+    if facts.founding.licences.len() >= MOST_LICENCES {
         return Err(Stop::Refused(Refusal::Full));
     }
     Ok(Act::LicenceAdded {

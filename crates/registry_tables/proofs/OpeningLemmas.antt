@@ -25,6 +25,7 @@ use Rattle.registry_rules.specs.declared.deed.Act.{Act}
 use Rattle.registry_rules.specs.declared.deed.Act.TheVariants.{LicenceAdded}
 use Rattle.registry_rules.specs.declared.deed.Deed.{Deed}
 use Rattle.registry_rules.specs.declared.founding.Founding.{Founding}
+use Rattle.registry_rules.specs.declared.limits.TheConstants.{MOST_CURATORS, MOST_LICENCES}
 use Rattle.registry_rules.specs.declared.record.Vendor.{Vendor}
 use Rattle.registry_rules.proofs.FollowLemmas.{Follows, legal_follows}
 use Rattle.registry_rules.proofs.RunLemmas.{legal_before, legal_licences}
@@ -76,8 +77,8 @@ module _ (h : History) (names given : List (List ℕ)) (is : given ≡ sort_by b
   pub curators_in_order : IsFounding h.founding → AreCurators h names → (ordered : List (List ℕ)) → AreInOrder given ordered → ordered ≡ h.founding.curators
   curators_in_order valid had ordered in_order = same_names ordered h.founding.curators in_order.ascending valid.curators.ascending (λ name. in_order.same name ∙ any_given name ∙ had.each name)
 
-  pub curators_fit : IsFounding h.founding → AreCurators h names → (1 ≤ length given) × (length given ≤ 64)
-  curators_fit valid had = let same = curators_given valid had in (subst (λ l. 1 ≤ length l) (sym same) valid.curators.some, subst (λ l. length l ≤ 64) (sym same) valid.curators.most)
+  pub curators_fit : IsFounding h.founding → AreCurators h names → (1 ≤ length given) × (length given ≤ MOST_CURATORS)
+  curators_fit valid had = let same = curators_given valid had in (subst (λ l. 1 ≤ length l) (sym same) valid.curators.some, subst (λ l. length l ≤ MOST_CURATORS) (sym same) valid.curators.most)
 
   pub allowed_in_order : Legal h → AreLicences h names → (ordered : List (List ℕ)) → AreInOrder given ordered → AreAllowed h ordered
   allowed_in_order legal had ordered in_order =
@@ -87,19 +88,19 @@ module _ (h : History) (names given : List (List ℕ)) (is : given ≡ sort_by b
   given_counted : Legal h → AreLicences h names → length given ≡ length (licences h)
   given_counted legal had = licences_counted h legal given (λ name. any_given name ∙ had.each name) (ascending_distinct given (given_up had.once))
 
--- ---- no more than 1,024 licences
+-- ---- no more licences than there may be
 
-below_more : (h : History) (caller : List ℕ) (act : Act) (licence : List ℕ) → Follows h caller act → adds_licence act ≡ Some licence → length (licences h) < 1024
+below_more : (h : History) (caller : List ℕ) (act : Act) (licence : List ℕ) → Follows h caller act → adds_licence act ≡ Some licence → length (licences h) < MOST_LICENCES
 below_more h caller (LicenceAdded added) licence can e = grind (arith, nat_tests, can.below)
 below_more h caller _ licence can e = absurd cc
 
-more_fit : (first so_far : List (List ℕ)) (more : Option (List ℕ)) → length (first ++ so_far) ≤ 1024 → ((licence : List ℕ) → more ≡ Some licence → length (first ++ so_far) < 1024)
-    → length (first ++ with_answer so_far more) ≤ 1024
+more_fit : (first so_far : List (List ℕ)) (more : Option (List ℕ)) → length (first ++ so_far) ≤ MOST_LICENCES → ((licence : List ℕ) → more ≡ Some licence → length (first ++ so_far) < MOST_LICENCES)
+    → length (first ++ with_answer so_far more) ≤ MOST_LICENCES
 more_fit first so_far None most below = most
-more_fit first so_far (Some licence) most below = let one = below licence refl in subst (λ l. length l ≤ 1024) (append_assoc first so_far (licence ∷ [])) (omega (arith, one, length-append (first ++ so_far) (licence ∷ [])))
+more_fit first so_far (Some licence) most below = let one = below licence refl in subst (λ l. length l ≤ MOST_LICENCES) (append_assoc first so_far (licence ∷ [])) (omega (arith, one, length-append (first ++ so_far) (licence ∷ [])))
 
-licences_most : (founding : Founding) (deeds : List Deed) → Legal (record { founding = founding; deeds = deeds }) → length (licences (record { founding = founding; deeds = deeds })) ≤ 1024
-licences_most founding [] legal = subst (λ l. length l ≤ 1024) (sym (append-nil founding.licences)) (legal_licences founding [] legal).most
+licences_most : (founding : Founding) (deeds : List Deed) → Legal (record { founding = founding; deeds = deeds }) → length (licences (record { founding = founding; deeds = deeds })) ≤ MOST_LICENCES
+licences_most founding [] legal = subst (λ l. length l ≤ MOST_LICENCES) (sym (append-nil founding.licences)) (legal_licences founding [] legal).most
 licences_most founding (deed ∷ earlier) legal =
     more_fit founding.licences (all_of (λ d. adds_licence d.act) earlier) (adds_licence deed.act) (licences_most founding earlier (legal_before founding deed earlier legal))
     (λ licence e. below_more (record { founding = founding; deeds = earlier }) deed.caller deed.act licence (legal_follows founding deed earlier legal) e)
@@ -107,7 +108,7 @@ licences_most founding (deed ∷ earlier) legal =
 licences_some : (h : History) → Legal h → 1 ≤ length (licences h)
 licences_some h legal = let some = (legal_licences h.founding h.deeds legal).some in omega (arith, some, length-append h.founding.licences (all_of (λ d. adds_licence d.act) h.deeds))
 
-pub licences_fit : (h : History) (names given : List (List ℕ)) → given ≡ sort_by by_bytes names → Legal h → AreLicences h names → (1 ≤ length given) × (length given ≤ 1024)
+pub licences_fit : (h : History) (names given : List (List ℕ)) → given ≡ sort_by by_bytes names → Legal h → AreLicences h names → (1 ≤ length given) × (length given ≤ MOST_LICENCES)
 licences_fit h names given is legal had =
     let counted = given_counted h names given is legal had in
     let some = licences_some h legal in

@@ -10,6 +10,7 @@ ghost use Rattle.registry_wire.specs.Listing.{seen};
 use crate::stop::{Stop, present};
 use crate::toml_value::{FromToml, all_of};
 use crate::{FoundingFault, WireRefusal};
+use registry_rules::limits::{MOST_CURATORS, MOST_LICENCES};
 use registry_rules::{Curators, Founding, Licences};
 use std::alloc::Global;
 use toml::{Table, Value};
@@ -105,13 +106,13 @@ fn table_of(alloc: Global, bytes: &[u8]) -> Result<Table, Stop>
 #[tactic(auto, unfolding(crate::specs::Founding::listed_in))]
 fn listing_at(alloc: Global, table: &Table) -> Result<Listing, Stop>
     ensures reading { GivesSeen seen result (listed_in (table_view table.now)) }
-    ensures curators { IfOk result (λ listing. (1 ≤ length listing.curators.items) × (length listing.curators.items ≤ 64)) }
-    ensures licences { IfOk result (λ listing. (1 ≤ length listing.licences.items) × (length listing.licences.items ≤ 1024)) }
+    ensures curators { IfOk result (λ listing. (1 ≤ length listing.curators.items) × (length listing.curators.items ≤ MOST_CURATORS)) }
+    ensures licences { IfOk result (λ listing. (1 ≤ length listing.licences.items) × (length listing.licences.items ≤ MOST_LICENCES)) }
 {
     let vendor = one_at(alloc, table, FoundingFault::Vendor)?;
     let name = one_at(alloc, table, FoundingFault::Name)?;
-    let curators = some_at(alloc, table, FoundingFault::Curators, 64)?;
-    let licences = some_at(alloc, table, FoundingFault::Licences, 1024)?;
+    let curators = some_at(alloc, table, FoundingFault::Curators, MOST_CURATORS)?;
+    let licences = some_at(alloc, table, FoundingFault::Licences, MOST_LICENCES)?;
     let fixed = fixed_at(alloc, table)?;
     Ok(Listing {
         vendor,
@@ -125,8 +126,8 @@ fn listing_at(alloc: Global, table: &Table) -> Result<Listing, Stop>
 #[tactic(auto, unfolding(crate::specs::Founding::founding_listed))]
 fn read_listing(alloc: Global, bytes: &[u8]) -> Result<Listing, Stop>
     ensures reading { GivesSeen seen result (founding_listed bytes.now) }
-    ensures curators { IfOk result (λ listing. (1 ≤ length listing.curators.items) × (length listing.curators.items ≤ 64)) }
-    ensures licences { IfOk result (λ listing. (1 ≤ length listing.licences.items) × (length listing.licences.items ≤ 1024)) }
+    ensures curators { IfOk result (λ listing. (1 ≤ length listing.curators.items) × (length listing.curators.items ≤ MOST_CURATORS)) }
+    ensures licences { IfOk result (λ listing. (1 ≤ length listing.licences.items) × (length listing.licences.items ≤ MOST_LICENCES)) }
 {
     let table = table_of(alloc, bytes)?;
     listing_at(alloc, &table)
@@ -144,8 +145,8 @@ fn spans_of(alloc: Global, listed: &[Span]) -> Result<Spans, NoMemory>
 }
 
 fn founding_of(alloc: Global, listing: Listing) -> Result<Founding, NoMemory>
-    requires curators { (1 ≤ length listing.curators.items) × (length listing.curators.items ≤ 64) }
-    requires licences { (1 ≤ length listing.licences.items) × (length listing.licences.items ≤ 1024) }
+    requires curators { (1 ≤ length listing.curators.items) × (length listing.curators.items ≤ MOST_CURATORS) }
+    requires licences { (1 ≤ length listing.licences.items) × (length listing.licences.items ≤ MOST_LICENCES) }
     ensures { IfOk result (Founds (seen listing)) }
 {
     let fixed = spans_of(alloc, &listing.fixed)?;
@@ -165,8 +166,9 @@ fn founding_of(alloc: Global, listing: Listing) -> Result<Founding, NoMemory>
 }
 
 /// What a registry is founded with by a founding file: TOML with `vendor` (four digits), `name`,
-/// `curators` (1 to 64), `licences` (1 to 1,024) and `fixed`, an array of texts `NNNN` or
-/// `NNNN-NNNN` that may be absent; other keys are ignored. Repeats are counted and kept once.
+/// `curators` (one to `MOST_CURATORS`), `licences` (one to `MOST_LICENCES`) and `fixed`, an array of
+/// texts `NNNN` or `NNNN-NNNN` that may be absent; other keys are ignored. Repeats are counted and
+/// kept once.
 /// Otherwise the first of these keys that is missing or bad, or that the bytes are no TOML.
 pub fn founding_from_toml(
     alloc: Global,

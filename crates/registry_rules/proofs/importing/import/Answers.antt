@@ -11,5 +11,5 @@ pub tally-requires : goal.tally-requires
 tally-requires c =
     let same : length c.deref-2.result.now ≡ length c.as_slice-items.result.now =
     ap length (c.deref-2.ensures.value ∙ c.in_ok-classes.ensures) ∙ length-classes_from (standing_in_at c.args.facts.now c.args.vid) [] c.as_slice-items.result.now in
-    let few = c.if-items-gt8192.false in
+    let few = c.if-items-gt-MOST_ITEMS.false in
     omega arith
