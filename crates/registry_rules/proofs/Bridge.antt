@@ -124,7 +124,7 @@ unfolding outcome outcome_on slug_concerned petition_named vendor_concerned open
 same_for h caller key (Enrol org title site) facts are = rw (are.org, are.orgs) refl
 same_for h caller key (AmendOrg org title site) facts are = rw are.org refl
 same_for h caller key (Ask org want title terms vendor) facts are =
-    rw (are.founding.vendor, are.founding.allowed terms.licence, are.vendors.each (vendor_meant h vendor), are.org, are.still_open, are.petitions)
+    rw (are.vendor, are.founding.allowed terms.licence, are.vendors.each (vendor_meant h vendor), are.org, are.still_open, are.petitions)
     (ap (λ wanted. ask_row (org_of h org) (has_vendor h (vendor_meant h vendor)) (is_licence h terms.licence) (open_count h org) (length (asked h)) wanted caller
     (new_petition (vendor_meant h vendor) org want title terms))
     (same_wanted h facts (vendor_meant h vendor) want are.reserved
@@ -136,23 +136,23 @@ same_for h caller key (Grant id named) facts are =
 same_for h caller key (Decline id) facts are = rw (are.founding.curators, are.petition) refl
 same_for h caller key (Withdraw id) facts are = rw (are.petition, are.org) refl
 same_for h caller key (Amend pid title terms vendor) facts are =
-    rw (are.founding.vendor, are.org, are.founding.allowed terms.licence)
+    rw (are.founding.vendor, are.vendor, are.org, are.founding.allowed terms.licence)
     (ap (λ s. amend_row h.founding.vendor s (org_owning h (number (vendor_meant h vendor) pid)) (is_licence h terms.licence) caller (new_card title terms))
     (same_standing h facts (number (vendor_meant h vendor) pid) (are.reserved pid) (are.holdings (number (vendor_meant h vendor) pid) (is_itself (number (vendor_meant h vendor) pid)))))
 same_for h caller key (Return pid vendor) facts are =
-    rw (are.founding.vendor, are.org)
+    rw (are.founding.vendor, are.vendor, are.org)
     (ap (λ s. return_row h.founding.vendor s (org_owning h (number (vendor_meant h vendor) pid)) caller)
     (same_standing h facts (number (vendor_meant h vendor) pid) (are.reserved pid) (are.holdings (number (vendor_meant h vendor) pid) (is_itself (number (vendor_meant h vendor) pid)))))
 same_for h caller key (Reserve span vendor) facts are =
-    rw (are.founding.curators, are.founding.vendor, are.founding.fixed, are.vendors.each (vendor_meant h vendor))
+    rw (are.founding.curators, are.founding.vendor, are.vendor, are.founding.fixed, are.vendors.each (vendor_meant h vendor))
     (ap (λ least. reserve_row h.founding.curators h.founding.vendor (has_vendor h (vendor_meant h vendor)) (meets_fixed h (vendor_meant h vendor) span) least caller (vendor_meant h vendor) span)
     (same_least h facts (vendor_meant h vendor) span are.holdings))
 same_for h caller key (Release span vendor) facts are =
-    rw (are.founding.curators, are.founding.vendor, are.founding.fixed, are.vendors.each (vendor_meant h vendor))
+    rw (are.founding.curators, are.founding.vendor, are.vendor, are.founding.fixed, are.vendors.each (vendor_meant h vendor))
     (ap (λ all. release_row h.founding.curators h.founding.vendor (has_vendor h (vendor_meant h vendor)) (meets_fixed h (vendor_meant h vendor) span) all caller (vendor_meant h vendor) span)
     (same_all (λ pid. spans_have facts.reserved.now pid) (λ pid. is_reserved h (number (vendor_meant h vendor) pid)) span.first (span.last + 1 - span.first) (λ pid from lt. are.reserved pid)))
 same_for h caller key (Import org items vendor) facts are =
-    rw (are.founding.curators, are.founding.vendor, are.org, are.vendors.each (vendor_meant h vendor))
+    rw (are.founding.curators, are.vendor, are.org, are.vendors.each (vendor_meant h vendor))
     (ap (λ classes. import_row h.founding.curators (org_of h org) (has_vendor h (vendor_meant h vendor)) classes caller (vendor_meant h vendor) org items)
     (same_classes (standing_in_at facts (vendor_meant h vendor)) (standing_at h (vendor_meant h vendor)) [] items
     (λ code nonzero among. same_standing h facts (number (vendor_meant h vendor) code) (are.reserved code)

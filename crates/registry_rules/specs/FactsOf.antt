@@ -108,6 +108,7 @@ holding_in holdings n = find (λ holding. is_number n holding.number) holdings
 pub record AreFactsOf (h : History) (request : Request) (facts : Facts) : Type 0 where
   pub founding : IsFoundingOf h facts.founding.now
   pub vendors : AreVendorsOf h facts.vendors.now
+  pub vendor : facts.vendor ≡ vendor_concerned h request.order
   pub kept : facts.kept ≡ kept_under h request.caller request.key
   pub org : facts.org ≡ org_concerned h request.order
   pub orgs : facts.orgs ≡ length (enrolled h)

@@ -71,30 +71,30 @@ unfoldable pub outcome_on : Facts → List ℕ → Order → Result Act Refusal
 outcome_on facts caller (Enrol org title site) = enrol_row facts.org facts.orgs (new_org caller org title site)
 outcome_on facts caller (AmendOrg org title site) = amend_org_row facts.org caller title site
 outcome_on facts caller (Ask org want title terms vendor) =
-    ask_row facts.org (vendor_there facts.vendors.now (meant facts.founding.now.vendor vendor)) (licence_allowed facts.founding.now terms.licence)
-    facts.open_count facts.petitions (option_map (standing_in_at facts (meant facts.founding.now.vendor vendor)) want) caller
-    (new_petition (meant facts.founding.now.vendor vendor) org want title terms)
+    ask_row facts.org (vendor_there facts.vendors.now facts.vendor) (licence_allowed facts.founding.now terms.licence)
+    facts.open_count facts.petitions (option_map (standing_in_at facts facts.vendor) want) caller
+    (new_petition facts.vendor org want title terms)
 outcome_on facts caller (Grant id named) =
     grant_row facts.founding.now.curators facts.founding.now.vendor facts.petition
     (option_map (standing_in facts) (number_chosen named facts.petition facts.least)) caller id
 outcome_on facts caller (Decline id) = decline_row facts.founding.now.curators facts.petition caller id
 outcome_on facts caller (Withdraw id) = withdraw_row facts.petition facts.org caller id
 outcome_on facts caller (Amend pid title terms vendor) =
-    amend_row facts.founding.now.vendor (standing_in_at facts (meant facts.founding.now.vendor vendor) pid) facts.org
+    amend_row facts.founding.now.vendor (standing_in_at facts facts.vendor pid) facts.org
     (licence_allowed facts.founding.now terms.licence) caller (new_card title terms)
 outcome_on facts caller (Return pid vendor) =
-    return_row facts.founding.now.vendor (standing_in_at facts (meant facts.founding.now.vendor vendor) pid) facts.org caller
+    return_row facts.founding.now.vendor (standing_in_at facts facts.vendor pid) facts.org caller
 outcome_on facts caller (Reserve span vendor) =
-    reserve_row facts.founding.now.curators facts.founding.now.vendor (vendor_there facts.vendors.now (meant facts.founding.now.vendor vendor))
-    (span_meets_fixed facts.founding.now (meant facts.founding.now.vendor vendor) span)
-    (least_owned_in facts.holdings (meant facts.founding.now.vendor vendor) span) caller (meant facts.founding.now.vendor vendor) span
+    reserve_row facts.founding.now.curators facts.founding.now.vendor (vendor_there facts.vendors.now facts.vendor)
+    (span_meets_fixed facts.founding.now facts.vendor span)
+    (least_owned_in facts.holdings facts.vendor span) caller facts.vendor span
 outcome_on facts caller (Release span vendor) =
-    release_row facts.founding.now.curators facts.founding.now.vendor (vendor_there facts.vendors.now (meant facts.founding.now.vendor vendor))
-    (span_meets_fixed facts.founding.now (meant facts.founding.now.vendor vendor) span)
-    (span_is_reserved facts.reserved.now span) caller (meant facts.founding.now.vendor vendor) span
+    release_row facts.founding.now.curators facts.founding.now.vendor (vendor_there facts.vendors.now facts.vendor)
+    (span_meets_fixed facts.founding.now facts.vendor span)
+    (span_is_reserved facts.reserved.now span) caller facts.vendor span
 outcome_on facts caller (Import org items vendor) =
-    import_row facts.founding.now.curators facts.org (vendor_there facts.vendors.now (meant facts.founding.now.vendor vendor))
-    (classes_from (standing_in_at facts (meant facts.founding.now.vendor vendor)) [] items) caller (meant facts.founding.now.vendor vendor) org items
+    import_row facts.founding.now.curators facts.org (vendor_there facts.vendors.now facts.vendor)
+    (classes_from (standing_in_at facts facts.vendor) [] items) caller facts.vendor org items
 outcome_on facts caller (AddVendor vid name) =
     add_vendor_row facts.founding.now.curators (vendor_there facts.vendors.now vid) (length facts.vendors.now) caller vid name
 outcome_on facts caller (AddLicence licence) =

@@ -2,20 +2,13 @@ ghost use Rattle.std.specs.Prelude.{◌≡◌};
 ghost use Rattle.registry_rules.specs.Checks.{by_curator, by_keeper, by_known_keeper, can_be_given, wanted_can_be_given, held_by_keeper, open_petition, check};
 ghost use Rattle.registry_rules.specs.Gives.{Gives, GivesRef};
 ghost use Rattle.registry_rules.specs.Number.{name_of, span_name_of, vendor_named, number};
-ghost use Rattle.registry_rules.specs.OnFacts.{meant, standing_in, vendor_there, licence_allowed};
+ghost use Rattle.registry_rules.specs.OnFacts.{standing_in, vendor_there, licence_allowed};
 ghost use Rattle.registry_rules.specs.declared.refusal.Refusal.TheVariants.{NoVendor, LicenceUnknown};
 ghost use Rattle.std.specs.Option.{option_map};
 
 use crate::stop::Stop;
 use crate::{Facts, Founding, NumberName, Org, Petition, PetitionState, Refusal, SpanName};
 use usbnum_core::{Number, Pid, Slug, Span, Title, Vid};
-
-/// The vendor that an order means: the one named, else the founding one.
-pub(crate) fn vendor_meant(founding: &Founding, named: Option<Vid>) -> Vid
-    ensures { result ≡ meant founding.now.vendor named }
-{
-    named.unwrap_or(founding.vendor)
-}
 
 fn vendor_to_name(founding: &Founding, vid: Vid) -> Option<Vid>
     ensures { result ≡ vendor_named founding.now.vendor vid }

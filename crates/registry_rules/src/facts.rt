@@ -4,7 +4,7 @@ ghost use Rattle.registry_rules.specs.Number.{is_number};
 
 use crate::{Founding, Holding, Org, Petition, Spelling, Text, Vendors};
 use std::marker::Model;
-use usbnum_core::{Number, Pid, Spans};
+use usbnum_core::{Number, Pid, Spans, Vid};
 
 /// The owned ones of some numbers.
 #[derive(Debug, Drop)]
@@ -49,14 +49,15 @@ pub struct Kept {
     pub reply: Text,
 }
 
-/// What has to be known of a history to judge a request. The vendor concerned is the one that the
-/// order means, for an order on a petition the petition's.
+/// What has to be known of a history to judge a request.
 #[derive(Debug, Drop)]
 pub struct Facts<'a> {
     /// The founding, with the licences that are allowed now.
     pub founding: &'a Founding,
     /// All vendors, the founding one included.
     pub vendors: &'a Vendors,
+    /// The vendor concerned: the one that the order means, of an order on a petition the petition's.
+    pub vendor: Vid,
     /// What is kept under the request's caller and key.
     pub kept: Option<Kept>,
     /// The organisation concerned: the one named, the petition's, or the number's owner.

@@ -5,7 +5,6 @@ ghost use Rattle.registry_rules.specs.History.{History};
 ghost use Rattle.registry_rules.specs.OnFacts.{outcome_on};
 ghost use Rattle.registry_rules.specs.Verdict.{verdict, verdict_by, deed_for};
 
-use crate::checks::vendor_meant;
 use crate::importing::import;
 use crate::rows::{
     add_licence, add_vendor, amend, amend_org, ask, decline, enrol, give_back, grant, withdraw,
@@ -33,9 +32,9 @@ fn act_on(alloc: Global, facts: &Facts<'_>, caller: &Slug, order: &Order) -> Res
             want,
             title,
             terms,
-            vendor,
+            vendor: _,
         } => {
-            let vid = vendor_meant(facts.founding, *vendor);
+            let vid = facts.vendor;
             ask(facts, caller, vid, org, *want, title, terms)
         }
         Order::Grant { petition, number } => grant(facts, caller, *petition, *number),
@@ -45,27 +44,31 @@ fn act_on(alloc: Global, facts: &Facts<'_>, caller: &Slug, order: &Order) -> Res
             number,
             title,
             terms,
-            vendor,
+            vendor: _,
         } => {
-            let vid = vendor_meant(facts.founding, *vendor);
+            let vid = facts.vendor;
             let number = Number { vid, pid: *number };
             amend(facts, caller, &number, title, terms)
         }
-        Order::Return { number, vendor } => {
-            let vid = vendor_meant(facts.founding, *vendor);
+        Order::Return { number, vendor: _ } => {
+            let vid = facts.vendor;
             let number = Number { vid, pid: *number };
             give_back(facts, caller, &number)
         }
-        Order::Reserve { span, vendor } => {
-            let vid = vendor_meant(facts.founding, *vendor);
+        Order::Reserve { span, vendor: _ } => {
+            let vid = facts.vendor;
             reserve(facts, caller, vid, span)
         }
-        Order::Release { span, vendor } => {
-            let vid = vendor_meant(facts.founding, *vendor);
+        Order::Release { span, vendor: _ } => {
+            let vid = facts.vendor;
             release(facts, caller, vid, span)
         }
-        Order::Import { org, items, vendor } => {
-            let vid = vendor_meant(facts.founding, *vendor);
+        Order::Import {
+            org,
+            items,
+            vendor: _,
+        } => {
+            let vid = facts.vendor;
             import(alloc, facts, caller, vid, org, items)
         }
         Order::AddVendor { vendor, name } => add_vendor(facts, caller, *vendor, name),
