@@ -36,13 +36,13 @@ use Rattle.registry_rules.proofs.SpanNumbers.{same_find, same_all}
 held_given : (n : Number) (act : Act) (owner : Option (List ℕ)) (held : Option Bool) → sooner owner (receiver n act) ≡ None →
     (owner ≡ None → unwrap_or held false ≡ false) → unwrap_or (option_or (holds n act) held) false ≡ false
 held_given n (Granted id petition name) owner held e h =
-    elim (is_number n (number petition.vid name.pid)) as (λ b. sooner owner (given b petition.org) ≡ None → unwrap_or (option_or (given b true) held) false ≡ false)
+    elim (is_number n name.number) as (λ b. sooner owner (given b petition.org) ≡ None → unwrap_or (option_or (given b true) held) false ≡ false)
     [ true ↦ λ no. absurd cc | false ↦ λ no. h no ] e
 held_given n (Imported vid org fresh tally) owner held e h =
     elim (item_of vid fresh n) as (λ o. sooner owner (option_map (λ item. org) o) ≡ None → unwrap_or (option_or (option_map (λ item. true) o) held) false ≡ false)
     [ None ↦ λ no. h no | Some item ↦ λ no. absurd cc ] e
-held_given n (Returned vid name) owner held e h =
-    elim (is_number n (number vid name.pid)) as (λ b. unwrap_or (option_or (given b false) held) false ≡ false) [ true ↦ refl | false ↦ h e ]
+held_given n (Returned name) owner held e h =
+    elim (is_number n name.number) as (λ b. unwrap_or (option_or (given b false) held) false ≡ false) [ true ↦ refl | false ↦ h e ]
 held_given n _ owner held e h = h e
 
 -- a number without an owner isn't held

@@ -84,8 +84,8 @@ carded_import n vid org standing fresh (Some item) owner card each e was =
 
 carded_by : (h : History) (caller : List ℕ) (act : Act) (n : Number) (owner : Option (List ℕ)) (card : Option Card) → Follows h caller act → IsCarded owner card →
     IsCarded (sooner owner (receiver n act)) (option_or (card_given n act) card)
-carded_by h caller (Granted id petition name) n owner card follows was = carded_grant (is_number n (number petition.vid name.pid)) owner card petition.org (card_asked petition) was
-carded_by h caller (CardAmended vid name new) n owner card follows was = carded_amendment (is_number n (number vid name.pid)) owner card new was
+carded_by h caller (Granted id petition name) n owner card follows was = carded_grant (is_number n name.number) owner card petition.org (card_asked petition) was
+carded_by h caller (CardAmended name new) n owner card follows was = carded_amendment (is_number n name.number) owner card new was
 carded_by h caller (Imported vid org fresh tally) n owner card follows was = carded_import n vid org (standing_at h vid) fresh (item_of vid fresh n) owner card follows.each refl was
 carded_by h caller _ n owner card follows was = was
 

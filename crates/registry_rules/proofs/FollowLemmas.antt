@@ -9,7 +9,7 @@ use Rattle.registry_rules.specs.Number.{number, name_of, span_name_of}
 use Rattle.registry_rules.specs.History.{History}
 use Rattle.registry_rules.specs.Query.{owner_of, org_of, enrolled, asked, petition_of, open_count, vendors, has_vendor, vendor_meant, licences, is_licence, is_fixed, is_reserved}
 use Rattle.registry_rules.specs.Import.{Standing, classes_from}
-use Rattle.registry_rules.specs.Verdict.{verdict, outcome, standing_of, standing_at, org_owning, org_petitioning, least_for, number_chosen, pid_chosen, meets_fixed, all_reserved, least_owned, new_org, new_petition, new_card}
+use Rattle.registry_rules.specs.Verdict.{verdict, outcome, standing_of, standing_at, org_owning, org_petitioning, least_for, number_chosen, meets_fixed, all_reserved, least_owned, new_org, new_petition, new_card}
 use Rattle.registry_rules.specs.Run.{Legal, request_of}
 use Rattle.registry_rules.proofs.RunLemmas.{IsNew, is_new, legal_verdict}
 use Rattle.registry_rules.proofs.RowsLemmas.{CanBeGiven, IsHeldByKeeper, enrol_ok, amend_org_ok, ask_ok, grant_ok, decline_ok, withdraw_ok, amend_ok, return_ok, reserve_ok, release_ok, import_ok, add_vendor_ok, add_licence_ok}
@@ -58,28 +58,28 @@ pub record CanAsk (h : History) (caller : List ℕ) (id : ℕ) (petition : Petit
 pub record CanGrant (h : History) (id : ℕ) (petition : Petition) (name : NumberName) : Type 0 where
   pub there : petition_of h id ≡ Some petition
   pub was_open : petition.state ≡ Open
-  pub fits : CanBeGiven (standing_at h petition.vid name.pid) petition.org
-  pub named : name ≡ name_of h.founding.vendor (number petition.vid name.pid)
+  pub fits : CanBeGiven (standing_of h name.number) petition.org
+  pub named : name ≡ name_of h.founding.vendor name.number
 
 pub record CanClose (h : History) (id : ℕ) (petition : Petition) : Type 0 where
   pub there : petition_of h id ≡ Some petition
   pub was_open : petition.state ≡ Open
 
-pub record CanChange (h : History) (caller : List ℕ) (vid : ℕ) (name : NumberName) : Type 0 where
-  pub holder : IsHeldByKeeper (standing_at h vid name.pid) (org_owning h (number vid name.pid)) caller
-  pub named : name ≡ name_of h.founding.vendor (number vid name.pid)
+pub record CanChange (h : History) (caller : List ℕ) (name : NumberName) : Type 0 where
+  pub holder : IsHeldByKeeper (standing_of h name.number) (org_owning h name.number) caller
+  pub named : name ≡ name_of h.founding.vendor name.number
 
-pub record CanReserve (h : History) (vid : ℕ) (name : SpanName) : Type 0 where
-  pub vendor : has_vendor h vid ≡ true
-  pub unfixed : (pid : ℕ) → span_has name.span pid ≡ true → is_fixed h (number vid pid) ≡ false
-  pub unowned : (pid : ℕ) → span_has name.span pid ≡ true → is_some (owner_of h (number vid pid)) ≡ false
-  pub named : name ≡ span_name_of h.founding.vendor vid name.span
+pub record CanReserve (h : History) (name : SpanName) : Type 0 where
+  pub vendor : has_vendor h name.vid ≡ true
+  pub unfixed : (pid : ℕ) → span_has name.span pid ≡ true → is_fixed h (number name.vid pid) ≡ false
+  pub unowned : (pid : ℕ) → span_has name.span pid ≡ true → is_some (owner_of h (number name.vid pid)) ≡ false
+  pub named : name ≡ span_name_of h.founding.vendor name.vid name.span
 
-pub record CanRelease (h : History) (vid : ℕ) (name : SpanName) : Type 0 where
-  pub vendor : has_vendor h vid ≡ true
-  pub unfixed : (pid : ℕ) → span_has name.span pid ≡ true → is_fixed h (number vid pid) ≡ false
-  pub reserved : (pid : ℕ) → span_has name.span pid ≡ true → is_reserved h (number vid pid) ≡ true
-  pub named : name ≡ span_name_of h.founding.vendor vid name.span
+pub record CanRelease (h : History) (name : SpanName) : Type 0 where
+  pub vendor : has_vendor h name.vid ≡ true
+  pub unfixed : (pid : ℕ) → span_has name.span pid ≡ true → is_fixed h (number name.vid pid) ≡ false
+  pub reserved : (pid : ℕ) → span_has name.span pid ≡ true → is_reserved h (number name.vid pid) ≡ true
+  pub named : name ≡ span_name_of h.founding.vendor name.vid name.span
 
 pub record CanImport (h : History) (vid : ℕ) (org : List ℕ) (fresh : List Item) : Type 0 where
   pub receiver : Org
@@ -104,10 +104,10 @@ Follows h caller (Asked id petition) = CanAsk h caller id petition
 Follows h caller (Granted id petition name) = CanGrant h id petition name
 Follows h caller (Declined id petition) = CanClose h id petition
 Follows h caller (Withdrawn id petition) = CanClose h id petition
-Follows h caller (CardAmended vid name card) = CanChange h caller vid name
-Follows h caller (Returned vid name) = CanChange h caller vid name
-Follows h caller (Reserved vid name) = CanReserve h vid name
-Follows h caller (Released vid name) = CanRelease h vid name
+Follows h caller (CardAmended name card) = CanChange h caller name
+Follows h caller (Returned name) = CanChange h caller name
+Follows h caller (Reserved name) = CanReserve h name
+Follows h caller (Released name) = CanRelease h name
 Follows h caller (Imported vid org fresh tally) = CanImport h vid org fresh
 Follows h caller (VendorAdded vid name) = CanAddVendor h vid
 Follows h caller (LicenceAdded licence) = CanAddLicence h licence
@@ -129,21 +129,11 @@ mapped : {A B : Type 0} (f : A → B) (found : Option A) (b : B) → option_map 
 mapped f None b e = absurd cc
 mapped f (Some a) b e = (a, refl, (let same : Some (f a) ≡ Some b = e in cc))
 
--- the number chosen is of the petition's vendor
-chosen_is : (named : Option ℕ) (petition : Petition) (least : Option ℕ) (n : Number) → number_chosen named (Some petition) least ≡ Some n → n ≡ number petition.vid n.pid
-chosen_is named petition least n e =
-    let is = mapped (number petition.vid) (pid_chosen named (Some petition) least) n e in
-    subst (λ (m : Number). m ≡ number petition.vid m.pid) is.2 refl
-
-can_grant : (h : History) (named : Option ℕ) (found : Option Petition) (petition : Petition) (standing : Standing) →
-    found ≡ Some petition → option_map (standing_of h) (number_chosen named found (least_for h found)) ≡ Some standing →
-    standing ≡ standing_at h petition.vid standing.number.pid
-can_grant h named found petition standing there picked =
-    let is = mapped (standing_of h) (number_chosen named found (least_for h found)) standing picked in
-    let chosen : number_chosen named (Some petition) (least_for h (Some petition)) ≡ Some is.0
-    = subst (λ (f : Option Petition). number_chosen named f (least_for h f) ≡ Some is.0) there is.1 in
-    let same : is.0 ≡ number petition.vid is.0.pid = chosen_is named petition (least_for h (Some petition)) is.0 chosen in
-    subst (λ (s : Standing). s ≡ standing_at h petition.vid s.number.pid) is.2 (ap (standing_of h) same)
+-- what was found of a number is how that number stands
+stands : (h : History) (found : Option Number) (standing : Standing) → option_map (standing_of h) found ≡ Some standing → standing ≡ standing_of h standing.number
+stands h found standing e =
+    let is = mapped (standing_of h) found standing e in
+    subst (λ (s : Standing). s ≡ standing_of h s.number) is.2 refl
 
 -- What an accepted order says.
 
@@ -163,15 +153,11 @@ follows h caller (Ask org want title terms vendor) act e =
     subst (Follows h caller) (sym is.does)
     (record { org = is.org; there = is.there; keeper = is.keeper; vendor = is.vendor; licence = is.licence; few_open = is.few_open; below = is.below; next = refl; is_open = refl })
 follows h caller (Grant id named) act e =
-    let is = grant_ok h.founding.curators h.founding.vendor (petition_of h id) (option_map (standing_of h) (number_chosen named (petition_of h id) (least_for h (petition_of h id)))) caller id act e in
-    let same : is.standing ≡ standing_at h is.petition.vid is.standing.number.pid = can_grant h named (petition_of h id) is.petition is.standing is.there is.picked in
+    let chosen = number_chosen named (petition_of h id) (least_for h (petition_of h id)) in
+    let is = grant_ok h.founding.curators h.founding.vendor (petition_of h id) (option_map (standing_of h) chosen) caller id act e in
+    let same : is.standing ≡ standing_of h is.standing.number = stands h chosen is.standing is.picked in
     subst (Follows h caller) (sym is.does)
-    (record {
-      there = is.there;
-      was_open = is.was_open;
-      fits = subst (λ (s : Standing). CanBeGiven s is.petition.org) same is.fits;
-      named = ap (λ (s : Standing). name_of h.founding.vendor s.number) same;
-    })
+    (record { there = is.there; was_open = is.was_open; fits = subst (λ (s : Standing). CanBeGiven s is.petition.org) same is.fits; named = refl })
 follows h caller (Decline id) act e =
     let is = decline_ok h.founding.curators (petition_of h id) caller id act e in
     subst (Follows h caller) (sym is.does) (record { there = is.there; was_open = is.was_open })

@@ -74,11 +74,11 @@ fresh_number h vid fresh n item each e =
 -- an act that follows gives a number to the organisation that owns it, if there is one
 receiver_allowed : (h : History) (caller : List ℕ) (act : Act) (n : Number) (org : List ℕ) → Follows h caller act → receiver n act ≡ Some org → Allows (owner_of h n) org
 receiver_allowed h caller (Granted id petition name) n org can e =
-    let is = given_is (is_number n (number petition.vid name.pid)) petition.org org e in
-    let same : n ≡ number petition.vid name.pid = same_number n (number petition.vid name.pid) is.0 in
+    let is = given_is (is_number n name.number) petition.org org e in
+    let same : n ≡ name.number = same_number n name.number is.0 in
     subst (λ (o : List ℕ). Allows (owner_of h n) o) is.1
     (subst (λ (m : Number). Allows (owner_of h m) petition.org) (sym same)
-    (allows_fitting (owner_of h (number petition.vid name.pid)) (is_held h (number petition.vid name.pid)) petition.org can.fits.owner))
+    (allows_fitting (owner_of h name.number) (is_held h name.number) petition.org can.fits.owner))
 receiver_allowed h caller (Imported vid to fresh tally) n org can e =
     let found = item_found (item_of vid fresh n) to org e in
     allows_none (owner_of h n) org (fresh_number h vid fresh n found.0 can.each found.1).0
@@ -138,11 +138,11 @@ unheld_if false so_far e = e
 
 unheld_now : (n : Number) (act : Act) (so_far : Option Bool) → receiver n act ≡ None → unwrap_or so_far false ≡ false → held_by (holds n act) so_far ≡ false
 unheld_now n (Granted id petition name) so_far r e =
-    unheld_before (given (is_number n (number petition.vid name.pid)) true) so_far
-    (ap (λ b. given b true) (given_none (is_number n (number petition.vid name.pid)) petition.org r)) e
+    unheld_before (given (is_number n name.number) true) so_far
+    (ap (λ b. given b true) (given_none (is_number n name.number) petition.org r)) e
 unheld_now n (Imported vid to fresh tally) so_far r e =
     unheld_before (option_map (λ item. true) (item_of vid fresh n)) so_far (ap (option_map (λ item. true)) (unmapped (λ item. to) (item_of vid fresh n) r)) e
-unheld_now n (Returned vid name) so_far r e = unheld_if (is_number n (number vid name.pid)) so_far e
+unheld_now n (Returned name) so_far r e = unheld_if (is_number n name.number) so_far e
 unheld_now n _ so_far r e = e
 
 unheld_in : (n : Number) (deeds : List Deed) → first_of (λ deed. receiver n deed.act) deeds ≡ None → unwrap_or (last_of (λ deed. holds n deed.act) deeds) false ≡ false
@@ -167,8 +167,8 @@ reserved_by fixed next so_far = fixed || unwrap_or (option_or next so_far) false
 -- a number that is given was neither owned by another nor reserved
 unreserved_receiver : (h : History) (caller : List ℕ) (act : Act) (n : Number) (org : List ℕ) → Follows h caller act → receiver n act ≡ Some org → is_reserved h n ≡ false
 unreserved_receiver h caller (Granted id petition name) n org can e =
-    let is = given_is (is_number n (number petition.vid name.pid)) petition.org org e in
-    subst (λ (m : Number). is_reserved h m ≡ false) (sym (same_number n (number petition.vid name.pid) is.0)) can.fits.unreserved
+    let is = given_is (is_number n name.number) petition.org org e in
+    subst (λ (m : Number). is_reserved h m ≡ false) (sym (same_number n name.number is.0)) can.fits.unreserved
 unreserved_receiver h caller (Imported vid to fresh tally) n org can e =
     let found = item_found (item_of vid fresh n) to org e in
     (fresh_number h vid fresh n found.0 can.each found.1).1
@@ -187,12 +187,12 @@ span_cases vid n has P within outside = ⊎_elim
 
 apart_now : (h : History) (caller : List ℕ) (act : Act) (n : Number) → Follows h caller act → OwnedOrReserved (owner_of h n) (is_reserved h n) →
     OwnedOrReserved (sooner (owner_of h n) (receiver n act)) (reserved_by (is_fixed h n) (reserves n act) (last_of (λ deed. reserves n deed.act) h.deeds))
-apart_now h caller (Reserved vid name) n can apart =
-    span_cases vid n (span_has name.span n.pid) (λ b. OwnedOrReserved (owner_of h n) (reserved_by (is_fixed h n) (given b true) (last_of (λ deed. reserves n deed.act) h.deeds)))
+apart_now h caller (Reserved name) n can apart =
+    span_cases name.vid n (span_has name.span n.pid) (λ b. OwnedOrReserved (owner_of h n) (reserved_by (is_fixed h n) (given b true) (last_of (λ deed. reserves n deed.act) h.deeds)))
     (λ same has. inl (some_not (owner_of h n) (subst (λ v. is_some (owner_of h (number v n.pid)) ≡ false) same (can.unowned n.pid has))))
     apart
-apart_now h caller (Released vid name) n can apart =
-    span_cases vid n (span_has name.span n.pid) (λ b. OwnedOrReserved (owner_of h n) (reserved_by (is_fixed h n) (given b false) (last_of (λ deed. reserves n deed.act) h.deeds)))
+apart_now h caller (Released name) n can apart =
+    span_cases name.vid n (span_has name.span n.pid) (λ b. OwnedOrReserved (owner_of h n) (reserved_by (is_fixed h n) (given b false) (last_of (λ deed. reserves n deed.act) h.deeds)))
     (λ same has. inr (or_from (is_fixed h n) false (subst (λ v. is_fixed h (number v n.pid) ≡ false) same (can.unfixed n.pid has)) refl))
     apart
 apart_now h caller act n can apart = given_apart (owner_of h n) (receiver n act) (is_reserved h n) apart (λ org e. unreserved_receiver h caller act n org can e)

@@ -227,24 +227,24 @@ held_ok standing known caller x e =
 pub record IsAmendment (founding : ℕ) (standing : Standing) (known : Option Org) (allowed : Bool) (caller : List ℕ) (card : Card) (act : Act) : Type 0 where
   pub holder : IsHeldByKeeper standing known caller
   pub licence : allowed ≡ true
-  pub does : act ≡ CardAmended standing.number.vid (name_of founding standing.number) card
+  pub does : act ≡ CardAmended (name_of founding standing.number) card
 
 pub amend_ok : (founding : ℕ) (standing : Standing) (known : Option Org) (allowed : Bool) (caller : List ℕ) (card : Card) (act : Act) →
     amend_row founding standing known allowed caller card ≡ Ok act → IsAmendment founding standing known allowed caller card act
 amend_ok founding standing known allowed caller card act e =
     let a = then_ok (held_by_keeper standing known caller) _ act e in
     let b = passed allowed _ _ act a.1 in
-    let same : Ok (CardAmended standing.number.vid (name_of founding standing.number) card) ≡ Ok act = b.1 in
+    let same : Ok (CardAmended (name_of founding standing.number) card) ≡ Ok act = b.1 in
     record { holder = held_ok standing known caller tt a.0; licence = b.0; does = cc }
 
 pub record IsReturn (founding : ℕ) (standing : Standing) (known : Option Org) (caller : List ℕ) (act : Act) : Type 0 where
   pub holder : IsHeldByKeeper standing known caller
-  pub does : act ≡ Returned standing.number.vid (name_of founding standing.number)
+  pub does : act ≡ Returned (name_of founding standing.number)
 
 pub return_ok : (founding : ℕ) (standing : Standing) (known : Option Org) (caller : List ℕ) (act : Act) → return_row founding standing known caller ≡ Ok act → IsReturn founding standing known caller act
 return_ok founding standing known caller act e =
     let a = then_ok (held_by_keeper standing known caller) _ act e in
-    let same : Ok (Returned standing.number.vid (name_of founding standing.number)) ≡ Ok act = a.1 in
+    let same : Ok (Returned (name_of founding standing.number)) ≡ Ok act = a.1 in
     record { holder = held_ok standing known caller tt a.0; does = cc }
 
 unowned : (founding vid : ℕ) (least_owned : Option ℕ) (x : Passed) → none_owned founding vid least_owned ≡ Ok x → least_owned ≡ None
@@ -256,7 +256,7 @@ pub record IsReservation (curators : List (List ℕ)) (founding : ℕ) (vendor_t
   pub vendor : vendor_there ≡ true
   pub unfixed : meets_fixed ≡ false
   pub unowned : least_owned ≡ None
-  pub does : act ≡ Reserved vid (span_name_of founding vid span)
+  pub does : act ≡ Reserved (span_name_of founding vid span)
 
 pub reserve_ok : (curators : List (List ℕ)) (founding : ℕ) (vendor_there meets_fixed : Bool) (least_owned : Option ℕ) (caller : List ℕ) (vid : ℕ) (span : Span) (act : Act) →
     reserve_row curators founding vendor_there meets_fixed least_owned caller vid span ≡ Ok act → IsReservation curators founding vendor_there meets_fixed least_owned caller vid span act
@@ -265,7 +265,7 @@ reserve_ok curators founding vendor_there meets_fixed least_owned caller vid spa
     let b = passed vendor_there _ _ act a.1 in
     let c = passed (not meets_fixed) _ _ act b.1 in
     let d = then_ok (none_owned founding vid least_owned) _ act c.1 in
-    let same : Ok (Reserved vid (span_name_of founding vid span)) ≡ Ok act = d.1 in
+    let same : Ok (Reserved (span_name_of founding vid span)) ≡ Ok act = d.1 in
     record { curator = a.0; vendor = b.0; unfixed = not_false meets_fixed c.0; unowned = unowned founding vid least_owned tt d.0; does = cc }
 
 pub record IsRelease (curators : List (List ℕ)) (founding : ℕ) (vendor_there meets_fixed all_reserved : Bool) (caller : List ℕ) (vid : ℕ) (span : Span) (act : Act) : Type 0 where
@@ -273,7 +273,7 @@ pub record IsRelease (curators : List (List ℕ)) (founding : ℕ) (vendor_there
   pub vendor : vendor_there ≡ true
   pub unfixed : meets_fixed ≡ false
   pub reserved : all_reserved ≡ true
-  pub does : act ≡ Released vid (span_name_of founding vid span)
+  pub does : act ≡ Released (span_name_of founding vid span)
 
 pub release_ok : (curators : List (List ℕ)) (founding : ℕ) (vendor_there meets_fixed all_reserved : Bool) (caller : List ℕ) (vid : ℕ) (span : Span) (act : Act) →
     release_row curators founding vendor_there meets_fixed all_reserved caller vid span ≡ Ok act → IsRelease curators founding vendor_there meets_fixed all_reserved caller vid span act
@@ -282,7 +282,7 @@ release_ok curators founding vendor_there meets_fixed all_reserved caller vid sp
     let b = passed vendor_there _ _ act a.1 in
     let c = passed (not meets_fixed) _ _ act b.1 in
     let d = passed all_reserved _ _ act c.1 in
-    let same : Ok (Released vid (span_name_of founding vid span)) ≡ Ok act = d.1 in
+    let same : Ok (Released (span_name_of founding vid span)) ≡ Ok act = d.1 in
     record { curator = a.0; vendor = b.0; unfixed = not_false meets_fixed c.0; reserved = d.0; does = cc }
 
 pub record IsImport (curators : List (List ℕ)) (known : Option Org) (vendor_there : Bool) (classes : List ItemClass) (caller : List ℕ) (vid : ℕ) (org : List ℕ) (items : List Item) (act : Act) : Type 0 where

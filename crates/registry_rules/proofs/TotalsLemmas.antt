@@ -7,7 +7,7 @@ use Rattle.std.specs.Str.{bytes_eq}
 use Rattle.std.proofs.lemmas.List.Folds.{find-append, list_any-append}
 use Rattle.usbnum_core.specs.Spans.{span_has, spans_have}
 use Rattle.usbnum_core.specs.declared.number.Number.{Number}
-use Rattle.registry_rules.specs.Number.{number, is_number}
+use Rattle.registry_rules.specs.Number.{is_number}
 use Rattle.std.specs.Option.{option_or}
 use Rattle.registry_rules.specs.History.{History, with_deed, last_of, all_of}
 use Rattle.registry_rules.specs.Query.{enrolled, asked, open_count, owner_of, is_reserved, is_fixed, is_licence, licences, vendors, item_of, adds_licence, adds_vendor, reserves}
@@ -117,7 +117,7 @@ asked_more h caller key order id petition old new can leads is s =
 -- a grant: one open petition less, and one number more that is taken
 granted_more : (h : History) (caller key : List ℕ) (order : Order) (id : ℕ) (petition : Petition) (name : NumberName) (old mid new : Totals) → CanGrant h id petition name
     → LeadsTo (act_changes (Granted id petition name)) h (with_deed h (the_deed caller key order (Granted id petition name)))
-    → Closes old mid petition.org → HasTaken mid new petition.vid name.pid → IsSummary h old → IsSummary (with_deed h (the_deed caller key order (Granted id petition name))) new
+    → Closes old mid petition.org → HasTaken mid new name.number.vid name.number.pid → IsSummary h old → IsSummary (with_deed h (the_deed caller key order (Granted id petition name))) new
 granted_more h caller key order id petition name old mid new can leads closes takes s =
     let deed = the_deed caller key order (Granted id petition name) in
     let now : new ≡ record old { still_open = mid.still_open; taken = new.taken } = takes.same ∙ ap (λ (m : Totals). record m { taken = new.taken }) closes.same in
@@ -127,12 +127,12 @@ granted_more h caller key order id petition name old mid new can leads closes ta
       orgs = s.orgs;
       petitions = s.petitions;
       still_open = λ slug. closes.closed slug ∙ ap (λ n. if bytes_eq petition.org slug then n - 1 else n) (s.still_open slug)
-          ∙ sym (open_after_close h (with_deed h deed) id petition (IsGranted name.pid) leads.petitions can.there can.was_open refl refl slug);
+          ∙ sym (open_after_close h (with_deed h deed) id petition (IsGranted name.number.pid) leads.petitions can.there can.was_open refl refl slug);
       taken = λ n. takes.taken n
-          ∙ ap (λ b. spans_have (numbers_at mid.taken n.vid) n.pid || b) (same_test petition.vid name.pid n)
-          ∙ ap (λ (m : Totals). spans_have (numbers_at m.taken n.vid) n.pid || is_number n (number petition.vid name.pid)) closes.same
-          ∙ ap (λ b. b || is_number n (number petition.vid name.pid)) (s.taken n)
-          ∙ taken_more (owner_of h n) (is_reserved h n) (is_number n (number petition.vid name.pid)) petition.org;
+          ∙ ap (λ b. spans_have (numbers_at mid.taken n.vid) n.pid || b) (same_test name.number.vid name.number.pid n)
+          ∙ ap (λ (m : Totals). spans_have (numbers_at m.taken n.vid) n.pid || is_number n name.number) closes.same
+          ∙ ap (λ b. b || is_number n name.number) (s.taken n)
+          ∙ taken_more (owner_of h n) (is_reserved h n) (is_number n name.number) petition.org;
       reserved = s.reserved;
       nothing = s.nothing;
     })
@@ -187,10 +187,10 @@ org_amended_same h caller key order org old new is s =
       nothing = s.nothing;
     })
 
-card_amended_same : (h : History) (caller key : List ℕ) (order : Order) (vid : ℕ) (name : NumberName) (card : Card) (old new : Totals) → new ≡ old → IsSummary h old
-    → IsSummary (with_deed h (the_deed caller key order (CardAmended vid name card))) new
-card_amended_same h caller key order vid name card old new is s =
-    let deed = the_deed caller key order (CardAmended vid name card) in
+card_amended_same : (h : History) (caller key : List ℕ) (order : Order) (name : NumberName) (card : Card) (old new : Totals) → new ≡ old → IsSummary h old
+    → IsSummary (with_deed h (the_deed caller key order (CardAmended name card))) new
+card_amended_same h caller key order name card old new is s =
+    let deed = the_deed caller key order (CardAmended name card) in
     subst (λ t. IsSummary (with_deed h deed) t) (sym is) (record {
       founding = keeps_founding h deed old.founding refl s.founding;
       vendors = keeps_vendors h deed old.vendors refl s.vendors;
@@ -202,10 +202,10 @@ card_amended_same h caller key order vid name card old new is s =
       nothing = s.nothing;
     })
 
-returned_same : (h : History) (caller key : List ℕ) (order : Order) (vid : ℕ) (name : NumberName) (old new : Totals) → new ≡ old → IsSummary h old
-    → IsSummary (with_deed h (the_deed caller key order (Returned vid name))) new
-returned_same h caller key order vid name old new is s =
-    let deed = the_deed caller key order (Returned vid name) in
+returned_same : (h : History) (caller key : List ℕ) (order : Order) (name : NumberName) (old new : Totals) → new ≡ old → IsSummary h old
+    → IsSummary (with_deed h (the_deed caller key order (Returned name))) new
+returned_same h caller key order name old new is s =
+    let deed = the_deed caller key order (Returned name) in
     subst (λ t. IsSummary (with_deed h deed) t) (sym is) (record {
       founding = keeps_founding h deed old.founding refl s.founding;
       vendors = keeps_vendors h deed old.vendors refl s.vendors;
@@ -217,31 +217,31 @@ returned_same h caller key order vid name old new is s =
       nothing = s.nothing;
     })
 
-reserved_more : (h : History) (caller key : List ℕ) (order : Order) (vid : ℕ) (name : SpanName) (old new : Totals) → Reserves old new vid name.span
-    → IsSummary h old → IsSummary (with_deed h (the_deed caller key order (Reserved vid name))) new
-reserved_more h caller key order vid name old new is s =
-    let deed = the_deed caller key order (Reserved vid name) in
+reserved_more : (h : History) (caller key : List ℕ) (order : Order) (name : SpanName) (old new : Totals) → Reserves old new name.vid name.span
+    → IsSummary h old → IsSummary (with_deed h (the_deed caller key order (Reserved name))) new
+reserved_more h caller key order name old new is s =
+    let deed = the_deed caller key order (Reserved name) in
     subst (λ t. IsSummary (with_deed h deed) t) (sym is.same) (record {
       founding = keeps_founding h deed old.founding refl s.founding;
       vendors = keeps_vendors h deed old.vendors refl s.vendors;
       orgs = s.orgs;
       petitions = s.petitions;
       still_open = s.still_open;
-      taken = λ n. is.taken n ∙ ap (λ b. b || (nat_eq vid n.vid && span_has name.span n.pid)) (s.taken n)
-          ∙ reserves_taken (is_some (owner_of h n)) (is_fixed h n) (nat_eq vid n.vid && span_has name.span n.pid) (last_of (λ d. reserves n d.act) h.deeds);
-      reserved = λ n. is.reserved n ∙ ap (λ b. b || (nat_eq vid n.vid && span_has name.span n.pid)) (s.reserved n)
-          ∙ reserves_reserved (is_fixed h n) (nat_eq vid n.vid && span_has name.span n.pid) (last_of (λ d. reserves n d.act) h.deeds);
+      taken = λ n. is.taken n ∙ ap (λ b. b || (nat_eq name.vid n.vid && span_has name.span n.pid)) (s.taken n)
+          ∙ reserves_taken (is_some (owner_of h n)) (is_fixed h n) (nat_eq name.vid n.vid && span_has name.span n.pid) (last_of (λ d. reserves n d.act) h.deeds);
+      reserved = λ n. is.reserved n ∙ ap (λ b. b || (nat_eq name.vid n.vid && span_has name.span n.pid)) (s.reserved n)
+          ∙ reserves_reserved (is_fixed h n) (nat_eq name.vid n.vid && span_has name.span n.pid) (last_of (λ d. reserves n d.act) h.deeds);
       nothing = s.nothing;
     })
 
-released_less : (h : History) (caller key : List ℕ) (order : Order) (vid : ℕ) (name : SpanName) (old new : Totals) → Legal h → CanRelease h vid name → Releases old new vid name.span
-    → IsSummary h old → IsSummary (with_deed h (the_deed caller key order (Released vid name))) new
-released_less h caller key order vid name old new legal can is s =
-    let deed = the_deed caller key order (Released vid name) in
-    let unfixed : (n : Number) → (nat_eq vid n.vid && span_has name.span n.pid) ≡ true → is_fixed h n ≡ false
-    = λ n e. let at = in_span vid name.span n e in subst (λ m. is_fixed h m ≡ false) at.0 (can.unfixed n.pid at.1) in
-    let unowned : (n : Number) → (nat_eq vid n.vid && span_has name.span n.pid) ≡ true → is_some (owner_of h n) ≡ false
-    = λ n e. let at = in_span vid name.span n e in
+released_less : (h : History) (caller key : List ℕ) (order : Order) (name : SpanName) (old new : Totals) → Legal h → CanRelease h name → Releases old new name.vid name.span
+    → IsSummary h old → IsSummary (with_deed h (the_deed caller key order (Released name))) new
+released_less h caller key order name old new legal can is s =
+    let deed = the_deed caller key order (Released name) in
+    let unfixed : (n : Number) → (nat_eq name.vid n.vid && span_has name.span n.pid) ≡ true → is_fixed h n ≡ false
+    = λ n e. let at = in_span name.vid name.span n e in subst (λ m. is_fixed h m ≡ false) at.0 (can.unfixed n.pid at.1) in
+    let unowned : (n : Number) → (nat_eq name.vid n.vid && span_has name.span n.pid) ≡ true → is_some (owner_of h n) ≡ false
+    = λ n e. let at = in_span name.vid name.span n e in
     unowned_by (owner_of h n) (is_reserved h n) (owned_or_reserved h legal n) (subst (λ m. is_reserved h m ≡ true) at.0 (can.reserved n.pid at.1)) in
     subst (λ t. IsSummary (with_deed h deed) t) (sym is.same) (record {
       founding = keeps_founding h deed old.founding refl s.founding;
@@ -249,10 +249,10 @@ released_less h caller key order vid name old new legal can is s =
       orgs = s.orgs;
       petitions = s.petitions;
       still_open = s.still_open;
-      taken = λ n. is.taken n ∙ ap (λ b. b && not (nat_eq vid n.vid && span_has name.span n.pid)) (s.taken n)
-          ∙ released_taken (owner_of h n) (is_fixed h n) (nat_eq vid n.vid && span_has name.span n.pid) (last_of (λ d. reserves n d.act) h.deeds) (unowned n) (unfixed n);
-      reserved = λ n. is.reserved n ∙ ap (λ b. b && not (nat_eq vid n.vid && span_has name.span n.pid)) (s.reserved n)
-          ∙ released_reserved (is_fixed h n) (nat_eq vid n.vid && span_has name.span n.pid) (last_of (λ d. reserves n d.act) h.deeds) (unfixed n);
+      taken = λ n. is.taken n ∙ ap (λ b. b && not (nat_eq name.vid n.vid && span_has name.span n.pid)) (s.taken n)
+          ∙ released_taken (owner_of h n) (is_fixed h n) (nat_eq name.vid n.vid && span_has name.span n.pid) (last_of (λ d. reserves n d.act) h.deeds) (unowned n) (unfixed n);
+      reserved = λ n. is.reserved n ∙ ap (λ b. b && not (nat_eq name.vid n.vid && span_has name.span n.pid)) (s.reserved n)
+          ∙ released_reserved (is_fixed h n) (nat_eq name.vid n.vid && span_has name.span n.pid) (last_of (λ d. reserves n d.act) h.deeds) (unfixed n);
       nothing = s.nothing;
     })
 
@@ -330,10 +330,10 @@ carries_by h caller key order (Asked id petition) old new legal after can leads 
 carries_by h caller key order (Granted id petition name) old new legal after can leads is s = granted_more h caller key order id petition name old is.0 new can leads is.1 is.2 s
 carries_by h caller key order (Declined id petition) old new legal after can leads is s = declined_less h caller key order id petition old new can leads is s
 carries_by h caller key order (Withdrawn id petition) old new legal after can leads is s = withdrawn_less h caller key order id petition old new can leads is s
-carries_by h caller key order (CardAmended vid name card) old new legal after can leads is s = card_amended_same h caller key order vid name card old new is s
-carries_by h caller key order (Returned vid name) old new legal after can leads is s = returned_same h caller key order vid name old new is s
-carries_by h caller key order (Reserved vid name) old new legal after can leads is s = reserved_more h caller key order vid name old new is s
-carries_by h caller key order (Released vid name) old new legal after can leads is s = released_less h caller key order vid name old new legal can is s
+carries_by h caller key order (CardAmended name card) old new legal after can leads is s = card_amended_same h caller key order name card old new is s
+carries_by h caller key order (Returned name) old new legal after can leads is s = returned_same h caller key order name old new is s
+carries_by h caller key order (Reserved name) old new legal after can leads is s = reserved_more h caller key order name old new is s
+carries_by h caller key order (Released name) old new legal after can leads is s = released_less h caller key order name old new legal can is s
 carries_by h caller key order (Imported vid org fresh tally) old new legal after can leads is s = imported_more h caller key order vid org fresh tally old new can is s
 carries_by h caller key order (VendorAdded vid name) old new legal after can leads is s = vendor_more h caller key order vid name old new is s
 carries_by h caller key order (LicenceAdded licence) old new legal after can leads is s = licence_more h caller key order licence old new after is s

@@ -141,13 +141,13 @@ abbrev pub amend_row : ℕ → Standing → Option Org → Bool → List ℕ →
 amend_row founding standing known allowed caller card = do
   held_by_keeper standing known caller
   check allowed LicenceUnknown
-  Ok (CardAmended standing.number.vid (name_of founding standing.number) card)
+  Ok (CardAmended (name_of founding standing.number) card)
 
 -- Return: 11, 3
 abbrev pub return_row : ℕ → Standing → Option Org → List ℕ → Result Act Refusal
 return_row founding standing known caller = do
   held_by_keeper standing known caller
-  Ok (Returned standing.number.vid (name_of founding standing.number))
+  Ok (Returned (name_of founding standing.number))
 
 -- 15: no number of the span has an owner; the least that has one is named
 abbrev pub none_owned : ℕ → ℕ → Option ℕ → Result Passed Refusal
@@ -161,7 +161,7 @@ reserve_row curators founding vendor_there meets_fixed least_owned caller vid sp
   check vendor_there NoVendor
   check (not meets_fixed) RangeFixed
   none_owned founding vid least_owned
-  Ok (Reserved vid (span_name_of founding vid span))
+  Ok (Reserved (span_name_of founding vid span))
 
 -- Release: 2, 34, 16, 17
 abbrev pub release_row : List (List ℕ) → ℕ → Bool → Bool → Bool → List ℕ → ℕ → Span → Result Act Refusal
@@ -170,7 +170,7 @@ release_row curators founding vendor_there meets_fixed all_reserved caller vid s
   check vendor_there NoVendor
   check (not meets_fixed) RangeFixed
   check all_reserved RangeNotReserved
-  Ok (Released vid (span_name_of founding vid span))
+  Ok (Released (span_name_of founding vid span))
 
 -- Import: 2, 4, 34, 19
 abbrev pub import_row : List (List ℕ) → Option Org → Bool → List ItemClass → List ℕ → ℕ → List ℕ → List Item → Result Act Refusal

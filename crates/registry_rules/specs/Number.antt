@@ -1,5 +1,5 @@
 -- Numbers of vendors, and how replies name them.
-use Rattle.std.specs.Prelude.{ℕ, ◌+◌, ◌-◌, zero, suc, List, [], ◌∷◌, Option, Some, None, Bool, nat_eq, ◌&&◌, if◌then◌else◌}
+use Rattle.std.specs.Prelude.{ℕ, ◌+◌, ◌-◌, zero, suc, List, [], ◌∷◌, Bool, nat_eq, ◌&&◌, not}
 use Rattle.usbnum_core.specs.declared.number.Number.{Number}
 use Rattle.usbnum_core.specs.declared.number.Span.{Span}
 use Rattle.registry_rules.specs.declared.name.NumberName.{NumberName}
@@ -22,14 +22,14 @@ numbers_from n (suc left) = n ∷ numbers_from (suc n) left
 abbrev pub numbers_in : Span → List ℕ
 numbers_in span = numbers_from span.first (span.last + 1 - span.first)
 
--- the vendor as a name has it: none for the founding one
-abbrev pub vendor_named : ℕ → ℕ → Option ℕ
-vendor_named founding vid = if nat_eq vid founding then None else Some vid
+-- whether the vendor given second is another than the founding one
+abbrev pub is_foreign : ℕ → ℕ → Bool
+is_foreign founding vid = not (nat_eq vid founding)
 
 -- the number's name, where the registry was founded for the vendor given first
 abbrev pub name_of : ℕ → Number → NumberName
-name_of founding n = record { vendor = vendor_named founding n.vid; pid = n.pid }
+name_of founding n = record { number = n; foreign = is_foreign founding n.vid }
 
 -- the same of a span of the vendor given second
 abbrev pub span_name_of : ℕ → ℕ → Span → SpanName
-span_name_of founding vid span = record { vendor = vendor_named founding vid; span = span }
+span_name_of founding vid span = record { vid = vid; span = span; foreign = is_foreign founding vid }

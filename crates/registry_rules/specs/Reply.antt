@@ -1,5 +1,5 @@
 -- What is answered to an accepted request, and what a refusal shows.
-use Rattle.std.specs.Prelude.{ℕ, List, [], ◌++◌, codes, Option, Some, None}
+use Rattle.std.specs.Prelude.{ℕ, List, [], ◌++◌, codes, Option, Some, None, Bool, if◌then◌else◌}
 use Rattle.std.specs.Fmt.{decimal}
 use Rattle.usbnum_core.specs.Number.{digits_of}
 use Rattle.registry_rules.specs.declared.deed.Act.{Act}
@@ -10,18 +10,17 @@ use Rattle.registry_rules.specs.declared.name.SpanName.{SpanName}
 use Rattle.registry_rules.specs.declared.refusal.Refusal.{Refusal}
 use Rattle.registry_rules.specs.declared.refusal.Refusal.TheVariants.{KeyReused, NotCurator, NotKeeper, NoOrg, OrgTaken, NoPetition, PetitionClosed, NumberReserved, NumberOwned, NumberHeld, NumberNotHeld, NoneFree, LicenceUnknown, TooManyOpen, RangeOwned, RangeFixed, RangeNotReserved, Full, ImportTooLong, VendorTaken, NoVendor, LicenceTaken}
 
--- a vendor before its number: four digits and a colon, or nothing
-abbrev pub vendor_text : Option ℕ → List ℕ
-vendor_text None = []
-vendor_text (Some vid) = digits_of vid ++ codes ":"
+-- what stands before the number: a foreign vendor's four digits and a colon, of the founding one nothing
+abbrev pub vendor_text : Bool → ℕ → List ℕ
+vendor_text foreign vid = if foreign then digits_of vid ++ codes ":" else []
 
 -- 0011, or cafe:0011
 abbrev pub number_text : NumberName → List ℕ
-number_text name = vendor_text name.vendor ++ digits_of name.pid
+number_text name = vendor_text name.foreign name.number.vid ++ digits_of name.number.pid
 
 -- 2000-20ff, or cafe:2000-20ff
 abbrev pub span_text : SpanName → List ℕ
-span_text name = vendor_text name.vendor ++ digits_of name.span.first ++ codes "-" ++ digits_of name.span.last
+span_text name = vendor_text name.foreign name.vid ++ digits_of name.span.first ++ codes "-" ++ digits_of name.span.last
 
 -- fresh 1, owned 0, reserved 0, doubled 0, untitled 0, zero 0
 abbrev pub tally_text : Tally → List ℕ
@@ -37,10 +36,10 @@ act_text (Asked id petition) = codes "petition " ++ decimal id
 act_text (Granted id petition name) = codes "granted " ++ number_text name ++ codes " to " ++ petition.org ++ codes " by petition " ++ decimal id
 act_text (Declined id petition) = codes "declined petition " ++ decimal id
 act_text (Withdrawn id petition) = codes "withdrawn petition " ++ decimal id
-act_text (CardAmended vid name card) = codes "amended " ++ number_text name
-act_text (Returned vid name) = codes "returned " ++ number_text name
-act_text (Reserved vid name) = codes "reserved " ++ span_text name
-act_text (Released vid name) = codes "released " ++ span_text name
+act_text (CardAmended name card) = codes "amended " ++ number_text name
+act_text (Returned name) = codes "returned " ++ number_text name
+act_text (Reserved name) = codes "reserved " ++ span_text name
+act_text (Released name) = codes "released " ++ span_text name
 act_text (Imported vid org fresh tally) = codes "imported " ++ tally_text tally
 act_text (VendorAdded vendor name) = codes "added vendor " ++ digits_of vendor
 act_text (LicenceAdded licence) = codes "added licence " ++ licence

@@ -24,19 +24,15 @@ pub(crate) fn carry_act(totals: &mut Totals, act: &Act) -> Result<(), NoMemory>
             name,
         } => {
             closed(totals, &petition.org)?;
-            taken(totals, petition.vid, name.pid)
+            taken(totals, name.number.vid, name.number.pid)
         }
         Act::Declined { id: _, petition } => closed(totals, &petition.org),
         Act::Withdrawn { id: _, petition } => closed(totals, &petition.org),
-        Act::OrgAmended(_)
-        | Act::CardAmended {
-            vid: _,
-            name: _,
-            card: _,
+        Act::OrgAmended(_) | Act::CardAmended { name: _, card: _ } | Act::Returned { name: _ } => {
+            Ok(())
         }
-        | Act::Returned { vid: _, name: _ } => Ok(()),
-        Act::Reserved { vid, name } => reserved(totals, *vid, &name.span),
-        Act::Released { vid, name } => released(totals, *vid, &name.span),
+        Act::Reserved { name } => reserved(totals, name.vid, &name.span),
+        Act::Released { name } => released(totals, name.vid, &name.span),
         Act::Imported {
             vid,
             org: _,

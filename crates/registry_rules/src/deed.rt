@@ -1,7 +1,7 @@
 use crate::{Card, Items, NumberName, Order, Org, Petition, SpanName, Tally};
 use usbnum_core::{Key, Slug, Title, Vid};
 
-/// What an accepted request did. `vid` is the number's vendor, also where its name leaves it out.
+/// What an accepted request did. Each name holds its vendor, also where a reply leaves that out.
 #[derive(Debug)]
 pub enum Act {
     /// An organisation was enrolled.
@@ -13,7 +13,7 @@ pub enum Act {
         id: u32,
         petition: Petition,
     },
-    /// The petition, as it was while open, was granted the number of its vendor.
+    /// The petition, as it was while open, was granted the number.
     Granted {
         id: u32,
         petition: Petition,
@@ -31,23 +31,19 @@ pub enum Act {
     },
     /// A held number has this card now.
     CardAmended {
-        vid: Vid,
         name: NumberName,
         card: Card,
     },
     /// A held number was given back.
     Returned {
-        vid: Vid,
         name: NumberName,
     },
     /// The numbers of a span were reserved.
     Reserved {
-        vid: Vid,
         name: SpanName,
     },
     /// The numbers of a span were released.
     Released {
-        vid: Vid,
         name: SpanName,
     },
     /// The fresh items of an import became held numbers of the organisation.
@@ -91,14 +87,10 @@ impl Drop for Act {
             } => {}
             Act::Declined { id: _, petition: _ } => {}
             Act::Withdrawn { id: _, petition: _ } => {}
-            Act::CardAmended {
-                vid: _,
-                name: _,
-                card: _,
-            } => {}
-            Act::Returned { vid: _, name: _ } => {}
-            Act::Reserved { vid: _, name: _ } => {}
-            Act::Released { vid: _, name: _ } => {}
+            Act::CardAmended { name: _, card: _ } => {}
+            Act::Returned { name: _ } => {}
+            Act::Reserved { name: _ } => {}
+            Act::Released { name: _ } => {}
             Act::Imported {
                 vid: _,
                 org: _,

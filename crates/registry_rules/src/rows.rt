@@ -173,7 +173,6 @@ pub(crate) fn amend(
     check_held(facts, number, caller)?;
     check_licence(facts.founding, &terms.licence)?;
     Ok(Act::CardAmended {
-        vid: number.vid,
         name: number_name(facts.founding, number),
         card: Card {
             title: title.clone()?,
@@ -187,8 +186,7 @@ pub(crate) fn give_back(facts: &Facts<'_>, caller: &Slug, number: &Number) -> Re
 {
     check_held(facts, number, caller)?;
     let name = number_name(facts.founding, number);
-    let vid = number.vid;
-    Ok(Act::Returned { vid, name })
+    Ok(Act::Returned { name })
 }
 
 pub(crate) fn add_vendor(

@@ -70,7 +70,7 @@ pub(crate) fn reserve(facts: &Facts<'_>, caller: &Slug, vid: Vid, span: &Span) -
         let name = number_name(facts.founding, &Number { vid, pid });
         return Err(Stop::Refused(Refusal::RangeOwned(name)));
     }
-    Ok(Act::Reserved { vid, name })
+    Ok(Act::Reserved { name })
 }
 
 pub(crate) fn release(facts: &Facts<'_>, caller: &Slug, vid: Vid, span: &Span) -> Result<Act, Stop>
@@ -86,5 +86,5 @@ pub(crate) fn release(facts: &Facts<'_>, caller: &Slug, vid: Vid, span: &Span) -
         return Err(Stop::Refused(Refusal::RangeNotReserved));
     }
     let name = span_name(facts.founding, vid, span);
-    Ok(Act::Released { vid, name })
+    Ok(Act::Released { name })
 }

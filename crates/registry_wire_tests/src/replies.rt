@@ -4,7 +4,7 @@ use std::alloc::Global;
 use std::process::Abort;
 use std::test::Fail;
 use usbids_text::{LineFault, Why};
-use usbnum_core::{NoMemory, Pid, Slug, Vid};
+use usbnum_core::{NoMemory, Number, Pid, Slug, Vid};
 
 fn expect_refused(
     rt: &impl Abort,
@@ -151,16 +151,21 @@ fn refused_by_the_rules(rt: HostRuntime) -> Result<(), Fail> {
         r#"{"detail":"bolt","name":"NumberOwned","refused":9}"#,
     )?;
     let pid = Pid::new(0x11).expect(&rt, "a number");
-    let near = NumberName { vendor: None, pid };
+    let founding = Vid::new(0x1209).expect(&rt, "a vendor");
+    let near = NumberName {
+        number: Number { vid: founding, pid },
+        foreign: false,
+    };
     expect_refused(
         &rt,
         alloc,
         Refusal::RangeOwned(near),
         r#"{"detail":"0011","name":"RangeOwned","refused":15}"#,
     )?;
+    let other = Vid::new(0xcafe).expect(&rt, "a vendor");
     let far = NumberName {
-        vendor: Vid::new(0xcafe),
-        pid,
+        number: Number { vid: other, pid },
+        foreign: true,
     };
     expect_refused(
         &rt,
