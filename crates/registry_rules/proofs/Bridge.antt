@@ -29,7 +29,7 @@ use Rattle.registry_rules.specs.declared.record.Holding.{Holding}
 use Rattle.registry_rules.specs.declared.record.Petition.{Petition}
 use Rattle.registry_rules.specs.declared.order.Order.{Order}
 use Rattle.registry_rules.specs.declared.order.Request.{Request}
-use Rattle.registry_rules.specs.declared.order.Order.TheVariants.{Enrol, AmendOrg, Ask, Grant, Decline, Withdraw, Amend, Return, Reserve, Release, Import, AddVendor, AddLicence}
+use Rattle.registry_rules.specs.declared.order.Order.TheVariants as orders
 use Rattle.registry_rules.proofs.SpanNumbers.{same_find, same_all}
 
 -- a deed that leaves a number held gives it an owner
@@ -121,46 +121,46 @@ same_classes a b before (item ∷ items) same =
 same_for : (h : History) (caller : List ℕ) (key : List ℕ) (order : Order) (facts : Facts) → AreFactsOf h (record { caller = caller; key = key; order = order }) facts →
     outcome_on facts caller order ≡ outcome h caller order
 unfolding outcome outcome_on slug_concerned petition_named vendor_concerned open_concerned org_concerned concerns
-same_for h caller key (Enrol org title site) facts are = rw (are.org, are.orgs) refl
-same_for h caller key (AmendOrg org title site) facts are = rw are.org refl
-same_for h caller key (Ask org want title terms vendor) facts are =
-    rw (are.vendor, are.founding.allowed terms.licence, are.vendors.each (vendor_meant h vendor), are.org, are.still_open, are.petitions)
-    (ap (λ wanted. ask_row (org_of h org) (has_vendor h (vendor_meant h vendor)) (is_licence h terms.licence) (open_count h org) (length (asked h)) wanted caller
-    (new_petition (vendor_meant h vendor) org want title terms))
-    (same_wanted h facts (vendor_meant h vendor) want are.reserved
-    (λ pid is. are.holdings (number (vendor_meant h vendor) pid)
-    (and_from (nat_eq (vendor_meant h vendor) (vendor_meant h vendor)) _ (eq-eqb (vendor_meant h vendor) (vendor_meant h vendor) refl) (ap (λ w. is_the w pid) is ∙ eq-eqb pid pid refl)))))
-same_for h caller key (Grant id named) facts are =
+same_for h caller key (orders.Enrol it) facts are = rw (are.org, are.orgs) refl
+same_for h caller key (orders.AmendOrg it) facts are = rw are.org refl
+same_for h caller key (orders.Ask it) facts are =
+    rw (are.vendor, are.founding.allowed it.terms.licence, are.vendors.each (vendor_meant h it.vendor), are.org, are.still_open, are.petitions)
+    (ap (λ wanted. ask_row (org_of h it.org) (has_vendor h (vendor_meant h it.vendor)) (is_licence h it.terms.licence) (open_count h it.org) (length (asked h)) wanted caller
+    (new_petition (vendor_meant h it.vendor) it.org it.want it.title it.terms))
+    (same_wanted h facts (vendor_meant h it.vendor) it.want are.reserved
+    (λ pid is. are.holdings (number (vendor_meant h it.vendor) pid)
+    (and_from (nat_eq (vendor_meant h it.vendor) (vendor_meant h it.vendor)) _ (eq-eqb (vendor_meant h it.vendor) (vendor_meant h it.vendor) refl) (ap (λ w. is_the w pid) is ∙ eq-eqb pid pid refl)))))
+same_for h caller key (orders.Grant it) facts are =
     rw (are.founding.curators, are.founding.vendor, are.petition, are.least)
-    (ap (λ chosen. grant_row h.founding.curators h.founding.vendor (petition_of h id) chosen caller id) (same_chosen h facts h.founding.vendor named (petition_of h id) are.reserved are.holdings))
-same_for h caller key (Decline id) facts are = rw (are.founding.curators, are.petition) refl
-same_for h caller key (Withdraw id) facts are = rw (are.petition, are.org) refl
-same_for h caller key (Amend pid title terms vendor) facts are =
-    rw (are.founding.vendor, are.vendor, are.org, are.founding.allowed terms.licence)
-    (ap (λ s. amend_row h.founding.vendor s (org_owning h (number (vendor_meant h vendor) pid)) (is_licence h terms.licence) caller (new_card title terms))
-    (same_standing h facts (number (vendor_meant h vendor) pid) (are.reserved pid) (are.holdings (number (vendor_meant h vendor) pid) (is_itself (number (vendor_meant h vendor) pid)))))
-same_for h caller key (Return pid vendor) facts are =
+    (ap (λ chosen. grant_row h.founding.curators h.founding.vendor (petition_of h it.petition) chosen caller it.petition) (same_chosen h facts h.founding.vendor it.number (petition_of h it.petition) are.reserved are.holdings))
+same_for h caller key (orders.Decline it) facts are = rw (are.founding.curators, are.petition) refl
+same_for h caller key (orders.Withdraw it) facts are = rw (are.petition, are.org) refl
+same_for h caller key (orders.Amend it) facts are =
+    rw (are.founding.vendor, are.vendor, are.org, are.founding.allowed it.terms.licence)
+    (ap (λ s. amend_row h.founding.vendor s (org_owning h (number (vendor_meant h it.vendor) it.number)) (is_licence h it.terms.licence) caller (new_card it.title it.terms))
+    (same_standing h facts (number (vendor_meant h it.vendor) it.number) (are.reserved it.number) (are.holdings (number (vendor_meant h it.vendor) it.number) (is_itself (number (vendor_meant h it.vendor) it.number)))))
+same_for h caller key (orders.Return it) facts are =
     rw (are.founding.vendor, are.vendor, are.org)
-    (ap (λ s. return_row h.founding.vendor s (org_owning h (number (vendor_meant h vendor) pid)) caller)
-    (same_standing h facts (number (vendor_meant h vendor) pid) (are.reserved pid) (are.holdings (number (vendor_meant h vendor) pid) (is_itself (number (vendor_meant h vendor) pid)))))
-same_for h caller key (Reserve span vendor) facts are =
-    rw (are.founding.curators, are.founding.vendor, are.vendor, are.founding.fixed, are.vendors.each (vendor_meant h vendor))
-    (ap (λ least. reserve_row h.founding.curators h.founding.vendor (has_vendor h (vendor_meant h vendor)) (meets_fixed h (vendor_meant h vendor) span) least caller (vendor_meant h vendor) span)
-    (same_least h facts (vendor_meant h vendor) span are.holdings))
-same_for h caller key (Release span vendor) facts are =
-    rw (are.founding.curators, are.founding.vendor, are.vendor, are.founding.fixed, are.vendors.each (vendor_meant h vendor))
-    (ap (λ all. release_row h.founding.curators h.founding.vendor (has_vendor h (vendor_meant h vendor)) (meets_fixed h (vendor_meant h vendor) span) all caller (vendor_meant h vendor) span)
-    (same_all (λ pid. spans_have facts.reserved.now pid) (λ pid. is_reserved h (number (vendor_meant h vendor) pid)) span.first (span.last + 1 - span.first) (λ pid from lt. are.reserved pid)))
-same_for h caller key (Import org items vendor) facts are =
-    rw (are.founding.curators, are.vendor, are.org, are.vendors.each (vendor_meant h vendor))
-    (ap (λ classes. import_row h.founding.curators (org_of h org) (has_vendor h (vendor_meant h vendor)) classes caller (vendor_meant h vendor) org items)
-    (same_classes (standing_in_at facts (vendor_meant h vendor)) (standing_at h (vendor_meant h vendor)) [] items
-    (λ code nonzero among. same_standing h facts (number (vendor_meant h vendor) code) (are.reserved code)
-    (are.holdings (number (vendor_meant h vendor) code)
-    (and_from (nat_eq (vendor_meant h vendor) (vendor_meant h vendor) && not (nat_eq code 0)) _
-    (and_from (nat_eq (vendor_meant h vendor) (vendor_meant h vendor)) _ (eq-eqb (vendor_meant h vendor) (vendor_meant h vendor) refl) (not_from_false _ nonzero)) among)))))
-same_for h caller key (AddVendor vid name) facts are = rw (are.founding.curators, are.vendors.each vid, are.vendors.count) refl
-same_for h caller key (AddLicence licence) facts are = rw (are.founding.curators, are.founding.allowed licence, are.founding.allowed_count) refl
+    (ap (λ s. return_row h.founding.vendor s (org_owning h (number (vendor_meant h it.vendor) it.number)) caller)
+    (same_standing h facts (number (vendor_meant h it.vendor) it.number) (are.reserved it.number) (are.holdings (number (vendor_meant h it.vendor) it.number) (is_itself (number (vendor_meant h it.vendor) it.number)))))
+same_for h caller key (orders.Reserve it) facts are =
+    rw (are.founding.curators, are.founding.vendor, are.vendor, are.founding.fixed, are.vendors.each (vendor_meant h it.vendor))
+    (ap (λ least. reserve_row h.founding.curators h.founding.vendor (has_vendor h (vendor_meant h it.vendor)) (meets_fixed h (vendor_meant h it.vendor) it.span) least caller (vendor_meant h it.vendor) it.span)
+    (same_least h facts (vendor_meant h it.vendor) it.span are.holdings))
+same_for h caller key (orders.Release it) facts are =
+    rw (are.founding.curators, are.founding.vendor, are.vendor, are.founding.fixed, are.vendors.each (vendor_meant h it.vendor))
+    (ap (λ all. release_row h.founding.curators h.founding.vendor (has_vendor h (vendor_meant h it.vendor)) (meets_fixed h (vendor_meant h it.vendor) it.span) all caller (vendor_meant h it.vendor) it.span)
+    (same_all (λ pid. spans_have facts.reserved.now pid) (λ pid. is_reserved h (number (vendor_meant h it.vendor) pid)) it.span.first (it.span.last + 1 - it.span.first) (λ pid from lt. are.reserved pid)))
+same_for h caller key (orders.Import it) facts are =
+    rw (are.founding.curators, are.vendor, are.org, are.vendors.each (vendor_meant h it.vendor))
+    (ap (λ classes. import_row h.founding.curators (org_of h it.org) (has_vendor h (vendor_meant h it.vendor)) classes caller (vendor_meant h it.vendor) it.org it.items)
+    (same_classes (standing_in_at facts (vendor_meant h it.vendor)) (standing_at h (vendor_meant h it.vendor)) [] it.items
+    (λ code nonzero among. same_standing h facts (number (vendor_meant h it.vendor) code) (are.reserved code)
+    (are.holdings (number (vendor_meant h it.vendor) code)
+    (and_from (nat_eq (vendor_meant h it.vendor) (vendor_meant h it.vendor) && not (nat_eq code 0)) _
+    (and_from (nat_eq (vendor_meant h it.vendor) (vendor_meant h it.vendor)) _ (eq-eqb (vendor_meant h it.vendor) (vendor_meant h it.vendor) refl) (not_from_false _ nonzero)) among)))))
+same_for h caller key (orders.AddVendor it) facts are = rw (are.founding.curators, are.vendors.each it.vendor, are.vendors.count) refl
+same_for h caller key (orders.AddLicence it) facts are = rw (are.founding.curators, are.founding.allowed it.licence, are.founding.allowed_count) refl
 
 pub same_outcome : (h : History) (request : Request) (facts : Facts) → AreFactsOf h request facts → outcome_on facts request.caller request.order ≡ outcome h request.caller request.order
 same_outcome h request facts are = same_for h request.caller request.key request.order facts are

@@ -24,7 +24,7 @@ use Rattle.registry_rules.specs.declared.limits.TheConstants.{MOST_ORGS, MOST_OP
 use Rattle.registry_rules.specs.declared.name.NumberName.{NumberName}
 use Rattle.registry_rules.specs.declared.name.SpanName.{SpanName}
 use Rattle.registry_rules.specs.declared.order.Order.{Order}
-use Rattle.registry_rules.specs.declared.order.Order.TheVariants.{Enrol, AmendOrg, Ask, Grant, Decline, Withdraw, Amend, Return, Reserve, Release, Import, AddVendor, AddLicence}
+use Rattle.registry_rules.specs.declared.order.Order.TheVariants as orders
 use Rattle.registry_rules.specs.declared.order.Request.{Request}
 use Rattle.registry_rules.specs.declared.record.Org.{Org}
 use Rattle.registry_rules.specs.declared.record.Petition.{Petition}
@@ -139,69 +139,69 @@ stands h found standing e =
 
 pub follows : (h : History) (caller : List ℕ) (order : Order) (act : Act) → outcome h caller order ≡ Ok act → Follows h caller act
 unfolding outcome
-follows h caller (Enrol org title site) act e =
-    let is = enrol_ok (org_of h org) (length (enrolled h)) (new_org caller org title site) act e in
+follows h caller (orders.Enrol it) act e =
+    let is = enrol_ok (org_of h it.org) (length (enrolled h)) (new_org caller it.org it.title it.site) act e in
     subst (Follows h caller) (sym is.does) (record { unknown = is.unknown; below = is.below; keeper = refl })
-follows h caller (AmendOrg org title site) act e =
-    let is = amend_org_ok (org_of h org) caller title site act e in
-    let slug : is.org.slug ≡ org = slug_is h org is.org is.there in
+follows h caller (orders.AmendOrg it) act e =
+    let is = amend_org_ok (org_of h it.org) caller it.title it.site act e in
+    let slug : is.org.slug ≡ it.org = slug_is h it.org is.org is.there in
     subst (Follows h caller) (sym is.does)
     (record { before = is.org; there = ap (org_of h) slug ∙ is.there; keeper_before = is.keeper; keeper = is.keeper })
-follows h caller (Ask org want title terms vendor) act e =
-    let vid = vendor_meant h vendor in
-    let is = ask_ok (org_of h org) (has_vendor h vid) (is_licence h terms.licence) (open_count h org) (length (asked h)) (option_map (standing_at h vid) want) caller (new_petition vid org want title terms) act e in
+follows h caller (orders.Ask it) act e =
+    let vid = vendor_meant h it.vendor in
+    let is = ask_ok (org_of h it.org) (has_vendor h vid) (is_licence h it.terms.licence) (open_count h it.org) (length (asked h)) (option_map (standing_at h vid) it.want) caller (new_petition vid it.org it.want it.title it.terms) act e in
     subst (Follows h caller) (sym is.does)
     (record { org = is.org; there = is.there; keeper = is.keeper; vendor = is.vendor; licence = is.licence; few_open = is.few_open; below = is.below; next = refl; is_open = refl })
-follows h caller (Grant id named) act e =
-    let chosen = number_chosen named (petition_of h id) (least_for h (petition_of h id)) in
-    let is = grant_ok h.founding.curators h.founding.vendor (petition_of h id) (option_map (standing_of h) chosen) caller id act e in
+follows h caller (orders.Grant it) act e =
+    let chosen = number_chosen it.number (petition_of h it.petition) (least_for h (petition_of h it.petition)) in
+    let is = grant_ok h.founding.curators h.founding.vendor (petition_of h it.petition) (option_map (standing_of h) chosen) caller it.petition act e in
     let same : is.standing ≡ standing_of h is.standing.number = stands h chosen is.standing is.picked in
     subst (Follows h caller) (sym is.does)
     (record { there = is.there; was_open = is.was_open; fits = subst (λ (s : Standing). CanBeGiven s is.petition.org) same is.fits; named = refl })
-follows h caller (Decline id) act e =
-    let is = decline_ok h.founding.curators (petition_of h id) caller id act e in
+follows h caller (orders.Decline it) act e =
+    let is = decline_ok h.founding.curators (petition_of h it.petition) caller it.petition act e in
     subst (Follows h caller) (sym is.does) (record { there = is.there; was_open = is.was_open })
-follows h caller (Withdraw id) act e =
-    let is = withdraw_ok (petition_of h id) (org_petitioning h id) caller id act e in
+follows h caller (orders.Withdraw it) act e =
+    let is = withdraw_ok (petition_of h it.petition) (org_petitioning h it.petition) caller it.petition act e in
     subst (Follows h caller) (sym is.does) (record { there = is.there; was_open = is.was_open })
-follows h caller (Amend pid title terms vendor) act e =
-    let n = number (vendor_meant h vendor) pid in
-    let is = amend_ok h.founding.vendor (standing_of h n) (org_owning h n) (is_licence h terms.licence) caller (new_card title terms) act e in
+follows h caller (orders.Amend it) act e =
+    let n = number (vendor_meant h it.vendor) it.number in
+    let is = amend_ok h.founding.vendor (standing_of h n) (org_owning h n) (is_licence h it.terms.licence) caller (new_card it.title it.terms) act e in
     subst (Follows h caller) (sym is.does) (record { holder = is.holder; named = refl })
-follows h caller (Return pid vendor) act e =
-    let n = number (vendor_meant h vendor) pid in
+follows h caller (orders.Return it) act e =
+    let n = number (vendor_meant h it.vendor) it.number in
     let is = return_ok h.founding.vendor (standing_of h n) (org_owning h n) caller act e in
     subst (Follows h caller) (sym is.does) (record { holder = is.holder; named = refl })
-follows h caller (Reserve span vendor) act e =
-    let vid = vendor_meant h vendor in
-    let is = reserve_ok h.founding.curators h.founding.vendor (has_vendor h vid) (meets_fixed h vid span) (least_owned h vid span) caller vid span act e in
+follows h caller (orders.Reserve it) act e =
+    let vid = vendor_meant h it.vendor in
+    let is = reserve_ok h.founding.curators h.founding.vendor (has_vendor h vid) (meets_fixed h vid it.span) (least_owned h vid it.span) caller vid it.span act e in
     subst (Follows h caller) (sym is.does)
     (record {
       vendor = is.vendor;
-      unfixed = none_of_span (λ pid. is_fixed h (number vid pid)) span is.unfixed;
-      unowned = none_in_span (λ pid. is_some (owner_of h (number vid pid))) span is.unowned;
+      unfixed = none_of_span (λ pid. is_fixed h (number vid pid)) it.span is.unfixed;
+      unowned = none_in_span (λ pid. is_some (owner_of h (number vid pid))) it.span is.unowned;
       named = refl;
     })
-follows h caller (Release span vendor) act e =
-    let vid = vendor_meant h vendor in
-    let is = release_ok h.founding.curators h.founding.vendor (has_vendor h vid) (meets_fixed h vid span) (all_reserved h vid span) caller vid span act e in
+follows h caller (orders.Release it) act e =
+    let vid = vendor_meant h it.vendor in
+    let is = release_ok h.founding.curators h.founding.vendor (has_vendor h vid) (meets_fixed h vid it.span) (all_reserved h vid it.span) caller vid it.span act e in
     subst (Follows h caller) (sym is.does)
     (record {
       vendor = is.vendor;
-      unfixed = none_of_span (λ pid. is_fixed h (number vid pid)) span is.unfixed;
-      reserved = all_of_span (λ pid. is_reserved h (number vid pid)) span is.reserved;
+      unfixed = none_of_span (λ pid. is_fixed h (number vid pid)) it.span is.unfixed;
+      reserved = all_of_span (λ pid. is_reserved h (number vid pid)) it.span is.reserved;
       named = refl;
     })
-follows h caller (Import org items vendor) act e =
-    let vid = vendor_meant h vendor in
-    let is = import_ok h.founding.curators (org_of h org) (has_vendor h vid) (classes_from (standing_at h vid) [] items) caller vid org items act e in
+follows h caller (orders.Import it) act e =
+    let vid = vendor_meant h it.vendor in
+    let is = import_ok h.founding.curators (org_of h it.org) (has_vendor h vid) (classes_from (standing_at h vid) [] it.items) caller vid it.org it.items act e in
     subst (Follows h caller) (sym is.does)
-    (record { receiver = is.receiver; there = is.there; vendor = is.vendor; each = all_fresh (standing_at h vid) [] items; apart = all_apart (standing_at h vid) [] items })
-follows h caller (AddVendor vid name) act e =
-    let is = add_vendor_ok h.founding.curators (has_vendor h vid) (length (vendors h)) caller vid name act e in
+    (record { receiver = is.receiver; there = is.there; vendor = is.vendor; each = all_fresh (standing_at h vid) [] it.items; apart = all_apart (standing_at h vid) [] it.items })
+follows h caller (orders.AddVendor it) act e =
+    let is = add_vendor_ok h.founding.curators (has_vendor h it.vendor) (length (vendors h)) caller it.vendor it.name act e in
     subst (Follows h caller) (sym is.does) (record { unknown = is.unknown; below = is.below })
-follows h caller (AddLicence licence) act e =
-    let is = add_licence_ok h.founding.curators (is_licence h licence) (length (licences h)) caller licence act e in
+follows h caller (orders.AddLicence it) act e =
+    let is = add_licence_ok h.founding.curators (is_licence h it.licence) (length (licences h)) caller it.licence act e in
     subst (Follows h caller) (sym is.does) (record { unknown = is.unknown; below = is.below })
 
 -- a new deed says so of the history before it

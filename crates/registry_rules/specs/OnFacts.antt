@@ -15,7 +15,7 @@ use Rattle.registry_rules.specs.declared.deed.Act.{Act}
 use Rattle.registry_rules.specs.declared.facts.Facts.{Facts}
 use Rattle.registry_rules.specs.declared.founding.Founding.{Founding}
 use Rattle.registry_rules.specs.declared.order.Order.{Order}
-use Rattle.registry_rules.specs.declared.order.Order.TheVariants.{Enrol, AmendOrg, Ask, Grant, Decline, Withdraw, Amend, Return, Reserve, Release, Import, AddVendor, AddLicence}
+use Rattle.registry_rules.specs.declared.order.Order.TheVariants as orders
 use Rattle.registry_rules.specs.declared.record.Holding.{Holding}
 use Rattle.registry_rules.specs.declared.record.Vendor.{Vendor}
 use Rattle.registry_rules.specs.declared.refusal.Refusal.{Refusal}
@@ -68,34 +68,34 @@ least_with holding vid span (Some least) = if is_owned_in holding vid span && na
 
 -- what the order does by the facts, or why it does nothing
 unfoldable pub outcome_on : Facts → List ℕ → Order → Result Act Refusal
-outcome_on facts caller (Enrol org title site) = enrol_row facts.org facts.orgs (new_org caller org title site)
-outcome_on facts caller (AmendOrg org title site) = amend_org_row facts.org caller title site
-outcome_on facts caller (Ask org want title terms vendor) =
-    ask_row facts.org (vendor_there facts.vendors.now facts.vendor) (licence_allowed facts.founding.now terms.licence)
-    facts.open_count facts.petitions (option_map (standing_in_at facts facts.vendor) want) caller
-    (new_petition facts.vendor org want title terms)
-outcome_on facts caller (Grant id named) =
+outcome_on facts caller (orders.Enrol it) = enrol_row facts.org facts.orgs (new_org caller it.org it.title it.site)
+outcome_on facts caller (orders.AmendOrg it) = amend_org_row facts.org caller it.title it.site
+outcome_on facts caller (orders.Ask it) =
+    ask_row facts.org (vendor_there facts.vendors.now facts.vendor) (licence_allowed facts.founding.now it.terms.licence)
+    facts.open_count facts.petitions (option_map (standing_in_at facts facts.vendor) it.want) caller
+    (new_petition facts.vendor it.org it.want it.title it.terms)
+outcome_on facts caller (orders.Grant it) =
     grant_row facts.founding.now.curators facts.founding.now.vendor facts.petition
-    (option_map (standing_in facts) (number_chosen named facts.petition facts.least)) caller id
-outcome_on facts caller (Decline id) = decline_row facts.founding.now.curators facts.petition caller id
-outcome_on facts caller (Withdraw id) = withdraw_row facts.petition facts.org caller id
-outcome_on facts caller (Amend pid title terms vendor) =
-    amend_row facts.founding.now.vendor (standing_in_at facts facts.vendor pid) facts.org
-    (licence_allowed facts.founding.now terms.licence) caller (new_card title terms)
-outcome_on facts caller (Return pid vendor) =
-    return_row facts.founding.now.vendor (standing_in_at facts facts.vendor pid) facts.org caller
-outcome_on facts caller (Reserve span vendor) =
+    (option_map (standing_in facts) (number_chosen it.number facts.petition facts.least)) caller it.petition
+outcome_on facts caller (orders.Decline it) = decline_row facts.founding.now.curators facts.petition caller it.petition
+outcome_on facts caller (orders.Withdraw it) = withdraw_row facts.petition facts.org caller it.petition
+outcome_on facts caller (orders.Amend it) =
+    amend_row facts.founding.now.vendor (standing_in_at facts facts.vendor it.number) facts.org
+    (licence_allowed facts.founding.now it.terms.licence) caller (new_card it.title it.terms)
+outcome_on facts caller (orders.Return it) =
+    return_row facts.founding.now.vendor (standing_in_at facts facts.vendor it.number) facts.org caller
+outcome_on facts caller (orders.Reserve it) =
     reserve_row facts.founding.now.curators facts.founding.now.vendor (vendor_there facts.vendors.now facts.vendor)
-    (span_meets_fixed facts.founding.now facts.vendor span)
-    (least_owned_in facts.holdings facts.vendor span) caller facts.vendor span
-outcome_on facts caller (Release span vendor) =
+    (span_meets_fixed facts.founding.now facts.vendor it.span)
+    (least_owned_in facts.holdings facts.vendor it.span) caller facts.vendor it.span
+outcome_on facts caller (orders.Release it) =
     release_row facts.founding.now.curators facts.founding.now.vendor (vendor_there facts.vendors.now facts.vendor)
-    (span_meets_fixed facts.founding.now facts.vendor span)
-    (span_is_reserved facts.reserved.now span) caller facts.vendor span
-outcome_on facts caller (Import org items vendor) =
+    (span_meets_fixed facts.founding.now facts.vendor it.span)
+    (span_is_reserved facts.reserved.now it.span) caller facts.vendor it.span
+outcome_on facts caller (orders.Import it) =
     import_row facts.founding.now.curators facts.org (vendor_there facts.vendors.now facts.vendor)
-    (classes_from (standing_in_at facts facts.vendor) [] items) caller facts.vendor org items
-outcome_on facts caller (AddVendor vid name) =
-    add_vendor_row facts.founding.now.curators (vendor_there facts.vendors.now vid) (length facts.vendors.now) caller vid name
-outcome_on facts caller (AddLicence licence) =
-    add_licence_row facts.founding.now.curators (licence_allowed facts.founding.now licence) (length facts.founding.now.licences) caller licence
+    (classes_from (standing_in_at facts facts.vendor) [] it.items) caller facts.vendor it.org it.items
+outcome_on facts caller (orders.AddVendor it) =
+    add_vendor_row facts.founding.now.curators (vendor_there facts.vendors.now it.vendor) (length facts.vendors.now) caller it.vendor it.name
+outcome_on facts caller (orders.AddLicence it) =
+    add_licence_row facts.founding.now.curators (licence_allowed facts.founding.now it.licence) (length facts.founding.now.licences) caller it.licence

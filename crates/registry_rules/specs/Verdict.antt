@@ -16,7 +16,7 @@ use Rattle.registry_rules.specs.declared.deed.Deed.{Deed}
 use Rattle.registry_rules.specs.declared.deed.Act.{Act}
 use Rattle.registry_rules.specs.declared.facts.Kept.{Kept}
 use Rattle.registry_rules.specs.declared.order.Order.{Order}
-use Rattle.registry_rules.specs.declared.order.Order.TheVariants.{Enrol, AmendOrg, Ask, Grant, Decline, Withdraw, Amend, Return, Reserve, Release, Import, AddVendor, AddLicence}
+use Rattle.registry_rules.specs.declared.order.Order.TheVariants as orders
 use Rattle.registry_rules.specs.declared.order.Request.{Request}
 use Rattle.registry_rules.specs.declared.record.Org.{Org}
 use Rattle.registry_rules.specs.declared.record.Petition.{Petition}
@@ -85,32 +85,32 @@ new_card title terms = record { title = title; terms = Some terms }
 
 -- what an order of the caller does, or why it does nothing
 unfoldable pub outcome : History → List ℕ → Order → Result Act Refusal
-outcome h caller (Enrol org title site) = enrol_row (org_of h org) (length (enrolled h)) (new_org caller org title site)
-outcome h caller (AmendOrg org title site) = amend_org_row (org_of h org) caller title site
-outcome h caller (Ask org want title terms vendor) =
-    ask_row (org_of h org) (has_vendor h (vendor_meant h vendor)) (is_licence h terms.licence) (open_count h org) (length (asked h))
-    (option_map (standing_at h (vendor_meant h vendor)) want) caller (new_petition (vendor_meant h vendor) org want title terms)
-outcome h caller (Grant id named) =
-    grant_row h.founding.curators h.founding.vendor (petition_of h id)
-    (option_map (standing_of h) (number_chosen named (petition_of h id) (least_for h (petition_of h id)))) caller id
-outcome h caller (Decline id) = decline_row h.founding.curators (petition_of h id) caller id
-outcome h caller (Withdraw id) = withdraw_row (petition_of h id) (org_petitioning h id) caller id
-outcome h caller (Amend pid title terms vendor) =
-    amend_row h.founding.vendor (standing_at h (vendor_meant h vendor) pid) (org_owning h (number (vendor_meant h vendor) pid))
-    (is_licence h terms.licence) caller (new_card title terms)
-outcome h caller (Return pid vendor) =
-    return_row h.founding.vendor (standing_at h (vendor_meant h vendor) pid) (org_owning h (number (vendor_meant h vendor) pid)) caller
-outcome h caller (Reserve span vendor) =
-    reserve_row h.founding.curators h.founding.vendor (has_vendor h (vendor_meant h vendor)) (meets_fixed h (vendor_meant h vendor) span)
-    (least_owned h (vendor_meant h vendor) span) caller (vendor_meant h vendor) span
-outcome h caller (Release span vendor) =
-    release_row h.founding.curators h.founding.vendor (has_vendor h (vendor_meant h vendor)) (meets_fixed h (vendor_meant h vendor) span)
-    (all_reserved h (vendor_meant h vendor) span) caller (vendor_meant h vendor) span
-outcome h caller (Import org items vendor) =
-    import_row h.founding.curators (org_of h org) (has_vendor h (vendor_meant h vendor)) (classes_from (standing_at h (vendor_meant h vendor)) [] items)
-    caller (vendor_meant h vendor) org items
-outcome h caller (AddVendor vid name) = add_vendor_row h.founding.curators (has_vendor h vid) (length (vendors h)) caller vid name
-outcome h caller (AddLicence licence) = add_licence_row h.founding.curators (is_licence h licence) (length (licences h)) caller licence
+outcome h caller (orders.Enrol it) = enrol_row (org_of h it.org) (length (enrolled h)) (new_org caller it.org it.title it.site)
+outcome h caller (orders.AmendOrg it) = amend_org_row (org_of h it.org) caller it.title it.site
+outcome h caller (orders.Ask it) =
+    ask_row (org_of h it.org) (has_vendor h (vendor_meant h it.vendor)) (is_licence h it.terms.licence) (open_count h it.org) (length (asked h))
+    (option_map (standing_at h (vendor_meant h it.vendor)) it.want) caller (new_petition (vendor_meant h it.vendor) it.org it.want it.title it.terms)
+outcome h caller (orders.Grant it) =
+    grant_row h.founding.curators h.founding.vendor (petition_of h it.petition)
+    (option_map (standing_of h) (number_chosen it.number (petition_of h it.petition) (least_for h (petition_of h it.petition)))) caller it.petition
+outcome h caller (orders.Decline it) = decline_row h.founding.curators (petition_of h it.petition) caller it.petition
+outcome h caller (orders.Withdraw it) = withdraw_row (petition_of h it.petition) (org_petitioning h it.petition) caller it.petition
+outcome h caller (orders.Amend it) =
+    amend_row h.founding.vendor (standing_at h (vendor_meant h it.vendor) it.number) (org_owning h (number (vendor_meant h it.vendor) it.number))
+    (is_licence h it.terms.licence) caller (new_card it.title it.terms)
+outcome h caller (orders.Return it) =
+    return_row h.founding.vendor (standing_at h (vendor_meant h it.vendor) it.number) (org_owning h (number (vendor_meant h it.vendor) it.number)) caller
+outcome h caller (orders.Reserve it) =
+    reserve_row h.founding.curators h.founding.vendor (has_vendor h (vendor_meant h it.vendor)) (meets_fixed h (vendor_meant h it.vendor) it.span)
+    (least_owned h (vendor_meant h it.vendor) it.span) caller (vendor_meant h it.vendor) it.span
+outcome h caller (orders.Release it) =
+    release_row h.founding.curators h.founding.vendor (has_vendor h (vendor_meant h it.vendor)) (meets_fixed h (vendor_meant h it.vendor) it.span)
+    (all_reserved h (vendor_meant h it.vendor) it.span) caller (vendor_meant h it.vendor) it.span
+outcome h caller (orders.Import it) =
+    import_row h.founding.curators (org_of h it.org) (has_vendor h (vendor_meant h it.vendor)) (classes_from (standing_at h (vendor_meant h it.vendor)) [] it.items)
+    caller (vendor_meant h it.vendor) it.org it.items
+outcome h caller (orders.AddVendor it) = add_vendor_row h.founding.curators (has_vendor h it.vendor) (length (vendors h)) caller it.vendor it.name
+outcome h caller (orders.AddLicence it) = add_licence_row h.founding.curators (is_licence h it.licence) (length (licences h)) caller it.licence
 
 -- what is kept of a deed: its order's spelling and its reply
 abbrev pub kept_of : Deed → Kept

@@ -1,3 +1,5 @@
+//! What an order concerns: its vendor, its numbers and its organisation.
+
 ghost use Rattle.std.specs.Prelude.{◌≡◌, ℕ, true, false, nat_eq, IfSome, IsSomeAnd};
 ghost use Rattle.std.specs.List.{list_any};
 ghost use Rattle.std.specs.Option.{option_copied, option_map};
@@ -9,7 +11,7 @@ ghost use Rattle.registry_rules.specs.Number.{number};
 ghost use Rattle.registry_rules.specs.OnFacts.{meant};
 ghost use Rattle.registry_rules.specs.Verdict.{least_for};
 
-use crate::{Holdings, Item, Order, Petition};
+use crate::{Amend, Holdings, Item, Order, Petition, Release, Reserve, Return};
 use usbnum_core::{Number, Pid, Slug, Span, Vid};
 
 /// Product numbers of a vendor, from the first to the last.
@@ -86,31 +88,31 @@ pub fn numbers_concerned(
         (n : Number) → concerns h order.now n ≡ true → IsSomeAnd result (λ range. (range.vid ≡ n.vid) × (span_has range.span n.pid ≡ true)) }
 {
     match order {
-        Order::Ask { want, vendor, .. } => {
-            let vid = vendor.unwrap_or(founding);
-            let span = only((*want)?);
+        Order::Ask(it) => {
+            let vid = it.vendor.unwrap_or(founding);
+            let span = only(it.want?);
             Some(VendorSpan { vid, span })
         }
-        Order::Grant { number, .. } => {
+        Order::Grant(it) => {
             let petition = petition?;
-            let pid = number.or(petition.want).or(least)?;
+            let pid = it.number.or(petition.want).or(least)?;
             let vid = petition.vid;
             let span = only(pid);
             Some(VendorSpan { vid, span })
         }
-        Order::Amend { number, vendor, .. } | Order::Return { number, vendor } => {
+        Order::Amend(Amend { number, vendor, .. }) | Order::Return(Return { number, vendor }) => {
             let vid = vendor.unwrap_or(founding);
             let span = only(*number);
             Some(VendorSpan { vid, span })
         }
-        Order::Reserve { span, vendor } | Order::Release { span, vendor } => {
+        Order::Reserve(Reserve { span, vendor }) | Order::Release(Release { span, vendor }) => {
             let vid = vendor.unwrap_or(founding);
             let span = *span;
             Some(VendorSpan { vid, span })
         }
-        Order::Import { items, vendor, .. } => {
-            let vid = vendor.unwrap_or(founding);
-            let span = codes_span(items.as_slice())?;
+        Order::Import(it) => {
+            let vid = it.vendor.unwrap_or(founding);
+            let span = codes_span(it.items.as_slice())?;
             Some(VendorSpan { vid, span })
         }
         _ => None,
@@ -123,13 +125,13 @@ pub(crate) fn vid_concerned(order: &Order, founding: Vid, petition: Option<&Peti
     ensures { (h : History) → founding ≡ h.founding.vendor → option_copied petition.entry ≡ petition_named h order.now → result ≡ vendor_concerned h order.now }
 {
     match order {
-        Order::Ask { vendor, .. } => vendor.unwrap_or(founding),
-        Order::Amend { vendor, .. } => vendor.unwrap_or(founding),
-        Order::Return { vendor, .. } => vendor.unwrap_or(founding),
-        Order::Reserve { vendor, .. } => vendor.unwrap_or(founding),
-        Order::Release { vendor, .. } => vendor.unwrap_or(founding),
-        Order::Import { vendor, .. } => vendor.unwrap_or(founding),
-        Order::Grant { .. } | Order::Decline { .. } | Order::Withdraw { .. } => match petition {
+        Order::Ask(it) => it.vendor.unwrap_or(founding),
+        Order::Amend(it) => it.vendor.unwrap_or(founding),
+        Order::Return(it) => it.vendor.unwrap_or(founding),
+        Order::Reserve(it) => it.vendor.unwrap_or(founding),
+        Order::Release(it) => it.vendor.unwrap_or(founding),
+        Order::Import(it) => it.vendor.unwrap_or(founding),
+        Order::Grant(_) | Order::Decline(_) | Order::Withdraw(_) => match petition {
             Some(petition) => petition.vid,
             None => founding,
         },
@@ -161,13 +163,13 @@ pub fn org_concerned<'a>(
         ((n : Number) → concerns h order.now n ≡ true → holding_in holdings.now n ≡ holding_of h n) → option_copied result ≡ slug_concerned h order.now }
 {
     match order {
-        Order::Enrol { org, .. }
-        | Order::AmendOrg { org, .. }
-        | Order::Ask { org, .. }
-        | Order::Import { org, .. } => Some(org),
-        Order::Amend { number, vendor, .. } => owner_in(holdings, founding, *vendor, *number),
-        Order::Return { number, vendor } => owner_in(holdings, founding, *vendor, *number),
-        Order::Grant { .. } | Order::Decline { .. } | Order::Withdraw { .. } => {
+        Order::Enrol(it) => Some(&it.org),
+        Order::AmendOrg(it) => Some(&it.org),
+        Order::Ask(it) => Some(&it.org),
+        Order::Import(it) => Some(&it.org),
+        Order::Amend(it) => owner_in(holdings, founding, it.vendor, it.number),
+        Order::Return(it) => owner_in(holdings, founding, it.vendor, it.number),
+        Order::Grant(_) | Order::Decline(_) | Order::Withdraw(_) => {
             let petition = petition?;
             Some(&petition.org)
         }

@@ -1,3 +1,5 @@
+//! The verdict on a request.
+
 ghost use Rattle.std.specs.Prelude.{◌≡◌, Result, IfOk};
 ghost use Rattle.registry_rules.specs.FactsOf.{AreFactsOf};
 ghost use Rattle.registry_rules.specs.Gives.{Gives};
@@ -13,66 +15,26 @@ use crate::span_rows::{release, reserve};
 use crate::stop::Stop;
 use crate::{Act, Deed, Facts, Kept, Order, Refusal, Request, Verdict, request_bytes};
 use std::alloc::{AllocError, Global};
-use usbnum_core::{NoMemory, Number, Slug};
+use usbnum_core::{NoMemory, Slug};
 
-// What the order does, by the row of its checks.
-#[tactic(auto, unfolding(crate::specs::OnFacts::outcome_on))]
+// What the order does, by its checks.
 fn act_on(alloc: Global, facts: &Facts<'_>, caller: &Slug, order: &Order) -> Result<Act, Stop>
     ensures { Gives result (outcome_on facts.now caller.now order.now) }
 {
     match order {
-        Order::Enrol { org, title, site } => enrol(facts, caller, org, title, site),
-        Order::AmendOrg {
-            org: _,
-            title,
-            site,
-        } => amend_org(facts, caller, title, site),
-        Order::Ask {
-            org,
-            want,
-            title,
-            terms,
-            vendor: _,
-        } => {
-            let vid = facts.vendor;
-            ask(facts, caller, vid, org, *want, title, terms)
-        }
-        Order::Grant { petition, number } => grant(facts, caller, *petition, *number),
-        Order::Decline { petition } => decline(facts, caller, *petition),
-        Order::Withdraw { petition } => withdraw(facts, caller, *petition),
-        Order::Amend {
-            number,
-            title,
-            terms,
-            vendor: _,
-        } => {
-            let vid = facts.vendor;
-            let number = Number { vid, pid: *number };
-            amend(facts, caller, &number, title, terms)
-        }
-        Order::Return { number, vendor: _ } => {
-            let vid = facts.vendor;
-            let number = Number { vid, pid: *number };
-            give_back(facts, caller, &number)
-        }
-        Order::Reserve { span, vendor: _ } => {
-            let vid = facts.vendor;
-            reserve(facts, caller, vid, span)
-        }
-        Order::Release { span, vendor: _ } => {
-            let vid = facts.vendor;
-            release(facts, caller, vid, span)
-        }
-        Order::Import {
-            org,
-            items,
-            vendor: _,
-        } => {
-            let vid = facts.vendor;
-            import(alloc, facts, caller, vid, org, items)
-        }
-        Order::AddVendor { vendor, name } => add_vendor(facts, caller, *vendor, name),
-        Order::AddLicence { licence } => add_licence(facts, caller, licence),
+        Order::Enrol(it) => enrol(facts, caller, it),
+        Order::AmendOrg(it) => amend_org(facts, caller, it),
+        Order::Ask(it) => ask(facts, caller, it),
+        Order::Grant(it) => grant(facts, caller, it),
+        Order::Decline(it) => decline(facts, caller, it),
+        Order::Withdraw(it) => withdraw(facts, caller, it),
+        Order::Amend(it) => amend(facts, caller, it),
+        Order::Return(it) => give_back(facts, caller, it),
+        Order::Reserve(it) => reserve(facts, caller, it),
+        Order::Release(it) => release(facts, caller, it),
+        Order::Import(it) => import(alloc, facts, caller, it),
+        Order::AddVendor(it) => add_vendor(facts, caller, it),
+        Order::AddLicence(it) => add_licence(facts, caller, it),
     }
 }
 

@@ -1,11 +1,13 @@
+//! The checks of orders on spans.
+
 ghost use Rattle.std.specs.Prelude.{◌≡◌};
-ghost use Rattle.registry_rules.specs.Checks.{reserve_row, release_row};
 ghost use Rattle.registry_rules.specs.Gives.{Gives};
-ghost use Rattle.registry_rules.specs.OnFacts.{is_owned_in, least_with, vendor_there, span_meets_fixed, span_is_reserved, least_owned_in};
+ghost use Rattle.registry_rules.specs.OnFacts.{is_owned_in, least_with, span_meets_fixed, span_is_reserved, least_owned_in, outcome_on};
+ghost use Rattle.registry_rules.specs.declared.order.Order.TheVariants as orders;
 
 use crate::checks::{check_curator, check_vendor, number_name, span_name};
 use crate::stop::Stop;
-use crate::{Act, Facts, Founding, Holding, Holdings, Refusal};
+use crate::{Act, Facts, Founding, Holding, Holdings, Refusal, Release, Reserve};
 use usbnum_core::{Number, Pid, Slug, Span, Spans, Vid};
 
 // Whether a number of the span is fixed.
@@ -56,35 +58,37 @@ fn least_owned(holdings: &Holdings, vid: Vid, span: &Span) -> Option<Pid>
     least
 }
 
-pub(crate) fn reserve(facts: &Facts<'_>, caller: &Slug, vid: Vid, span: &Span) -> Result<Act, Stop>
-    ensures { Gives result (reserve_row facts.now.founding.now.curators facts.now.founding.now.vendor (vendor_there facts.now.vendors.now vid)
-        (span_meets_fixed facts.now.founding.now vid span.now) (least_owned_in facts.now.holdings vid span.now) caller.now vid span.now) }
+#[tactic(auto, unfolding(crate::specs::OnFacts::outcome_on))]
+pub(crate) fn reserve(facts: &Facts<'_>, caller: &Slug, it: &Reserve) -> Result<Act, Stop>
+    ensures { Gives result (outcome_on facts.now caller.now (orders.Reserve it.now)) }
 {
+    let vid = facts.vendor;
     check_curator(facts.founding, caller)?;
     check_vendor(facts, vid)?;
-    if meets_fixed(facts.founding, vid, span) {
+    if meets_fixed(facts.founding, vid, &it.span) {
         return Err(Stop::Refused(Refusal::RangeFixed));
     }
-    let name = span_name(facts.founding, vid, span);
-    if let Some(pid) = least_owned(&facts.holdings, vid, span) {
+    let name = span_name(facts.founding, vid, &it.span);
+    if let Some(pid) = least_owned(&facts.holdings, vid, &it.span) {
         let name = number_name(facts.founding, &Number { vid, pid });
         return Err(Stop::Refused(Refusal::RangeOwned(name)));
     }
     Ok(Act::Reserved { name })
 }
 
-pub(crate) fn release(facts: &Facts<'_>, caller: &Slug, vid: Vid, span: &Span) -> Result<Act, Stop>
-    ensures { Gives result (release_row facts.now.founding.now.curators facts.now.founding.now.vendor (vendor_there facts.now.vendors.now vid)
-        (span_meets_fixed facts.now.founding.now vid span.now) (span_is_reserved facts.now.reserved.now span.now) caller.now vid span.now) }
+#[tactic(auto, unfolding(crate::specs::OnFacts::outcome_on))]
+pub(crate) fn release(facts: &Facts<'_>, caller: &Slug, it: &Release) -> Result<Act, Stop>
+    ensures { Gives result (outcome_on facts.now caller.now (orders.Release it.now)) }
 {
+    let vid = facts.vendor;
     check_curator(facts.founding, caller)?;
     check_vendor(facts, vid)?;
-    if meets_fixed(facts.founding, vid, span) {
+    if meets_fixed(facts.founding, vid, &it.span) {
         return Err(Stop::Refused(Refusal::RangeFixed));
     }
-    if !is_reserved(facts.reserved, span) {
+    if !is_reserved(facts.reserved, &it.span) {
         return Err(Stop::Refused(Refusal::RangeNotReserved));
     }
-    let name = span_name(facts.founding, vid, span);
+    let name = span_name(facts.founding, vid, &it.span);
     Ok(Act::Released { name })
 }

@@ -1,10 +1,15 @@
+//! The spelling of an order, by which two orders are compared.
+
 ghost use Rattle.std.specs.Prelude.{◌≡◌, ◌++◌, ◌∷◌, Some, IfOk, map, codes};
 ghost use Rattle.std.specs.List.{join_with_byte};
 ghost use Rattle.std.specs.String.{string_bytes};
 ghost use Rattle.usbnum_core.specs.Number.{digits_of};
 ghost use Rattle.registry_rules.specs.Spelling.{spelling_of, number_field, vendor_fields, terms_fields, item_field, after_tabs};
 
-use crate::{Item, Order, Request, Spelling, Terms};
+use crate::{
+    AddLicence, AddVendor, AmendOrg, Decline, Enrol, Grant, Item, Order, Release, Request, Reserve,
+    Return, Spelling, Terms, Withdraw,
+};
 use std::alloc::{AllocError, Global};
 use std::fmt::{self, Write};
 use usbnum_core::{NoMemory, Pid, Slug, Title, Vid};
@@ -22,55 +27,50 @@ fn order_text(alloc: Global, order: &Order) -> Result<String, AllocError>
     ensures { IfOk result (λ text. string_bytes text ≡ spelling_of order.now) }
 {
     match order {
-        Order::Enrol { org, title, site } => format!(in alloc; "enrol\t{org}\t{title}\t{site}"),
-        Order::AmendOrg { org, title, site } => {
+        Order::Enrol(Enrol { org, title, site }) => {
+            format!(in alloc; "enrol\t{org}\t{title}\t{site}")
+        }
+        Order::AmendOrg(AmendOrg { org, title, site }) => {
             format!(in alloc; "amend-org\t{org}\t{title}\t{site}")
         }
-        Order::Ask {
-            org,
-            want,
-            title,
-            terms,
-            vendor,
-        } => {
-            let want = NumberField { number: *want };
-            let card = card_text(alloc, title, terms, *vendor)?;
+        Order::Ask(it) => {
+            let org = &it.org;
+            let want = NumberField { number: it.want };
+            let card = card_text(alloc, &it.title, &it.terms, it.vendor)?;
             format!(in alloc; "ask\t{org}\t{want}\t{card}")
         }
-        Order::Grant { petition, number } => {
+        Order::Grant(Grant { petition, number }) => {
             let number = NumberField { number: *number };
             format!(in alloc; "grant\t{petition}\t{number}")
         }
-        Order::Decline { petition } => format!(in alloc; "decline\t{petition}"),
-        Order::Withdraw { petition } => format!(in alloc; "withdraw\t{petition}"),
-        Order::Amend {
-            number,
-            title,
-            terms,
-            vendor,
-        } => {
-            let card = card_text(alloc, title, terms, *vendor)?;
+        Order::Decline(Decline { petition }) => format!(in alloc; "decline\t{petition}"),
+        Order::Withdraw(Withdraw { petition }) => format!(in alloc; "withdraw\t{petition}"),
+        Order::Amend(it) => {
+            let number = it.number;
+            let card = card_text(alloc, &it.title, &it.terms, it.vendor)?;
             format!(in alloc; "amend\t{number}\t{card}")
         }
-        Order::Return { number, vendor } => {
+        Order::Return(Return { number, vendor }) => {
             let vendor = VendorField { vendor: *vendor };
             format!(in alloc; "return\t{number}{vendor}")
         }
-        Order::Reserve { span, vendor } => {
+        Order::Reserve(Reserve { span, vendor }) => {
             let first = span.first();
             let last = span.last();
             let vendor = VendorField { vendor: *vendor };
             format!(in alloc; "reserve\t{first}\t{last}{vendor}")
         }
-        Order::Release { span, vendor } => {
+        Order::Release(Release { span, vendor }) => {
             let first = span.first();
             let last = span.last();
             let vendor = VendorField { vendor: *vendor };
             format!(in alloc; "release\t{first}\t{last}{vendor}")
         }
-        Order::Import { org, items, vendor } => import_text(alloc, org, items.as_slice(), *vendor),
-        Order::AddVendor { vendor, name } => format!(in alloc; "add-vendor\t{vendor}\t{name}"),
-        Order::AddLicence { licence } => format!(in alloc; "add-licence\t{licence}"),
+        Order::Import(it) => import_text(alloc, &it.org, it.items.as_slice(), it.vendor),
+        Order::AddVendor(AddVendor { vendor, name }) => {
+            format!(in alloc; "add-vendor\t{vendor}\t{name}")
+        }
+        Order::AddLicence(AddLicence { licence }) => format!(in alloc; "add-licence\t{licence}"),
     }
 }
 

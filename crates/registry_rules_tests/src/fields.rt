@@ -1,6 +1,6 @@
 //! Values from texts, a founding, and two requests.
 
-use registry_rules::{Curators, Founding, Licences, Order, Request, Terms};
+use registry_rules::{Ask, Curators, Enrol, Founding, Licences, Order, Request, Terms};
 use std::process::Abort;
 use usbnum_core::{Key, Link, Number, Pid, Slug, Span, Spans, Title, Vid};
 
@@ -69,11 +69,11 @@ fn request(rt: &(impl AllocGlobal + Abort), order: Order) -> Request {
 
 /// Ann enrols an organisation.
 pub(crate) fn enrol(rt: &(impl AllocGlobal + Abort), org: &str) -> Request {
-    let order = Order::Enrol {
+    let order = Order::Enrol(Enrol {
         org: slug(rt, org),
         title: title(rt, "Acme Tools"),
         site: link(rt),
-    };
+    });
     request(rt, order)
 }
 
@@ -84,12 +84,12 @@ pub(crate) fn ask(rt: &(impl AllocGlobal + Abort), org: &str) -> Request {
         site: link(rt),
         source: link(rt),
     };
-    let order = Order::Ask {
+    let order = Order::Ask(Ask {
         org: slug(rt, org),
         want: None,
         title: title(rt, "Lamp"),
         terms,
         vendor: None,
-    };
+    });
     request(rt, order)
 }

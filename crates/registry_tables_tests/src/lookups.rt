@@ -2,7 +2,9 @@
 
 use crate::stores::{Calls, add_answer, check, create_in, make};
 use crate::values::{a_number, founding, put_entry, put_org, put_petition, slug};
-use registry_rules::{Change, Facts, Founding, Order, PetitionState, Request, Text, Totals};
+use registry_rules::{
+    Change, Facts, Founding, Order, PetitionState, Request, Return, Text, Totals, Withdraw,
+};
 use registry_tables::{facts_for, keep_reply, totals};
 use sqlite::{Alter, Connection};
 use std::alloc::Global;
@@ -112,16 +114,16 @@ fn request(alloc: Global, caller: &str, order: Order) -> Result<Request, Fail> {
 }
 
 fn withdrawal(alloc: Global, caller: &str) -> Result<Request, Fail> {
-    request(alloc, caller, Order::Withdraw { petition: 1 })
+    request(alloc, caller, Order::Withdraw(Withdraw { petition: 1 }))
 }
 
 // The same of another caller, and one on a number.
 fn others(alloc: Global) -> Result<Vec<Request>, Fail> {
     let number = Pid::new(0x11).ok_or("no number")?;
-    let returned = Order::Return {
+    let returned = Order::Return(Return {
         number,
         vendor: None,
-    };
+    });
     let returned = request(alloc, "bob", returned)?;
     let mut all = Vec::new(alloc);
     all.push(withdrawal(alloc, "bob")?)?;

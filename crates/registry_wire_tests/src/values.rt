@@ -9,9 +9,12 @@ use usbnum_core::NoMemory;
 fn value(alloc: Global, line: &str) -> Result<String, NoMemory> {
     match line_request(alloc, line.as_bytes())? {
         Ok(request) => match &request.order {
-            Order::AddLicence { licence } => Ok(String::from_str(alloc, licence.as_str())?),
-            Order::AmendOrg { site, .. } => Ok(String::from_str(alloc, site.as_str())?),
-            Order::Decline { petition } => Ok(format!(in alloc; "{petition}")?),
+            Order::AddLicence(it) => Ok(String::from_str(alloc, it.licence.as_str())?),
+            Order::AmendOrg(it) => Ok(String::from_str(alloc, it.site.as_str())?),
+            Order::Decline(it) => {
+                let petition = it.petition;
+                Ok(format!(in alloc; "{petition}")?)
+            },
             _ => Ok(String::new(alloc)),
         },
         Err(refusal) => refusal_json(alloc, refusal),
