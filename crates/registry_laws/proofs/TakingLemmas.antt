@@ -14,7 +14,7 @@ use Rattle.usbids_text.specs.declared.kind.Kind.{Kind}
 use Rattle.usbids_text.specs.declared.kind.Kind.TheVariants.{Vendor as OfVendor, Tagged}
 use Rattle.usbids_text.proofs.EntryLemmas.{both}
 use Rattle.registry_rules.specs.Changes.{entry_imported}
-use Rattle.registry_rules.specs.Checks.{import_row}
+use Rattle.registry_rules.specs.Checks.{import_checks}
 use Rattle.registry_rules.specs.History.{History, with_deed}
 use Rattle.registry_rules.specs.Import.{classes_from, fresh_of, tally_of}
 use Rattle.registry_rules.specs.Number.{number}
@@ -157,7 +157,7 @@ entries_by h vid org doc deed tally titles free act n =
 
 row : (curators : List (List ℕ)) (known : Option Org) (there : Bool) (classes : List ItemClass) (caller : List ℕ) (vid : ℕ) (org : List ℕ) (items : List Item) →
     list_any (bytes_eq caller) curators ≡ true → is_some known ≡ true → there ≡ true → length items ≤ MOST_ITEMS →
-    import_row curators known there classes caller vid org items ≡ Ok (Imported vid org (fresh_of classes items) (tally_of classes))
+    import_checks curators known there classes caller vid org items ≡ Ok (Imported vid org (fresh_of classes items) (tally_of classes))
 row curators None there classes caller vid org items c k t s = absurd cc
 row curators (Some o) there classes caller vid org items c k t s = let short : nat_le (length items) MOST_ITEMS ≡ true = grind arith in rw (c, t, short) refl
 

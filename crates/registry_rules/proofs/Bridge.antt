@@ -12,7 +12,7 @@ use Rattle.registry_rules.specs.Number.{number, is_number}
 use Rattle.registry_rules.specs.History.{History, sooner, first_of, last_of}
 use Rattle.registry_rules.specs.Import.{Standing, class_of, classes_from}
 use Rattle.registry_rules.specs.Query.{owner_of, is_held, is_reserved, holds, receiver, item_of, given, petition_of, least, org_of, open_count, asked, has_vendor, vendor_meant, is_licence}
-use Rattle.registry_rules.specs.Checks.{ask_row, grant_row, amend_row, return_row, reserve_row, release_row, import_row}
+use Rattle.registry_rules.specs.Checks.{ask_checks, grant_checks, amend_checks, return_checks, reserve_checks, release_checks, import_checks}
 use Rattle.registry_rules.specs.Verdict.{outcome, deed_for, verdict, verdict_by, standing_of, standing_at, org_owning, number_chosen, pid_chosen, least_for, least_owned, meets_fixed, new_petition, new_card, kept_under}
 use Rattle.registry_rules.specs.FactsOf.{AreFactsOf, slug_concerned, petition_named, vendor_concerned, open_concerned, org_concerned, concerns, is_the, holding_of, holding_in}
 use Rattle.registry_rules.specs.OnFacts.{outcome_on, standing_in, standing_in_at, least_owned_in}
@@ -125,35 +125,35 @@ same_for h caller key (orders.Enrol it) facts are = rw (are.org, are.orgs) refl
 same_for h caller key (orders.AmendOrg it) facts are = rw are.org refl
 same_for h caller key (orders.Ask it) facts are =
     rw (are.vendor, are.founding.allowed it.terms.licence, are.vendors.each (vendor_meant h it.vendor), are.org, are.still_open, are.petitions)
-    (ap (λ wanted. ask_row (org_of h it.org) (has_vendor h (vendor_meant h it.vendor)) (is_licence h it.terms.licence) (open_count h it.org) (length (asked h)) wanted caller
+    (ap (λ wanted. ask_checks (org_of h it.org) (has_vendor h (vendor_meant h it.vendor)) (is_licence h it.terms.licence) (open_count h it.org) (length (asked h)) wanted caller
     (new_petition (vendor_meant h it.vendor) it.org it.want it.title it.terms))
     (same_wanted h facts (vendor_meant h it.vendor) it.want are.reserved
     (λ pid is. are.holdings (number (vendor_meant h it.vendor) pid)
     (and_from (nat_eq (vendor_meant h it.vendor) (vendor_meant h it.vendor)) _ (eq-eqb (vendor_meant h it.vendor) (vendor_meant h it.vendor) refl) (ap (λ w. is_the w pid) is ∙ eq-eqb pid pid refl)))))
 same_for h caller key (orders.Grant it) facts are =
     rw (are.founding.curators, are.founding.vendor, are.petition, are.least)
-    (ap (λ chosen. grant_row h.founding.curators h.founding.vendor (petition_of h it.petition) chosen caller it.petition) (same_chosen h facts h.founding.vendor it.number (petition_of h it.petition) are.reserved are.holdings))
+    (ap (λ chosen. grant_checks h.founding.curators h.founding.vendor (petition_of h it.petition) chosen caller it.petition) (same_chosen h facts h.founding.vendor it.number (petition_of h it.petition) are.reserved are.holdings))
 same_for h caller key (orders.Decline it) facts are = rw (are.founding.curators, are.petition) refl
 same_for h caller key (orders.Withdraw it) facts are = rw (are.petition, are.org) refl
 same_for h caller key (orders.Amend it) facts are =
     rw (are.founding.vendor, are.vendor, are.org, are.founding.allowed it.terms.licence)
-    (ap (λ s. amend_row h.founding.vendor s (org_owning h (number (vendor_meant h it.vendor) it.number)) (is_licence h it.terms.licence) caller (new_card it.title it.terms))
+    (ap (λ s. amend_checks h.founding.vendor s (org_owning h (number (vendor_meant h it.vendor) it.number)) (is_licence h it.terms.licence) caller (new_card it.title it.terms))
     (same_standing h facts (number (vendor_meant h it.vendor) it.number) (are.reserved it.number) (are.holdings (number (vendor_meant h it.vendor) it.number) (is_itself (number (vendor_meant h it.vendor) it.number)))))
 same_for h caller key (orders.Return it) facts are =
     rw (are.founding.vendor, are.vendor, are.org)
-    (ap (λ s. return_row h.founding.vendor s (org_owning h (number (vendor_meant h it.vendor) it.number)) caller)
+    (ap (λ s. return_checks h.founding.vendor s (org_owning h (number (vendor_meant h it.vendor) it.number)) caller)
     (same_standing h facts (number (vendor_meant h it.vendor) it.number) (are.reserved it.number) (are.holdings (number (vendor_meant h it.vendor) it.number) (is_itself (number (vendor_meant h it.vendor) it.number)))))
 same_for h caller key (orders.Reserve it) facts are =
     rw (are.founding.curators, are.founding.vendor, are.vendor, are.founding.fixed, are.vendors.each (vendor_meant h it.vendor))
-    (ap (λ least. reserve_row h.founding.curators h.founding.vendor (has_vendor h (vendor_meant h it.vendor)) (meets_fixed h (vendor_meant h it.vendor) it.span) least caller (vendor_meant h it.vendor) it.span)
+    (ap (λ least. reserve_checks h.founding.curators h.founding.vendor (has_vendor h (vendor_meant h it.vendor)) (meets_fixed h (vendor_meant h it.vendor) it.span) least caller (vendor_meant h it.vendor) it.span)
     (same_least h facts (vendor_meant h it.vendor) it.span are.holdings))
 same_for h caller key (orders.Release it) facts are =
     rw (are.founding.curators, are.founding.vendor, are.vendor, are.founding.fixed, are.vendors.each (vendor_meant h it.vendor))
-    (ap (λ all. release_row h.founding.curators h.founding.vendor (has_vendor h (vendor_meant h it.vendor)) (meets_fixed h (vendor_meant h it.vendor) it.span) all caller (vendor_meant h it.vendor) it.span)
+    (ap (λ all. release_checks h.founding.curators h.founding.vendor (has_vendor h (vendor_meant h it.vendor)) (meets_fixed h (vendor_meant h it.vendor) it.span) all caller (vendor_meant h it.vendor) it.span)
     (same_all (λ pid. spans_have facts.reserved.now pid) (λ pid. is_reserved h (number (vendor_meant h it.vendor) pid)) it.span.first (it.span.last + 1 - it.span.first) (λ pid from lt. are.reserved pid)))
 same_for h caller key (orders.Import it) facts are =
     rw (are.founding.curators, are.vendor, are.org, are.vendors.each (vendor_meant h it.vendor))
-    (ap (λ classes. import_row h.founding.curators (org_of h it.org) (has_vendor h (vendor_meant h it.vendor)) classes caller (vendor_meant h it.vendor) it.org it.items)
+    (ap (λ classes. import_checks h.founding.curators (org_of h it.org) (has_vendor h (vendor_meant h it.vendor)) classes caller (vendor_meant h it.vendor) it.org it.items)
     (same_classes (standing_in_at facts (vendor_meant h it.vendor)) (standing_at h (vendor_meant h it.vendor)) [] it.items
     (λ code nonzero among. same_standing h facts (number (vendor_meant h it.vendor) code) (are.reserved code)
     (are.holdings (number (vendor_meant h it.vendor) code)

@@ -15,7 +15,7 @@ use Rattle.registry_rules.specs.Run.{Legal}
 use Rattle.registry_rules.specs.Verdict.{standing_at}
 use Rattle.registry_rules.proofs.FollowLemmas.{Follows, legal_follows}
 use Rattle.registry_rules.proofs.ImportLemmas.{IsFreshItem, AreApart, has_code, item_is}
-use Rattle.registry_rules.proofs.RowsLemmas.{OwnerFits}
+use Rattle.registry_rules.proofs.CheckLemmas.{OwnerFits}
 use Rattle.registry_rules.proofs.RunLemmas.{legal_before}
 use Rattle.registry_rules.specs.declared.change.Change.TheVariants.{PutEntry}
 use Rattle.registry_rules.specs.declared.deed.Deed.{Deed}

@@ -12,7 +12,7 @@ use Rattle.registry_rules.specs.Import.{Standing, classes_from}
 use Rattle.registry_rules.specs.Verdict.{verdict, outcome, standing_of, standing_at, org_owning, org_petitioning, least_for, number_chosen, meets_fixed, all_reserved, least_owned, new_org, new_petition, new_card}
 use Rattle.registry_rules.specs.Run.{Legal, request_of}
 use Rattle.registry_rules.proofs.RunLemmas.{IsNew, is_new, legal_verdict}
-use Rattle.registry_rules.proofs.RowsLemmas.{CanBeGiven, IsHeldByKeeper, enrol_ok, amend_org_ok, ask_ok, grant_ok, decline_ok, withdraw_ok, amend_ok, return_ok, reserve_ok, release_ok, import_ok, add_vendor_ok, add_licence_ok}
+use Rattle.registry_rules.proofs.CheckLemmas.{CanBeGiven, IsHeldByKeeper, enrol_ok, amend_org_ok, ask_ok, grant_ok, decline_ok, withdraw_ok, amend_ok, return_ok, reserve_ok, release_ok, import_ok, add_vendor_ok, add_licence_ok}
 use Rattle.registry_rules.proofs.ImportLemmas.{IsFreshItem, AreApart, all_fresh, all_apart}
 use Rattle.registry_rules.proofs.SpanLemmas.{none_in_span, none_of_span, all_of_span}
 use Rattle.registry_rules.specs.declared.deed.Deed.{Deed}

@@ -87,22 +87,22 @@ held_by_keeper standing known caller = do
   by_known_keeper known caller
 
 -- Enrol: 5, 18
-abbrev pub enrol_row : Option Org → ℕ → Org → Result Act Refusal
-enrol_row known orgs org = do
+abbrev pub enrol_checks : Option Org → ℕ → Org → Result Act Refusal
+enrol_checks known orgs org = do
   check (is_none known) OrgTaken
   check (nat_lt orgs MOST_ORGS) Full
   Ok (Enrolled org)
 
 -- AmendOrg: 4, 3
-abbrev pub amend_org_row : Option Org → List ℕ → List ℕ → List ℕ → Result Act Refusal
-amend_org_row known caller title site = do
+abbrev pub amend_org_checks : Option Org → List ℕ → List ℕ → List ℕ → Result Act Refusal
+amend_org_checks known caller title site = do
   org ← present known NoOrg
   by_keeper org caller
   Ok (OrgAmended (record org { title = title; site = site }))
 
 -- Ask: 4, 3, 34, 13, 14, 18, 8, 9, 10
-abbrev pub ask_row : Option Org → Bool → Bool → ℕ → ℕ → Option Standing → List ℕ → Petition → Result Act Refusal
-ask_row known vendor_there allowed still_open petitions wanted caller petition = do
+abbrev pub ask_checks : Option Org → Bool → Bool → ℕ → ℕ → Option Standing → List ℕ → Petition → Result Act Refusal
+ask_checks known vendor_there allowed still_open petitions wanted caller petition = do
   org ← present known NoOrg
   by_keeper org caller
   check vendor_there NoVendor
@@ -113,8 +113,8 @@ ask_row known vendor_there allowed still_open petitions wanted caller petition =
   Ok (Asked (petitions + 1) petition)
 
 -- Grant: 2, 6, 7, 12, 8, 9, 10
-abbrev pub grant_row : List (List ℕ) → ℕ → Option Petition → Option Standing → List ℕ → ℕ → Result Act Refusal
-grant_row curators founding petition chosen caller id = do
+abbrev pub grant_checks : List (List ℕ) → ℕ → Option Petition → Option Standing → List ℕ → ℕ → Result Act Refusal
+grant_checks curators founding petition chosen caller id = do
   by_curator curators caller
   petition ← open_petition petition
   standing ← present chosen NoneFree
@@ -122,30 +122,30 @@ grant_row curators founding petition chosen caller id = do
   Ok (Granted id petition (name_of founding standing.number))
 
 -- Decline: 2, 6, 7
-abbrev pub decline_row : List (List ℕ) → Option Petition → List ℕ → ℕ → Result Act Refusal
-decline_row curators petition caller id = do
+abbrev pub decline_checks : List (List ℕ) → Option Petition → List ℕ → ℕ → Result Act Refusal
+decline_checks curators petition caller id = do
   by_curator curators caller
   petition ← open_petition petition
   Ok (Declined id petition)
 
 -- Withdraw: 6, 3, 7
-abbrev pub withdraw_row : Option Petition → Option Org → List ℕ → ℕ → Result Act Refusal
-withdraw_row petition known caller id = do
+abbrev pub withdraw_checks : Option Petition → Option Org → List ℕ → ℕ → Result Act Refusal
+withdraw_checks petition known caller id = do
   petition ← present petition NoPetition
   by_known_keeper known caller
   check (is_open petition.state) PetitionClosed
   Ok (Withdrawn id petition)
 
 -- Amend: 11, 3, 13
-abbrev pub amend_row : ℕ → Standing → Option Org → Bool → List ℕ → Card → Result Act Refusal
-amend_row founding standing known allowed caller card = do
+abbrev pub amend_checks : ℕ → Standing → Option Org → Bool → List ℕ → Card → Result Act Refusal
+amend_checks founding standing known allowed caller card = do
   held_by_keeper standing known caller
   check allowed LicenceUnknown
   Ok (CardAmended (name_of founding standing.number) card)
 
 -- Return: 11, 3
-abbrev pub return_row : ℕ → Standing → Option Org → List ℕ → Result Act Refusal
-return_row founding standing known caller = do
+abbrev pub return_checks : ℕ → Standing → Option Org → List ℕ → Result Act Refusal
+return_checks founding standing known caller = do
   held_by_keeper standing known caller
   Ok (Returned (name_of founding standing.number))
 
@@ -155,8 +155,8 @@ none_owned founding vid None = Ok tt
 none_owned founding vid (Some pid) = Err (RangeOwned (name_of founding (number vid pid)))
 
 -- Reserve: 2, 34, 16, 15
-abbrev pub reserve_row : List (List ℕ) → ℕ → Bool → Bool → Option ℕ → List ℕ → ℕ → Span → Result Act Refusal
-reserve_row curators founding vendor_there meets_fixed least_owned caller vid span = do
+abbrev pub reserve_checks : List (List ℕ) → ℕ → Bool → Bool → Option ℕ → List ℕ → ℕ → Span → Result Act Refusal
+reserve_checks curators founding vendor_there meets_fixed least_owned caller vid span = do
   by_curator curators caller
   check vendor_there NoVendor
   check (not meets_fixed) RangeFixed
@@ -164,8 +164,8 @@ reserve_row curators founding vendor_there meets_fixed least_owned caller vid sp
   Ok (Reserved (span_name_of founding vid span))
 
 -- Release: 2, 34, 16, 17
-abbrev pub release_row : List (List ℕ) → ℕ → Bool → Bool → Bool → List ℕ → ℕ → Span → Result Act Refusal
-release_row curators founding vendor_there meets_fixed all_reserved caller vid span = do
+abbrev pub release_checks : List (List ℕ) → ℕ → Bool → Bool → Bool → List ℕ → ℕ → Span → Result Act Refusal
+release_checks curators founding vendor_there meets_fixed all_reserved caller vid span = do
   by_curator curators caller
   check vendor_there NoVendor
   check (not meets_fixed) RangeFixed
@@ -173,8 +173,8 @@ release_row curators founding vendor_there meets_fixed all_reserved caller vid s
   Ok (Released (span_name_of founding vid span))
 
 -- Import: 2, 4, 34, 19
-abbrev pub import_row : List (List ℕ) → Option Org → Bool → List ItemClass → List ℕ → ℕ → List ℕ → List Item → Result Act Refusal
-import_row curators known vendor_there classes caller vid org items = do
+abbrev pub import_checks : List (List ℕ) → Option Org → Bool → List ItemClass → List ℕ → ℕ → List ℕ → List Item → Result Act Refusal
+import_checks curators known vendor_there classes caller vid org items = do
   by_curator curators caller
   known ← present known NoOrg
   check vendor_there NoVendor
@@ -182,16 +182,16 @@ import_row curators known vendor_there classes caller vid org items = do
   Ok (Imported vid org (fresh_of classes items) (tally_of classes))
 
 -- AddVendor: 2, 33, 18
-abbrev pub add_vendor_row : List (List ℕ) → Bool → ℕ → List ℕ → ℕ → List ℕ → Result Act Refusal
-add_vendor_row curators vendor_there vendors caller vid name = do
+abbrev pub add_vendor_checks : List (List ℕ) → Bool → ℕ → List ℕ → ℕ → List ℕ → Result Act Refusal
+add_vendor_checks curators vendor_there vendors caller vid name = do
   by_curator curators caller
   check (not vendor_there) VendorTaken
   check (nat_lt vendors MOST_VENDORS) Full
   Ok (VendorAdded vid name)
 
 -- AddLicence: 2, 35, 18
-abbrev pub add_licence_row : List (List ℕ) → Bool → ℕ → List ℕ → List ℕ → Result Act Refusal
-add_licence_row curators allowed licences caller licence = do
+abbrev pub add_licence_checks : List (List ℕ) → Bool → ℕ → List ℕ → List ℕ → Result Act Refusal
+add_licence_checks curators allowed licences caller licence = do
   by_curator curators caller
   check (not allowed) LicenceTaken
   check (nat_lt licences MOST_LICENCES) Full

@@ -1,3 +1,5 @@
+//! What is to be changed in what is kept of a history.
+
 use crate::{Card, Entry, Org, Petition};
 use usbnum_core::{Number, Span, Title, Vid};
 

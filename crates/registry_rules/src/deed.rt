@@ -1,3 +1,5 @@
+//! What accepted requests did.
+
 use crate::{Card, Items, NumberName, Order, Org, Petition, SpanName, Tally};
 use usbnum_core::{Key, Slug, Title, Vid};
 

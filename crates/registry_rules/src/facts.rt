@@ -1,3 +1,5 @@
+//! What is known of a history where a request is judged.
+
 ghost use Rattle.std.specs.Prelude.{◌≡◌, find};
 ghost use Rattle.std.specs.Option.{option_copied};
 ghost use Rattle.registry_rules.specs.Number.{is_number};

@@ -8,10 +8,10 @@ ghost use Rattle.registry_rules.specs.OnFacts.{outcome_on};
 ghost use Rattle.registry_rules.specs.Verdict.{verdict, verdict_by, deed_for};
 
 use crate::importing::import;
-use crate::rows::{
+use crate::order_checks::{
     add_licence, add_vendor, amend, amend_org, ask, decline, enrol, give_back, grant, withdraw,
 };
-use crate::span_rows::{release, reserve};
+use crate::span_checks::{release, reserve};
 use crate::stop::Stop;
 use crate::{Act, Deed, Facts, Kept, Order, Refusal, Request, Verdict, request_bytes};
 use std::alloc::{AllocError, Global};

@@ -1,3 +1,5 @@
+//! Refusals, with their numbers and names.
+
 ghost use Rattle.std.specs.Prelude.{◌≡◌, IfOk};
 ghost use Rattle.registry_rules.specs.Reply.{refusal_number, refusal_name, refusal_detail};
 

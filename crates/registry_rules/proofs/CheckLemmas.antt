@@ -1,4 +1,4 @@
--- What an order's row says where it accepts: which checks passed, and what the act is.
+-- What the checks of an order say where they accept it: which of them passed, and what the act is.
 use Rattle.std.proofs.Common.{◌≡◌, ℕ, ◌+◌, List, Option, Some, None, Result, Ok, Err, Bool, true, false, length, refl, sym}
 use Rattle.std.specs.Prelude.{not, nat_lt, nat_le}
 use Rattle.std.specs.List.{list_any}
@@ -8,7 +8,7 @@ use Rattle.usbnum_core.specs.declared.number.Span.{Span}
 use Rattle.registry_rules.specs.Number.{name_of, span_name_of}
 use Rattle.registry_rules.specs.Query.{is_open}
 use Rattle.registry_rules.specs.Import.{Standing, fresh_of, tally_of}
-use Rattle.registry_rules.specs.Checks.{◌>>=◌, Passed, ◌>>◌, check, present, open_petition, by_known_keeper, not_anothers, can_be_given, wanted_can_be_given, held_by_keeper, none_owned, enrol_row, amend_org_row, ask_row, grant_row, decline_row, withdraw_row, amend_row, return_row, reserve_row, release_row, import_row, add_vendor_row, add_licence_row}
+use Rattle.registry_rules.specs.Checks.{◌>>=◌, Passed, ◌>>◌, check, present, open_petition, by_known_keeper, not_anothers, can_be_given, wanted_can_be_given, held_by_keeper, none_owned, enrol_checks, amend_org_checks, ask_checks, grant_checks, decline_checks, withdraw_checks, amend_checks, return_checks, reserve_checks, release_checks, import_checks, add_vendor_checks, add_licence_checks}
 use Rattle.registry_rules.specs.declared.deed.Act.{Act}
 use Rattle.registry_rules.specs.declared.deed.Act.TheVariants.{Enrolled, OrgAmended, Asked, Granted, Declined, Withdrawn, CardAmended, Returned, Reserved, Released, Imported, VendorAdded, LicenceAdded}
 use Rattle.registry_rules.specs.declared.item.Item.{Item}
@@ -92,7 +92,7 @@ pub record IsEnrolment (known : Option Org) (orgs : ℕ) (org : Org) (act : Act)
   pub below : nat_lt orgs MOST_ORGS ≡ true
   pub does : act ≡ Enrolled org
 
-pub enrol_ok : (known : Option Org) (orgs : ℕ) (org : Org) (act : Act) → enrol_row known orgs org ≡ Ok act → IsEnrolment known orgs org act
+pub enrol_ok : (known : Option Org) (orgs : ℕ) (org : Org) (act : Act) → enrol_checks known orgs org ≡ Ok act → IsEnrolment known orgs org act
 enrol_ok None orgs org act e =
     let room = passed (nat_lt orgs MOST_ORGS) _ _ act e in
     let same : Ok (Enrolled org) ≡ Ok act = room.1 in
@@ -105,7 +105,7 @@ pub record IsOrgAmendment (known : Option Org) (caller title site : List ℕ) (a
   pub keeper : org.keeper ≡ caller
   pub does : act ≡ OrgAmended (record org { title = title; site = site })
 
-pub amend_org_ok : (known : Option Org) (caller title site : List ℕ) (act : Act) → amend_org_row known caller title site ≡ Ok act → IsOrgAmendment known caller title site act
+pub amend_org_ok : (known : Option Org) (caller title site : List ℕ) (act : Act) → amend_org_checks known caller title site ≡ Ok act → IsOrgAmendment known caller title site act
 amend_org_ok None caller title site act e = absurd cc
 amend_org_ok (Some org) caller title site act e =
     let kept = passed (bytes_eq org.keeper caller) _ _ act e in
@@ -124,7 +124,7 @@ pub record IsAsk (known : Option Org) (vendor_there allowed : Bool) (still_open 
   pub does : act ≡ Asked (petitions + 1) petition
 
 pub ask_ok : (known : Option Org) (vendor_there allowed : Bool) (still_open petitions : ℕ) (wanted : Option Standing) (caller : List ℕ) (petition : Petition) (act : Act) →
-    ask_row known vendor_there allowed still_open petitions wanted caller petition ≡ Ok act → IsAsk known vendor_there allowed still_open petitions wanted caller petition act
+    ask_checks known vendor_there allowed still_open petitions wanted caller petition ≡ Ok act → IsAsk known vendor_there allowed still_open petitions wanted caller petition act
 ask_ok None vendor_there allowed still_open petitions wanted caller petition act e = absurd cc
 ask_ok (Some org) vendor_there allowed still_open petitions wanted caller petition act e =
     let a = passed (bytes_eq org.keeper caller) _ _ act e in
@@ -157,7 +157,7 @@ pub record IsGrant (curators : List (List ℕ)) (founding : ℕ) (found : Option
   pub does : act ≡ Granted id petition (name_of founding standing.number)
 
 pub grant_ok : (curators : List (List ℕ)) (founding : ℕ) (found : Option Petition) (chosen : Option Standing) (caller : List ℕ) (id : ℕ) (act : Act) →
-    grant_row curators founding found chosen caller id ≡ Ok act → IsGrant curators founding found chosen caller id act
+    grant_checks curators founding found chosen caller id ≡ Ok act → IsGrant curators founding found chosen caller id act
 grant_ok curators founding found chosen caller id act e =
     let a = passed (list_any (bytes_eq caller) curators) _ _ act e in
     let b = opened found _ act a.1 in
@@ -182,7 +182,7 @@ pub record IsDecline (curators : List (List ℕ)) (found : Option Petition) (cal
   pub was_open : petition.state ≡ Open
   pub does : act ≡ Declined id petition
 
-pub decline_ok : (curators : List (List ℕ)) (found : Option Petition) (caller : List ℕ) (id : ℕ) (act : Act) → decline_row curators found caller id ≡ Ok act → IsDecline curators found caller id act
+pub decline_ok : (curators : List (List ℕ)) (found : Option Petition) (caller : List ℕ) (id : ℕ) (act : Act) → decline_checks curators found caller id ≡ Ok act → IsDecline curators found caller id act
 decline_ok curators found caller id act e =
     let a = passed (list_any (bytes_eq caller) curators) _ _ act e in
     let b = opened found _ act a.1 in
@@ -202,7 +202,7 @@ pub record IsWithdrawal (found : Option Petition) (known : Option Org) (caller :
   pub was_open : petition.state ≡ Open
   pub does : act ≡ Withdrawn id petition
 
-pub withdraw_ok : (found : Option Petition) (known : Option Org) (caller : List ℕ) (id : ℕ) (act : Act) → withdraw_row found known caller id ≡ Ok act → IsWithdrawal found known caller id act
+pub withdraw_ok : (found : Option Petition) (known : Option Org) (caller : List ℕ) (id : ℕ) (act : Act) → withdraw_checks found known caller id ≡ Ok act → IsWithdrawal found known caller id act
 withdraw_ok found known caller id act e =
     let a = was_there found _ _ act e in
     let b = then_ok (by_known_keeper known caller) _ act a.2 in
@@ -230,7 +230,7 @@ pub record IsAmendment (founding : ℕ) (standing : Standing) (known : Option Or
   pub does : act ≡ CardAmended (name_of founding standing.number) card
 
 pub amend_ok : (founding : ℕ) (standing : Standing) (known : Option Org) (allowed : Bool) (caller : List ℕ) (card : Card) (act : Act) →
-    amend_row founding standing known allowed caller card ≡ Ok act → IsAmendment founding standing known allowed caller card act
+    amend_checks founding standing known allowed caller card ≡ Ok act → IsAmendment founding standing known allowed caller card act
 amend_ok founding standing known allowed caller card act e =
     let a = then_ok (held_by_keeper standing known caller) _ act e in
     let b = passed allowed _ _ act a.1 in
@@ -241,7 +241,7 @@ pub record IsReturn (founding : ℕ) (standing : Standing) (known : Option Org) 
   pub holder : IsHeldByKeeper standing known caller
   pub does : act ≡ Returned (name_of founding standing.number)
 
-pub return_ok : (founding : ℕ) (standing : Standing) (known : Option Org) (caller : List ℕ) (act : Act) → return_row founding standing known caller ≡ Ok act → IsReturn founding standing known caller act
+pub return_ok : (founding : ℕ) (standing : Standing) (known : Option Org) (caller : List ℕ) (act : Act) → return_checks founding standing known caller ≡ Ok act → IsReturn founding standing known caller act
 return_ok founding standing known caller act e =
     let a = then_ok (held_by_keeper standing known caller) _ act e in
     let same : Ok (Returned (name_of founding standing.number)) ≡ Ok act = a.1 in
@@ -259,7 +259,7 @@ pub record IsReservation (curators : List (List ℕ)) (founding : ℕ) (vendor_t
   pub does : act ≡ Reserved (span_name_of founding vid span)
 
 pub reserve_ok : (curators : List (List ℕ)) (founding : ℕ) (vendor_there meets_fixed : Bool) (least_owned : Option ℕ) (caller : List ℕ) (vid : ℕ) (span : Span) (act : Act) →
-    reserve_row curators founding vendor_there meets_fixed least_owned caller vid span ≡ Ok act → IsReservation curators founding vendor_there meets_fixed least_owned caller vid span act
+    reserve_checks curators founding vendor_there meets_fixed least_owned caller vid span ≡ Ok act → IsReservation curators founding vendor_there meets_fixed least_owned caller vid span act
 reserve_ok curators founding vendor_there meets_fixed least_owned caller vid span act e =
     let a = passed (list_any (bytes_eq caller) curators) _ _ act e in
     let b = passed vendor_there _ _ act a.1 in
@@ -276,7 +276,7 @@ pub record IsRelease (curators : List (List ℕ)) (founding : ℕ) (vendor_there
   pub does : act ≡ Released (span_name_of founding vid span)
 
 pub release_ok : (curators : List (List ℕ)) (founding : ℕ) (vendor_there meets_fixed all_reserved : Bool) (caller : List ℕ) (vid : ℕ) (span : Span) (act : Act) →
-    release_row curators founding vendor_there meets_fixed all_reserved caller vid span ≡ Ok act → IsRelease curators founding vendor_there meets_fixed all_reserved caller vid span act
+    release_checks curators founding vendor_there meets_fixed all_reserved caller vid span ≡ Ok act → IsRelease curators founding vendor_there meets_fixed all_reserved caller vid span act
 release_ok curators founding vendor_there meets_fixed all_reserved caller vid span act e =
     let a = passed (list_any (bytes_eq caller) curators) _ _ act e in
     let b = passed vendor_there _ _ act a.1 in
@@ -294,7 +294,7 @@ pub record IsImport (curators : List (List ℕ)) (known : Option Org) (vendor_th
   pub does : act ≡ Imported vid org (fresh_of classes items) (tally_of classes)
 
 pub import_ok : (curators : List (List ℕ)) (known : Option Org) (vendor_there : Bool) (classes : List ItemClass) (caller : List ℕ) (vid : ℕ) (org : List ℕ) (items : List Item) (act : Act) →
-    import_row curators known vendor_there classes caller vid org items ≡ Ok act → IsImport curators known vendor_there classes caller vid org items act
+    import_checks curators known vendor_there classes caller vid org items ≡ Ok act → IsImport curators known vendor_there classes caller vid org items act
 import_ok curators known vendor_there classes caller vid org items act e =
     let a = passed (list_any (bytes_eq caller) curators) _ _ act e in
     let b = was_there known _ _ act a.1 in
@@ -310,7 +310,7 @@ pub record IsVendorAddition (curators : List (List ℕ)) (vendor_there : Bool) (
   pub does : act ≡ VendorAdded vid name
 
 pub add_vendor_ok : (curators : List (List ℕ)) (vendor_there : Bool) (vendors : ℕ) (caller : List ℕ) (vid : ℕ) (name : List ℕ) (act : Act) →
-    add_vendor_row curators vendor_there vendors caller vid name ≡ Ok act → IsVendorAddition curators vendor_there vendors caller vid name act
+    add_vendor_checks curators vendor_there vendors caller vid name ≡ Ok act → IsVendorAddition curators vendor_there vendors caller vid name act
 add_vendor_ok curators vendor_there vendors caller vid name act e =
     let a = passed (list_any (bytes_eq caller) curators) _ _ act e in
     let b = passed (not vendor_there) _ _ act a.1 in
@@ -325,7 +325,7 @@ pub record IsLicenceAddition (curators : List (List ℕ)) (allowed : Bool) (lice
   pub does : act ≡ LicenceAdded licence
 
 pub add_licence_ok : (curators : List (List ℕ)) (allowed : Bool) (licences : ℕ) (caller licence : List ℕ) (act : Act) →
-    add_licence_row curators allowed licences caller licence ≡ Ok act → IsLicenceAddition curators allowed licences caller licence act
+    add_licence_checks curators allowed licences caller licence ≡ Ok act → IsLicenceAddition curators allowed licences caller licence act
 add_licence_ok curators allowed licences caller licence act e =
     let a = passed (list_any (bytes_eq caller) curators) _ _ act e in
     let b = passed (not allowed) _ _ act a.1 in
