@@ -86,12 +86,12 @@ fn query_text(alloc: Global, query: &Query) -> Result<String, NoMemory> {
     })
 }
 
-/// The caller, the key and the order's spelling, with tabs between them.
+/// The caller, the key and the order's canonical form, with tabs between them.
 fn request_text(alloc: Global, request: &Request) -> Result<String, NoMemory> {
     let (caller, key) = (request.caller.as_str(), request.key.as_str());
-    let spelling = request_bytes(alloc, request)?;
+    let form = request_bytes(alloc, request)?;
     let mut bytes = format!(in alloc; "{caller}\t{key}\t")?.into_bytes();
-    bytes.extend_from_slice(spelling.as_bytes())?;
+    bytes.extend_from_slice(form.as_bytes())?;
     Ok(text(alloc, bytes))
 }
 

@@ -8,7 +8,7 @@ ghost use Rattle.usbnum_core.specs.Text.{IsSlug, IsKey, IsTitle, IsLink};
 ghost use Rattle.registry_rows.specs.Rows.{flag, whole, IsSpan};
 ghost use Rattle.usbnum_core.specs.declared.number.Span.{Span as SpanValue};
 
-use registry_rules::{Spelling, Text};
+use registry_rules::{CanonicalForm, Text};
 use registry_schema::TableFault;
 use sqlite::Row;
 use sqlite::types::ValueRef;
@@ -116,8 +116,8 @@ pub fn reply_at(alloc: Global, row: &Row, at: usize) -> Result<Text, TableFault>
     }
 }
 
-/// The spelling in the column.
-pub fn spelling_at(alloc: Global, row: &Row, at: usize) -> Result<Spelling, TableFault>
+/// The canonical form in the column.
+pub fn canonical_form_at(alloc: Global, row: &Row, at: usize) -> Result<CanonicalForm, TableFault>
     ensures ok { IfOk result (λ bytes. column row.now at ≡ Blob bytes) }
     ensures foreign { result ≡ Err TableFault.Foreign → (bytes : _) → column row.now at ≢ Blob bytes }
 {
@@ -125,7 +125,7 @@ pub fn spelling_at(alloc: Global, row: &Row, at: usize) -> Result<Spelling, Tabl
         return Err(TableFault::Foreign);
     };
     match Vec::from_slice(alloc, bytes) {
-        Ok(bytes) => Ok(Spelling::new(bytes)),
+        Ok(bytes) => Ok(CanonicalForm::new(bytes)),
         Err(_) => Err(TableFault::NoMemory),
     }
 }

@@ -7,9 +7,9 @@ ghost use Rattle.sqlite_keyed.specs.Lists.{delete_where};
 ghost use Rattle.registry_rows.specs.Rows.{kept_row, is_kept_under};
 ghost use Rattle.registry_rows.specs.Steps.{Answers, Changes};
 
-use crate::columns::{key_at, reply_at, slug_at, spelling_at};
+use crate::columns::{canonical_form_at, key_at, reply_at, slug_at};
 use crate::decode::{FromRow, first_from};
-use registry_rules::{Kept, Spelling, Text};
+use registry_rules::{CanonicalForm, Kept, Text};
 use registry_schema::{TableFault, fault_of};
 use sqlite::{Alter, Row, Transaction, params};
 use std::alloc::Global;
@@ -35,19 +35,19 @@ impl FromRow for KeptRow {
             caller: slug_at(alloc, row, 0)?,
             key: key_at(alloc, row, 1)?,
             kept: Kept {
-                order: spelling_at(alloc, row, 2)?,
+                order: canonical_form_at(alloc, row, 2)?,
                 reply: reply_at(alloc, row, 3)?,
             },
         })
     }
 }
 
-/// Keeps the spelling and the reply under the caller and key.
+/// Keeps the canonical form and the reply under the caller and key.
 pub fn put_kept<S: Alter>(
     tx: &mut Transaction<'_, S>,
     caller: &Slug,
     key: &Key,
-    order: &Spelling,
+    order: &CanonicalForm,
     reply: &Text,
 ) -> Result<(), TableFault>
     ensures same_reference { tx.new.conn.ghost_name ≡ tx.old.conn.ghost_name }

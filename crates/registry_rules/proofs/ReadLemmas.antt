@@ -15,7 +15,7 @@ use Rattle.usbnum_core.specs.Text.{IsTitle}
 use Rattle.usbnum_core.specs.declared.number.Span.{Span}
 use Rattle.usbnum_core.proofs.Digits.{digits_read}
 use Rattle.usbnum_core.proofs.Same.{span_decides}
-use Rattle.registry_rules.specs.Spelling.{fields_of, spelling_of, number_field, vendor_fields, item_field}
+use Rattle.registry_rules.specs.CanonicalForm.{fields_of, canonical_form, number_field, vendor_fields, item_field}
 use Rattle.registry_rules.specs.Orders.{IsOrder, IsItem, IsNumberIfAny}
 use Rattle.registry_rules.proofs.FieldLemmas.{HasNoTab, same_fields, slug_has_no_tab, title_has_no_tab, link_has_no_tab}
 use Rattle.registry_rules.specs.declared.item.Item.{Item}
@@ -304,7 +304,7 @@ reads (orders.Import it) is =
 reads (orders.AddVendor it) is = ap (λ v. a_vendor v it.name) (number_reads it.vendor is.0)
 reads (orders.AddLicence it) is = refl
 
--- Orders with one spelling are one order.
+-- Orders with one canonical form are one order.
 
 filled : (order : Order) → 1 ≤ length (fields_of order)
 filled (orders.Enrol it) = omega arith
@@ -326,7 +326,7 @@ same_joined [] ys p q each others e = absurd (omega arith)
 same_joined (x ∷ xs) [] p q each others e = absurd (omega arith)
 same_joined (x ∷ xs) (y ∷ ys) p q each others e = same_fields x y xs ys each others e
 
-pub own_spelling : (a b : Order) → IsOrder a → IsOrder b → spelling_of a ≡ spelling_of b → a ≡ b
-unfolding spelling_of
-own_spelling a b is also e =
+pub own_canonical_form : (a b : Order) → IsOrder a → IsOrder b → canonical_form a ≡ canonical_form b → a ≡ b
+unfolding canonical_form
+own_canonical_form a b is also e =
     sym (reads a is) ∙ ap read (same_joined (fields_of a) (fields_of b) (filled a) (filled b) (tabless a is) (tabless b also) e) ∙ reads b also

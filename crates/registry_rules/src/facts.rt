@@ -4,7 +4,7 @@ ghost use Rattle.std.specs.Prelude.{◌≡◌, find};
 ghost use Rattle.std.specs.Option.{option_copied};
 ghost use Rattle.registry_rules.specs.Number.{is_number};
 
-use crate::{Founding, Holding, Org, Petition, Spelling, Text, Vendors};
+use crate::{CanonicalForm, Founding, Holding, Org, Petition, Text, Vendors};
 use std::marker::Model;
 use usbnum_core::{Number, Pid, Spans, Vid};
 
@@ -44,10 +44,10 @@ impl Holdings {
     }
 }
 
-/// What is kept of the accepted request of a caller and key: its order's spelling and its reply.
+/// What is kept of the accepted request of a caller and key: its order's canonical form and its reply.
 #[derive(Clone, Debug, Drop)]
 pub struct Kept {
-    pub order: Spelling,
+    pub order: CanonicalForm,
     pub reply: Text,
 }
 

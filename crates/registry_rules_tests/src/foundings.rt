@@ -2,10 +2,10 @@
 
 use crate::fields::{founding, slug, span, title};
 use registry_rules::laws::{
-    has_four_states, has_one_organisation, has_own_spelling, has_row_if_owned, is_kept_for_good,
-    is_legal_from_start, is_owned_or_reserved, may_be_repeated, stays_legal,
+    has_four_states, has_one_organisation, has_own_canonical_form, has_row_if_owned,
+    is_kept_for_good, is_legal_from_start, is_owned_or_reserved, may_be_repeated, stays_legal,
 };
-use registry_rules::{Curators, Holdings, Licences, Spelling, Text, Totals};
+use registry_rules::{CanonicalForm, Curators, Holdings, Licences, Text, Totals};
 
 #[test]
 fn a_founding_says_what_it_has(rt: HostRuntime) {
@@ -64,8 +64,8 @@ fn lists_are_counted(rt: HostRuntime) {
 #[test]
 fn texts_say_what_they_are(rt: HostRuntime) {
     let bytes = b"grant".as_slice().to_vec(rt.alloc()).expect(&rt, "memory");
-    let spelling = Spelling::new(bytes).clone().expect(&rt, "memory");
-    assert_eq!(rt; spelling.as_bytes(), b"grant".as_slice());
+    let form = CanonicalForm::new(bytes).clone().expect(&rt, "memory");
+    assert_eq!(rt; form.as_bytes(), b"grant".as_slice());
     let text = String::from_str(rt.alloc(), "petition 1").expect(&rt, "memory");
     let text = Text::new(text).clone().expect(&rt, "memory");
     assert_eq!(rt; text.as_str(), "petition 1");
@@ -81,6 +81,6 @@ fn laws_may_be_cited(rt: HostRuntime) {
     has_one_organisation();
     is_owned_or_reserved();
     has_four_states();
-    has_own_spelling();
+    has_own_canonical_form();
     has_row_if_owned();
 }

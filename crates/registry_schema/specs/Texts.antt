@@ -33,7 +33,7 @@ entries_text = codes "CREATE TABLE entries (pid INTEGER PRIMARY KEY, org TEXT NO
 abbrev pub reserved_text : List ℕ
 reserved_text = codes "CREATE TABLE reserved (pid INTEGER PRIMARY KEY) STRICT"
 
--- a row for each accepted request: its order's spelling and its reply
+-- a row for each accepted request: its order's canonical form and its reply
 abbrev pub kept_text : List ℕ
 kept_text = codes "CREATE TABLE kept (caller TEXT NOT NULL, request_key TEXT NOT NULL, request BLOB NOT NULL, reply TEXT NOT NULL, PRIMARY KEY (caller, request_key)) STRICT"
 

@@ -135,7 +135,7 @@ pub const OF_FIRST: [&str; 3] = [TABLES, ROWS, FIRST];
 /// The same of schema 2.
 pub const OF_SECOND: [&str; 3] = [TABLES, ROWS, SECOND];
 
-/// Caller, key, spelling and reply of each accepted request.
+/// Caller, key, canonical form and reply of each accepted request.
 const KEPT: [(&str, &str, &str, &str); 19] = [
     (
         "ann",

@@ -16,11 +16,11 @@ use registry_rules::{Request, Text, request_bytes};
 use sqlite::{Alter, Transaction};
 use std::alloc::Global;
 
-/// Keeps the order's spelling and the reply under the request's caller and key. With what `store` did before, the
-/// rows are then those of the history with the deed.
+/// Keeps the order's canonical form and the reply under the request's caller and key. With what `store` did before,
+/// the rows are then those of the history with the deed.
 ///
-/// `TableFault::NoMemory` comes where the spelling or the row finds no room, `TableFault::Store` where the store refuses or
-/// fails. After either the transaction is to be rolled back. It is never `TableFault::Foreign`.
+/// `TableFault::NoMemory` comes where the canonical form or the row finds no room, `TableFault::Store` where the store
+/// refuses or fails. After either the transaction is to be rolled back. It is never `TableFault::Foreign`.
 pub fn keep_reply<S: Alter>(
     alloc: Global,
     tx: &mut Transaction<'_, S>,

@@ -5,7 +5,7 @@ use std::process::Abort;
 use std::test::Fail;
 use usbnum_core::NoMemory;
 
-/// The caller, the key and the order's spelling, with tabs between them.
+/// The caller, the key and the order's canonical form, with tabs between them.
 pub(crate) fn spelled(alloc: Global, request: &Request) -> Result<Vec<u8>, NoMemory> {
     let (caller, key) = (request.caller.as_str(), request.key.as_str());
     let mut text = format!(in alloc; "{caller}\t{key}\t")?.into_bytes();

@@ -1,30 +1,30 @@
-//! The spelling of an order, by which two orders are compared.
+//! The canonical form of an order, by which two orders are compared.
 
 ghost use Rattle.std.specs.Prelude.{◌≡◌, ◌++◌, ◌∷◌, Some, IfOk, map, codes};
 ghost use Rattle.std.specs.List.{join_with_byte};
 ghost use Rattle.std.specs.String.{string_bytes};
 ghost use Rattle.usbnum_core.specs.Number.{digits_of};
-ghost use Rattle.registry_rules.specs.Spelling.{spelling_of, number_field, vendor_fields, terms_fields, item_field, after_tabs};
+ghost use Rattle.registry_rules.specs.CanonicalForm.{canonical_form, number_field, vendor_fields, terms_fields, item_field, after_tabs};
 
 use crate::{
-    AddLicence, AddVendor, AmendOrg, Decline, Enrol, Grant, Item, Order, Release, Request, Reserve,
-    Return, Spelling, Terms, Withdraw,
+    AddLicence, AddVendor, AmendOrg, CanonicalForm, Decline, Enrol, Grant, Item, Order, Release,
+    Request, Reserve, Return, Terms, Withdraw,
 };
 use std::alloc::{AllocError, Global};
 use std::fmt::{self, Write};
 use usbnum_core::{NoMemory, Pid, Slug, Title, Vid};
 
-/// The spelling of the request's order: its fields, separated by tabs. Two orders are the same where
-/// their spellings are.
-pub fn request_bytes(alloc: Global, request: &Request) -> Result<Spelling, NoMemory>
-    ensures { IfOk result (λ bytes. bytes ≡ spelling_of request.now.order) }
+/// The canonical form of the request's order: its fields, separated by tabs. Two orders are the same
+/// where their canonical forms are.
+pub fn request_bytes(alloc: Global, request: &Request) -> Result<CanonicalForm, NoMemory>
+    ensures { IfOk result (λ bytes. bytes ≡ canonical_form request.now.order) }
 {
-    Ok(Spelling::new(order_text(alloc, &request.order)?.into_bytes()))
+    Ok(CanonicalForm::new(order_text(alloc, &request.order)?.into_bytes()))
 }
 
-#[tactic(auto, unfolding(crate::specs::Spelling::spelling_of))]
+#[tactic(auto, unfolding(crate::specs::CanonicalForm::canonical_form))]
 fn order_text(alloc: Global, order: &Order) -> Result<String, AllocError>
-    ensures { IfOk result (λ text. string_bytes text ≡ spelling_of order.now) }
+    ensures { IfOk result (λ text. string_bytes text ≡ canonical_form order.now) }
 {
     match order {
         Order::Enrol(Enrol { org, title, site }) => {
