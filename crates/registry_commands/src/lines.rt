@@ -11,7 +11,9 @@ use usbnum_core::NoMemory;
 /// A line that is no request, by its number from 1 over all lines, the blank ones too.
 #[derive(Clone, Copy, Debug, PartialEq, Eq)]
 pub struct BadLine {
+    /// The number of the line, from 1.
     pub number: u64,
+    /// Why it is refused.
     pub refusal: WireRefusal,
 }
 

@@ -22,9 +22,13 @@ use usbnum_core::{Key, NoMemory, Slug};
 /// The head of an order: where it is sent, how many bytes its body has, its caller and its key.
 #[derive(Drop)]
 pub(crate) struct OrderHead {
+    /// Where it is sent.
     pub endpoint: Endpoint,
+    /// How many bytes its body has.
     pub length: u32,
+    /// Who sends it.
     pub caller: Slug,
+    /// The key of the request.
     pub key: Key,
 }
 

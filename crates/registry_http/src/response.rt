@@ -50,10 +50,13 @@ impl Body {
 /// What is sent back for a message.
 #[derive(Drop)]
 pub struct Response {
+    /// The status.
     pub status: StatusCode,
+    /// What the body is.
     pub content_type: ContentType,
     /// Of a wrong method, the one that the path allows.
     pub allow: Option<Allow>,
+    /// The body.
     pub body: Body,
 }
 

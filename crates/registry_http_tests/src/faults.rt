@@ -1,3 +1,5 @@
+//! Messages with a fault, and the response to the first one of each.
+
 use crate::ends::{Drip, read};
 use std::alloc::Global;
 use std::process::Abort;

@@ -1,3 +1,5 @@
+//! Messages without a fault, and what each says.
+
 use crate::ends::{Drip, read};
 use std::alloc::Global;
 use std::process::Abort;

@@ -1,3 +1,5 @@
+//! Values and the whole response that each one gets.
+
 use crate::ends::{Brim, read, text};
 use registry_http::{
     Response, Unavailable, number_response, org_response, petition_response, reply_response,

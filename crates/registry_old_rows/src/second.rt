@@ -71,6 +71,7 @@ pub fn put_old_meta<S: Alter>(
 /// A number of the table `reserved`.
 #[derive(Clone, Copy, Debug, Drop)]
 pub struct Reserved {
+    /// The number.
     pub pid: Pid,
 }
 

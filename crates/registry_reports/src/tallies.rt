@@ -15,7 +15,9 @@ use usbnum_core::{NoMemory, Number, Slug};
 /// How many numbers an organisation holds, and how many it returned.
 #[derive(Clone, Copy)]
 pub struct Tally {
+    /// How many it holds.
     pub held: usize,
+    /// How many it returned.
     pub returned: usize,
 }
 

@@ -18,8 +18,11 @@ use usbnum_core::{Key, Slug};
 /// What is kept of an accepted request, under its caller and key.
 #[derive(Debug, Drop)]
 pub struct KeptRow {
+    /// Who asked.
     pub caller: Slug,
+    /// The key of the request.
     pub key: Key,
+    /// What is kept of it.
     pub kept: Kept,
 }
 

@@ -17,8 +17,11 @@ use usbnum_core::{Title, Vid};
 /// What a store is: the number of its schema, and the vendor that it was founded for.
 #[derive(Debug, Drop)]
 pub struct Meta {
+    /// The number of its schema.
     pub version: u32,
+    /// The vendor that it was founded for.
     pub vendor: Vid,
+    /// The vendor's name.
     pub name: Title,
 }
 

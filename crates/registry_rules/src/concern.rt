@@ -17,7 +17,9 @@ use usbnum_core::{Number, Pid, Slug, Span, Vid};
 /// Product numbers of a vendor, from the first to the last.
 #[derive(Clone, Copy, Debug, PartialEq, Eq)]
 pub struct VendorSpan {
+    /// The vendor.
     pub vid: Vid,
+    /// The numbers.
     pub span: Span,
 }
 

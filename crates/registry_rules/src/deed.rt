@@ -69,9 +69,13 @@ pub enum Act {
 /// One accepted request, and what it did.
 #[derive(Debug, Drop)]
 pub struct Deed {
+    /// Who asked.
     pub caller: Slug,
+    /// The key of the request.
     pub key: Key,
+    /// What was asked.
     pub order: Order,
+    /// What it did.
     pub act: Act,
 }
 

@@ -24,12 +24,14 @@ impl Model for Holdings {
 }
 
 impl Holdings {
+    /// These holdings.
     pub fn new(items: Vec<Holding>) -> Holdings
         ensures { result ≡ items.items }
     {
         Holdings { items }
     }
 
+    /// The holdings.
     pub fn as_slice(&self) -> &[Holding]
         ensures { result.now ≡ self.now }
     {
@@ -47,7 +49,9 @@ impl Holdings {
 /// What is kept of the accepted request of a caller and key: its order's canonical form and its reply.
 #[derive(Clone, Debug, Drop)]
 pub struct Kept {
+    /// The canonical form of its order.
     pub order: CanonicalForm,
+    /// Its reply.
     pub reply: Text,
 }
 

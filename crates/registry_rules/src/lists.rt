@@ -44,24 +44,28 @@ impl Curators {
         })
     }
 
+    /// Whether the caller is a curator.
     pub fn contains(&self, slug: &Slug) -> bool
         ensures { result ≡ list_any (bytes_eq slug.now) self.now }
     {
         self.slugs.iter().any(|other| slug == other)
     }
 
+    /// How many there are.
     pub fn len(&self) -> usize
         ensures { result ≡ length self.now }
     {
         self.slugs.len()
     }
 
+    /// Whether there are none, which never holds.
     pub fn is_empty(&self) -> bool
         ensures { IsTrue result ↔ (length self.now ≡ 0) }
     {
         self.slugs.is_empty()
     }
 
+    /// The curators, ascending.
     pub fn as_slice(&self) -> &[Slug]
         ensures slugs { result.now ≡ self.now }
         ensures valid { IsCurators self.now }
@@ -128,24 +132,28 @@ impl Licences {
         Ok(())
     }
 
+    /// Whether the licence is allowed.
     pub fn contains(&self, title: &Title) -> bool
         ensures { result ≡ list_any (bytes_eq title.now) self.now }
     {
         self.titles.iter().any(|other| title == other)
     }
 
+    /// How many there are.
     pub fn len(&self) -> usize
         ensures { result ≡ length self.now }
     {
         self.titles.len()
     }
 
+    /// Whether there are none, which never holds.
     pub fn is_empty(&self) -> bool
         ensures { IsTrue result ↔ (length self.now ≡ 0) }
     {
         self.titles.is_empty()
     }
 
+    /// The licences, ascending.
     pub fn as_slice(&self) -> &[Title]
         ensures titles { result.now ≡ self.now }
         ensures valid { IsLicences self.now }

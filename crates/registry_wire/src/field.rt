@@ -1,3 +1,5 @@
+//! The fields of an order in JSON, by name.
+
 /// A field of a request in JSON.
 #[derive(Clone, Copy, Debug, PartialEq, Eq)]
 pub enum Field {

@@ -1,3 +1,5 @@
+//! One field of an order in JSON, read as a value of its kind.
+
 ghost use Rattle.std.specs.Prelude.{◌≡◌, option_copied, option_map, option_and_then};
 ghost use Rattle.usbnum_core.specs.Number.{number_of};
 ghost use Rattle.serde_json.specs.View.{view};

@@ -1,3 +1,5 @@
+//! The founding of a registry, read from a file in TOML.
+
 ghost use Rattle.std.specs.Prelude.{◌≡◌, ◌≤◌, ℕ, length, IfOk, option_map};
 ghost use Rattle.std.specs.List.{list_any};
 ghost use Rattle.toml.specs.Data.{get_member};

@@ -1,3 +1,5 @@
+//! The orders that JSON has, by name.
+
 ghost use Rattle.std.specs.Prelude.{◌≡◌};
 ghost use Rattle.registry_wire.specs.Fields.{kind_of};
 

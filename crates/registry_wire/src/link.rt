@@ -1,3 +1,5 @@
+//! Web addresses in their canonical form.
+
 ghost use Rattle.std.specs.Prelude.{◌≡◌, ◌||◌, IfOk, bytes_eq, codes};
 ghost use Rattle.registry_wire.specs.Kinds.{link_of, web_address};
 

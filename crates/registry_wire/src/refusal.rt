@@ -1,3 +1,5 @@
+//! Why a text is refused before the rules look at it.
+
 ghost use Rattle.std.specs.Prelude.{◌≡◌, IfOk};
 
 use crate::Field;

@@ -1,3 +1,5 @@
+//! Requests, read from a line of JSON or from the body of a message.
+
 ghost use Rattle.std.specs.Prelude.{◌≡◌, IfOk};
 ghost use Rattle.serde_json.specs.View.{view};
 ghost use Rattle.registry_wire.specs.Gives.{Gives, GivesSeen};

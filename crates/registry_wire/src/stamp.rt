@@ -1,3 +1,5 @@
+//! The moment at which a list was made, read from `yyyy-mm-dd hh:mm:ss`.
+
 ghost use Rattle.std.specs.Prelude.{◌≡◌, ◌≢◌, ◌<◌, true, IfSome, MatchOption};
 ghost use Rattle.usbids_text.specs.Moments.{Moment, is_moment};
 ghost use Rattle.registry_wire.specs.Stamps.{moment_text, digit_of, two_of, four_of, moment_at, moment_of};

@@ -1,3 +1,5 @@
+//! Why reading ends early: a refusal, or out of memory.
+
 ghost use Rattle.std.specs.Prelude.{◌≡◌};
 ghost use Rattle.registry_wire.specs.Gives.{Gives, present};
 

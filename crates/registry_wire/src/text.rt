@@ -1,3 +1,5 @@
+//! Bytes as texts of the rules: slugs, keys and titles.
+
 ghost use Rattle.std.specs.Prelude.{◌≡◌, IfOk};
 ghost use Rattle.registry_wire.specs.Kinds.{slug_of, key_of, title_of};
 

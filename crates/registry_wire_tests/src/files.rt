@@ -1,3 +1,5 @@
+//! Founding files, imports and stamps, and what each is read as.
+
 use crate::lines::spelled;
 use registry_rules::Founding;
 use registry_wire::{

@@ -1,3 +1,5 @@
+//! Request lines, and the request or the refusal that each one is read as.
+
 use registry_rules::{Request, request_bytes};
 use registry_wire::{line_request, refusal_json};
 use std::alloc::Global;

@@ -1,3 +1,5 @@
+//! Replies and refusals, and the line that each one is written as.
+
 use registry_rules::{NumberName, Refusal, Reply, Text};
 use registry_wire::{Field, FoundingFault, Header, WireRefusal, refusal_json, reply_json};
 use std::alloc::Global;

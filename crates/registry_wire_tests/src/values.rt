@@ -1,3 +1,5 @@
+//! Single fields at the edges of what they may be.
+
 use registry_rules::Order;
 use registry_wire::{line_request, refusal_json};
 use std::alloc::Global;

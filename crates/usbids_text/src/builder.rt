@@ -16,9 +16,13 @@ use usbnum_core::NoMemory;
 /// put below the open ones, and each is closed when the next of its depth comes.
 #[derive(Drop)]
 pub struct Builder {
+    /// Where its entries get their memory.
     pub alloc: Global,
+    /// The tops that are closed.
     pub tops: Document,
+    /// The open top.
     pub top: Option<Top>,
+    /// The open mid.
     pub mid: Option<Mid>,
     ghost fits: { IsTrue (fits_in top mid) },
 }
@@ -26,6 +30,7 @@ pub struct Builder {
 impl Builder {
     ghost use Rattle.usbids_text.specs.Building.{open_of};
 
+    /// An empty document, with nothing open.
     pub fn new(alloc: Global) -> Builder
         ensures { open_of result ≡ none_open [] }
     {

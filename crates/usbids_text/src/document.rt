@@ -120,6 +120,7 @@ impl Leaf {
         Leaf { code, digits, name }
     }
 
+    /// Its code.
     pub fn code(&self) -> u16
         ensures { result ≡ self.now.code }
     {
@@ -133,6 +134,7 @@ impl Leaf {
         self.digits
     }
 
+    /// Its name.
     pub fn name(&self) -> &[u8]
         ensures { result.now ≡ self.now.name }
     {
@@ -193,6 +195,7 @@ impl Mid {
         self.leaves.shrink_to_fit();
     }
 
+    /// Its code.
     pub fn code(&self) -> u16
         ensures { result ≡ self.now.code }
     {
@@ -206,6 +209,7 @@ impl Mid {
         self.digits
     }
 
+    /// Its name.
     pub fn name(&self) -> &[u8]
         ensures { result.now ≡ self.now.name }
     {
@@ -276,12 +280,14 @@ impl Top {
         self.mids.shrink_to_fit();
     }
 
+    /// What it is.
     pub fn kind(&self) -> &Kind
         ensures { result.now ≡ self.now.kind }
     {
         &self.kind
     }
 
+    /// Its code.
     pub fn code(&self) -> u16
         ensures { result ≡ self.now.code }
     {
@@ -295,6 +301,7 @@ impl Top {
         self.digits
     }
 
+    /// Its name.
     pub fn name(&self) -> &[u8]
         ensures { result.now ≡ self.now.name }
     {

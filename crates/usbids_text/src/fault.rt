@@ -9,7 +9,9 @@ use std::fmt;
 /// The first line that is faulty, counted from 1 (2^64 - 1 stands for any later line too), and why.
 #[derive(Clone, Copy, Debug, PartialEq, Eq)]
 pub struct LineFault {
+    /// The line, from 1.
     pub line: u64,
+    /// Why it is faulty.
     pub why: Why,
 }
 

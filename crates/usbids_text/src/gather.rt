@@ -8,6 +8,7 @@ use arrayvec::ArrayVec;
 /// The bytes that wait for the sink.
 #[derive(Drop)]
 pub struct Waiting {
+    /// The bytes, in the order in which they came.
     pub bytes: ArrayVec<u8, 4096>,
 }
 

@@ -1,3 +1,5 @@
+//! What an entry at the top of a list is, and how deep a line stands.
+
 use crate::tag::Tag;
 
 /// What a top is: a vendor, or an entry under a tag, as `C` for a class and `HID` for a

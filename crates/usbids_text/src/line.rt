@@ -38,9 +38,13 @@ impl fmt::Display for Why {
 /// An entry, with its name where it lies in the line.
 #[derive(Drop)]
 pub struct Entry<'a> {
+    /// What it stands under.
     pub depth: Depth,
+    /// Its code.
     pub code: u16,
+    /// How many digits the code is written with.
     pub digits: u8,
+    /// Its name.
     pub name: &'a [u8],
 }
 

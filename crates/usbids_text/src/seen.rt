@@ -17,7 +17,9 @@ use usbnum_core::{NoMemory, Vid};
 /// The device that is looked for.
 #[derive(Clone, Copy, Debug, PartialEq, Eq)]
 pub struct Wanted {
+    /// Its vendor.
     pub vendor: Vid,
+    /// Its product number.
     pub code: u16,
 }
 
@@ -38,10 +40,15 @@ pub enum Over {
 /// first fault.
 #[derive(Drop)]
 pub struct Seen {
+    /// The number of the next line.
     pub line: u64,
+    /// What the last top is.
     pub over: Over,
+    /// Whether there is a mid under it.
     pub has_mid: bool,
+    /// The name of the first match.
     pub found: Option<Name>,
+    /// The first fault.
     pub fault: Option<ReadFault>,
 }
 
@@ -65,6 +72,7 @@ fn over_kind(vendor: Vid, kind: &Kind, code: u16) -> Over
 }
 
 impl Seen {
+    /// Refuses the next line.
     pub fn refuse(&mut self, why: Why)
         ensures { self.new ≡ seen_refused self.old why }
     {

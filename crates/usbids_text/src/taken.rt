@@ -16,8 +16,11 @@ use usbnum_core::NoMemory;
 /// The number of the next line, the document so far, and the first fault.
 #[derive(Drop)]
 pub struct Taken {
+    /// The number of the next line.
     pub line: u64,
+    /// The document so far.
     pub builder: Builder,
+    /// The first fault.
     pub fault: Option<ReadFault>,
 }
 
@@ -30,6 +33,7 @@ fn next(n: u64) -> u64
 impl Taken {
     ghost use Rattle.usbids_text.specs.Held.{held_of};
 
+    /// Refuses the next line.
     pub fn refuse(&mut self, why: Why)
         ensures { held_of self.new ≡ refused (held_of self.old) why }
     {

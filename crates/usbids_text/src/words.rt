@@ -3,12 +3,14 @@ ghost use Rattle.std.specs.Prelude.{◌≡◌, ◌≤◌, ◌<◌, IfSome, lengt
 ghost use Rattle.usbnum_core.specs.Number.{hex_value};
 ghost use Rattle.usbids_text.specs.Words.{is_separator, is_tail, before, trimmed, word, after_word, past_separators, number_from, code_in, is_four};
 
+/// Whether the byte is a space or a tab.
 pub fn is_separator(b: u8) -> bool
     ensures { result ≡ is_separator b }
 {
     b == b' ' || b == b'\t'
 }
 
+/// Whether the byte is dropped at the end of a line.
 pub fn is_tail(b: u8) -> bool
     ensures { result ≡ is_tail b }
 {

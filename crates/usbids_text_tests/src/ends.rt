@@ -1,3 +1,5 @@
+//! A reader and a writer of the standard library as a source and a sink.
+
 use std::test::Fail;
 use usbids_text::{Inlet, Outlet, Sink, Source, put_all};
 

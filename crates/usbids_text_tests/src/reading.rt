@@ -1,3 +1,5 @@
+//! Lists that are read, whole and in pieces.
+
 use std::test::Fail;
 use usbids_text::{
     Document, Kind, Leaf, LineFault, Mid, ReadFault, Reader, Top, Why, find, read_all,

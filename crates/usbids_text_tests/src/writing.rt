@@ -1,3 +1,5 @@
+//! Documents that are written, also to writers that fail.
+
 use std::alloc::{AllocError, Global};
 use std::io;
 use std::io::Write;

@@ -41,7 +41,7 @@ fn lower_digit(value: u16) -> u8
     }
 }
 
-// The digits of a number, in lower case.
+/// The digits of a number, in lower case.
 pub fn four_digits(number: u16) -> [u8; 4]
     ensures digits { result ≡ digits_of number }
     ensures ascii { All (λ digit. digit < 128) result }
@@ -55,7 +55,7 @@ pub fn four_digits(number: u16) -> [u8; 4]
     ]
 }
 
-// Bytes below 128 as a text.
+/// Bytes below 128 as a text.
 pub fn ascii_text(bytes: &[u8]) -> &str
     requires { All (λ byte. byte < 128) bytes.now }
     ensures { result.now ≡ bytes.now }

@@ -1,3 +1,5 @@
+//! A number under its vendor, and a span of numbers.
+
 ghost use Rattle.std.specs.Prelude.{◌≡◌, ◌≤◌, ◌↔◌, Some, IfSome, IsSome};
 ghost use Rattle.usbnum_core.specs.Number.{range_text};
 
@@ -7,7 +9,9 @@ use std::fmt;
 /// The pair of numbers that a device says of itself. Pairs are in order by vendor, then by product.
 #[derive(Clone, Copy, Debug, PartialEq, Eq, PartialOrd, Ord, Hash)]
 pub struct Number {
+    /// The vendor ID.
     pub vid: Vid,
+    /// The product ID.
     pub pid: Pid,
 }
 

@@ -8,7 +8,7 @@ ghost use Rattle.usbnum_core.specs.Parts.{IsReach, IsJoined, IsRestBefore, IsRes
 
 use crate::{NoMemory, Pid, Span};
 
-// How many of the parts end before the number.
+/// How many of the parts end before the number.
 pub fn ended_before(parts: &[Span], number: u32) -> usize
     requires { IsSpread 1 parts.now }
     ensures within { result ≤ length parts.now }
@@ -28,7 +28,7 @@ fn begun_by(parts: &[Span], number: u32) -> usize
     parts.partition_point(|part| u32::from(part.first().get()) <= number)
 }
 
-// The parts that end at `start` or later and begin by `end`: the first of them, and the first past them.
+/// The parts that end at `start` or later and begin by `end`: the first of them, and the first past them.
 pub fn reach(parts: &[Span], start: u32, end: u32) -> (usize, usize)
     requires { IsSpread 1 parts.now }
     ensures { IsReach parts.now start end result.0 result.1 }
@@ -36,7 +36,7 @@ pub fn reach(parts: &[Span], start: u32, end: u32) -> (usize, usize)
     (ended_before(parts, start), begun_by(parts, end))
 }
 
-// The span from the least beginning to the greatest end.
+/// The span from the least beginning to the greatest end.
 pub fn join(low: Span, high: Span, span: Span) -> Span
     ensures { IsJoined low high span result }
 {
@@ -45,7 +45,7 @@ pub fn join(low: Span, high: Span, span: Span) -> Span
     Span::between(first, last)
 }
 
-// Puts one span in the place of those from `low` on and before `high`.
+/// Puts one span in the place of those from `low` on and before `high`.
 pub fn replace(parts: &mut Vec<Span>, low: usize, high: usize, span: Span)
     requires some { low < high }
     requires within { high ≤ length parts.old.items }
@@ -79,7 +79,7 @@ fn replace_by_two(
     Ok(())
 }
 
-// Puts at most two spans in the place of those from `low` on and before `high`.
+/// Puts at most two spans in the place of those from `low` on and before `high`.
 pub fn splice(
     parts: &mut Vec<Span>,
     low: usize,
@@ -103,7 +103,7 @@ pub fn splice(
     Ok(())
 }
 
-// What is left of the part before the span.
+/// What is left of the part before the span.
 pub fn rest_before(part: Span, span: Span) -> Option<Span>
     ensures { IsRestBefore part span result }
 {
@@ -114,7 +114,7 @@ pub fn rest_before(part: Span, span: Span) -> Option<Span>
     }
 }
 
-// What is left of the part after the span.
+/// What is left of the part after the span.
 pub fn rest_after(part: Span, span: Span) -> Option<Span>
     ensures { IsRestAfter part span result }
 {
@@ -125,21 +125,21 @@ pub fn rest_after(part: Span, span: Span) -> Option<Span>
     }
 }
 
-// Whether the span is all inside the part.
+/// Whether the span is all inside the part.
 pub fn is_within(span: Span, part: Span) -> bool
     ensures { IsTrue result ↔ ((part.first ≤ span.first) × (span.last ≤ part.last)) }
 {
     part.first() <= span.first() && span.last() <= part.last()
 }
 
-// Whether the part begins by the end of the span.
+/// Whether the part begins by the end of the span.
 pub fn begins_by_end(part: Span, span: Span) -> bool
     ensures { IsTrue result ↔ (part.first ≤ span.last) }
 {
     part.first() <= span.last()
 }
 
-// The least number from 1 on that is in no part and not in the list. Both ascend, so each is walked once.
+/// The least number from 1 on that is in no part and not in the list. Both ascend, so each is walked once.
 pub fn first_free(parts: &[Span], numbers: &[Pid]) -> u32
     requires spread { IsSpread 1 parts.now }
     requires ascends { IsStrictlyIncreasing numbers.now }

@@ -1,3 +1,5 @@
+//! Product numbers, which the field calls product IDs.
+
 ghost use Rattle.std.specs.Prelude.{◌≡◌, ◌+◌, ◌<◌, ℕ, Some};
 ghost use Rattle.std.specs.Option.{SomeIff};
 ghost use Rattle.usbnum_core.specs.Number.{IsNumber, number_of, digits_of};

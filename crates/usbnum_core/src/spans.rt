@@ -1,3 +1,5 @@
+//! Sets of numbers, kept as spans.
+
 ghost use Rattle.std.specs.Prelude.{◌≡◌, ◌↔◌, ◌≤◌, ℕ, [], ◌||◌, ◌&&◌, not, true, false, nat_eq, IsTrue, OnOk, OnErr, MatchOption};
 ghost use Rattle.std.specs.List.Sorted.{IsStrictlyIncreasing};
 ghost use Rattle.std.specs.Cmp.Lexicographic.{pointwise};

@@ -1,3 +1,5 @@
+//! Texts that keep to a rule.
+
 ghost use Rattle.std.specs.Prelude.{◌≡◌, ◌==◌, ◌↔◌, ℕ, List, Some, IsTrue, IfOk};
 ghost use Rattle.std.specs.Option.{SomeIff};
 ghost use Rattle.std.specs.Cmp.Lexicographic.{pointwise, slice_cmp};

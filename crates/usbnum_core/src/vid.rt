@@ -1,3 +1,5 @@
+//! Vendor numbers, which the field calls vendor IDs.
+
 ghost use Rattle.std.specs.Prelude.{◌≡◌, ℕ, Some};
 ghost use Rattle.std.specs.Option.{SomeIff};
 ghost use Rattle.usbnum_core.specs.Number.{IsNumber, number_of, digits_of};
