@@ -19,7 +19,7 @@ fn main(rt: HostRuntime) -> ExitCode {
     ExitCode::from(run(&rt))
 }
 
-/// Reads the words, does what they ask for, and answers the status.
+/// Reads the arguments, does what they ask for, and returns the exit status.
 fn run(rt: &HostRuntime) -> u8 {
     let words = match words(rt) {
         Ok(words) => words,
@@ -42,7 +42,7 @@ fn words(rt: &HostRuntime) -> io::Result<Vec<String>> {
     Ok(std::env::args(rt)?.collect(rt.alloc())?)
 }
 
-/// Does what the command asks for, and answers the status.
+/// Does what the command asks for, and returns the exit status.
 fn perform(rt: &HostRuntime, command: Command<&str>) -> u8 {
     match command {
         Command::Trial => run_trial(rt),
@@ -70,7 +70,7 @@ fn perform(rt: &HostRuntime, command: Command<&str>) -> u8 {
     }
 }
 
-/// Shows why there is no command, or the help or the version that was asked for, and answers the
+/// Shows why there is no command, or the help or the version that was asked for, and returns the exit
 /// status.
 fn explain(rt: &HostRuntime, usage: &Usage) -> u8 {
     match usage {

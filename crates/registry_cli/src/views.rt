@@ -8,7 +8,7 @@ use registry_wire::stamp_from_text;
 use usbids_text::{Outlet, Stamp};
 use usbnum_core::{parse_code, parse_vid};
 
-/// The stamp of a text: none where there is no text, and an error where the text is no stamp.
+/// The stamp of a text: none where there is no text, and an error where the text is not a stamp.
 fn stamp_of(text: Option<&str>) -> Result<Option<Stamp>, BadWord> {
     match text {
         None => Ok(None),

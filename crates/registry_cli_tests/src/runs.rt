@@ -82,7 +82,7 @@ fn an_output_that_fails(rt: HostRuntime) -> Result<(), Fail> {
     Ok(())
 }
 
-// An input that fails at any of its reads is no list of requests: nothing is acted on.
+// An input that fails at a read gives no list of requests: nothing is acted on.
 #[test]
 fn an_input_that_fails(rt: HostRuntime) -> Result<(), Fail> {
     let reply = joined(rt.alloc(), &[ENROLLED])?;

@@ -74,7 +74,7 @@ fn answer_from<S: Alter, W: Sink>(
     write_replies(registry, requests, answered, &mut lines)
 }
 
-/// Tells which line is no request, and answers the status.
+/// Says which line is not a request, and returns the exit status.
 fn reject_line<E: Sink>(alloc: Global, errors: &mut E, bad: BadLine) -> u8
     ensures { ((result ≡ 2) × Tells (told_to E.contents E.failures errors.old errors.new) (bad_line_text bad))
         ⊎ ((result ≡ 1) × TellsFailure IsOfMemory (told_to E.contents E.failures errors.old errors.new)) }
@@ -139,7 +139,7 @@ fn apply_bytes<S: Alter, W: Sink, E: Sink>(
 /// written before the next request is acted on.
 ///
 /// The status is 0 where all requests were acted on, refused ones too, and all reply lines are
-/// written. It is 2 where a line is no request or fewer requests are there than are answered: then
+/// written. It is 2 where a line is not a request, or there are fewer requests than were answered: then
 /// nothing is acted on, and the errors say why. It is 1 after a failure, which the errors name: of the
 /// source, the registry, the output, or memory. An input of more than 4,294,967,295 bytes is such a
 /// failure, and nothing is acted on. Where the errors fail nothing else changes.

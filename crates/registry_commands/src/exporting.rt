@@ -67,7 +67,7 @@ pub fn document_of<S: Alter>(alloc: Global, registry: &mut Registry<S>) -> Resul
     }
 }
 
-/// Writes the document, and answers the status.
+/// Writes the document, and returns the exit status.
 fn put_document<W: Sink, E: Sink>(
     document: &Document,
     stamp: Option<Stamp>,
@@ -88,7 +88,7 @@ fn put_document<W: Sink, E: Sink>(
 /// where one is given. Nothing is changed.
 ///
 /// The status is 0 where the whole list is written. It is 1 after a failure, which the errors name: of the registry or
-/// memory, and then nothing is written, or of the output, which took a beginning of the list.
+/// memory, and then nothing is written, or of the output, which took a prefix of the list.
 pub fn export<S: Alter, W: Sink, E: Sink>(
     alloc: Global,
     registry: &mut Registry<S>,

@@ -16,7 +16,7 @@ use sqlite::{Alter, Connection};
 use std::alloc::Global;
 use usbids_text::{Sink, Source};
 
-/// Tells why bytes are no founding file or no list, and answers the status.
+/// Says why bytes are not a founding file or not a list, and returns the exit status.
 pub(crate) fn reject<E: Sink>(alloc: Global, errors: &mut E, refusal: WireRefusal) -> u8
     ensures { ((result ≡ 2) × Tells (told_to E.contents E.failures errors.old errors.new) (refusal_line refusal))
         ⊎ ((result ≡ 1) × TellsFailure IsOfMemory (told_to E.contents E.failures errors.old errors.new)) }

@@ -30,7 +30,7 @@ pub struct Import {
     pub vendor: Option<Vid>,
 }
 
-/// The import that the arguments are of, or the first of them that is none of its kind, in the order caller, key,
+/// The import that the arguments are of, or the first of them that is not valid, in the order caller, key,
 /// organisation, vendor.
 pub fn import_of_arguments(
     alloc: Global,
@@ -128,7 +128,7 @@ fn import_document<S: Alter, W: Sink, E: Sink>(
     }
 }
 
-/// Imports what was read, or tells why it is no list.
+/// Imports what was read, or says why it is not a list.
 fn import_read<S: Alter, W: Sink, E: Sink>(
     alloc: Global,
     import: Import,

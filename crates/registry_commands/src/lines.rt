@@ -8,7 +8,7 @@ use registry_wire::{WireRefusal, line_request};
 use std::alloc::Global;
 use usbnum_core::NoMemory;
 
-/// A line that is no request, by its number from 1 over all lines, the blank ones too.
+/// A line that is not a request, by its number from 1 over all lines, the blank ones too.
 #[derive(Clone, Copy, Debug, PartialEq, Eq)]
 pub struct BadLine {
     /// The number of the line, from 1.
@@ -45,7 +45,7 @@ fn is_blank(line: &[u8]) -> bool
         .all(|b| *b == b' ' || *b == b'\t' || *b == b'\r')
 }
 
-/// The requests of the lines that aren't blank, in order, or the first line that is no request.
+/// The requests of the lines that aren't blank, in order, or the first line that is not one.
 pub fn requests_in(alloc: Global, bytes: &[u8]) -> Result<Result<Vec<Request>, BadLine>, NoMemory>
     ensures { IfOk result (λ read. MatchResult read (λ v. requests_in bytes.now ≡ Ok v.items) (λ bad. requests_in bytes.now ≡ Err bad)) }
 {

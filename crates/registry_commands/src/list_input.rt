@@ -7,7 +7,7 @@ ghost use Rattle.usbids_text.specs.Reading.{Answers};
 use std::alloc::Global;
 use usbids_text::{Broken, Document, ReadFault, Reader, Source, feed_all};
 
-/// The document that all bytes of the source spell, or why they spell none. They are read in pieces, and are at most
+/// The document that all bytes of the source spell, or why there is none. They are read in pieces, and are at most
 /// 4,294,967,295. `Broken` comes only where the source failed or has more.
 pub(crate) fn read_list<R: Source>(
     alloc: Global,

@@ -21,7 +21,7 @@ fn name_line(alloc: Global, name: &Name) -> Result<Vec<u8>, NoMemory>
     Ok(line)
 }
 
-/// Writes the name as a line, and answers the status.
+/// Writes the name as a line, and returns the exit status.
 fn put_name<W: Sink, E: Sink>(alloc: Global, name: &Name, output: &mut W, errors: &mut E) -> u8
     ensures { IsNamed (IsOfOutput (W.failures output.old) (W.failures output.new)) name.now
         (W.contents output.old) (W.contents output.new) (told_to E.contents E.failures errors.old errors.new) result }
@@ -42,7 +42,7 @@ pub(crate) fn put_fault<E: Sink>(alloc: Global, fault: ReadFault, errors: &mut E
     }
 }
 
-/// Writes the name that was found, or that none was, and answers the status.
+/// Writes the name that was found, or that none was, and returns the exit status.
 fn put_found<W: Sink, E: Sink>(
     alloc: Global,
     found: Option<Name>,
@@ -61,7 +61,7 @@ fn put_found<W: Sink, E: Sink>(
     }
 }
 
-/// Writes what was found, or why nothing was, and answers the status.
+/// Writes what was found, or why nothing was, and returns the exit status.
 fn put_answer<W: Sink, E: Sink>(
     alloc: Global,
     found: Result<Option<Name>, ReadFault>,

@@ -66,7 +66,7 @@ pub fn failure_of(fault: Fault) -> Failure
     }
 }
 
-/// The failure that an error of the store is: want of memory where it says so.
+/// The failure that an error of the store is: out of memory where it says so.
 pub fn store_failure(error: Error) -> Failure
     ensures { ((result ≡ Failure.Memory) × (error ≡ Error.SqliteFailure ErrorCode.OutOfMemory))
         ⊎ ((result ≡ Failure.Store) × (error ≢ Error.SqliteFailure ErrorCode.OutOfMemory)) }
@@ -107,7 +107,7 @@ pub(crate) fn refusal_line(alloc: Global, refusal: WireRefusal) -> Result<String
     Ok(line)
 }
 
-/// The line that is no request, by its number, and why.
+/// The line that is not a request, by its number, and why.
 #[tactic(auto, unfolding(crate::specs::Messages::bad_line_text))]
 pub(crate) fn bad_line_text(alloc: Global, bad: BadLine) -> Result<String, NoMemory>
     ensures { IfOk result (λ text. string_bytes text ≡ bad_line_text bad) }
@@ -117,7 +117,7 @@ pub(crate) fn bad_line_text(alloc: Global, bad: BadLine) -> Result<String, NoMem
     Ok(format!(in alloc; "line {number}: {line}")?)
 }
 
-/// Writes to the errors: all of the text, or a beginning of it where they fail.
+/// Writes to the errors: all of the text, or a prefix of it where they fail.
 pub(crate) fn tell<E: Sink>(errors: &mut E, text: &str)
     ensures told { Tells (told_to E.contents E.failures errors.old errors.new) text.now }
 {
@@ -127,7 +127,7 @@ pub(crate) fn tell<E: Sink>(errors: &mut E, text: &str)
     }
 }
 
-/// Tells why the command fails, and answers the status. The errors get the whole line, or a
+/// Says why the command fails, and returns the exit status. The errors get the whole line, or a
 /// beginning of it where they fail.
 pub fn fail<E: Sink>(errors: &mut E, failure: Failure) -> u8
     ensures status { result ≡ 1 }
@@ -139,7 +139,7 @@ pub fn fail<E: Sink>(errors: &mut E, failure: Failure) -> u8
 
 /// Writes a reply as a line.
 ///
-/// The failure is `File` where the output failed, and else `Memory`. Either way a beginning of the
+/// The failure is `File` where the output failed, and else `Memory`. Either way a prefix of the
 /// line was written.
 pub(crate) fn put_reply<W: Sink>(
     alloc: Global,

@@ -6,7 +6,7 @@ ghost use Rattle.registry_commands.specs.Printed.{IsPrinted};
 use crate::messages::{Failure, fail};
 use usbids_text::{Broken, Sink, put_all};
 
-/// Writes a text, and answers the status: 0, or 1 where the output failed, which the errors name.
+/// Writes a text, and returns the exit status: 0, or 1 where the output failed, which the errors name.
 pub(crate) fn print<W: Sink, E: Sink>(output: &mut W, errors: &mut E, text: &[u8]) -> u8
     ensures { IsPrinted (IsOfOutput (W.failures output.old) (W.failures output.new)) text.now
         (W.contents output.old) (W.contents output.new) (told_to E.contents E.failures errors.old errors.new) result }

@@ -15,7 +15,7 @@ use usbids_text::{Sink, Source};
 
 /// Acts on request lines as `apply_lines` does, lets go of the store as `close_store` does, and opens its files again.
 ///
-/// Whatever the status, what is opened has acted on a beginning of the requests, which holds every one whose reply line
+/// Whatever the status, what is opened has acted on a prefix of the requests, which holds every one whose reply line
 /// is out, and at most one more. None is opened where closing or opening fails.
 pub fn apply_and_open<R: Source, D: Disk + Drop, W: Sink, E: Sink>(
     alloc: Global,

@@ -234,7 +234,7 @@ pub fn report_of<S: Alter>(
 /// Writes a report on the registry. Nothing is changed.
 ///
 /// The status is 0 where the whole report is written. It is 1 after a failure, which the errors name: of the registry or
-/// memory, and then nothing is written, or of the output, which took a beginning of the report.
+/// memory, and then nothing is written, or of the output, which took a prefix of the report.
 pub fn report<S: Alter, W: Sink, E: Sink>(
     alloc: Global,
     registry: &mut Registry<S>,

@@ -102,7 +102,7 @@ fn found_trial(alloc: Global) -> Result<Registry<MemStore>, Failure>
 }
 
 /// Founds a registry in memory, acts on the request lines of a source, as `apply_lines` does, and
-/// answers its status. The registry is gone afterwards.
+/// returns its exit status. The registry is gone afterwards.
 pub fn trial<R: Source, W: Sink, E: Sink>(
     alloc: Global,
     source: &mut R,

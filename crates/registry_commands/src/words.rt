@@ -1,4 +1,4 @@
-//! Words of the command line that are none of their kind.
+//! Arguments of the command line that are not valid.
 
 ghost use Rattle.std.specs.Prelude.{◌≡◌};
 ghost use Rattle.registry_commands.specs.Failures.{Tells, told_to};
@@ -7,7 +7,7 @@ ghost use Rattle.registry_commands.specs.Words.{bad_word_line};
 use crate::messages::tell;
 use usbids_text::Sink;
 
-/// A word that is none of its kind.
+/// An argument that is not valid.
 #[derive(Clone, Copy, Debug, PartialEq, Eq)]
 pub enum BadWord {
     /// The stamp of an export.
@@ -49,7 +49,7 @@ impl BadWord {
     }
 }
 
-/// Tells which word is none of its kind, and answers the status.
+/// Says which argument is not valid, and returns the exit status.
 pub fn reject_word<E: Sink>(errors: &mut E, word: BadWord) -> u8
     ensures status { result ≡ 2 }
     ensures told { Tells (told_to E.contents E.failures errors.old errors.new) (bad_word_line word) }

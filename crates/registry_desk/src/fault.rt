@@ -16,7 +16,7 @@ pub(crate) enum DeskFault {
     NoMemory,
 }
 
-/// The refusal that is sent then: 31 for want of memory, 30 for any other fault.
+/// The refusal that is sent then: 31 where memory runs out, 30 for any other fault.
 pub(crate) fn unavailable_of(fault: DeskFault) -> Unavailable
     ensures { result ≡ unavailable_of fault }
 {

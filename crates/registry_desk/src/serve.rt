@@ -24,7 +24,7 @@ use usbids_text::{Broken, Sink, Source};
 pub struct Served {
     /// The status of the response.
     pub status: u16,
-    /// The registry's fault behind a 503. A 503 without one is for want of memory alone.
+    /// The registry's fault behind a 503. A 503 without one says that memory ran out.
     pub fault: Option<Fault>,
 }
 
@@ -104,7 +104,7 @@ pub(crate) fn serve_message<R: Source, W: Sink, S: Alter>(
     }
 }
 
-/// What is told of an exchange.
+/// What is said of an exchange.
 fn served_of(exchange: Exchange) -> Result<Served, PeerFault>
     ensures written { (old : Option (List ℕ)) (new : Option (List ℕ)) (failures : ℕ) (failures_new : ℕ) (text : List ℕ) → Writes old new failures failures_new exchange.sent text → Writes old new failures failures_new result text }
     ensures ok { (served : Served) → IsOfServed exchange served → IfOk result (λ it. it ≡ served) }
@@ -122,7 +122,7 @@ fn served_of(exchange: Exchange) -> Result<Served, PeerFault>
 /// Reads one message from the source, acts on it, and writes its response to the sink.
 ///
 /// `Read` comes only where the source failed in this call: then nothing is written and nothing was acted on. `Write`
-/// comes only where the sink failed: then a beginning of the response was written, and an order may have been acted on.
+/// comes only where the sink failed: then a prefix of the response was written, and an order may have been acted on.
 /// Its repeat under its key has the same reply.
 ///
 /// The message takes at most 8,192 bytes of memory for its head, and 16,384 for the body of an order in JSON besides the

@@ -91,7 +91,7 @@ fn serve_between<R: Source, W: Sink, S: Alter>(
 /// Opens the next connection, serves its message, and closes it.
 ///
 /// `ServerStop::Registry` comes where the registry had a fault, whether its response was written or the peer was gone. A peer's
-/// fault alone, and a 503 for want of memory alone, are no stop.
+/// fault, or a 503 because memory ran out, stops nothing.
 pub fn serve_next<C: Connections, S: Alter>(
     alloc: Global,
     connections: &mut C,

@@ -36,7 +36,7 @@ fn put_response<W: Sink>(sink: &mut W, head: &str, response: &Response) -> Resul
 
 /// Writes a response, and gives its status. Where there is no memory for its head, it is refusal 31 that is written.
 ///
-/// `Broken` comes only where the sink failed in this call: a beginning of the response was written.
+/// `Broken` comes only where the sink failed in this call: a prefix of the response was written.
 pub fn write_response<W: Sink>(
     alloc: Global,
     sink: &mut W,
@@ -54,7 +54,7 @@ pub fn write_response<W: Sink>(
 
 /// Writes refusal 30 or 31, and gives its status. It takes no memory.
 ///
-/// `Broken` comes only where the sink failed in this call: a beginning of the response was written.
+/// `Broken` comes only where the sink failed in this call: a prefix of the response was written.
 pub fn write_unavailable<W: Sink>(sink: &mut W, why: Unavailable) -> Result<u16, Broken>
     ensures writes { Writes (W.contents sink.old) (W.contents sink.new) (W.failures sink.old) (W.failures sink.new) result (response_bytes (unavailable_response why)) }
     ensures status { IfOk result (λ status. status ≡ 503) }

@@ -138,7 +138,7 @@ const FAULTS: [(&str, (&str, &str)); 38] = [
     ),
 ];
 
-/// The whole response of a refusal that is no wrong method.
+/// The whole response of a refusal, but for a wrong method.
 fn response_text(alloc: Global, refusal: (&str, &str)) -> Result<String, NoMemory> {
     let (status, body) = refusal;
     let count = body.len().saturating_add(1);

@@ -368,7 +368,7 @@ fn tells_why_nothing_is_asked(rt: HostRuntime) -> Result<(), Fail> {
     Ok(())
 }
 
-// A writer that takes so many bytes of a response and then fails has a beginning of it.
+// A writer that takes so many bytes of a response and then fails has a prefix of it.
 fn expect_beginnings(rt: &impl Abort, alloc: Global) -> Result<(), NoMemory> {
     let response = org_response(alloc, None)?;
     let whole = written(rt, alloc, &response)?;

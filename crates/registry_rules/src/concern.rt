@@ -34,7 +34,7 @@ fn only(pid: Pid) -> Span
     }
 }
 
-// The span from the lesser of the two beginnings to the greater of the two ends.
+// The span from the lesser of the two starts to the greater of the two ends.
 fn grown(span: &Span, pid: Pid) -> Span
     ensures keeps { (n : ℕ) → span_has span.now n ≡ true → span_has result n ≡ true }
     ensures has { span_has result pid ≡ true }
@@ -65,7 +65,7 @@ fn with_code(found: Option<Span>, code: u16) -> Option<Span>
     }
 }
 
-// From the least code of the items to the greatest; 0 is no product number.
+// From the least code of the items to the greatest; 0 is not a product number.
 fn codes_span(items: &[Item]) -> Option<Span>
     ensures { (code : ℕ) → nat_eq code 0 ≡ false → list_any (λ item. nat_eq item.code code) items.now ≡ true → IsSomeAnd result (λ span. span_has span code ≡ true) }
 {

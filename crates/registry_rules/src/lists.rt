@@ -118,7 +118,7 @@ impl Licences {
         })
     }
 
-    // One title more. With `MOST_LICENCES` of them it answers NoMemory, as where memory is short, and
+    // One title more. With `MOST_LICENCES` of them it returns NoMemory, as where memory is short, and
     // nothing is changed.
     pub(crate) fn add(&mut self, title: Title) -> Result<(), NoMemory>
         ensures { OnOk result (AreInOrder (self.old ++ title ∷ []) self.new) }

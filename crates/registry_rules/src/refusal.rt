@@ -12,7 +12,7 @@ use usbnum_core::{NoMemory, Slug};
 pub enum Refusal {
     /// The key is kept with another order.
     KeyReused,
-    /// The caller is no curator.
+    /// The caller is not a curator.
     NotCurator,
     /// The caller isn't the keeper of the organisation concerned.
     NotKeeper,

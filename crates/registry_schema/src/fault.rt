@@ -15,7 +15,7 @@ pub enum TableFault {
     Foreign,
 }
 
-/// What an error of the store means for a call on the tables: want of memory where it says so, and else a
+/// What an error of the store means for a call on the tables: out of memory where it says so, and else a
 /// failure of the store.
 pub fn fault_of(error: Error) -> TableFault
     ensures memory { (result ≡ TableFault.NoMemory) ↔ (error ≡ Error.SqliteFailure ErrorCode.OutOfMemory) }

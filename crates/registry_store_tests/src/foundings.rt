@@ -1,4 +1,4 @@
-//! A founding is stopped at each call of a file in turn: what is found then is no registry, which can be founded again, or the
+//! A founding is stopped at each call of a file in turn: there is then no registry, and one can be founded, or the
 //! one that was founded.
 
 use crate::disks::{

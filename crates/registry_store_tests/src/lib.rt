@@ -1,5 +1,5 @@
 //! A registry by example: over disks that stop at each call in turn, closed and opened in each way, brought up from older
-//! schemas, and what it answers.
+//! schemas, and what it returns.
 #![tactic(auto)]
 
 #[cfg(test)]

@@ -12,7 +12,7 @@ use std::alloc::Global;
 use std::process::Abort;
 use std::test::Fail;
 
-// What a registry answers to a request.
+// The reply of a registry to a request.
 #[derive(Clone, Copy, Debug, PartialEq, Eq)]
 enum Answer {
     Enrolled,
@@ -88,7 +88,7 @@ fn is_short(answer: Answer) -> bool {
     matches!(answer, Answer::Fault(Fault::NoMemory | Fault::Store))
 }
 
-// No answer is another than the right one, and after a fault there is none.
+// Each answer is the right one, and after a fault there is none.
 fn is_right(told: Told) -> bool {
     let Told { first, again, orgs } = told;
     match (first, again) {

@@ -15,7 +15,7 @@ use std::alloc::Global;
 use std::process::Abort;
 use std::test::Fail;
 
-// What a query answers of the store in the files, as it is.
+// What a query returns of the store in the files, as it is.
 fn answer_in<D: Disk + Drop>(alloc: Global, files: Files<D>, query: &str) -> Option<String> {
     let mut conn = connected(alloc, files, PLAIN).ok()?;
     let mut text = String::new(alloc);

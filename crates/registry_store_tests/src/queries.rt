@@ -1,4 +1,4 @@
-//! What a registry answers of its history.
+//! What a registry says of its history.
 
 use crate::steps::{ENROL, Step};
 use crate::values::{founding, lines_of, replies_to, requests_of, slug};

@@ -13,7 +13,7 @@ use std::test::Fail;
 /// What a run gave, and what the registry answered after its stop.
 #[derive(Drop)]
 pub struct First {
-    /// The fault of the run. There is none where it came to its end, or not to its beginning.
+    /// The fault of the run. There is none where it came to its end, or did not start.
     pub fault: Option<Fault>,
     /// Whether the registry was opened.
     pub is_open: bool,
@@ -21,7 +21,7 @@ pub struct First {
     pub spent: Option<String>,
 }
 
-/// What a spent registry answers to a request, to a run and to what it is asked for.
+/// What a spent registry returns for a request, for a run and for what it is asked.
 pub const SPENT: &str =
     "Some(Spent)\nSome(Spent), 0 replies\nErr(Spent)\nErr(Spent)\nErr(Spent)\nErr(Spent)\n";
 
@@ -41,7 +41,7 @@ fn tell_run<S: Alter>(registry: &mut Registry<S>, requests: &[Request], text: &m
     writeln!(text, "{fault:?}, {count} replies").is_ok()
 }
 
-// What a registry answers after a stop.
+// What a registry says after a stop.
 fn answers<S: Alter>(
     alloc: Global,
     registry: &mut Registry<S>,

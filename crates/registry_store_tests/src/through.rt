@@ -48,7 +48,7 @@ fn through_in<D: Crash + Drop>(
     }
 }
 
-// Two rounds come through the stop of a file. One comes to the end only without a stop, and gives a beginning of the replies.
+// Two rounds come through the stop of a file. One comes to the end only without a stop, and gives a prefix of the replies.
 fn goes_through(
     rt: &impl Abort,
     alloc: Global,

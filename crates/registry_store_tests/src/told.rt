@@ -1,4 +1,4 @@
-//! What a registry tells of itself, and what its tables hold, as texts.
+//! What a registry says of itself, and what its tables hold, as texts.
 
 use registry_rules::Vendor;
 use registry_store::Registry;
@@ -98,7 +98,7 @@ fn add_row(row: &Row, text: &mut String) -> bool {
     text.push('\n').is_ok()
 }
 
-/// Adds a line for each row that the query answers.
+/// Adds a line for each row that the query returns.
 pub fn add_answer<S: Alter>(conn: &mut Connection<S>, query: &str, text: &mut String) -> bool {
     match conn.query_all(query, &[]) {
         Ok(rows) => rows.iter().all(|row| add_row(row, text)),

@@ -28,7 +28,7 @@ fn first_to_third<S: Alter>(alloc: Global, conn: &mut Connection<S>) -> Result<(
     second_to_third(alloc, conn)
 }
 
-// Whether the store answers, by a statement that reads no table.
+// Whether the store works, by a statement that reads no table.
 fn try_store<S: Alter>(tx: &mut Transaction<'_, S>) -> Result<(), TableFault>
     ensures same_reference { tx.new.conn.ghost_name ≡ tx.old.conn.ghost_name }
     ensures answered { HasCleanDisk (state S.Store tx.new.conn.now) → IsTrue (state S.Store tx.old.conn.now).in_transaction → OnOk result (GoesOn (state S.Store tx.old.conn.now) (state S.Store tx.new.conn.now)) }
@@ -42,7 +42,7 @@ fn try_store<S: Alter>(tx: &mut Transaction<'_, S>) -> Result<(), TableFault>
     }
 }
 
-// The fault of tables of no schema: Foreign, where the store still answers. Nothing is written.
+// The fault of tables that no schema has: Foreign, where the store still works. Nothing is written.
 fn unknown<S: Alter>(conn: &mut Connection<S>) -> TableFault
     requires { conn.old.in_transaction ≡ false }
     ensures idle { conn.new.in_transaction ≡ false }

@@ -113,7 +113,7 @@ fn add_rows(rows: &[Row], text: &mut String) -> bool {
     rows.iter().all(|row| add_row(row, text))
 }
 
-/// Adds a line for each row that the query answers.
+/// Adds a line for each row that the query returns.
 pub fn add_answer<S: Alter>(conn: &mut Connection<S>, query: &str, text: &mut String) -> bool {
     match conn.query_all(query, &[]) {
         Ok(rows) => add_rows(&rows, text),

@@ -19,7 +19,7 @@ pub enum WireRefusal {
     TooLarge,
     /// Its body ends early.
     ShortBody,
-    /// Its path is none that is served.
+    /// Its path is not served.
     NoRoute,
     /// Its path is served, but not by its method.
     WrongMethod,

@@ -57,7 +57,7 @@ fn read_body(alloc: Global, caller: Slug, key: Key, bytes: &[u8]) -> Result<Requ
     Ok(Request { caller, key, order })
 }
 
-/// The request that a line of JSON is, with its caller and key as fields, or why it is none.
+/// The request that a line of JSON is, with its caller and key as fields, or why it is not one.
 pub fn line_request(alloc: Global, line: &[u8]) -> Result<Result<Request, WireRefusal>, NoMemory>
     ensures { IfOk result (λ read. read ≡ line_reading line.now) }
 {
@@ -68,7 +68,7 @@ pub fn line_request(alloc: Global, line: &[u8]) -> Result<Result<Request, WireRe
     }
 }
 
-/// The request of a caller, under a key, whose order is a body of JSON, or why it is none.
+/// The request of a caller, under a key, whose order is a body of JSON, or why it is not one.
 pub fn request_from_json(
     alloc: Global,
     caller: Slug,

@@ -1,4 +1,4 @@
-//! What the words of a command line ask of `usbreg`.
+//! What the arguments of a command line ask of `usbreg`.
 #![tactic(auto)]
 
 mod command;

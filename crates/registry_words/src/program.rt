@@ -1,4 +1,4 @@
-//! The program's command line, as `clap` is told of it.
+//! The program's command line, as `clap` gets it.
 
 ghost use Rattle.std.specs.Prelude.{◌≡◌, ◌∷◌, [], IfOk, Some, false, codes, option_copied};
 ghost use Rattle.clap.specs.Words.{app_of, items_of, rule_of, new_app, with_rule, with_subcommand};
@@ -9,7 +9,7 @@ use clap::builder::ValueParser;
 use clap::{Arg, Command};
 use std::alloc::{AllocError, Global};
 
-/// A word that has to be there, at its place.
+/// An argument that has to be there, at its place.
 fn word<'a>(alloc: Global, name: &'a str, shown: &'a str, help: &'a str) -> Arg<'a>
     ensures rule { rule_of result ≡ word name.entry.now }
     ensures local { result.global ≡ false }

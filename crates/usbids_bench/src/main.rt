@@ -119,7 +119,7 @@ fn time(rt: &HostRuntime, bytes: &[u8], times: u32) -> io::Result<()> {
     Ok(())
 }
 
-// Feeds the next piece of a list, and answers whether there was one. A fault of the list is told at
+// Feeds the next piece of a list, and returns whether there was one. A fault of the list is told at
 // its end too.
 fn feed_next<R: Source>(source: &mut R, reader: &mut Reader) -> Result<bool, Broken> {
     let mut piece = [0u8; 8192];

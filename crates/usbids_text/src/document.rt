@@ -61,7 +61,7 @@ fn is_name(bytes: &[u8]) -> bool
 }
 
 impl Name {
-    /// The bytes as a name, or None where they are none.
+    /// The bytes as a name, or None where they are not one.
     pub fn new(alloc: Global, bytes: &[u8]) -> Result<Option<Name>, NoMemory>
         ensures { IfOk result (λ found. found ≡ (if is_name bytes.now then Some bytes.now else None)) }
     {

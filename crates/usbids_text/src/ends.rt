@@ -14,8 +14,8 @@ pub trait Source {
     /// How many calls failed so far; at 2^64 - 1 the count stays and means that some did.
     ghost failures: { Self → ℕ };
 
-    /// Gives the next bytes into the front of `room` and answers how many: none only at the end,
-    /// or where there is no room. After `Broken`, which is no end, it still has all of its bytes.
+    /// Gives the next bytes into the front of `room` and returns how many: none only at the end,
+    /// or where there is no room. After `Broken`, which is not an end, it still has all of its bytes.
     fn take(&mut self, room: &mut [u8]) -> Result<usize, Broken>
         ensures { Takes (remaining self.old) (remaining self.new) (failures self.old) (failures self.new) result room.new };
 }
@@ -29,13 +29,13 @@ pub trait Sink {
     /// stays and means that some did.
     ghost failures: { Self → ℕ };
 
-    /// Takes the first of these bytes and answers how many. At `Broken` it took none.
+    /// Takes the first of these bytes and returns how many. At `Broken` it took none.
     fn put(&mut self, bytes: &[u8]) -> Result<usize, Broken>
         ensures { Puts (contents self.old) (contents self.new) (failures self.old) (failures self.new) result bytes.now };
 }
 
 /// Has the sink take all of the bytes. `Broken` comes only where the sink failed during this call,
-/// and then it took a beginning of them.
+/// and then it took a prefix of them.
 pub fn put_all<W: Sink>(sink: &mut W, bytes: &[u8]) -> Result<(), Broken>
     ensures { Writes (W.contents sink.old) (W.contents sink.new) (W.failures sink.old) (W.failures sink.new) result bytes.now }
 {

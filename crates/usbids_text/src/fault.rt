@@ -15,7 +15,7 @@ pub struct LineFault {
     pub why: Why,
 }
 
-/// Why a text is not read: a faulty line, or want of memory.
+/// Why a text is not read: a faulty line, or out of memory.
 #[derive(Clone, Copy, Debug, PartialEq, Eq)]
 pub enum ReadFault {
     Line(LineFault),

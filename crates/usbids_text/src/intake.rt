@@ -21,7 +21,7 @@ pub trait Intake {
         ensures { (wanted : Self.Wanted) (t : List ℕ) → was_fed self.old wanted t → was_fed self.new wanted (t ++ piece.now) };
 }
 
-/// Feeds the next bytes of the source, and answers how many they are: none at the end alone.
+/// Feeds the next bytes of the source, and returns how many they are: none at the end alone.
 fn feed_next<R: Source, I: Intake>(
     source: &mut R,
     intake: &mut I,

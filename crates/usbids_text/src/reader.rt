@@ -56,7 +56,7 @@ impl Reader {
         self.end_pending(part)
     }
 
-    // Keeps the beginning of a line, unless that is too long already.
+    // Keeps the start of a line, unless that is too long already.
     #[tactic(auto, unfolding(crate::specs::Feeding::kept))]
     fn keep(&mut self, part: &[u8]) -> Result<(), NoMemory>
         requires { IsTrue (list_all is_inner part.now) }
@@ -137,7 +137,7 @@ impl Reader {
     /// # Errors
     ///
     /// The first faulty line of all bytes so far, once its line feed has come or it has passed
-    /// 65,536 bytes, or want of memory. The reader answers that fault for good, from `finish` too.
+    /// 65,536 bytes, or out of memory. The reader returns that fault from then on, from `finish` too.
     pub fn feed(&mut self, piece: &[u8]) -> Result<(), ReadFault>
         ensures stands { (t : List ℕ) → Stands self.old t → Stands self.new (t ++ piece.now) }
         ensures answer { result ≡ answer_of (fault_of self.new) }
@@ -156,7 +156,7 @@ impl Reader {
     ///
     /// # Errors
     ///
-    /// The first faulty line, or want of memory.
+    /// The first faulty line, or out of memory.
     pub fn finish(mut self) -> Result<Document, ReadFault>
         ensures answers { (t : List ℕ) → Stands self t → Answers t result }
         ensures sticks { (f : ReadFault) → fault_of self ≡ Some f → result ≡ Err f }
@@ -187,7 +187,7 @@ impl Intake for Reader {
 ///
 /// # Errors
 ///
-/// The first faulty line, or want of memory.
+/// The first faulty line, or out of memory.
 pub fn read_all(alloc: Global, bytes: &[u8]) -> Result<Document, ReadFault>
     ensures { Answers bytes.now result }
 {

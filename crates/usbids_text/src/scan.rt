@@ -57,7 +57,7 @@ impl Scan {
         self.end_pending(part)
     }
 
-    // Keeps the beginning of a line, unless that is too long already.
+    // Keeps the start of a line, unless that is too long already.
     #[tactic(auto, unfolding(crate::specs::Scanning::scan_kept))]
     fn keep(&mut self, part: &[u8]) -> Result<(), NoMemory>
         requires { IsTrue (list_all is_inner part.now) }
@@ -145,7 +145,7 @@ impl Scan {
     ///
     /// # Errors
     ///
-    /// The first faulty line, wherever it stands, or want of memory.
+    /// The first faulty line, wherever it stands, or out of memory.
     pub fn finish(mut self) -> Result<Option<Name>, ReadFault>
         ensures { (wanted : Wanted) (t : List ℕ) → Seeks self wanted t → Finds wanted t result }
     {

@@ -1,4 +1,4 @@
-//! The tag of a top that is no vendor.
+//! The tag of a top that is not a vendor.
 ghost use Rattle.std.specs.Prelude.{◌≡◌, ◌≤◌, length, Some, None, IsTrue, if◌then◌else◌};
 ghost use Rattle.std.specs.List.{list_all};
 ghost use Rattle.usbids_text.specs.Words.{is_upper, is_tag};
@@ -45,7 +45,7 @@ fn is_tag(bytes: &[u8]) -> bool
 }
 
 impl Tag {
-    /// The bytes as a tag, or None where they are none.
+    /// The bytes as a tag, or None where they are not one.
     pub fn new(bytes: &[u8]) -> Option<Tag>
         ensures { result ≡ (if is_tag bytes.now then Some bytes.now else None) }
     {

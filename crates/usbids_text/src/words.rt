@@ -61,7 +61,7 @@ pub fn word(bytes: &[u8]) -> &[u8]
     &bytes[..separator_at(bytes)]
 }
 
-/// The bytes from the first that is no separator.
+/// The bytes from the first that is not a separator.
 pub fn past_separators(bytes: &[u8]) -> &[u8]
     ensures { result.now ≡ past_separators bytes.now }
 {

@@ -16,7 +16,7 @@ use arrayvec::ArrayVec;
 use std::error::Error;
 use std::fmt;
 
-/// The writer failed, and took a beginning of the text.
+/// The writer failed, and took a prefix of the text.
 #[derive(Clone, Copy, Debug, PartialEq, Eq)]
 pub struct WriteFault;
 
@@ -272,7 +272,7 @@ fn put_all_lines<W: Sink>(
 ///
 /// # Errors
 ///
-/// The sink failed during this call. It then took a beginning of the text.
+/// The sink failed during this call. It then took a prefix of the text.
 pub fn write<W: Sink>(
     document: &Document,
     stamp: Option<Stamp>,

@@ -36,7 +36,7 @@ pub fn reach(parts: &[Span], start: u32, end: u32) -> (usize, usize)
     (ended_before(parts, start), begun_by(parts, end))
 }
 
-/// The span from the least beginning to the greatest end.
+/// The span from the least start to the greatest end.
 pub fn join(low: Span, high: Span, span: Span) -> Span
     ensures { IsJoined low high span result }
 {

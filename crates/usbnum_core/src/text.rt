@@ -43,7 +43,7 @@ impl<R: TextRule> Model for Text<R> {
 }
 
 impl<R: TextRule> Text<R> {
-    /// The bytes as such a text, or None where they are none.
+    /// The bytes as such a text, or None where they are not one.
     pub fn new(alloc: Global, bytes: &[u8]) -> Result<Option<Text<R>>, NoMemory>
         ensures { IfOk result (λ found. SomeIff found (R.IsValid bytes.now) bytes.now) }
     {
