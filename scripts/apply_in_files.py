@@ -116,7 +116,7 @@ def outputs_that_fail(room):
 
 
 def bad_inputs(room):
-    """The first line that is no request is named by its number, and a founding file by its key. Nothing is acted on."""
+    """The first line that is not a request is named by its number, and a founding file by its key. Nothing is acted on."""
     enrol = content(TEN).decode().splitlines()[0]
     reserve = '{"caller":"ann","key":"k1","order":"reserve","first":"0020","last":"0010"}'
     imported = '{"caller":"ann","key":"k1","order":"import"}'

@@ -222,7 +222,7 @@ class Edit:
         self.name = name_of(file)
         self.lines, self.functions, self.is_alone = {}, [], False
         if not os.path.isfile(file) or not file.endswith(".edit"):
-            raise BadEdit("it is no file whose name ends in .edit")
+            raise BadEdit("it is not a file whose name ends in .edit")
         with open(file, encoding="utf-8") as it:
             self.lines = self.changes(it.read(), sources)
         for path, line in sorted(self.lines):

@@ -3,7 +3,7 @@
 
 A registry is founded in a file by examples/founding.toml, and examples/orders.jsonl, which has all orders of
 request lines, is applied to it. Then SQLite opens the file: the texts of its tables are those of docs/schema.md,
-to the byte, and each statement of examples/orders.rows answers the lines that stand below it there, as
+to the byte, and each statement of examples/orders.rows returns the lines that stand below it there, as
 `sqlite3 -quote` prints them. Each table has a statement, so there are these rows and no others.
 
 Usage: scripts/look_into_a_store.py [PROGRAM [ROWS]], by default the program that `make` builds, and

@@ -3,7 +3,7 @@
 
 SQLite makes the stores: by examples/schema1.sql and examples/schema2.sql, whose texts are those of docs/schema.md and
 whose rows are those of a plain history after examples/one_vendor.requests; then by the rows of the cases in `cases/` and
-of requests made up by chance, as far as they name no vendor. Whichever command opens such a store first, it prints what
+of requests made up by chance, but for those that name a vendor. Whichever command opens such a store first, it prints what
 it prints of the registry that was founded today by the same requests, and the rows of all tables are the same. Each
 accepted request has its first reply again, and later requests do the same to both.
 
@@ -266,7 +266,7 @@ def stops(stores, count):
 
 
 def foreign_changes(version):
-    """Changes by another program after which a store of this schema is none."""
+    """Changes by another program after which it is not a store of this schema."""
     yield from (f"UPDATE meta SET version = {it}" for it in (-1, 0, 1, 2, 3, 4, 259) if it != version)
     last = {1: "kept", 2: "spans", 3: "petitions3"}[version]
     yield from (f"ALTER TABLE {it} RENAME TO other" for it in ("meta", "orgs", last))
@@ -276,7 +276,7 @@ def foreign_changes(version):
 
 
 def foreign_stores(stores):
-    """Whichever command opens what is no store of a schema, it says so and writes nothing."""
+    """Whichever command opens what is not a store of a schema, it says so and writes nothing."""
     lines = write(f"{stores.folder}/lines.jsonl", content(f"{EXAMPLES}/first.jsonl").decode())
     count = 0
     for version in (1, 2, 3):

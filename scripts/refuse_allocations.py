@@ -1,12 +1,12 @@
 #!/usr/bin/env python3
-"""Refuses each allocation of `usbreg` in turn, and looks at what it answers.
+"""Refuses each allocation of `usbreg` in turn, and looks at what it replies.
 
 Trials of examples/first.jsonl and of examples/orders.jsonl, which has all orders of request lines, and the
-first of these applied to a store in a file: each run prints the whole answers, or a beginning of them and
+first of these applied to a store in a file: each run prints the whole replies, or a prefix of them and
 `fault: memory` or `fault: store` with status 1. A store is opened again then, the run goes on with
 `--answered`, and the replies and the tables end as those of a run in which nothing was refused. A store is
 founded in the same way: where that fails it can be founded again, or was founded already, and is whole. The
-commands that show something print the whole of it or a beginning, and change nothing; an import that fails
+commands that show something print the whole of it or a prefix, and change nothing; an import that fails
 is done under its key again, with the same reply and the same tables. A store of an older schema that is opened
 opens again as the same history. Over HTTP an order, an import and a query each have the response that they should have,
 or refusal 31 and the next one is served, or refusal 30 or 31 and the program ends with its fault; sent again to the

@@ -3,7 +3,7 @@
 
 A test that is refused memory passes, since it did without, or it fails and says so: by an error that is want of
 memory, or since a call told nothing where an answer was wanted. A test that compares another answer than the
-right one fails here: want of memory has changed an answer.
+right one fails here: running out of memory has changed an answer.
 
 Of a test that asks for many allocations some hundred are refused, evenly spread, but for two that make the tables and
 each statement on them once; with --all it is each of them.
@@ -27,7 +27,7 @@ STORE = f"{TOP}/crates/registry_store_tests/out/registry_store_tests_tests"
 MOST = 650
 WHOLE = {"lists::a_store_has_what_was_put_in", "lookups::a_request_finds_what_it_needs"}
 
-# `write` takes no memory: what runs short in these tests is the writer that they hand it, which then has a beginning.
+# `write` takes no memory: what runs short in these tests is the writer that they hand it, which then has a prefix.
 LEFT_OUT = "writing::"
 
 # The other tests of the store compare what files hold, and take a disk that finds no room for one that stops.

@@ -32,7 +32,7 @@ PAGE = f"{TOP}/docs/http.md"
 LINK = "https://acme.example/"
 ENROL = {"caller": "ann", "key": "k1", "order": "enrol", "org": "acme", "title": "Acme Tools", "site": LINK}
 ENROLLED = done("enrolled acme")
-# Refusals that no message alone brings about: the store's, and want of memory.
+# Refusals that no message alone brings about: a fault of the store, and out of memory.
 OF_RESOURCES = {30, 31}
 # Most bytes of a message's head, of an order and of a list.
 HEAD, ORDER, LIST = 8192, 16384, 4194304

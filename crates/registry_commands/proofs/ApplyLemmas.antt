@@ -19,7 +19,7 @@ use Rattle.registry_commands.specs.Messages.{bad_line_text, exceeds_text, reply_
 use Rattle.registry_commands.specs.Apply.{IsApplied, IsRejected, IsRun, IsStoppedAt, lines_between}
 use Rattle.registry_commands.proofs.FailureLemmas.{tells_more}
 
--- nothing is a beginning of anything
+-- nothing is a prefix of anything
 pub no_beginning : (o : Option (List ℕ)) (bytes : List ℕ) → AppendsBeginning o o bytes
 no_beginning o bytes = record { front = []; rest = bytes; whole = refl; appended = Appends-nil o }
 

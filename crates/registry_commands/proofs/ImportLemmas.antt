@@ -23,7 +23,7 @@ use Rattle.registry_commands.specs.Failures.{IsOfOutput, Told}
 use Rattle.registry_commands.specs.Imports.{GivesReply, IsCut, IsFailed, IsReplied}
 use Rattle.registry_commands.specs.Messages.{failure_of, reply_line}
 
--- nothing is a beginning of anything
+-- nothing is a prefix of anything
 pub nothing_of : (o : Option (List ℕ)) (bytes : List ℕ) → AppendsBeginning o o bytes
 nothing_of o bytes = record { front = []; rest = bytes; whole = refl; appended = Appends-nil o }
 

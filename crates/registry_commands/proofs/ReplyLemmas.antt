@@ -50,7 +50,7 @@ module _ {W : Type 0} (contents : W → Option (List ℕ)) (failures : W → ℕ
       let out = taken_lines old middle replies taken in
       subst (λ (k : ReplyLines W). (k.output.ghost_name ≡ old.output.ghost_name) × (failures k.output.now ≡ failures old.output.now)) (sym same) (out.same_output, out.kept)
 
-  -- of the next line at most a beginning is out
+  -- of the next line at most a prefix is out
   next_begun : (why : RunStop) (middle new : ReplyLines W) (next : Reply) → IsCutBy (CutsLine contents failures) why middle new next
       → AppendsBeginning (contents middle.output.now) (contents new.output.now) (reply_line next)
   next_begun (stop.Fault fault) middle new next cut =

@@ -35,7 +35,7 @@ module _ {S : Type 0} {g : Ghosts S} where
     pub gained : Appends old new (reply_lines (drop a (answers h rs)))
     pub stands : Stands it (after h rs)
 
-  -- The run stopped with n requests answered, whose reply lines are out. Of the next line nothing is out; or at most a beginning
+  -- The run stopped with n requests answered, whose reply lines are out. Of the next line nothing is out; or at most a prefix
   -- is, and the registry is at the history after its request. A crash leaves these n requests, and at most one more.
   pub record IsStoppedAt (it : Registry S g) (h : History) (rs : List Request) (a n : ℕ) (old new : Option (List ℕ)) : Type 0 where
     pub from : a ≤ n
@@ -66,7 +66,7 @@ module _ {S : Type 0} {g : Ghosts S} where
     pub told : status ≡ 1 → IsUnread OfInput it new out out_new errors
         ⊎ TellsFailure (λ failure. IsOfRun it new (λ h. HasAnswered it h rs a) failure × OfOutput failure) errors
 
-  -- What becomes of the requests that were read, of which the first are answered already, or of a line that is none.
+  -- What becomes of the requests that were read, of which the first are answered already, or of a line that is not one.
   abbrev pub IsApplied : (Failure → Type 0) → (Failure → Type 0) → Registry S g → Registry S g → Result (List Request) BadLine → ℕ → Option (List ℕ) → Option (List ℕ) → Told → ℕ → Type 0
   IsApplied OfInput OfOutput it new (Err bad) a out out_new errors status = IsRejected OfInput it new out out_new errors (bad_line_text bad) status
   IsApplied OfInput OfOutput it new (Ok rs) a out out_new errors status =

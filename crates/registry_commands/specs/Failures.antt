@@ -22,7 +22,7 @@ told_to contents failures errors errors_new = record {
   failures_new = failures errors_new;
 }
 
--- the text was written: all of it, or a beginning of it and the errors failed
+-- the text was written: all of it, or a prefix of it and the errors failed
 abbrev pub Tells : Told → List ℕ → Type 0
 Tells errors text = AppendsBeginning errors.old errors.new text × (HasFailed errors.failures errors.failures_new ⊎ Appends errors.old errors.new text)
 
@@ -30,7 +30,7 @@ Tells errors text = AppendsBeginning errors.old errors.new text × (HasFailed er
 abbrev pub TellsNothing : Told → Type 0
 TellsNothing errors = Keeps errors.old errors.new × (errors.failures_new ≡ errors.failures)
 
--- the message of a failure that may come here was written: all of it, or a beginning of it and the errors failed
+-- the message of a failure that may come here was written: all of it, or a prefix of it and the errors failed
 abbrev pub TellsFailure : (Failure → Type 0) → Told → Type 0
 TellsFailure May errors = (failure : Failure) × May failure × Tells errors (failure_line failure)
 

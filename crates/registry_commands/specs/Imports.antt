@@ -47,7 +47,7 @@ pub record AreOfImport (caller key org : List ℕ) (vendor : Option (List ℕ)) 
   pub org_is : IsSlug org × (import.org ≡ org)
   pub vendor_is : vendor_argument vendor ≡ Ok import.vendor
 
--- the first argument that is none of its kind
+-- the first argument that is not valid
 abbrev pub IsFirstBad : List ℕ → List ℕ → List ℕ → Option (List ℕ) → BadWord → Type 0
 IsFirstBad caller key org vendor Caller = ¬ IsSlug caller
 IsFirstBad caller key org vendor Key = IsSlug caller × ¬ IsKey key
@@ -62,7 +62,7 @@ abbrev pub status_of : Reply → ℕ
 status_of (Done text) = 0
 status_of (Refused refusal) = 2
 
--- the reply's line is out and the status says whether it is a refusal; or a beginning of it is out, after a failure
+-- the reply's line is out and the status says whether it is a refusal; or a prefix of it is out, after a failure
 abbrev pub IsReplied : (Failure → Type 0) → Reply → Option (List ℕ) → Option (List ℕ) → Told → ℕ → Type 0
 IsReplied May reply out out_new errors status =
     ((status ≡ status_of reply) × Appends out out_new (reply_line reply) × TellsNothing errors)
@@ -81,7 +81,7 @@ module _ {S : Type 0} {g : Ghosts S} where
     pub quiet : TellsNothing errors
     pub answered : (h : History) → MayBeActedOn it h r → HasCleanDisk (state_of new) → (reply ≡ answer_one h r) × Stands new (after_one h r)
 
-  -- A beginning of the reply's line is out. A crash leaves the history before the request or after it, and the registry is spent or stands after it.
+  -- A prefix of the reply's line is out. A crash leaves the history before the request or after it, and the registry is spent or stands after it.
   pub record IsCut (new : Registry S g) (h : History) (r : Request) (out out_new : Option (List ℕ)) : Type 0 where
     pub gained : AppendsBeginning out out_new (reply_line (answer_one h r))
     pub leaves : Leaves newest (state_of new) (λ x. (x ≡ h) ⊎ (x ≡ after_one h r))

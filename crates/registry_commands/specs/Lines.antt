@@ -20,7 +20,7 @@ lines_of (b ∷ bytes) = if b == 10 then [] ∷ lines_of bytes else in_front b (
 unfoldable pub is_blank : List ℕ → Bool
 is_blank line = list_all (λ b. b == 32 || b == 9 || b == 13) line
 
--- the request of the line with this number, or that the line is none
+-- the request of the line with this number, or that the line is not one
 abbrev pub numbered : ℕ → Result Request WireRefusal → Result Request BadLine
 numbered number (Ok request) = Ok request
 numbered number (Err refusal) = Err (record { number = number; refusal = refusal })
@@ -31,13 +31,13 @@ with_request (Err bad) rest = Err bad
 with_request (Ok request) (Err bad) = Err bad
 with_request (Ok request) (Ok rest) = Ok (request ∷ rest)
 
--- the requests of the lines that aren't blank, or the first line that is no request; the number is that of the first line
+-- the requests of the lines that aren't blank, or the first line that is not one; the number is that of the first line
 unfoldable pub requests_from : ℕ → List (List ℕ) → Result (List Request) BadLine
 requests_from number [] = Ok []
 requests_from number (line ∷ lines) =
     if is_blank line then requests_from (number + 1) lines
     else with_request (numbered number (line_reading line)) (requests_from (number + 1) lines)
 
--- the requests of the bytes in order, or the first line that is no request
+-- the requests of the bytes in order, or the first line that is not one
 abbrev pub requests_in : List ℕ → Result (List Request) BadLine
 requests_in bytes = requests_from 1 (lines_of bytes)

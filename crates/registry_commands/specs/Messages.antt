@@ -26,7 +26,7 @@ reply_lines (reply ∷ replies) = reply_line reply ++ reply_lines replies
 unfoldable pub refusal_line : WireRefusal → List ℕ
 refusal_line refusal = compact_text (refusal_data refusal) ++ codes "\n"
 
--- the first line that is no request, and why
+-- the first line that is not one, and why
 unfoldable pub bad_line_text : BadLine → List ℕ
 bad_line_text bad = codes "line " ++ decimal bad.number ++ codes ": " ++ refusal_line bad.refusal
 

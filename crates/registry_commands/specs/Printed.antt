@@ -5,7 +5,7 @@ use Rattle.usbids_text.specs.Ends.{AppendsBeginning}
 use Rattle.registry_commands.specs.declared.messages.Failure.{Failure}
 use Rattle.registry_commands.specs.Failures.{TellsFailure, TellsNothing, Told}
 
--- the text is out and the status is 0; or a beginning of it is out, the output failed, and the status is 1
+-- the text is out and the status is 0; or a prefix of it is out, the output failed, and the status is 1
 abbrev pub IsPrinted : (Failure → Type 0) → List ℕ → Option (List ℕ) → Option (List ℕ) → Told → ℕ → Type 0
 IsPrinted OfOutput text out out_new errors status =
     ((status ≡ 0) × Appends out out_new text × TellsNothing errors)

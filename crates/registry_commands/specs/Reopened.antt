@@ -28,7 +28,7 @@ module _ {S : Type 0} {g : Ghosts S} where
         × (Keeps middle out_new ⊎ ∥ Stands it (after h (take (n + 1) rs)) ∥₁)
     pub answered : ∥ HasAnswered it h rs n ∥₁
 
-  -- what is opened after the requests that were read were acted on over the first registry, of which so many are answered already, or after a line that is none
+  -- what is opened after the requests that were read were acted on over the first registry, of which so many are answered already, or after a line that is not one
   abbrev pub IsReopened : Registry S g → Result (List Request) BadLine → ℕ → Option (List ℕ) → Option (List ℕ) → ℕ → Registry S g → Type 0
   IsReopened first (Err bad) a out out_new status it = IsReopenedAsBefore first it out out_new
   IsReopened first (Ok rs) a out out_new status it =

@@ -16,7 +16,7 @@ module _ {W : Type 0} (contents : W → Option (List ℕ)) (failures : W → ℕ
     pub gained : Appends (contents old.output.now) (contents new.output.now) (reply_line reply)
     pub kept : failures new.output.now ≡ failures old.output.now
 
-  -- a beginning of the reply line is out, and the failure is noted
+  -- a prefix of the reply line is out, and the failure is noted
   pub record CutsLine : Type 0 where
     pub same_output : new.output.ghost_name ≡ old.output.ghost_name
     pub gained : AppendsBeginning (contents old.output.now) (contents new.output.now) (reply_line reply)

@@ -33,7 +33,7 @@ pub record IsTried (rs : List Request) (out out_new : Option (List ℕ)) : Type 
 abbrev pub IsOfStart : (Failure → Type 0) → Failure → Type 0
 IsOfStart OfInput failure = (failure ≡ Store) ⊎ OfInput failure
 
--- Some requests were acted on after such a founding. Their reply lines are out, and of the next one at most a beginning.
+-- Some requests were acted on after such a founding. Their reply lines are out, and of the next one at most a prefix.
 pub record IsTriedInPart (rs : List Request) (out out_new : Option (List ℕ)) : Type 0 where
   pub founding : Founding
   pub trial : IsTrial founding

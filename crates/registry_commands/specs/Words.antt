@@ -1,4 +1,4 @@
--- What is told of a word that is none of its kind.
+-- What is said of an argument that is not valid.
 use Rattle.std.specs.Prelude.{List, ℕ, codes}
 use Rattle.registry_commands.specs.declared.words.BadWord.{BadWord}
 use Rattle.registry_commands.specs.declared.words.BadWord.TheVariants.{Stamp, Name, Vid, Pid, Caller, Key, Org, Vendor}

@@ -82,7 +82,7 @@ module _ {S : Type 0} {g : Ghosts S} where
     left = err.1;
   })
 
--- only a spent registry is told of as spent
+-- only a spent registry is said to be spent
 pub tells_spent : (done : Result Response DeskFault) (text : List ℕ) (served : Served) → IsTold done text served → served.fault ≡ Some faults.Spent → done ≡ Err (Registry faults.Spent)
 tells_spent (Ok response) text served told spent = let none = sym (ap (λ (s : Served). s.fault) told.3) ∙ spent in absurd cc
 tells_spent (Err NoMemory) text served told spent = let none = sym (ap (λ (s : Served). s.fault) told.1) ∙ spent in absurd cc

@@ -84,7 +84,7 @@ abbrev pub IsEither : History → History → History → Type 0
 IsEither h next x = (x ≡ h) ⊎ (x ≡ next)
 
 module _ {S : Type 0} {g : Ghosts S} where
-  -- want of memory alone spends no registry
+  -- running out of memory by itself spends no registry
   abbrev pub EndsAt : DeskFault → TheRegistry S g → History → History → Type 0
   EndsAt NoMemory it h next = Stands it h ⊎ Stands it next
   EndsAt (Registry fault) it h next = (is_spent it ≡ true) ⊎ (Stands it h ⊎ Stands it next)

@@ -9,7 +9,7 @@ use Rattle.registry_http.specs.declared.unavailable.Unavailable.TheVariants as u
 use Rattle.registry_desk.specs.declared.fault.DeskFault.{DeskFault}
 use Rattle.registry_desk.specs.declared.fault.DeskFault.TheVariants.{Registry, NoMemory}
 
--- want of memory is refusal 31, any other fault is 30
+-- running out of memory is refusal 31, any other fault is 30
 abbrev pub unavailable_of : DeskFault → Unavailable
 unavailable_of NoMemory = unavailable.NoMemory
 unavailable_of (Registry faults.NoMemory) = unavailable.NoMemory

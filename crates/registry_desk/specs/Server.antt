@@ -1,7 +1,7 @@
 -- What a server makes of one connection after another.
 --
 -- A message has its response over the history before it, and the history after it is that of the next message. Two connections
--- differ: that whose reader failed, which has no message, and that which got refusal 31 for want of memory, whose message may
+-- differ: that whose reader failed, which has no message, and that which got refusal 31 because memory ran out, whose message may
 -- have been acted on.
 use Rattle.std.specs.Prelude.{◌≡◌, ◌⊎◌, ⊤, ℕ, List, [], ◌∷◌, ◌++◌, Option, Some, None, Result, Ok, Err}
 use Rattle.sqlite.specs.Store.{Ghosts}

@@ -2,13 +2,13 @@
 --
 -- Its faults are looked for in this order, and the first is told:
 --   20 the first 8,192 bytes hold no whole head of at most 64 fields
---   24 the path is not served, or a part of it is no value of its kind
+--   24 the path is not served, or a part of it is not a value of its kind
 --   25 the path is served by another method
 --   21 the body's length is not told, once and plainly
 --   22 it is past the limit of the path
---   26 the caller, then the key, is not named once, or is no value of its kind
+--   26 the caller, then the key, is not named once, or is not a value of its kind
 --   23 the body ends early
---   27 and 28, or 29: the body is no order in JSON, or no list
+--   27 and 28, or 29: the body is not an order in JSON, or not a list
 use Rattle.std.specs.Prelude.{◌≡◌, ◌⊎◌, ℕ, List, Option, Result, Ok, Err}
 use Rattle.httparse.specs.Grammar.{RequestHead}
 use Rattle.usbids_text.specs.Entries.{TopEntry}
@@ -37,7 +37,7 @@ ListSays founding caller key org vendor body said =
     ((list : List TopEntry) × Spells body list × (said ≡ Ok (import_of caller key org founding vendor list)))
     ⊎ ((n : ℕ) × (why : Why) × FaultAt body n why × (said ≡ Err (BadList (record { line = n; why = why }))))
 
--- the request that a body is, which was sent to an endpoint, or why it is none
+-- the request that a body is, which was sent to an endpoint, or why it is not one
 abbrev pub WholeBodySays : ℕ → Endpoint → List ℕ → List ℕ → List ℕ → Result Request WireRefusal → Type 0
 WholeBodySays founding endpoints.Commands caller key body said = said ≡ body_reading caller key body
 WholeBodySays founding (endpoints.Imports org vendor) caller key body said = ListSays founding caller key org vendor body said

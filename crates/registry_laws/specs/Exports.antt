@@ -29,7 +29,7 @@ abbrev pub IsSpelled : Type 0
 IsSpelled = (vendors : List Vendor) (numbers : List (Number × Entry)) (stamp : Option Moment) → All IsVendor vendors → All IsEntry numbers
     → Spells (written (list_of vendors numbers) stamp) (list_of vendors numbers)
 
--- and a reader of the text answers the list, or want of memory
+-- and a reader of the text returns the list, or runs out of memory
 abbrev pub IsReadBack : Type 0
 IsReadBack = (vendors : List Vendor) (numbers : List (Number × Entry)) (stamp : Option Moment) (read : Result (List TopEntry) ReadFault) → All IsVendor vendors → All IsEntry numbers
     → Answers (written (list_of vendors numbers) stamp) read → (read ≡ Ok (list_of vendors numbers)) ⊎ (read ≡ Err NoMemory)

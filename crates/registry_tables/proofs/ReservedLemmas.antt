@@ -76,7 +76,7 @@ module _ (vid low high : ℕ) (spans found kept : List (ℕ × Span)) (cut : IsC
   ones : AllByRecursion IsOne found
   ones = all_found vid low high spans found kept cut
 
-  -- the one with the least beginning, and the one with the greatest end
+  -- the one with the least start, and the one with the greatest end
   first_one : list_any (λ s. nat_eq s.1.first least) found ≡ true → (s : ℕ × Span) × (s.1.first ≡ least) × IsOne s
   first_one any = let s = some_of (λ s. nat_eq s.1.first least) IsOne found any ones in (s.0, eqb-true s.0.1.first least s.1, s.2)
 

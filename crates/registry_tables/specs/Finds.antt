@@ -1,4 +1,4 @@
--- What a look-up within a transaction answers.
+-- What a look-up within a transaction returns.
 use Rattle.std.specs.Prelude.{◌≡◌, List, true, IsTrue, Result, Ok, Err}
 use Rattle.sqlite.specs.State.{State, IsUnchanged, KeepsCommit}
 use Rattle.usbnum_core.specs.Spans.{span_has}

@@ -1,4 +1,4 @@
--- Readings that may be refused, and what a function answers that reads.
+-- Readings that may be refused, and what a function that reads returns.
 use Rattle.std.specs.Prelude.{◌≡◌, ⊤, Option, Some, None, Result, Ok, Err}
 use Rattle.registry_wire.specs.declared.refusal.WireRefusal.{WireRefusal}
 use Rattle.registry_wire.specs.declared.stop.Stop.{Stop}

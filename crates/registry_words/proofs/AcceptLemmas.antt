@@ -1,4 +1,4 @@
--- A command whose arguments have no default value and no rule on one another takes the words where and only where no fault is known against them.
+-- A command whose arguments have no default value and no rule on one another takes the arguments where and only where no fault is known against them.
 use Rattle.std.proofs.Common.{◌≡◌, ◌∙◌, ◌≤◌, ◌<◌, ◌+◌, ◌&&◌, ◌||◌, ℕ, Bool, cond, true, false, not, zero, suc, refl, sym, ap, ap₂, arith, List, [], ◌∷◌, length, drop, Option, Some, None, is_some, true≢false}
 use Rattle.std.specs.Prelude.{codes, encode_utf8, min, nat_le, nat_lt, slice_get, ◌==◌}
 use Rattle.std.specs.Option.{option_map_or}

@@ -91,7 +91,7 @@ module _ (s : Shape) (enabled : s.disable_help_subcommand ≡ false) where
 
 -- ---- the subcommand that is entered
 
--- the words of this subcommand ask for a command, unless it is `help`
+-- the arguments of this subcommand ask for a command, unless it is `help`
 abbrev pub Asks : Shape → Type 0
 Asks s = (name : Text) (words : List Text) → answers_to name (label_of s) ≡ true → bytes_eq name (codes "help") ≡ false → level_fault s [] nothing_held words false [] ≡ []
     → IsSome (named s.name (rows_after s.rules [] words))

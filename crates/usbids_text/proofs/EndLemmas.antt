@@ -21,7 +21,7 @@ Appends-then (Some xs) None c x y p q = absurd p
 Appends-then (Some xs) (Some ys) None x y p q = absurd q
 Appends-then (Some xs) (Some ys) (Some zs) x y p q = q ∙ (ap (λ (t : List ℕ). t ++ y) p ∙ append_assoc xs x y)
 
--- a beginning of what comes second is, with all of the first, a beginning of both
+-- a prefix of what comes second is, with all of the first, a prefix of both
 pub AppendsBeginning-then : (a b c : Option (List ℕ)) (x y : List ℕ) → Appends a b x → AppendsBeginning b c y → AppendsBeginning a c (x ++ y)
 AppendsBeginning-then a b c x y p q = record {
   front = x ++ q.front;
@@ -30,7 +30,7 @@ AppendsBeginning-then a b c x y p q = record {
   appended = Appends-then a b c x q.front p q.appended;
 }
 
--- a beginning of what comes first is a beginning of both
+-- a prefix of what comes first is a prefix of both
 pub AppendsBeginning-more : (a b : Option (List ℕ)) (x y : List ℕ) → AppendsBeginning a b x → AppendsBeginning a b (x ++ y)
 AppendsBeginning-more a b x y p = record {
   front = p.front;

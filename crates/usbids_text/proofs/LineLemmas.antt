@@ -94,7 +94,7 @@ body-ends : (digits code : ℕ) (name : List ℕ) → IsSpelt digits code → en
 body-ends digits code [] s h = ap ends_well (append-nil (code_text digits code) ∙ s.text) ∙ ends-text s.first s.others s.small s.each
 body-ends digits code (b ∷ bytes) s h = ap ends_well (sym (append_assoc (code_text digits code) (32 ∷ 32 ∷ []) (b ∷ bytes))) ∙ (ends-append (code_text digits code ++ 32 ∷ 32 ∷ []) bytes b ∙ h)
 
--- a line that ends well and is no comment
+-- a line that ends well and is not a comment
 class-plain : (line : List ℕ) (b : ℕ) (rest : List ℕ) → length line ≤ 65536 → 0 < length line → ends_well line ≡ true → past_separators line ≡ b ∷ rest → (b == 35) ≡ false → class_of line ≡ by_tabs line
 unfolding class_of
 class-plain line b rest short some ends past plain =

@@ -64,7 +64,7 @@ rows-read (row ∷ rows) e =
     ap (λ (l : List ℕ). entries (lines l)) (row-line row (rows_text rows))
     ∙ entries-row (line_text (front row.depth) row.digits row.code row.name) (rows_text rows) row rows (row-inner row p.0) (row-read row p.0) (rows-read rows p.1)
 
--- a comment is no entry
+-- a comment is not an entry
 comment-class : (l : List ℕ) → length (35 ∷ l) ≤ 65536 → class_of (35 ∷ l) ≡ Ok None
 unfolding class_of
 comment-class l short =

@@ -28,14 +28,14 @@ Puts old new failures failures_new (Ok n) bytes =
     × (0 < n → failures_new ≡ failures) × (length bytes ≡ 0 → failures_new ≡ failures)
 Puts old new failures failures_new (Err e) bytes = Keeps old new × (failures_new ≡ one_more failures)
 
--- the sink took a beginning of these bytes
+-- the sink took a prefix of these bytes
 pub record AppendsBeginning (old new : Option (List ℕ)) (bytes : List ℕ) : Type 0 where
   pub front : List ℕ
   pub rest : List ℕ
   pub whole : bytes ≡ front ++ rest
   pub appended : Appends old new front
 
--- the sink took all of these bytes and did not fail, or it failed and took a beginning of them
+-- the sink took all of these bytes and did not fail, or it failed and took a prefix of them
 abbrev pub Writes : {A E : Type 0} → Option (List ℕ) → Option (List ℕ) → ℕ → ℕ → Result A E → List ℕ → Type 0
 Writes old new failures failures_new (Ok done) bytes = Appends old new bytes × (failures_new ≡ failures)
 Writes old new failures failures_new (Err e) bytes = AppendsBeginning old new bytes × HasFailed failures failures_new

@@ -18,7 +18,7 @@ why_text LineTooLong = codes "LineTooLong"
 abbrev pub line_fault_text : LineFault → List ℕ
 line_fault_text fault = codes "line " ++ decimal fault.line ++ codes ": " ++ why_text fault.why
 
--- the faulty line, or want of memory
+-- the faulty line, or out of memory
 abbrev pub read_fault_text : ReadFault → List ℕ
 read_fault_text (fault.Line line) = line_fault_text line
 read_fault_text fault.NoMemory = codes "out of memory"

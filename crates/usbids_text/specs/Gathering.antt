@@ -9,7 +9,7 @@ pub record Gains (old : Option (List ℕ)) (waited : List ℕ) (new : Option (Li
   pub appended : Appends old new taken
   pub whole : taken ++ waits ≡ waited ++ bytes
 
--- the bytes came and the sink did not fail, or it failed and took a beginning of what waited and came
+-- the bytes came and the sink did not fail, or it failed and took a prefix of what waited and came
 abbrev pub Gathers : {A E : Type 0} → Option (List ℕ) → List ℕ → Option (List ℕ) → List ℕ → ℕ → ℕ → Result A E → List ℕ → Type 0
 Gathers old waited new waits failures failures_new (Ok done) bytes = Gains old waited new waits bytes × (failures_new ≡ failures)
 Gathers old waited new waits failures failures_new (Err e) bytes = AppendsBeginning old new (waited ++ bytes) × HasFailed failures failures_new

@@ -9,7 +9,7 @@ use Rattle.usbids_text.specs.Feeding.{Fed, fed, start}
 abbrev pub state_of : Reader → Fed
 state_of r = record { pending = r.pending.items; held = held_of r.taken }
 
--- the fault that the reader answers for good
+-- the fault that the reader returns from then on
 abbrev pub fault_of : Reader → Option ReadFault
 fault_of r = r.taken.fault
 

@@ -1,4 +1,4 @@
--- What a scan holds, the bytes that it was fed, and what it answers.
+-- What a scan holds, the bytes that it was fed, and what it returns.
 use Rattle.std.specs.Prelude.{◌≡◌, ◌⊎◌, ℕ, List, Option, Some, Result, Ok, Err}
 use Rattle.usbids_text.specs.declared.fault.ReadFault.{ReadFault}
 use Rattle.usbids_text.specs.declared.fault.ReadFault.TheVariants.{Line, NoMemory}
@@ -17,7 +17,7 @@ scan_state r = record { pending = r.pending.items; seen = r.seen }
 abbrev pub Seeks : Scan → Wanted → List ℕ → Type 0
 Seeks r wanted text = (r.wanted ≡ wanted) × ((r.seen.fault ≡ Some NoMemory) ⊎ (scan_state r ≡ scanned_of wanted (fed start text)))
 
--- The text spells a document, and this is the name of the first match in it; or its first fault, or want of memory.
+-- The text spells a document, and this is the name of the first match in it; or its first fault, or out of memory.
 abbrev pub Finds : Wanted → List ℕ → Result (Option (List ℕ)) ReadFault → Type 0
 Finds wanted text (Ok found) = (doc : List TopEntry) × Spells text doc × (found ≡ find_mid wanted.vendor wanted.code doc)
 Finds wanted text (Err NoMemory) = Unit {0}

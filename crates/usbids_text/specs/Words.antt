@@ -28,7 +28,7 @@ before test bytes = unwrap_or (position test bytes) (length bytes)
 unfoldable pub word : List ℕ → List ℕ
 word bytes = take (before is_separator bytes) bytes
 
--- the bytes from the first that is no separator
+-- the bytes from the first that is not a separator
 abbrev pub past_separators : List ℕ → List ℕ
 past_separators bytes = drop (before (λ b. not (is_separator b)) bytes) bytes
 
@@ -61,7 +61,7 @@ is_tag bytes = nat_le 1 (length bytes) && nat_le (length bytes) 8 && list_all is
 abbrev pub is_code : ℕ → ℕ → Bool
 is_code code digits = nat_le 1 digits && nat_le digits 4 && nat_lt code (16 ^ digits)
 
--- the first byte, if there is one, is no separator
+-- the first byte, if there is one, is not a separator
 abbrev pub begins_well : List ℕ → Bool
 begins_well [] = true
 begins_well (b ∷ bytes) = not (is_separator b)

@@ -14,7 +14,7 @@ pub record IsReach (parts : List Span) (start end low high : ℕ) : Type 0 where
   pub begun : AllWithin (λ part. part.first ≤ end) parts 0 high
   pub not_begun : AllWithin (λ part. end < part.first) parts high (length parts)
 
--- the span from the least beginning to the greatest end
+-- the span from the least start to the greatest end
 pub record IsJoined (low high span joined : Span) : Type 0 where
   pub first_below : joined.first ≤ span.first
   pub first_below_low : joined.first ≤ low.first
