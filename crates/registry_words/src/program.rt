@@ -155,7 +155,7 @@ fn import<'a>(alloc: Global) -> Result<Command<'a>, AllocError>
     let command = subcommand(
         alloc,
         "import",
-        "Give an organisation the devices of a list, as far as they are free",
+        "Give an organisation the devices of a list, those that are still free",
         "Example:\n  usbreg found numbers.db examples/founding.toml\n  usbreg apply numbers.db \
          examples/first.jsonl\n  usbreg import numbers.db examples/devices.ids --caller cora --key \
          first-list --org acme",
@@ -192,7 +192,7 @@ fn serve<'a>(alloc: Global) -> Result<Command<'a>, AllocError>
     let command = subcommand(
         alloc,
         "serve",
-        "Serve a registry by HTTP on 127.0.0.1, one connection after another",
+        "Serve a registry over HTTP on 127.0.0.1, one connection after another",
         "Example:\n  usbreg found numbers.db examples/founding.toml\n  usbreg serve numbers.db --port 8080",
     );
     let command = with_arg(
@@ -201,7 +201,7 @@ fn serve<'a>(alloc: Global) -> Result<Command<'a>, AllocError>
     )?;
     let port = needed_option(alloc, "port", "P", "The port, from 1 to 65535");
     let command = with_arg(command, numeric(port, 1, 65_535))?;
-    let count = option(alloc, "count", "N", "End after so many connections");
+    let count = option(alloc, "count", "N", "Stop after N connections");
     with_arg(command, numeric(count, 0, 4_294_967_295))
 }
 
@@ -271,7 +271,7 @@ fn bare<'a>(alloc: Global) -> Command<'a>
     ensures { app_of result ≡ new_app (codes "usbreg") }
 {
     Command::new(alloc, "usbreg")
-        .about("A registry of shared USB product numbers, which loses and doubles no grant")
+        .about("A registry of shared USB product numbers that never loses or duplicates a grant")
         .after_help(
             "With no command it is `trial`. `found`, `apply`, `import` and `serve` change a store; \
              the other commands leave its registry as it is.\n\nExit status: 0, 1 after a fault of the store, of \
