@@ -2,6 +2,7 @@
 
 ghost use Rattle.std.specs.Prelude.{⊤};
 
+use byte_streams::{Broken, Inlet, Outlet};
 use crate::files::open_registry;
 use registry_commands::{close_store, fail, failure_of};
 use registry_desk::{Connections, ServerStop, serve_all};
@@ -9,7 +10,6 @@ use std::io;
 use std::io::{ErrorKind, Read};
 use std::net::{Ipv4Addr, Shutdown, TcpListener, TcpStream};
 use std::time::{Duration, Instant};
-use usbids_text::{Broken, Inlet, Outlet};
 
 /// How many seconds a peer may take for each read of its message, and for each write of its response.
 const PEER_SECONDS: u64 = 10;

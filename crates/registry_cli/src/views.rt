@@ -1,11 +1,12 @@
 //! The commands that show something and change nothing: they open what the arguments name, and hand it on.
 
+use byte_streams::Outlet;
 use crate::files::{open_input, open_registry};
 use registry_commands::{
     BadWord, close_store, export, fail, look_up, reject_word, report, report_named,
 };
 use registry_wire::stamp_from_text;
-use usbids_text::{Outlet, Stamp};
+use usbids_text::Stamp;
 use usbnum_core::{parse_code, parse_vid};
 
 /// The stamp of a text: none where there is no text, and an error where the text is not a stamp.

@@ -1,10 +1,10 @@
 //! Bytes from a source, as requests.
 
+use byte_streams::Inlet;
 use registry_commands::{BadLine, InputFault, read_all, requests_in};
 use registry_wire::{Field, WireRefusal};
 use std::io;
 use std::test::Fail;
-use usbids_text::Inlet;
 
 /// A reader of one byte a read, whose reads fail once so many are done.
 #[derive(Drop)]

@@ -1,5 +1,6 @@
 //! One run of the program after another, over files in memory.
 
+use byte_streams::{Inlet, Outlet};
 use crate::shared::{ASK, ASKED, ENROL, ENROLLED, GRANT, GRANTED, joined};
 use registry_commands::{apply_and_crash, apply_and_open, apply_lines, trial_founding};
 use registry_store::Registry;
@@ -8,7 +9,6 @@ use sqlite_disk::{Crash, Disk, Memory};
 use std::alloc::Global;
 use std::process::Abort;
 use std::test::Fail;
-use usbids_text::{Inlet, Outlet};
 
 /// How the first run ends.
 #[derive(Clone, Copy)]

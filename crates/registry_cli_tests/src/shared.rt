@@ -1,5 +1,6 @@
 //! Lines and replies that the tests share, and what runs over them write.
 
+use byte_streams::{Inlet, Outlet};
 use registry_commands::{apply_lines, found_registry, trial};
 use registry_store::Registry;
 use sqlite::{Alter, Connection, MemStore};
@@ -7,7 +8,6 @@ use std::alloc::Global;
 use std::io;
 use std::process::Abort;
 use std::test::Fail;
-use usbids_text::{Inlet, Outlet};
 
 pub(crate) const ENROL: &str =
     r#"{"caller":"ann","key":"k1","order":"enrol","org":"acme","title":"Acme Tools","site":"https://acme.example/"}"#;

@@ -1,5 +1,6 @@
 //! What commands show of a registry in memory, what an import does to it, and look-ups.
 
+use byte_streams::{Inlet, Outlet};
 use crate::shared::{Written, applied, founded, wrote};
 use registry_commands::{
     export, import_list, import_of_arguments, look_up, reject_word, report, report_named,
@@ -9,7 +10,6 @@ use registry_wire::stamp_from_text;
 use sqlite::Alter;
 use std::process::Abort;
 use std::test::Fail;
-use usbids_text::{Inlet, Outlet};
 use usbnum_core::Vid;
 
 const FOUNDING: &str =

@@ -4,8 +4,8 @@ use Rattle.std.specs.Prelude.{Result, Ok, Err}
 use Rattle.std.specs.Io.KnownBytes.{Appends, Keeps}
 use Rattle.sqlite.specs.Store.{Ghosts}
 use Rattle.sqlite.specs.State.{HasCleanDisk}
-use Rattle.usbids_text.specs.Ends.{AppendsBeginning, MayGive}
-use Rattle.usbids_text.proofs.EndLemmas.{Appends-nil}
+use Rattle.byte_streams.specs.Streams.{AppendsPrefix, MayGive}
+use Rattle.byte_streams.proofs.StreamLemmas.{Appends-nil}
 use Rattle.registry_rules.specs.declared.order.Request.{Request}
 use Rattle.registry_rules.specs.History.{History}
 use Rattle.registry_store.specs.declared.registry.Registry.{Registry}
@@ -20,7 +20,7 @@ use Rattle.registry_commands.specs.Apply.{IsApplied, IsRejected, IsRun, IsStoppe
 use Rattle.registry_commands.proofs.FailureLemmas.{tells_more}
 
 -- nothing is a prefix of anything
-pub no_beginning : (o : Option (List ℕ)) (bytes : List ℕ) → AppendsBeginning o o bytes
+pub no_beginning : (o : Option (List ℕ)) (bytes : List ℕ) → AppendsPrefix o o bytes
 no_beginning o bytes = record { front = []; rest = bytes; whole = refl; appended = Appends-nil o }
 
 pub Keeps-same : (o : Option (List ℕ)) → Keeps o o

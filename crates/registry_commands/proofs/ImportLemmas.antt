@@ -3,8 +3,8 @@ use Rattle.std.proofs.Common.{◌≡◌, ◌⊎◌, inl, inr, ℕ, List, [], Opt
 use Rattle.std.specs.Prelude.{true}
 use Rattle.sqlite.specs.Store.{Ghosts}
 use Rattle.sqlite.specs.State.{HasCleanDisk}
-use Rattle.usbids_text.specs.Ends.{AppendsBeginning}
-use Rattle.usbids_text.proofs.EndLemmas.{Appends-nil}
+use Rattle.byte_streams.specs.Streams.{AppendsPrefix}
+use Rattle.byte_streams.proofs.StreamLemmas.{Appends-nil}
 use Rattle.registry_rules.specs.declared.order.Request.{Request}
 use Rattle.registry_rules.specs.declared.verdict.Reply.{Reply}
 use Rattle.registry_rules.specs.History.{History}
@@ -24,7 +24,7 @@ use Rattle.registry_commands.specs.Imports.{GivesReply, IsCut, IsFailed, IsRepli
 use Rattle.registry_commands.specs.Messages.{failure_of, reply_line}
 
 -- nothing is a prefix of anything
-pub nothing_of : (o : Option (List ℕ)) (bytes : List ℕ) → AppendsBeginning o o bytes
+pub nothing_of : (o : Option (List ℕ)) (bytes : List ℕ) → AppendsPrefix o o bytes
 nothing_of o bytes = record { front = []; rest = bytes; whole = refl; appended = Appends-nil o }
 
 -- no fault of the registry is the output's
@@ -59,9 +59,9 @@ module _ {S : Type 0} {g : Ghosts S} where
 
   -- a reply's line is cut
   cut_at : (new : Registry S g) (h : History) (r : Request) (out out_new : Option (List ℕ)) (reply : Reply)
-      → (reply ≡ answer_one h r) × Stands new (after_one h r) → HasCleanDisk (state_of new) → AppendsBeginning out out_new (reply_line reply) → IsCut new h r out out_new
+      → (reply ≡ answer_one h r) × Stands new (after_one h r) → HasCleanDisk (state_of new) → AppendsPrefix out out_new (reply_line reply) → IsCut new h r out out_new
   cut_at new h r out out_new reply acted clean part = record {
-    gained = subst (λ (x : Reply). AppendsBeginning out out_new (reply_line x)) acted.0 part;
+    gained = subst (λ (x : Reply). AppendsPrefix out out_new (reply_line x)) acted.0 part;
     leaves = leaves_weaker newest (state_of new) (λ y. y ≡ after_one h r) (λ y. (y ≡ h) ⊎ (y ≡ after_one h r)) (λ y e. inr e) (acted.1.at.left clean);
     ends = inr acted.1;
   }

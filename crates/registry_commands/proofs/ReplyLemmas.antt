@@ -3,8 +3,8 @@ use Rattle.std.proofs.Common.{◌≡◌, ◌⊎◌, inl, inr, ℕ, true, ◌+◌
 use Rattle.std.proofs.lemmas.List.{append-nil}
 use Rattle.std.specs.Io.KnownBytes.{Appends, Keeps}
 use Rattle.sqlite.specs.Store.{Ghosts}
-use Rattle.usbids_text.specs.Ends.{AppendsBeginning}
-use Rattle.usbids_text.proofs.EndLemmas.{Appends-nil, Appends-then}
+use Rattle.byte_streams.specs.Streams.{AppendsPrefix}
+use Rattle.byte_streams.proofs.StreamLemmas.{Appends-nil, Appends-then}
 use Rattle.registry_rules.specs.declared.order.Request.{Request}
 use Rattle.registry_rules.specs.declared.verdict.Reply.{Reply}
 use Rattle.registry_rules.specs.History.{History}
@@ -52,9 +52,9 @@ module _ {W : Type 0} (contents : W → Option (List ℕ)) (failures : W → ℕ
 
   -- of the next line at most a prefix is out
   next_begun : (why : RunStop) (middle new : ReplyLines W) (next : Reply) → IsCutBy (CutsLine contents failures) why middle new next
-      → AppendsBeginning (contents middle.output.now) (contents new.output.now) (reply_line next)
+      → AppendsPrefix (contents middle.output.now) (contents new.output.now) (reply_line next)
   next_begun (stop.Fault fault) middle new next cut =
-      subst (λ (k : ReplyLines W). AppendsBeginning (contents middle.output.now) (contents k.output.now) (reply_line next)) (sym cut.0)
+      subst (λ (k : ReplyLines W). AppendsPrefix (contents middle.output.now) (contents k.output.now) (reply_line next)) (sym cut.0)
       (no_beginning (contents middle.output.now) (reply_line next))
   next_begun stop.Cut middle new next cut = cut.gained
 
@@ -76,7 +76,7 @@ module _ {W : Type 0} (contents : W → Option (List ℕ)) (failures : W → ℕ
         gained = (
           contents middle.output.now,
           (taken_lines old middle _ halted.taken).gained,
-          subst (λ (text : List ℕ). AppendsBeginning (contents middle.output.now) (contents new.output.now) text) (sym one) (next_begun why middle new halted.reply.0 halted.reply.2),
+          subst (λ (text : List ℕ). AppendsPrefix (contents middle.output.now) (contents new.output.now) text) (sym one) (next_begun why middle new halted.reply.0 halted.reply.2),
           next_acted it (after h (take (n + 1) rs)) why middle new halted.reply.0 halted.reply.2 halted.ends,
         );
         leaves = halted.leaves;

@@ -3,7 +3,7 @@ use Rattle.std.specs.Prelude.{◌≡◌, ◌⊎◌, ◌<◌, ◌≤◌, ◌+◌,
 use Rattle.std.specs.Io.KnownBytes.{Appends, Keeps}
 use Rattle.sqlite.specs.Store.{Ghosts}
 use Rattle.sqlite.specs.State.{HasCleanDisk}
-use Rattle.usbids_text.specs.Ends.{AppendsBeginning}
+use Rattle.byte_streams.specs.Streams.{AppendsPrefix}
 use Rattle.registry_rules.specs.declared.order.Request.{Request}
 use Rattle.registry_rules.specs.History.{History}
 use Rattle.registry_rules.specs.Run.{after, answers}
@@ -40,7 +40,7 @@ module _ {S : Type 0} {g : Ghosts S} where
   pub record IsStoppedAt (it : Registry S g) (h : History) (rs : List Request) (a n : ℕ) (old new : Option (List ℕ)) : Type 0 where
     pub from : a ≤ n
     pub within : n ≤ length rs
-    pub gained : (middle : Option (List ℕ)) × Appends old middle (lines_between h rs a n) × AppendsBeginning middle new (lines_between h rs n (n + 1))
+    pub gained : (middle : Option (List ℕ)) × Appends old middle (lines_between h rs a n) × AppendsPrefix middle new (lines_between h rs n (n + 1))
         × (Keeps middle new ⊎ Stands it (after h (take (n + 1) rs)))
     pub leaves : Leaves newest (state_of it) (IsPlace h rs n)
     pub ends : (is_spent it ≡ true) ⊎ HasAnswered it h rs n

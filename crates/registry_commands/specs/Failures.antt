@@ -1,7 +1,7 @@
 -- Which failure may be told where.
 use Rattle.std.specs.Prelude.{◌≡◌, ◌⊎◌, ◌<◌, ℕ, List, length, Option, ⊤}
 use Rattle.std.specs.Io.KnownBytes.{Appends, Keeps}
-use Rattle.usbids_text.specs.Ends.{AppendsBeginning, HasFailed}
+use Rattle.byte_streams.specs.Streams.{AppendsPrefix, HasFailed}
 use Rattle.registry_commands.specs.declared.messages.Failure.{Failure}
 use Rattle.registry_commands.specs.declared.messages.Failure.TheVariants.{Store, Memory, File}
 use Rattle.registry_commands.specs.Messages.{failure_line}
@@ -24,7 +24,7 @@ told_to contents failures errors errors_new = record {
 
 -- the text was written: all of it, or a prefix of it and the errors failed
 abbrev pub Tells : Told → List ℕ → Type 0
-Tells errors text = AppendsBeginning errors.old errors.new text × (HasFailed errors.failures errors.failures_new ⊎ Appends errors.old errors.new text)
+Tells errors text = AppendsPrefix errors.old errors.new text × (HasFailed errors.failures errors.failures_new ⊎ Appends errors.old errors.new text)
 
 -- nothing was written, and the errors did not fail
 abbrev pub TellsNothing : Told → Type 0

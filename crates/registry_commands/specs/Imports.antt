@@ -6,7 +6,7 @@ use Rattle.sqlite.specs.State.{HasCleanDisk}
 use Rattle.usbnum_core.specs.Number.{number_of}
 use Rattle.usbnum_core.specs.Text.{IsKey, IsSlug}
 use Rattle.usbids_text.specs.declared.fault.ReadFault.{ReadFault}
-use Rattle.usbids_text.specs.Ends.{AppendsBeginning}
+use Rattle.byte_streams.specs.Streams.{AppendsPrefix}
 use Rattle.usbids_text.specs.Entries.{TopEntry}
 use Rattle.usbids_text.specs.Reading.{Answers}
 use Rattle.registry_rules.specs.declared.order.Request.{Request}
@@ -66,7 +66,7 @@ status_of (Refused refusal) = 2
 abbrev pub IsReplied : (Failure → Type 0) → Reply → Option (List ℕ) → Option (List ℕ) → Told → ℕ → Type 0
 IsReplied May reply out out_new errors status =
     ((status ≡ status_of reply) × Appends out out_new (reply_line reply) × TellsNothing errors)
-    ⊎ ((status ≡ 1) × AppendsBeginning out out_new (reply_line reply) × TellsFailure May errors)
+    ⊎ ((status ≡ 1) × AppendsPrefix out out_new (reply_line reply) × TellsFailure May errors)
 
 -- the request of an import, by the founding vendor and the list
 abbrev pub request_of : Import → ℕ → List TopEntry → Request
@@ -83,7 +83,7 @@ module _ {S : Type 0} {g : Ghosts S} where
 
   -- A prefix of the reply's line is out. A crash leaves the history before the request or after it, and the registry is spent or stands after it.
   pub record IsCut (new : Registry S g) (h : History) (r : Request) (out out_new : Option (List ℕ)) : Type 0 where
-    pub gained : AppendsBeginning out out_new (reply_line (answer_one h r))
+    pub gained : AppendsPrefix out out_new (reply_line (answer_one h r))
     pub leaves : Leaves newest (state_of new) (λ x. (x ≡ h) ⊎ (x ≡ after_one h r))
     pub ends : (is_spent new ≡ true) ⊎ Stands new (after_one h r)
 

@@ -1,7 +1,7 @@
 -- What a command writes that shows something and changes nothing.
 use Rattle.std.specs.Prelude.{◌≡◌, ◌⊎◌, ℕ, List, Option}
 use Rattle.std.specs.Io.KnownBytes.{Appends, Keeps}
-use Rattle.usbids_text.specs.Ends.{AppendsBeginning}
+use Rattle.byte_streams.specs.Streams.{AppendsPrefix}
 use Rattle.registry_commands.specs.declared.messages.Failure.{Failure}
 use Rattle.registry_commands.specs.Failures.{TellsFailure, TellsNothing, Told}
 
@@ -9,7 +9,7 @@ use Rattle.registry_commands.specs.Failures.{TellsFailure, TellsNothing, Told}
 abbrev pub IsPrinted : (Failure → Type 0) → List ℕ → Option (List ℕ) → Option (List ℕ) → Told → ℕ → Type 0
 IsPrinted OfOutput text out out_new errors status =
     ((status ≡ 0) × Appends out out_new text × TellsNothing errors)
-    ⊎ ((status ≡ 1) × AppendsBeginning out out_new text × TellsFailure OfOutput errors)
+    ⊎ ((status ≡ 1) × AppendsPrefix out out_new text × TellsFailure OfOutput errors)
 
 -- nothing is out and the status is 1, after a failure
 abbrev pub IsUnprinted : (Failure → Type 0) → Option (List ℕ) → Option (List ℕ) → Told → ℕ → Type 0

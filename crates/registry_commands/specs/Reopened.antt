@@ -3,7 +3,7 @@ use Rattle.std.specs.Prelude.{◌≡◌, ◌⊎◌, ◌<◌, ◌≤◌, ◌+◌,
 use Rattle.std.specs.Io.KnownBytes.{Appends, Keeps}
 use Rattle.sqlite.specs.Store.{Ghosts}
 use Rattle.sqlite.specs.State.{HasCleanDisk}
-use Rattle.usbids_text.specs.Ends.{AppendsBeginning}
+use Rattle.byte_streams.specs.Streams.{AppendsPrefix}
 use Rattle.registry_rules.specs.declared.order.Request.{Request}
 use Rattle.registry_rules.specs.History.{History}
 use Rattle.registry_rules.specs.Run.{Legal, after}
@@ -24,7 +24,7 @@ module _ {S : Type 0} {g : Ghosts S} where
     pub from : a ≤ n
     pub within : n ≤ length rs
     pub whole : status ≡ 0 → n ≡ length rs
-    pub gained : (middle : Option (List ℕ)) × Appends out middle (lines_between h rs a n) × AppendsBeginning middle out_new (lines_between h rs n (n + 1))
+    pub gained : (middle : Option (List ℕ)) × Appends out middle (lines_between h rs a n) × AppendsPrefix middle out_new (lines_between h rs n (n + 1))
         × (Keeps middle out_new ⊎ ∥ Stands it (after h (take (n + 1) rs)) ∥₁)
     pub answered : ∥ HasAnswered it h rs n ∥₁
 

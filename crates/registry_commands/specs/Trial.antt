@@ -2,7 +2,7 @@
 use Rattle.std.specs.Prelude.{◌≡◌, ◌⊎◌, ℕ, ◌&&◌, ◌+◌, ◌≤◌, length, nat_le, List, [], ◌∷◌, codes, Option, Result, Ok, Err}
 use Rattle.std.specs.Io.KnownBytes.{Appends, Keeps}
 use Rattle.usbnum_core.specs.Spans.{spans_have}
-use Rattle.usbids_text.specs.Ends.{AppendsBeginning}
+use Rattle.byte_streams.specs.Streams.{AppendsPrefix}
 use Rattle.registry_rules.specs.Texts.{AreInOrder}
 use Rattle.registry_rules.specs.declared.founding.Founding.{Founding}
 use Rattle.registry_rules.specs.declared.order.Request.{Request}
@@ -41,7 +41,7 @@ pub record IsTriedInPart (rs : List Request) (out out_new : Option (List ℕ)) :
   pub within : n ≤ length rs
   pub middle : Option (List ℕ)
   pub whole : Appends out middle (lines_between (founded founding) rs 0 n)
-  pub cut : AppendsBeginning middle out_new (lines_between (founded founding) rs n (n + 1))
+  pub cut : AppendsPrefix middle out_new (lines_between (founded founding) rs n (n + 1))
 
 -- What a trial writes, and its status. Its registry stands, so no failure is Foreign, Taken or Spent.
 abbrev pub IsTrialOf : (Failure → Type 0) → (Failure → Type 0) → Result (List Request) BadLine → Option (List ℕ) → Option (List ℕ) → Told → ℕ → Type 0

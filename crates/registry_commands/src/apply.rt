@@ -2,7 +2,7 @@
 
 ghost use Rattle.std.specs.Prelude.{◌≡◌, ◌≤◌, ◌⊎◌, ℕ, List, length, IfErr, Ok, OnOk, OnErr};
 ghost use Rattle.sqlite.specs.State.{HasCleanDisk};
-ghost use Rattle.usbids_text.specs.Ends.{MayGive};
+ghost use Rattle.byte_streams.specs.Streams.{MayGive};
 ghost use Rattle.registry_rules.specs.History.{History};
 ghost use Rattle.registry_store.specs.Promise.{Endures, state_of};
 ghost use Rattle.registry_store.specs.Run.{HasAnswered};
@@ -11,6 +11,7 @@ ghost use Rattle.registry_commands.specs.Messages.{bad_line_text};
 ghost use Rattle.registry_commands.specs.Apply.{IsApplied, IsOfRun, IsStoppedAt, IsThrough, IsUnread};
 ghost use Rattle.registry_commands.specs.Failures.{IsOfInput, IsOfMemory, IsOfOutput, IsTooLong, Tells, TellsFailure, told_to};
 
+use byte_streams::{Sink, Source};
 use crate::input::read_all;
 use crate::lines::{BadLine, requests_in};
 use crate::messages::{Failure, bad_line_text, fail, failure_of, input_failure, tell};
@@ -19,7 +20,6 @@ use registry_rules::Request;
 use registry_store::{Registry, RunStop};
 use sqlite::Alter;
 use std::alloc::Global;
-use usbids_text::{Sink, Source};
 
 /// Acts on the requests from the first unanswered one on. The reply to each is written before the
 /// next request is acted on.

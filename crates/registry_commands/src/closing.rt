@@ -10,11 +10,11 @@ ghost use Rattle.registry_store.specs.Promise.{LeavesFrom};
 ghost use Rattle.registry_store.specs.Reopen.{AreClosed, HoldEither, IsEither};
 ghost use Rattle.registry_commands.specs.Failures.{IsOfStore, TellsFailure, told_to};
 
+use byte_streams::Sink;
 use crate::messages::{fail, store_failure};
 use registry_store::{Closed, close_files, leave_store};
 use sqlite::{Connection, FileStore, Files};
 use sqlite_disk::Disk;
-use usbids_text::Sink;
 
 /// Lets go of the store, and hands its files on. Where the command went well, status 0, the store is closed, which
 /// takes its log into its file; where that fails the status is 1, and the errors say why. After a status of 1 or 2

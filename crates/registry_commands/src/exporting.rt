@@ -13,6 +13,7 @@ ghost use Rattle.registry_commands.specs.Failures.{IsOfOutput, told_to};
 ghost use Rattle.registry_commands.specs.Printed.{IsPrinted};
 ghost use Rattle.registry_commands.specs.Shown.{IsExported, IsLeft, IsOfReading};
 
+use byte_streams::Sink;
 use crate::messages::{Failure, fail};
 use crate::reading::{numbers_of, vendors_of};
 use registry_reports::list_document;
@@ -20,7 +21,7 @@ use registry_rules::{Entry, Vendor};
 use registry_store::Registry;
 use sqlite::Alter;
 use std::alloc::Global;
-use usbids_text::{Document, Sink, Stamp, WriteFault, write};
+use usbids_text::{Document, Stamp, WriteFault, write};
 use usbnum_core::{NoMemory, Number};
 
 fn listed(

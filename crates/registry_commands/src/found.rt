@@ -1,12 +1,13 @@
 //! A registry that is founded on a connection, by a founding file.
 
 ghost use Rattle.std.specs.Prelude.{◌≡◌, ◌⊎◌, ℕ, List};
-ghost use Rattle.usbids_text.specs.Ends.{MayGive};
+ghost use Rattle.byte_streams.specs.Streams.{MayGive};
 ghost use Rattle.registry_wire.specs.Founding.{founding_listed};
 ghost use Rattle.registry_commands.specs.Failures.{IsOfInput, IsOfMemory, IsTooLong, Tells, TellsFailure, told_to};
 ghost use Rattle.registry_commands.specs.Messages.{refusal_line};
 ghost use Rattle.registry_commands.specs.Found.{IsFoundBy, IsTriedOn};
 
+use byte_streams::{Sink, Source};
 use crate::input::read_all;
 use crate::messages::{Failure, fail, failure_of, input_failure, refusal_line, tell};
 use registry_rules::Founding;
@@ -14,7 +15,6 @@ use registry_store::Registry;
 use registry_wire::{WireRefusal, founding_from_toml};
 use sqlite::{Alter, Connection};
 use std::alloc::Global;
-use usbids_text::{Sink, Source};
 
 /// Says why bytes are not a founding file or not a list, and returns the exit status.
 pub(crate) fn reject<E: Sink>(alloc: Global, errors: &mut E, refusal: WireRefusal) -> u8

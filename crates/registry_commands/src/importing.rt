@@ -1,10 +1,11 @@
 //! A list that is imported.
 
 ghost use Rattle.std.specs.Prelude.{◌≡◌, ◌⊎◌, ℕ, List, IfOk, MatchResult, Ok, option_copied};
-ghost use Rattle.usbids_text.specs.Ends.{MayGive};
+ghost use Rattle.byte_streams.specs.Streams.{MayGive};
 ghost use Rattle.registry_commands.specs.Failures.{IsOfInput, IsOfOutput, told_to};
 ghost use Rattle.registry_commands.specs.Imports.{AreOfImport, IsActedOn, IsFirstBad, IsImportOf, IsImported, IsReplied, status_of};
 
+use byte_streams::{Broken, Sink, Source};
 use crate::list_input::read_list;
 use crate::looking::put_fault;
 use crate::messages::{Failure, fail, failure_of, put_reply};
@@ -14,7 +15,7 @@ use registry_store::Registry;
 use registry_wire::import_request;
 use sqlite::Alter;
 use std::alloc::Global;
-use usbids_text::{Broken, Document, ReadFault, Sink, Source};
+use usbids_text::{Document, ReadFault};
 use usbnum_core::{Key, NoMemory, Slug, Vid, parse_vid};
 
 /// What an import asks for, but for its list.

@@ -2,12 +2,12 @@
 
 ghost use Rattle.std.specs.Prelude.{Err, ◌≡◌, ◌≤◌, ◌++◌, ℕ, List, length, IfOk, IfErr, OnOk};
 ghost use Rattle.std.specs.Io.KnownBytes.{Consumes, IsAtEnd};
-ghost use Rattle.usbids_text.specs.Ends.{HasFailed, MayGive};
+ghost use Rattle.byte_streams.specs.Streams.{HasFailed, MayGive};
 ghost use Rattle.registry_commands.specs.Failures.{IsOfInput};
 ghost use Rattle.registry_commands.specs.Messages.{input_failure};
 
+use byte_streams::{Broken, Source};
 use std::alloc::Global;
-use usbids_text::{Broken, Source};
 
 /// How many bytes an input may have.
 const MOST: usize = 4_294_967_295;

@@ -1,11 +1,12 @@
 //! A list that is read in pieces.
 
 ghost use Rattle.std.specs.Prelude.{◌≡◌, ◌⊎◌, ◌<◌, ◌≤◌, ℕ, List, length, IfOk, OnOk, OnErr};
-ghost use Rattle.usbids_text.specs.Ends.{HasFailed, MayGive};
+ghost use Rattle.byte_streams.specs.Streams.{HasFailed, MayGive};
 ghost use Rattle.usbids_text.specs.Reading.{Answers};
 
+use byte_streams::{Broken, Source};
 use std::alloc::Global;
-use usbids_text::{Broken, Document, ReadFault, Reader, Source, feed_all};
+use usbids_text::{Document, ReadFault, Reader, feed_all};
 
 /// The document that all bytes of the source spell, or why there is none. They are read in pieces, and are at most
 /// 4,294,967,295. `Broken` comes only where the source failed or has more.

@@ -1,16 +1,17 @@
 //! A device that is looked up in a list.
 
 ghost use Rattle.std.specs.Prelude.{◌≡◌, ◌++◌, ◌∷◌, [], ℕ, List, IfOk};
-ghost use Rattle.usbids_text.specs.Ends.{MayGive};
+ghost use Rattle.byte_streams.specs.Streams.{MayGive};
 ghost use Rattle.registry_commands.specs.Failures.{IsOfInput, IsOfOutput, told_to};
 ghost use Rattle.registry_commands.specs.LookUp.{IsAnswered, IsLookedUp, IsMatched, IsNamed, IsRefused};
 
+use byte_streams::{Broken, Sink, Source};
 use crate::found::reject;
 use crate::messages::{Failure, fail, tell};
 use crate::printing::print;
 use registry_wire::WireRefusal;
 use std::alloc::Global;
-use usbids_text::{Broken, Name, ReadFault, Scan, Sink, Source, feed_all};
+use usbids_text::{Name, ReadFault, Scan, feed_all};
 use usbnum_core::{NoMemory, Vid};
 
 fn name_line(alloc: Global, name: &Name) -> Result<Vec<u8>, NoMemory>

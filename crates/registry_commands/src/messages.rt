@@ -3,10 +3,11 @@
 ghost use Rattle.std.specs.Prelude.{◌≡◌, ◌≢◌, ◌⊎◌, ℕ, IfErr, IfOk, OnOk, OnErr};
 ghost use Rattle.std.specs.String.{string_bytes};
 ghost use Rattle.std.specs.Io.KnownBytes.{Appends};
-ghost use Rattle.usbids_text.specs.Ends.{AppendsBeginning};
+ghost use Rattle.byte_streams.specs.Streams.{AppendsPrefix};
 ghost use Rattle.registry_commands.specs.Failures.{IsOfOutput, Tells, told_to};
 ghost use Rattle.registry_commands.specs.Messages.{bad_line_text, failure_line, failure_of, input_failure, refusal_line, reply_line};
 
+use byte_streams::{Broken, Sink, put_all};
 use crate::input::InputFault;
 use crate::lines::BadLine;
 use registry_rules::Reply;
@@ -14,7 +15,6 @@ use registry_store::Fault;
 use registry_wire::{WireRefusal, refusal_json, reply_json};
 use sqlite::{Error, ErrorCode};
 use std::alloc::Global;
-use usbids_text::{Broken, Sink, put_all};
 use usbnum_core::NoMemory;
 
 /// Why a command fails.
@@ -147,7 +147,7 @@ pub(crate) fn put_reply<W: Sink>(
     reply: &Reply,
 ) -> Result<(), Failure>
     ensures ok { OnOk result (Appends (W.contents output.old) (W.contents output.new) (reply_line reply.now)) }
-    ensures err { OnErr result (AppendsBeginning (W.contents output.old) (W.contents output.new) (reply_line reply.now)) }
+    ensures err { OnErr result (AppendsPrefix (W.contents output.old) (W.contents output.new) (reply_line reply.now)) }
     ensures kept { OnOk result (W.failures output.new ≡ W.failures output.old) }
     ensures failure { IfErr result (λ failure. ((failure ≡ Failure.Memory) ⊎ (failure ≡ Failure.File)) × IsOfOutput (W.failures output.old) (W.failures output.new) failure) }
 {

@@ -1,17 +1,17 @@
 //! From one run of the program to the next.
 
 ghost use Rattle.std.specs.Prelude.{ℕ, List, IfSome};
-ghost use Rattle.usbids_text.specs.Ends.{MayGive};
+ghost use Rattle.byte_streams.specs.Streams.{MayGive};
 ghost use Rattle.registry_commands.specs.Lines.{requests_in};
 ghost use Rattle.registry_commands.specs.Reopened.{IsReopened};
 
+use byte_streams::{Sink, Source};
 use crate::apply::apply_lines;
 use crate::closing::close_store;
 use registry_store::{Registry, crash_and_open, open_files};
 use sqlite::{FileStore, Options};
 use sqlite_disk::{Crash, Disk};
 use std::alloc::Global;
-use usbids_text::{Sink, Source};
 
 /// Acts on request lines as `apply_lines` does, lets go of the store as `close_store` does, and opens its files again.
 ///

@@ -2,11 +2,11 @@
 
 ghost use Rattle.registry_commands.specs.Replies.{CutsLine, TakesLine};
 
+use byte_streams::Sink;
 use crate::messages::{Failure, put_reply};
 use registry_rules::Reply;
 use registry_store::{Cut, Replies};
 use std::alloc::Global;
-use usbids_text::Sink;
 
 /// An output that takes the replies of a run as lines, and why it took no more.
 #[derive(Drop)]

@@ -13,6 +13,7 @@ ghost use Rattle.registry_commands.specs.Failures.{IsOfOutput, told_to};
 ghost use Rattle.registry_commands.specs.Reports.{AreReserved, IsCensus, IsHoldersReport, IsPetitionsReport, IsReport, IsReported, report_named};
 ghost use Rattle.registry_commands.specs.Shown.{IsLeft, IsOfReading};
 
+use byte_streams::Sink;
 use crate::messages::{Failure, fail, failure_of};
 use crate::printing::print;
 use crate::reading::{numbers_of, petitions_of, vendors_of};
@@ -21,7 +22,6 @@ use registry_rules::{Entry, Petition, Vendor};
 use registry_store::Registry;
 use sqlite::Alter;
 use std::alloc::Global;
-use usbids_text::Sink;
 use usbnum_core::{NoMemory, Number, Spans, Vid};
 
 /// A kind of report on a registry.

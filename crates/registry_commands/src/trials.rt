@@ -2,7 +2,7 @@
 
 ghost use Rattle.std.specs.Prelude.{◌≡◌, ◌⊎◌, ◌&&◌, ◌∷◌, [], ℕ, List, nat_le, codes, IfErr, IfOk};
 ghost use Rattle.std.specs.Io.KnownBytes.{Keeps};
-ghost use Rattle.usbids_text.specs.Ends.{MayGive};
+ghost use Rattle.byte_streams.specs.Streams.{MayGive};
 ghost use Rattle.usbnum_core.specs.Spans.{spans_have};
 ghost use Rattle.registry_rules.specs.Texts.{AreInOrder};
 ghost use Rattle.registry_rules.specs.declared.founding.Founding.{Founding};
@@ -12,13 +12,13 @@ ghost use Rattle.registry_commands.specs.Failures.{IsOfInput, IsOfOutput, IsTooL
 ghost use Rattle.registry_commands.specs.Lines.{requests_in};
 ghost use Rattle.registry_commands.specs.Trial.{IsOfStart, IsTrial, IsTrialOf};
 
+use byte_streams::{Sink, Source};
 use crate::apply::apply_lines;
 use crate::messages::{Failure, fail, failure_of};
 use registry_rules::{Curators, Founding, Licences};
 use registry_store::Registry;
 use sqlite::{Connection, MemStore};
 use std::alloc::Global;
-use usbids_text::{Sink, Source};
 use usbnum_core::{NoMemory, Pid, Span, Spans, Text, TextRule, Vid};
 
 /// One of the trial's texts, all of which keep to their rules.

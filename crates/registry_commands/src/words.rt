@@ -4,8 +4,8 @@ ghost use Rattle.std.specs.Prelude.{◌≡◌};
 ghost use Rattle.registry_commands.specs.Failures.{Tells, told_to};
 ghost use Rattle.registry_commands.specs.Words.{bad_word_line};
 
+use byte_streams::Sink;
 use crate::messages::tell;
-use usbids_text::Sink;
 
 /// An argument that is not valid.
 #[derive(Clone, Copy, Debug, PartialEq, Eq)]

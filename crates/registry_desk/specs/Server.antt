@@ -5,7 +5,7 @@
 -- have been acted on.
 use Rattle.std.specs.Prelude.{◌≡◌, ◌⊎◌, ⊤, ℕ, List, [], ◌∷◌, ◌++◌, Option, Some, None, Result, Ok, Err}
 use Rattle.sqlite.specs.Store.{Ghosts}
-use Rattle.usbids_text.specs.Ends.{MayGive, Writes}
+use Rattle.byte_streams.specs.Streams.{MayGive, Writes}
 use Rattle.registry_rules.specs.History.{History}
 use Rattle.registry_store.specs.declared.fault.Fault.{Fault}
 use Rattle.registry_store.specs.declared.registry.Registry.{Registry as TheRegistry}
@@ -15,7 +15,7 @@ use Rattle.registry_http.specs.declared.refusal.HttpRefusal.{HttpRefusal}
 use Rattle.registry_http.specs.declared.message.Message.{Message}
 use Rattle.registry_http.specs.Responses.{response_bytes, unavailable_response}
 use Rattle.registry_http.specs.Messages.{Says}
-use Rattle.usbids_text.specs.declared.ends.Broken.{Broken}
+use Rattle.byte_streams.specs.declared.streams.Broken.{Broken}
 use Rattle.registry_desk.specs.declared.fault.DeskFault.TheVariants.{Registry, NoMemory}
 use Rattle.registry_desk.specs.declared.serve.Exchange.{Exchange}
 use Rattle.registry_desk.specs.declared.server.ServerStop.{ServerStop}

@@ -17,6 +17,7 @@ ghost use Rattle.registry_http.specs.Resources.{number_response, org_response, p
 ghost use Rattle.registry_desk.specs.declared.fault.DeskFault.TheVariants as desk_faults;
 ghost use Rattle.registry_desk.specs.Acting.{IsListResponse, IsQueryResponse, IsReportResponse, IsOfStanding, kind_of, vendor_number_at};
 
+use byte_streams::Outlet;
 use crate::fault::{DeskFault, failed_by};
 use registry_commands::{ReportKind, document_of, report_of};
 use registry_http::{
@@ -27,7 +28,7 @@ use registry_rules::{Refusal, Reply};
 use registry_store::Registry;
 use sqlite::Alter;
 use std::alloc::Global;
-use usbids_text::{Document, Outlet, WriteFault, write};
+use usbids_text::{Document, WriteFault, write};
 use usbnum_core::{NoMemory, Number, Pid, Slug, Vid};
 
 /// Asks for a number of a vendor, which the response names if it is to.

@@ -2,7 +2,7 @@
 
 ghost use Rattle.std.specs.Prelude.{◌≡◌, ◌≢◌, ◌⊎◌, true, ℕ, List, Option, Err, Some, IfOk, OnErr};
 ghost use Rattle.sqlite.specs.State.{HasCleanDisk};
-ghost use Rattle.usbids_text.specs.Ends.{HasFailed, MayGive, Writes};
+ghost use Rattle.byte_streams.specs.Streams.{HasFailed, MayGive, Writes};
 ghost use Rattle.registry_rules.specs.History.{History};
 ghost use Rattle.registry_store.specs.Promise.{Stands, Endures, is_spent, state_of};
 ghost use Rattle.registry_store.specs.declared.fault.Fault.TheVariants as faults;
@@ -11,13 +11,13 @@ ghost use Rattle.registry_desk.specs.declared.serve.Served.{Served};
 ghost use Rattle.registry_desk.specs.Faults.{unavailable_of};
 ghost use Rattle.registry_desk.specs.Serving.{IsOfServed, IsSent, IsTold, IsServed, given_up};
 
+use byte_streams::{Broken, Sink, Source};
 use crate::acting::response_to;
 use crate::fault::{DeskFault, fault_of, unavailable_of};
 use registry_http::{InputFault, Response, read_message, write_response, write_unavailable};
 use registry_store::{Fault, Registry};
 use sqlite::Alter;
 use std::alloc::Global;
-use usbids_text::{Broken, Sink, Source};
 
 /// What was sent.
 #[derive(Clone, Copy, Debug, Drop, PartialEq, Eq)]

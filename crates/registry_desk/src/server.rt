@@ -2,16 +2,16 @@
 
 ghost use Rattle.std.specs.Prelude.{◌≡◌, ◌≤◌, ℕ, List, Option, length, IfOk, OnOk, Err};
 ghost use Rattle.sqlite.specs.State.{HasCleanDisk};
-ghost use Rattle.usbids_text.specs.Ends.{MayGive};
+ghost use Rattle.byte_streams.specs.Streams.{MayGive};
 ghost use Rattle.registry_rules.specs.History.{History};
 ghost use Rattle.registry_store.specs.Promise.{Stands, Endures, state_of};
 ghost use Rattle.registry_desk.specs.Server.{Visit, IsVisit, IsWritten, HaveVisited, EndsVisit, EndsServing, IfVisited, fault_in, status_in, status_of};
 
+use byte_streams::{Broken, Sink, Source};
 use crate::serve::serve_message;
 use registry_store::{Fault, Registry};
 use sqlite::Alter;
 use std::alloc::Global;
-use usbids_text::{Broken, Sink, Source};
 
 /// Where connections come from, one after another.
 pub trait Connections {

@@ -1,11 +1,11 @@
 //! A registry in memory, and readers and writers of bytes.
 
+use byte_streams::{Broken, Inlet, Outlet, Source};
 use registry_commands::trial_founding;
 use registry_desk::{PeerFault, Served, serve_one};
 use registry_store::Registry;
 use sqlite::{Connection, MemStore};
 use std::alloc::Global;
-use usbids_text::{Broken, Inlet, Outlet, Source};
 
 /// Gives one byte a read, and fails at each read past the last.
 #[derive(Drop)]

@@ -1,10 +1,10 @@
 //! The server over connections in memory.
 
+use byte_streams::{Broken, Inlet, Outlet};
 use crate::ends::{ENROL, ENROLLED, founded, text};
 use registry_desk::{Connections, ServerStop, serve_all};
 use std::alloc::Global;
 use std::test::Fail;
-use usbids_text::{Broken, Inlet, Outlet};
 
 /// Messages, one a connection, and what was written for the last, with its status.
 #[derive(Drop)]

@@ -4,10 +4,10 @@ use Rattle.std.specs.Prelude.{nat_le, IfOk, Result, Ok, Err, min, if◌then◌el
 use Rattle.std.specs.Io.KnownBytes.{Consumes, IsAtEnd}
 use Rattle.std.proofs.lemmas.Bool.{leb-true, le-leb, leb-false, cases_Bool, cases_lt}
 use Rattle.std.proofs.lemmas.List.{append-nil, take-append-le, drop-append-le, take_all, length-drop}
-use Rattle.usbids_text.specs.Ends.{MayGive}
+use Rattle.byte_streams.specs.Streams.{MayGive}
 use Rattle.usbids_text.specs.declared.reader.Reader.{Reader}
 use Rattle.usbids_text.specs.Readers.{Stands}
-use Rattle.usbids_text.proofs.EndLemmas.{all_of, all_at_end}
+use Rattle.byte_streams.proofs.StreamLemmas.{all_of, all_at_end}
 use Rattle.registry_wire.specs.declared.refusal.WireRefusal.{WireRefusal}
 use Rattle.registry_wire.specs.declared.refusal.WireRefusal.TheVariants.{ShortBody}
 use Rattle.registry_http.specs.Bodies.{body_in, IsHeld, IsFed}

@@ -7,7 +7,7 @@ use Rattle.httparse.specs.declared.spans.HeaderSpan.{HeaderSpan}
 use Rattle.httparse.specs.declared.spans.RequestSpans.{RequestSpans}
 use Rattle.httparse.specs.Grammar.{RequestHead, HasNoRequest, print_request}
 use Rattle.httparse.specs.Spans.{IsRequestAt, IsRequestWithin, RequestOverflows}
-use Rattle.usbids_text.specs.Ends.{MayGive}
+use Rattle.byte_streams.specs.Streams.{MayGive}
 use Rattle.registry_http.specs.Heads.{HasHead, HasNoHead}
 
 pub Consumes-none : (o : Option (List ℕ)) → Consumes o o []

@@ -8,7 +8,7 @@ use Rattle.registry_http.proofs.HeadLemmas.{HasHead-append}
 use Rattle.std.specs.Io.KnownBytes.{Consumes}
 use Rattle.httparse.specs.Grammar.{RequestHead}
 use Rattle.httparse.proofs.GrammarLemmas.{request_unique}
-use Rattle.usbids_text.specs.Ends.{MayGive}
+use Rattle.byte_streams.specs.Streams.{MayGive}
 use Rattle.usbids_text.specs.Entries.{TopEntry}
 use Rattle.usbids_text.specs.declared.line.Why.{Why}
 use Rattle.usbids_text.specs.Cut.{lines}

@@ -2,12 +2,13 @@
 
 ghost use Rattle.std.specs.Prelude.{Err, ◌≡◌, ◌≤◌, ◌<◌, ◌+◌, ◌++◌, [], true, false, ℕ, List, length, drop, nat_le, IfOk, OnOk};
 ghost use Rattle.std.specs.Io.KnownBytes.{Consumes, IsAtEnd};
-ghost use Rattle.usbids_text.specs.Ends.{HasFailed, MayGive};
+ghost use Rattle.byte_streams.specs.Streams.{HasFailed, MayGive};
 ghost use Rattle.usbids_text.specs.Readers.{Stands};
 ghost use Rattle.registry_http.specs.Bodies.{IsHeld, IsFed};
 
+use byte_streams::{Broken, Source};
 use crate::head::{InputFault, take_more};
-use usbids_text::{Broken, Reader, Source};
+use usbids_text::Reader;
 
 /// Reads until the buffer has so many bytes, and says whether it has: else the source is at its end. No read begins
 /// where it has them already.

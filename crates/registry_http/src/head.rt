@@ -4,13 +4,13 @@ ghost use Rattle.std.specs.Prelude.{Err, ◌≡◌, ◌≤◌, ◌<◌, ℕ, Lis
 ghost use Rattle.std.specs.Io.KnownBytes.{Consumes, IsAtEnd};
 ghost use Rattle.httparse.specs.Spans.{IsRequestAt, IsRequestWithin};
 ghost use Rattle.httparse.specs.Grammar.{RequestHead};
-ghost use Rattle.usbids_text.specs.Ends.{MayGive, HasFailed};
+ghost use Rattle.byte_streams.specs.Streams.{MayGive, HasFailed};
 ghost use Rattle.registry_http.specs.Heads.{HasHead, HasNoHead};
 ghost use Rattle.registry_http.specs.HeadEnds.{IfWhole, OnMissing};
 
+use byte_streams::{Broken, Source};
 use httparse::Status;
 use httparse::spans::{HeaderSpan, RequestSpans, parse_request};
-use usbids_text::{Broken, Source};
 
 /// How reading a head ended.
 #[derive(Clone, Copy, Debug)]

@@ -1,7 +1,7 @@
 //! What a message says, of all bytes that come.
 
 ghost use Rattle.std.specs.Prelude.{Ok, Err, Result, ◌≡◌, ◌≤◌, ◌<◌, ◌++◌, ℕ, List, length, drop, take, map, IfOk, OnOk};
-ghost use Rattle.usbids_text.specs.Ends.{HasFailed, MayGive};
+ghost use Rattle.byte_streams.specs.Streams.{HasFailed, MayGive};
 ghost use Rattle.httparse.specs.Spans.{IsRequestWithin, span_bytes, header_bytes};
 ghost use Rattle.registry_wire.specs.Reading.{body_reading};
 ghost use Rattle.registry_wire.specs.declared.refusal.WireRefusal.{WireRefusal};
@@ -13,6 +13,7 @@ ghost use Rattle.registry_http.specs.Messages.{BodySays, HeadSays, Says};
 ghost use Rattle.registry_http.specs.declared.message.Message.{Message};
 ghost use Rattle.registry_http.specs.declared.refusal.HttpRefusal.{HttpRefusal};
 
+use byte_streams::Source;
 use crate::body::{feed_body, read_body};
 use crate::head::{HeadEnd, InputFault, read_head};
 use crate::reading::{Head, OrderHead, head_in};
@@ -23,7 +24,7 @@ use httparse::spans::{EMPTY_HEADER_SPAN, HeaderSpan, RequestSpans};
 use registry_rules::Request;
 use registry_wire::{WireRefusal, import_request, request_from_json};
 use std::alloc::Global;
-use usbids_text::{Reader, Source};
+use usbids_text::Reader;
 use usbnum_core::{Key, NoMemory, Slug, Vid};
 
 /// What a message says that has no fault.

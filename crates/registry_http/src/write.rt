@@ -1,15 +1,15 @@
 //! Responses, written to a sink.
 
 ghost use Rattle.std.specs.Prelude.{◌≡◌, ◌++◌, IfOk};
-ghost use Rattle.usbids_text.specs.Ends.{Writes};
+ghost use Rattle.byte_streams.specs.Streams.{Writes};
 ghost use Rattle.registry_http.specs.declared.response.Response.{Response as TheResponse};
 ghost use Rattle.registry_http.specs.Responses.{response_head, response_bytes, unavailable_response, IsInPlaceOf};
 
+use byte_streams::{Broken, Sink, put_all};
 use crate::response::Response;
 use crate::response_head::response_head;
 use crate::unavailable::{Unavailable, unavailable_text};
 use std::alloc::Global;
-use usbids_text::{Broken, Sink, put_all};
 use usbnum_core::NoMemory;
 
 /// Writes a head and then a body.

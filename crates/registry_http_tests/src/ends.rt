@@ -1,11 +1,11 @@
 //! A reader and a writer that fail, and what a message is read as.
 
+use byte_streams::{Broken, Outlet, Sink, Source};
 use registry_http::{
     InputFault, Message, Query, Report, read_message, refusal_response, write_response,
 };
 use registry_rules::{Request, request_bytes};
 use std::alloc::Global;
-use usbids_text::{Broken, Outlet, Sink, Source};
 use usbnum_core::{NoMemory, Vid, parse_vid};
 
 /// Gives one byte a read, and fails at each read past the last.

@@ -1,10 +1,10 @@
 //! Messages with a fault, and the response to the first one of each.
 
+use byte_streams::Inlet;
 use crate::ends::{Drip, read};
 use std::alloc::Global;
 use std::process::Abort;
 use std::test::Fail;
-use usbids_text::Inlet;
 use usbnum_core::NoMemory;
 
 // The first line and the body of each refusal.

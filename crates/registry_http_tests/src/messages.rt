@@ -1,10 +1,10 @@
 //! Messages without a fault, and what each says.
 
+use byte_streams::Inlet;
 use crate::ends::{Drip, read};
 use std::alloc::Global;
 use std::process::Abort;
 use std::test::Fail;
-use usbids_text::Inlet;
 use usbnum_core::NoMemory;
 
 const GOOD: [(&str, &str); 19] = [

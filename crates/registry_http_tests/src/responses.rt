@@ -1,5 +1,6 @@
 //! Values and the whole response that each one gets.
 
+use byte_streams::{Broken, Inlet, Outlet};
 use crate::ends::{Brim, read, text};
 use registry_http::{
     Response, Unavailable, number_response, org_response, petition_response, reply_response,
@@ -9,7 +10,6 @@ use registry_rules::{Card, Entry, Org, Petition, PetitionState, Refusal, Reply, 
 use std::alloc::Global;
 use std::process::Abort;
 use std::test::Fail;
-use usbids_text::{Broken, Inlet, Outlet};
 use usbnum_core::{Link, NoMemory, Pid, Slug, Title, Vid, parse_pid, parse_vid};
 
 // The bytes that are written. The status that is given is the one in their first line.

@@ -1,11 +1,12 @@
 //! Each text of the lists of some registries.
 
+use byte_streams::Outlet;
 use crate::kept::{
     NumberRows, PetitionRows, VendorRows, numbers, petitions, reserved, vendors, vid,
 };
 use registry_reports::{census, holders, list_document, open_petitions};
 use std::test::Fail;
-use usbids_text::{Outlet, write};
+use usbids_text::write;
 
 /// The vendor of a founding with its fixed numbers.
 const ONE_VENDOR: VendorRows = &[(0x1209, "Shared products", Some((0x1, 0x10)))];

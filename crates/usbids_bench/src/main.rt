@@ -9,12 +9,11 @@ ghost use Rattle.std.specs.Prelude.{◌≡◌, length, IfOk, None};
 ghost use Rattle.usbids_text.specs.Writing.{written};
 ghost use Rattle.usbids_bench.specs.Counts.{counted, leaves_below, mids_in, leaves_in};
 
+use byte_streams::{Broken, Inlet, Outlet, Source};
 use std::alloc::{AllocError, Global};
 use std::time::Instant;
 use std::{fs, io};
-use usbids_text::{
-    Broken, Document, Inlet, Mid, Outlet, ReadFault, Reader, Source, WriteFault, read_all, write,
-};
+use usbids_text::{Document, Mid, ReadFault, Reader, WriteFault, read_all, write};
 
 /// What a list has.
 #[derive(Clone, Copy, Debug, PartialEq, Eq)]

@@ -4,13 +4,13 @@ use Rattle.std.specs.Prelude.{Result, Ok, Err}
 use Rattle.std.specs.Io.KnownBytes.{Appends}
 use Rattle.std.proofs.lemmas.List.{append-nil, take-append-drop}
 use Rattle.std.proofs.Math.Seq.{take-suc, take-length}
-use Rattle.usbids_text.specs.Ends.{AppendsBeginning, HasFailed, Writes}
+use Rattle.byte_streams.specs.Streams.{AppendsPrefix, HasFailed, Writes}
 use Rattle.usbids_text.specs.Gathering.{Gains, Gathers}
-use Rattle.usbids_text.proofs.EndLemmas.{Appends-nil, Appends-then, AppendsBeginning-then, AppendsBeginning-more}
+use Rattle.byte_streams.proofs.StreamLemmas.{Appends-nil, Appends-then, AppendsPrefix-then, AppendsPrefix-more}
 
 -- a write that failed
 abbrev pub Fails : Option (List ℕ) → List ℕ → Option (List ℕ) → ℕ → ℕ → List ℕ → Type 0
-Fails old waited new failures failures_new bytes = AppendsBeginning old new (waited ++ bytes) × HasFailed failures failures_new
+Fails old waited new failures failures_new bytes = AppendsPrefix old new (waited ++ bytes) × HasFailed failures failures_new
 
 pub gains-kept : (c : Option (List ℕ)) (h k bytes : List ℕ) → k ≡ h ++ bytes → Gains c h c k bytes
 gains-kept c h k bytes e = record { taken = []; appended = Appends-nil c; whole = e }
@@ -21,8 +21,8 @@ gains-none c h = gains-kept c h h [] (sym (append-nil h))
 pub gains-poured : (c d : Option (List ℕ)) (h k bytes : List ℕ) → bytes ≡ h → Appends c d bytes → k ≡ [] → Gains c h d k []
 gains-poured c d h k bytes same a e = record { taken = bytes; appended = a; whole = ap (λ (t : List ℕ). bytes ++ t) e ∙ ap (λ (t : List ℕ). t ++ []) same }
 
-pub fails-poured : (c d : Option (List ℕ)) (h bytes : List ℕ) (f g : ℕ) → bytes ≡ h → AppendsBeginning c d bytes × HasFailed f g → Fails c h d f g []
-fails-poured c d h bytes f g same w = (subst (λ (t : List ℕ). AppendsBeginning c d t) (same ∙ sym (append-nil h)) w.0, w.1)
+pub fails-poured : (c d : Option (List ℕ)) (h bytes : List ℕ) (f g : ℕ) → bytes ≡ h → AppendsPrefix c d bytes × HasFailed f g → Fails c h d f g []
+fails-poured c d h bytes f g same w = (subst (λ (t : List ℕ). AppendsPrefix c d t) (same ∙ sym (append-nil h)) w.0, w.1)
 
 gains-then : (c d e : Option (List ℕ)) (h k l x y : List ℕ) → Gains c h d k x → Gains d k e l y → Gains c h e l (x ++ y)
 gains-then c d e h k l x y p q = record {
@@ -34,10 +34,10 @@ gains-then c d e h k l x y p q = record {
 pub fails-then : (c d e : Option (List ℕ)) (h k x y : List ℕ) (f g i : ℕ) → Gains c h d k x → g ≡ f → Fails d k e g i y → Fails c h e f i (x ++ y)
 fails-then c d e h k x y f g i p same w =
     let whole : p.taken ++ (k ++ y) ≡ h ++ (x ++ y) = sym (append_assoc p.taken k y) ∙ (ap (λ (t : List ℕ). t ++ y) p.whole ∙ append_assoc h x y) in
-    (subst (λ (t : List ℕ). AppendsBeginning c e t) whole (AppendsBeginning-then c d e p.taken (k ++ y) p.appended w.0), subst (λ (n : ℕ). HasFailed n i) same w.1)
+    (subst (λ (t : List ℕ). AppendsPrefix c e t) whole (AppendsPrefix-then c d e p.taken (k ++ y) p.appended w.0), subst (λ (n : ℕ). HasFailed n i) same w.1)
 
 pub fails-more : (c d : Option (List ℕ)) (h x y : List ℕ) (f g : ℕ) → Fails c h d f g x → Fails c h d f g (x ++ y)
-fails-more c d h x y f g w = (subst (λ (t : List ℕ). AppendsBeginning c d t) (append_assoc h x y) (AppendsBeginning-more c d (h ++ x) y w.0), w.1)
+fails-more c d h x y f g w = (subst (λ (t : List ℕ). AppendsPrefix c d t) (append_assoc h x y) (AppendsPrefix-more c d (h ++ x) y w.0), w.1)
 
 -- a write that did not fail, and then one more
 pub Gathers-then : {A E : Type 0} (r : Result A E) (c d e : Option (List ℕ)) (h k l x y : List ℕ) (f g i : ℕ) → Gains c h d k x → g ≡ f → Gathers d k e l g i r y → Gathers c h e l f i r (x ++ y)
@@ -61,18 +61,18 @@ gains-all c d e h k l text none empty p q =
     sym (append-nil whole.taken) ∙ (ap (λ (t : List ℕ). whole.taken ++ t) (sym empty) ∙ (whole.whole ∙ (ap (λ (t : List ℕ). t ++ (text ++ [])) none ∙ append-nil text))) in
     subst (λ (t : List ℕ). Appends c e t) same whole.appended
 
-pub fails-all : (c d : Option (List ℕ)) (h text : List ℕ) (f g : ℕ) → h ≡ [] → Fails c h d f g text → AppendsBeginning c d text × HasFailed f g
-fails-all c d h text f g none w = (subst (λ (t : List ℕ). AppendsBeginning c d (t ++ text)) none w.0, w.1)
+pub fails-all : (c d : Option (List ℕ)) (h text : List ℕ) (f g : ℕ) → h ≡ [] → Fails c h d f g text → AppendsPrefix c d text × HasFailed f g
+fails-all c d h text f g none w = (subst (λ (t : List ℕ). AppendsPrefix c d (t ++ text)) none w.0, w.1)
 
-pub fails-last : (c d e : Option (List ℕ)) (h k text : List ℕ) (f g i : ℕ) → h ≡ [] → Gains c h d k text → g ≡ f → Fails d k e g i [] → AppendsBeginning c e text × HasFailed f i
+pub fails-last : (c d e : Option (List ℕ)) (h k text : List ℕ) (f g i : ℕ) → h ≡ [] → Gains c h d k text → g ≡ f → Fails d k e g i [] → AppendsPrefix c e text × HasFailed f i
 fails-last c d e h k text f g i none p same w =
     let whole = fails-all c e h (text ++ []) f i none (fails-then c d e h k text [] f g i p same w) in
-    (subst (λ (t : List ℕ). AppendsBeginning c e t) (append-nil text) whole.0, whole.1)
+    (subst (λ (t : List ℕ). AppendsPrefix c e t) (append-nil text) whole.0, whole.1)
 
 -- a write past those that wait, where none does
 pub Gathers-direct : {A E : Type 0} (r : Result A E) (c d : Option (List ℕ)) (k bytes : List ℕ) (f g : ℕ) → k ≡ [] → Writes c d f g r bytes → Gathers c k d k f g r bytes
 Gathers-direct (Ok done) c d k bytes f g e w = (record { taken = bytes; appended = w.0; whole = ap (λ (t : List ℕ). bytes ++ t) e ∙ (append-nil bytes ∙ ap (λ (t : List ℕ). t ++ bytes) (sym e)) }, w.1)
-Gathers-direct (Err fault) c d k bytes f g e w = (subst (λ (t : List ℕ). AppendsBeginning c d (t ++ bytes)) (sym e) w.0, w.1)
+Gathers-direct (Err fault) c d k bytes f g e w = (subst (λ (t : List ℕ). AppendsPrefix c d (t ++ bytes)) (sym e) w.0, w.1)
 
 -- a text that is that of each element in turn
 pub record IsInTurn {A : Type 0} (text : List A → List ℕ) : Type 0 where

@@ -2,8 +2,8 @@
 use Rattle.std.proofs.Common.{◌≡◌, ◌++◌, ◌+◌, ◌≤◌, List, [], ℕ, length, Option, refl, sym, subst, arith, append_assoc, length-append}
 use Rattle.std.proofs.lemmas.List.{append-nil}
 use Rattle.std.specs.Io.KnownBytes.{Consumes, IsAtEnd}
-use Rattle.usbids_text.specs.Ends.{MayGive}
-use Rattle.usbids_text.proofs.EndLemmas.{Consumes-none, Consumes-then, all_of, all_at_end}
+use Rattle.byte_streams.specs.Streams.{MayGive}
+use Rattle.byte_streams.proofs.StreamLemmas.{Consumes-none, Consumes-then, all_of, all_at_end}
 
 -- whatever was fed before, these bytes were fed too
 abbrev pub Takes : (I W : Type 0) → (I → W → List ℕ → Type 0) → I → I → List ℕ → Type 0

@@ -2,7 +2,7 @@
 ghost use Rattle.std.specs.Prelude.{◌≡◌, [], ◌++◌, OnOk, true, false};
 ghost use Rattle.usbids_text.specs.Gathering.{Gathers};
 
-use crate::ends::{Broken, Sink, put_all};
+use byte_streams::{Broken, Sink, put_all};
 use arrayvec::ArrayVec;
 
 /// The bytes that wait for the sink.

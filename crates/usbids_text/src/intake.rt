@@ -1,9 +1,9 @@
 //! What a text is fed to in pieces, and all that a source gives is.
 ghost use Rattle.std.specs.Prelude.{◌≡◌, ◌⊎◌, ◌<◌, ◌≤◌, ◌++◌, ℕ, List, length, IfOk, OnOk, OnErr};
 ghost use Rattle.std.specs.Io.KnownBytes.{Consumes, IsAtEnd};
-ghost use Rattle.usbids_text.specs.Ends.{HasFailed, MayGive};
+ghost use Rattle.byte_streams.specs.Streams.{HasFailed, MayGive};
 
-use crate::ends::{Broken, Source};
+use byte_streams::{Broken, Source};
 
 /// How many bytes a text may have.
 const MOST: usize = 4_294_967_295;

@@ -3,7 +3,6 @@
 
 mod builder;
 mod document;
-mod ends;
 mod fault;
 mod gather;
 mod intake;
@@ -16,14 +15,12 @@ mod reader;
 mod scan;
 mod seen;
 mod stamp;
-mod streams;
 mod tag;
 mod taken;
 mod words;
 mod writing;
 
 pub use document::{Document, Leaf, Mid, Name, Top};
-pub use ends::{Broken, Sink, Source, put_all};
 pub use fault::{LineFault, ReadFault};
 pub use intake::{Intake, feed_all};
 pub use kind::Kind;
@@ -33,6 +30,5 @@ pub use look_up::find;
 pub use reader::{Reader, read_all};
 pub use scan::Scan;
 pub use stamp::Stamp;
-pub use streams::{Inlet, Outlet};
 pub use tag::Tag;
 pub use writing::{WriteFault, write};

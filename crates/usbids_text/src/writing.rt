@@ -1,14 +1,14 @@
 //! A document as its one text.
 ghost use Rattle.std.specs.Prelude.{◌≡◌, ◌<◌, ◌-◌, ◌∷◌, [], ◌++◌, codes, drop, Some};
 ghost use Rattle.usbnum_core.specs.Number.{lower_hex_digit, digits_of};
-ghost use Rattle.usbids_text.specs.Ends.{Writes};
+ghost use Rattle.byte_streams.specs.Streams.{Writes};
 ghost use Rattle.usbids_text.specs.Gathering.{Gathers};
 ghost use Rattle.usbids_text.specs.Entries.{leaf_row, mid_row, top_row, leaves_rows, mids_rows, tops_rows};
 ghost use Rattle.usbids_text.specs.Writing.{code_text, gap, line_text, row_text, rows_text, stamp_text, title, head_text, written};
 ghost use Rattle.usbids_text.specs.Documents.{Spells};
 
+use byte_streams::{Broken, Sink};
 use crate::document::{Document, Leaf, Mid, Top};
-use crate::ends::{Broken, Sink};
 use crate::gather::{Waiting, gather, gather_three, pour};
 use crate::kind::Kind;
 use crate::stamp::Stamp;

@@ -2,11 +2,11 @@
 #![tactic(auto)]
 
 #[cfg(test)]
-mod ends;
-#[cfg(test)]
 mod reading;
 #[cfg(test)]
 mod scanning;
+#[cfg(test)]
+mod streams;
 #[cfg(test)]
 mod values;
 #[cfg(test)]

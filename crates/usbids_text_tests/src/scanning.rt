@@ -2,9 +2,10 @@
 
 ghost use Rattle.std.specs.Prelude.{◌<◌, length};
 
+use byte_streams::Inlet;
 use std::process::Abort;
 use std::test::Fail;
-use usbids_text::{Inlet, LineFault, ReadFault, Scan, Why, feed_all};
+use usbids_text::{LineFault, ReadFault, Scan, Why, feed_all};
 use usbnum_core::Vid;
 
 /// A vendor that is there twice, devices that are there twice, and a class with the vendor's number.

@@ -1,10 +1,11 @@
 //! Documents that are written, also to writers that fail.
 
+use byte_streams::Outlet;
 use std::alloc::{AllocError, Global};
 use std::io;
 use std::io::Write;
 use std::test::Fail;
-use usbids_text::{Outlet, Stamp, WriteFault, read_all, write};
+use usbids_text::{Stamp, WriteFault, read_all, write};
 
 const TITLE: &str = "# List of USB numbers in the syntax of usb.ids\n";
 

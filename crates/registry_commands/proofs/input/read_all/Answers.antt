@@ -1,6 +1,6 @@
 use Rattle.std.proofs.Common.{◌≡◌, ◌<◌, ◌++◌, List, ℕ, length, ◌∙◌, inl, inr, ap, refl, Err, arith, length-append}
-use Rattle.usbids_text.specs.Ends.{HasFailed}
-use Rattle.usbids_text.proofs.EndLemmas.{all_of}
+use Rattle.byte_streams.specs.Streams.{HasFailed}
+use Rattle.byte_streams.proofs.StreamLemmas.{all_of}
 use Rattle.registry_commands.specs.declared.input.InputFault.{InputFault}
 use Rattle.registry_commands.specs.declared.input.InputFault.TheVariants as inputs
 use Rattle.registry_commands.specs.Failures.{IsOfInput}

@@ -1,7 +1,7 @@
 use Rattle.std.proofs.Common.{◌≡◌, ◌++◌, length, sym, subst, ◌∙◌, append_assoc, arith, length-append}
 use Rattle.std.proofs.lemmas.Bool.{lt-leb}
 use Rattle.usbids_text.specs.Readers.{Stands}
-use Rattle.usbids_text.proofs.EndLemmas.{Consumes-then}
+use Rattle.byte_streams.proofs.StreamLemmas.{Consumes-then}
 use Rattle.registry_http.proofs.body.feed_from.Goals as goal
 
 pub returns-then-count-eq0-clause-ok : goal.returns-then-count-eq0-clause-ok

@@ -4,7 +4,7 @@ use Rattle.std.specs.Prelude.{nat_lt, Result, Ok, Err}
 use Rattle.std.proofs.lemmas.Bool.{cases_Bool, ltb-false, ltb-true}
 use Rattle.std.specs.Io.KnownBytes.{Appends, Consumes, IsAtEnd, Keeps}
 use Rattle.std.proofs.lemmas.List.{append-nil, take_all, take-append-drop, length-drop}
-use Rattle.usbids_text.specs.Ends.{AppendsBeginning, HasFailed, MayGive, Writes, one_more}
+use Rattle.byte_streams.specs.Streams.{AppendsPrefix, HasFailed, MayGive, Writes, one_more}
 
 pub Appends-nil : (o : Option (List ℕ)) → Appends o o []
 Appends-nil None = tt
@@ -22,8 +22,8 @@ Appends-then (Some xs) (Some ys) None x y p q = absurd q
 Appends-then (Some xs) (Some ys) (Some zs) x y p q = q ∙ (ap (λ (t : List ℕ). t ++ y) p ∙ append_assoc xs x y)
 
 -- a prefix of what comes second is, with all of the first, a prefix of both
-pub AppendsBeginning-then : (a b c : Option (List ℕ)) (x y : List ℕ) → Appends a b x → AppendsBeginning b c y → AppendsBeginning a c (x ++ y)
-AppendsBeginning-then a b c x y p q = record {
+pub AppendsPrefix-then : (a b c : Option (List ℕ)) (x y : List ℕ) → Appends a b x → AppendsPrefix b c y → AppendsPrefix a c (x ++ y)
+AppendsPrefix-then a b c x y p q = record {
   front = x ++ q.front;
   rest = q.rest;
   whole = ap (λ (t : List ℕ). x ++ t) q.whole ∙ sym (append_assoc x q.front q.rest);
@@ -31,8 +31,8 @@ AppendsBeginning-then a b c x y p q = record {
 }
 
 -- a prefix of what comes first is a prefix of both
-pub AppendsBeginning-more : (a b : Option (List ℕ)) (x y : List ℕ) → AppendsBeginning a b x → AppendsBeginning a b (x ++ y)
-AppendsBeginning-more a b x y p = record {
+pub AppendsPrefix-more : (a b : Option (List ℕ)) (x y : List ℕ) → AppendsPrefix a b x → AppendsPrefix a b (x ++ y)
+AppendsPrefix-more a b x y p = record {
   front = p.front;
   rest = p.rest ++ y;
   whole = ap (λ (t : List ℕ). t ++ y) p.whole ∙ append_assoc p.front p.rest y;
@@ -42,7 +42,7 @@ AppendsBeginning-more a b x y p = record {
 -- after a write that did not fail, the next write's answer is that of both
 pub Writes-then : {A E : Type 0} (r : Result A E) (a b c : Option (List ℕ)) (f g h : ℕ) (x y : List ℕ) → Appends a b x → g ≡ f → Writes b c g h r y → Writes a c f h r (x ++ y)
 Writes-then (Ok done) a b c f g h x y p same w = (Appends-then a b c x y p w.0, w.1 ∙ same)
-Writes-then (Err e) a b c f g h x y p same w = (AppendsBeginning-then a b c x y p w.0, rw (← same) w.1)
+Writes-then (Err e) a b c f g h x y p same w = (AppendsPrefix-then a b c x y p w.0, rw (← same) w.1)
 
 -- one more failure is one that is seen
 pub HasFailed-more : (f h : ℕ) → h ≡ one_more f → HasFailed f h
@@ -52,7 +52,7 @@ HasFailed-more f h e = elim (cases_Bool (nat_lt f h)) [
 ]
 
 -- a write that stops after some of the bytes
-pub put-fails : (a b c : Option (List ℕ)) (f g h : ℕ) (i : ℕ) (bytes : List ℕ) → Appends a b (take i bytes) → Keeps b c → g ≡ f → h ≡ one_more g → AppendsBeginning a c bytes × HasFailed f h
+pub put-fails : (a b c : Option (List ℕ)) (f g h : ℕ) (i : ℕ) (bytes : List ℕ) → Appends a b (take i bytes) → Keeps b c → g ≡ f → h ≡ one_more g → AppendsPrefix a c bytes × HasFailed f h
 put-fails a b c f g h i bytes p keeps same more = (
   record {
     front = take i bytes ++ [];

@@ -1,7 +1,7 @@
 //! A source over a reader of std, and a sink over a writer.
 ghost use Rattle.std.specs.Prelude.{◌≡◌};
 
-use crate::ends::{Broken, Sink, Source};
+use crate::streams::{Broken, Sink, Source};
 use std::io::{Read, Write};
 
 /// A source over a reader.
@@ -12,7 +12,7 @@ pub struct Inlet<R: Read> {
 }
 
 impl<R: Read> Inlet<R> {
-    ghost use Rattle.usbids_text.specs.Streams.{reader_of, inlet_failures};
+    ghost use Rattle.byte_streams.specs.Adapters.{reader_of, inlet_failures};
 
     /// A source that gives what the reader gives, and has not failed yet.
     pub fn new(reader: R) -> Inlet<R>
@@ -61,7 +61,7 @@ pub struct Outlet<W: Write> {
 }
 
 impl<W: Write> Outlet<W> {
-    ghost use Rattle.usbids_text.specs.Streams.{writer_of, outlet_failures};
+    ghost use Rattle.byte_streams.specs.Adapters.{writer_of, outlet_failures};
 
     /// A sink that hands what it takes to the writer, and has not failed yet.
     pub fn new(writer: W) -> Outlet<W>

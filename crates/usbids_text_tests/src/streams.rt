@@ -1,7 +1,7 @@
 //! A reader and a writer of the standard library as a source and a sink.
 
+use byte_streams::{Inlet, Outlet, Sink, Source, put_all};
 use std::test::Fail;
-use usbids_text::{Inlet, Outlet, Sink, Source, put_all};
 
 #[test]
 fn gives_what_the_reader_gives(rt: HostRuntime) -> Result<(), Fail> {

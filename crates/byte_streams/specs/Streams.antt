@@ -29,7 +29,7 @@ Puts old new failures failures_new (Ok n) bytes =
 Puts old new failures failures_new (Err e) bytes = Keeps old new × (failures_new ≡ one_more failures)
 
 -- the sink took a prefix of these bytes
-pub record AppendsBeginning (old new : Option (List ℕ)) (bytes : List ℕ) : Type 0 where
+pub record AppendsPrefix (old new : Option (List ℕ)) (bytes : List ℕ) : Type 0 where
   pub front : List ℕ
   pub rest : List ℕ
   pub whole : bytes ≡ front ++ rest
@@ -38,4 +38,4 @@ pub record AppendsBeginning (old new : Option (List ℕ)) (bytes : List ℕ) : T
 -- the sink took all of these bytes and did not fail, or it failed and took a prefix of them
 abbrev pub Writes : {A E : Type 0} → Option (List ℕ) → Option (List ℕ) → ℕ → ℕ → Result A E → List ℕ → Type 0
 Writes old new failures failures_new (Ok done) bytes = Appends old new bytes × (failures_new ≡ failures)
-Writes old new failures failures_new (Err e) bytes = AppendsBeginning old new bytes × HasFailed failures failures_new
+Writes old new failures failures_new (Err e) bytes = AppendsPrefix old new bytes × HasFailed failures failures_new

@@ -1,6 +1,6 @@
 //! What bytes are read from and written to, with failures that are counted.
 ghost use Rattle.std.specs.Prelude.{List, ℕ, Option};
-ghost use Rattle.usbids_text.specs.Ends.{Puts, Takes, Writes};
+ghost use Rattle.byte_streams.specs.Streams.{Puts, Takes, Writes};
 
 /// A read or a write failed.
 #[derive(Clone, Copy, Debug, PartialEq, Eq)]

@@ -1,7 +1,7 @@
 -- What a source over a reader and a sink over a writer hold.
 use Rattle.std.specs.Prelude.{ℕ}
-use Rattle.usbids_text.specs.declared.streams.Inlet.{Inlet}
-use Rattle.usbids_text.specs.declared.streams.Outlet.{Outlet}
+use Rattle.byte_streams.specs.declared.adapters.Inlet.{Inlet}
+use Rattle.byte_streams.specs.declared.adapters.Outlet.{Outlet}
 
 -- the reader that a source reads from
 abbrev pub reader_of : {R : Type 0} → Inlet R → R

@@ -2,8 +2,8 @@ use Rattle.std.proofs.Common.{◌≡◌, arith, drop, ◌∙◌}
 use Rattle.std.proofs.lemmas.Result.{err_from_is_err_and}
 use Rattle.std.proofs.Math.Seq.{take-add}
 use Rattle.std.proofs.lemmas.List.{length-drop}
-use Rattle.usbids_text.proofs.EndLemmas.{Appends-then, Keeps-none, put-fails, suffix}
-use Rattle.usbids_text.proofs.ends.put_all.Goals as goal
+use Rattle.byte_streams.proofs.StreamLemmas.{Appends-then, Keeps-none, put-fails, suffix}
+use Rattle.byte_streams.proofs.streams.put_all.Goals as goal
 
 pub loop-count-preserved : goal.loop-count-preserved
 loop-count-preserved g c =
