@@ -17,6 +17,7 @@ fn is_held(vid: Vid, spans: &Spans, pair: &(Number, Entry)) -> bool
     ensures value { result ≡ (nat_eq pair.now.0.vid vid && held_in spans.now pair.now) }
     ensures number { IsNumber pair.now.0.pid }
 {
+    // For the proof alone: a product number is one.
     let _ = pair.0.pid.get();
     pair.0.vid == vid && !spans.contains(pair.0.pid) && pair.1.held
 }
@@ -26,6 +27,7 @@ fn is_returned(vid: Vid, spans: &Spans, pair: &(Number, Entry)) -> bool
     ensures value { result ≡ (nat_eq pair.now.0.vid vid && returned_in spans.now pair.now) }
     ensures number { IsNumber pair.now.0.pid }
 {
+    // For the proof alone: a product number is one.
     let _ = pair.0.pid.get();
     pair.0.vid == vid && !spans.contains(pair.0.pid) && !pair.1.held
 }

@@ -96,6 +96,7 @@ pub(crate) fn attempt<S: Alter>(
     ensures foreign { HasCleanDisk (state S.Store conn.new) → result ≡ Err TableFault.Foreign → (h : History) → Counts totals.old h → IsAt newest (state S.Store conn.old) h → ⊥ }
     ensures survives { Survives (state S.Store conn.old) (state S.Store conn.new) (CommitsOne (state S.Store conn.old) totals.old request.now) }
 {
+    // For the proof alone: what the connection says of its schema.
     let _schema = conn.schema();
     let mut tx = conn.transaction();
     let verdict = judged(alloc, &mut tx, totals, request)?;

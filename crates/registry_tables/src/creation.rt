@@ -29,6 +29,7 @@ fn create_in_empty<S: Alter>(
     ensures survives { Survives (state S.Store conn.old) (state S.Store conn.new) (λ db. IsTrue (state S.Store conn.old).is_open × HasNoMeta (state S.Store conn.old).now
         × Rows newest db (founded founding.now)) }
 {
+    // For the proof alone: what the connection says of its schema.
     let _schema = conn.schema();
     let mut tx = conn.transaction();
     create_tables(&mut tx)?;

@@ -24,6 +24,7 @@ pub fn list_orgs<S: Alter>(alloc: Global, conn: &mut Connection<S>) -> Result<Ve
     ensures foreign { HasCleanDisk (state S.Store conn.new) → IsForeign (state S.Store conn.old) (state S.Store conn.new) result }
     ensures survives { Survives (state S.Store conn.old) (state S.Store conn.new) (λ _. ⊥) }
 {
+    // For the proof alone: what the connection says of its schema.
     let _schema = conn.schema();
     let mut tx = conn.transaction();
     let orgs = registry_rows::list_orgs(alloc, &mut tx);
@@ -46,6 +47,7 @@ pub fn list_petitions<S: Alter>(
     ensures foreign { HasCleanDisk (state S.Store conn.new) → IsForeign (state S.Store conn.old) (state S.Store conn.new) result }
     ensures survives { Survives (state S.Store conn.old) (state S.Store conn.new) (λ _. ⊥) }
 {
+    // For the proof alone: what the connection says of its schema.
     let _schema = conn.schema();
     let mut tx = conn.transaction();
     let petitions = registry_rows::list_petitions(alloc, &mut tx);
@@ -68,6 +70,7 @@ pub fn list_numbers<S: Alter>(
     ensures foreign { HasCleanDisk (state S.Store conn.new) → IsForeign (state S.Store conn.old) (state S.Store conn.new) result }
     ensures survives { Survives (state S.Store conn.old) (state S.Store conn.new) (λ _. ⊥) }
 {
+    // For the proof alone: what the connection says of its schema.
     let _schema = conn.schema();
     let mut tx = conn.transaction();
     let numbers = registry_rows::list_entries(alloc, &mut tx);
@@ -90,6 +93,7 @@ pub fn list_vendors<S: Alter>(
     ensures foreign { HasCleanDisk (state S.Store conn.new) → IsForeign (state S.Store conn.old) (state S.Store conn.new) result }
     ensures survives { Survives (state S.Store conn.old) (state S.Store conn.new) (λ _. ⊥) }
 {
+    // For the proof alone: what the connection says of its schema.
     let _schema = conn.schema();
     let mut tx = conn.transaction();
     let vendors = registry_rows::list_vendors(alloc, &mut tx);

@@ -82,6 +82,7 @@ pub(crate) fn first_to_second<S: Alter>(
     ensures foreign { HasCleanDisk (state S.Store conn.new) → result ≡ Err TableFault.Foreign → IsTrue (state S.Store conn.old).is_open × ((h : History) → ¬ Rows 1 (state S.Store conn.old).now.trees h) }
     ensures survives { Survives (state S.Store conn.old) (state S.Store conn.new) (CommitsStep 1 (state S.Store conn.old)) }
 {
+    // For the proof alone: what the connection says of its schema.
     let _schema = conn.schema();
     let mut tx = conn.transaction();
     raise_second(alloc, &mut tx)?;

@@ -116,6 +116,7 @@ impl Leaf {
         requires { IsTrue (is_code code digits) }
         ensures { result ≡ record { code = code; digits = digits; name = name } }
     {
+        // For the proof alone: a name keeps to its rule.
         let _ = name.as_bytes();
         Leaf { code, digits, name }
     }
@@ -169,6 +170,7 @@ impl Mid {
         requires { IsTrue (is_code code digits) }
         ensures { result ≡ record { code = code; digits = digits; name = name; leaves = [] } }
     {
+        // For the proof alone: a name keeps to its rule.
         let _ = name.as_bytes();
         Mid {
             code,
@@ -183,6 +185,7 @@ impl Mid {
         ensures ok { OnOk result (self.new ≡ record self.old { leaves = self.old.leaves ++ leaf ∷ [] }) }
         ensures err { OnErr result (self.new ≡ self.old) }
     {
+        // For the proof alone: the name keeps to its rule.
         let _ = &leaf.name;
         self.leaves.push(leaf)?;
         Ok(())
@@ -252,6 +255,7 @@ impl Top {
         requires kind { IsTrue (is_depth (Zero kind) digits) }
         ensures { result ≡ record { kind = kind; code = code; digits = digits; name = name; mids = [] } }
     {
+        // For the proof alone: a name keeps to its rule.
         let _ = name.as_bytes();
         Top {
             kind,
@@ -268,6 +272,7 @@ impl Top {
         ensures ok { OnOk result (self.new ≡ record self.old { mids = self.old.mids ++ mid ∷ [] }) }
         ensures err { OnErr result (self.new ≡ self.old) }
     {
+        // For the proof alone: the name keeps to its rule.
         let _ = &mid.name;
         self.mids.push(mid)?;
         Ok(())
@@ -348,6 +353,7 @@ impl Document {
         ensures ok { OnOk result (self.new ≡ self.old ++ top ∷ []) }
         ensures err { OnErr result (self.new ≡ self.old) }
     {
+        // For the proof alone: the name keeps to its rule.
         let _ = &top.name;
         self.tops.push(top)?;
         Ok(())
