@@ -6,33 +6,33 @@ use Rattle.std.specs.Io.KnownBytes.{Appends, Consumes, IsAtEnd, Keeps}
 use Rattle.std.proofs.lemmas.List.{append-nil, take_all, take-append-drop, length-drop}
 use Rattle.byte_streams.specs.Streams.{AppendsPrefix, HasFailed, MayGive, Writes, one_more}
 
-pub Appends-nil : (o : Option (List ℕ)) → Appends o o []
-Appends-nil None = tt
-Appends-nil (Some xs) = sym (append-nil xs)
+pub appends_nil : (o : Option (List ℕ)) → Appends o o []
+appends_nil None = tt
+appends_nil (Some xs) = sym (append-nil xs)
 
-pub Appends-keeps : (o n : Option (List ℕ)) → Keeps o n → Appends o n []
-Appends-keeps None n h = tt
-Appends-keeps (Some xs) None h = absurd h
-Appends-keeps (Some xs) (Some ys) h = h ∙ sym (append-nil xs)
+pub appends_keeps : (o n : Option (List ℕ)) → Keeps o n → Appends o n []
+appends_keeps None n h = tt
+appends_keeps (Some xs) None h = absurd h
+appends_keeps (Some xs) (Some ys) h = h ∙ sym (append-nil xs)
 
-pub Appends-then : (a b c : Option (List ℕ)) (x y : List ℕ) → Appends a b x → Appends b c y → Appends a c (x ++ y)
-Appends-then None b c x y p q = tt
-Appends-then (Some xs) None c x y p q = absurd p
-Appends-then (Some xs) (Some ys) None x y p q = absurd q
-Appends-then (Some xs) (Some ys) (Some zs) x y p q = q ∙ (ap (λ (t : List ℕ). t ++ y) p ∙ append_assoc xs x y)
+pub appends_then : (a b c : Option (List ℕ)) (x y : List ℕ) → Appends a b x → Appends b c y → Appends a c (x ++ y)
+appends_then None b c x y p q = tt
+appends_then (Some xs) None c x y p q = absurd p
+appends_then (Some xs) (Some ys) None x y p q = absurd q
+appends_then (Some xs) (Some ys) (Some zs) x y p q = q ∙ (ap (λ (t : List ℕ). t ++ y) p ∙ append_assoc xs x y)
 
 -- a prefix of what comes second is, with all of the first, a prefix of both
-pub AppendsPrefix-then : (a b c : Option (List ℕ)) (x y : List ℕ) → Appends a b x → AppendsPrefix b c y → AppendsPrefix a c (x ++ y)
-AppendsPrefix-then a b c x y p q = record {
+pub appends_prefix_then : (a b c : Option (List ℕ)) (x y : List ℕ) → Appends a b x → AppendsPrefix b c y → AppendsPrefix a c (x ++ y)
+appends_prefix_then a b c x y p q = record {
   front = x ++ q.front;
   rest = q.rest;
   whole = ap (λ (t : List ℕ). x ++ t) q.whole ∙ sym (append_assoc x q.front q.rest);
-  appended = Appends-then a b c x q.front p q.appended;
+  appended = appends_then a b c x q.front p q.appended;
 }
 
 -- a prefix of what comes first is a prefix of both
-pub AppendsPrefix-more : (a b : Option (List ℕ)) (x y : List ℕ) → AppendsPrefix a b x → AppendsPrefix a b (x ++ y)
-AppendsPrefix-more a b x y p = record {
+pub appends_prefix_more : (a b : Option (List ℕ)) (x y : List ℕ) → AppendsPrefix a b x → AppendsPrefix a b (x ++ y)
+appends_prefix_more a b x y p = record {
   front = p.front;
   rest = p.rest ++ y;
   whole = ap (λ (t : List ℕ). t ++ y) p.whole ∙ append_assoc p.front p.rest y;
@@ -40,48 +40,48 @@ AppendsPrefix-more a b x y p = record {
 }
 
 -- after a write that did not fail, the next write's answer is that of both
-pub Writes-then : {A E : Type 0} (r : Result A E) (a b c : Option (List ℕ)) (f g h : ℕ) (x y : List ℕ) → Appends a b x → g ≡ f → Writes b c g h r y → Writes a c f h r (x ++ y)
-Writes-then (Ok done) a b c f g h x y p same w = (Appends-then a b c x y p w.0, w.1 ∙ same)
-Writes-then (Err e) a b c f g h x y p same w = (AppendsPrefix-then a b c x y p w.0, rw (← same) w.1)
+pub writes_then : {A E : Type 0} (r : Result A E) (a b c : Option (List ℕ)) (f g h : ℕ) (x y : List ℕ) → Appends a b x → g ≡ f → Writes b c g h r y → Writes a c f h r (x ++ y)
+writes_then (Ok done) a b c f g h x y p same w = (appends_then a b c x y p w.0, w.1 ∙ same)
+writes_then (Err e) a b c f g h x y p same w = (appends_prefix_then a b c x y p w.0, rw (← same) w.1)
 
 -- one more failure is one that is seen
-pub HasFailed-more : (f h : ℕ) → h ≡ one_more f → HasFailed f h
-HasFailed-more f h e = elim (cases_Bool (nat_lt f h)) [
+pub has_failed_more : (f h : ℕ) → h ≡ one_more f → HasFailed f h
+has_failed_more f h e = elim (cases_Bool (nat_lt f h)) [
   | inl less ↦ inl (ltb-true f h less)
   | inr more ↦ let below = ltb-false f h more in inr (omega arith)
 ]
 
 -- a write that stops after some of the bytes
-pub put-fails : (a b c : Option (List ℕ)) (f g h : ℕ) (i : ℕ) (bytes : List ℕ) → Appends a b (take i bytes) → Keeps b c → g ≡ f → h ≡ one_more g → AppendsPrefix a c bytes × HasFailed f h
-put-fails a b c f g h i bytes p keeps same more = (
+pub put_fails : (a b c : Option (List ℕ)) (f g h : ℕ) (i : ℕ) (bytes : List ℕ) → Appends a b (take i bytes) → Keeps b c → g ≡ f → h ≡ one_more g → AppendsPrefix a c bytes × HasFailed f h
+put_fails a b c f g h i bytes p keeps same more = (
   record {
     front = take i bytes ++ [];
     rest = drop i bytes;
     whole = sym (ap (λ (t : List ℕ). t ++ drop i bytes) (append-nil (take i bytes)) ∙ take-append-drop i bytes);
-    appended = Appends-then a b c (take i bytes) [] p (Appends-keeps b c keeps);
+    appended = appends_then a b c (take i bytes) [] p (appends_keeps b c keeps);
   },
-  HasFailed-more f h (more ∙ ap one_more same),
+  has_failed_more f h (more ∙ ap one_more same),
 )
 
 -- to take none of some bytes keeps what there is
-pub Keeps-none : (b c : Option (List ℕ)) (n : ℕ) (bytes : List ℕ) → n ≡ 0 → Appends b c (take n bytes) → Keeps b c
-Keeps-none None c n bytes e p = tt
-Keeps-none (Some xs) None n bytes e p = absurd p
-Keeps-none (Some xs) (Some ys) n bytes e p = p ∙ (ap (λ (k : ℕ). xs ++ take k bytes) e ∙ append-nil xs)
+pub keeps_none : (b c : Option (List ℕ)) (n : ℕ) (bytes : List ℕ) → n ≡ 0 → Appends b c (take n bytes) → Keeps b c
+keeps_none None c n bytes e p = tt
+keeps_none (Some xs) None n bytes e p = absurd p
+keeps_none (Some xs) (Some ys) n bytes e p = p ∙ (ap (λ (k : ℕ). xs ++ take k bytes) e ∙ append-nil xs)
 
 -- a slice up to the end is what is left
 pub suffix : (i : ℕ) (bytes : List ℕ) → take (length bytes - i) (drop i bytes) ≡ drop i bytes
 suffix i bytes = take_all (length bytes - i) (drop i bytes) (omega (arith, length-drop i bytes))
 
-pub Consumes-none : (o : Option (List ℕ)) → Consumes o o []
-Consumes-none None = tt
-Consumes-none (Some xs) = refl
+pub consumes_none : (o : Option (List ℕ)) → Consumes o o []
+consumes_none None = tt
+consumes_none (Some xs) = refl
 
-pub Consumes-then : (a b c : Option (List ℕ)) (x y : List ℕ) → Consumes a b x → Consumes b c y → Consumes a c (x ++ y)
-Consumes-then None b c x y p q = tt
-Consumes-then (Some xs) None c x y p q = absurd p
-Consumes-then (Some xs) (Some ys) None x y p q = absurd q
-Consumes-then (Some xs) (Some ys) (Some zs) x y p q = p ∙ ap (λ (t : List ℕ). x ++ t) q ∙ sym (append_assoc x y zs)
+pub consumes_then : (a b c : Option (List ℕ)) (x y : List ℕ) → Consumes a b x → Consumes b c y → Consumes a c (x ++ y)
+consumes_then None b c x y p q = tt
+consumes_then (Some xs) None c x y p q = absurd p
+consumes_then (Some xs) (Some ys) None x y p q = absurd q
+consumes_then (Some xs) (Some ys) (Some zs) x y p q = p ∙ ap (λ (t : List ℕ). x ++ t) q ∙ sym (append_assoc x y zs)
 
 -- all that a source would give begins with what it gave
 pub all_of : (a b : Option (List ℕ)) (x : List ℕ) → Consumes a b x → (more : List ℕ) × MayGive a (x ++ more)

@@ -26,7 +26,7 @@ use Rattle.registry_commands.specs.Messages.{failure_of}
 use Rattle.registry_commands.specs.Apply.{IsApplied, IsOfRun}
 use Rattle.registry_commands.specs.Found.{IsFoundBy, IsOfFounding}
 use Rattle.registry_commands.specs.Trial.{IsOfStart, IsTrial, IsTrialOf}
-use Rattle.registry_commands.proofs.ApplyLemmas.{Keeps-same}
+use Rattle.registry_commands.proofs.ApplyLemmas.{keeps_same}
 use Rattle.registry_commands.proofs.FailureLemmas.{memory_of_input, of_standing, tells_more}
 
 -- a failure before anything is founded
@@ -57,8 +57,8 @@ of_founding g conn new faults.Foreign taken kind = absurd (kind.1 refl)
 -- a failure before any line is acted on
 pub trial_fails : (OfInput OfOutput : Failure → Type 0) (read : Result (List Request) BadLine) (out : Option (List ℕ)) (errors : Told) (status : ℕ)
     → status ≡ 1 → TellsFailure (IsOfStart OfInput) errors → IsTrialOf OfInput OfOutput read out out errors status
-trial_fails OfInput OfOutput (Err bad) out errors status one told = (Keeps-same out, inr (one, told))
-trial_fails OfInput OfOutput (Ok rs) out errors status one told = inr (inl (one, Keeps-same out, told))
+trial_fails OfInput OfOutput (Err bad) out errors status one told = (keeps_same out, inr (one, told))
+trial_fails OfInput OfOutput (Ok rs) out errors status one told = inr (inl (one, keeps_same out, told))
 
 -- a founding that fails before the input is read
 pub of_start : (n : ℕ) (bytes : List ℕ) (failure : Failure) → (failure ≡ Store) ⊎ (failure ≡ Memory) → IsOfStart (IsOfInput n n bytes) failure

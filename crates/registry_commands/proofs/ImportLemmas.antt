@@ -4,7 +4,7 @@ use Rattle.std.specs.Prelude.{true}
 use Rattle.sqlite.specs.Store.{Ghosts}
 use Rattle.sqlite.specs.State.{HasCleanDisk}
 use Rattle.byte_streams.specs.Streams.{AppendsPrefix}
-use Rattle.byte_streams.proofs.StreamLemmas.{Appends-nil}
+use Rattle.byte_streams.proofs.StreamLemmas.{appends_nil}
 use Rattle.registry_rules.specs.declared.order.Request.{Request}
 use Rattle.registry_rules.specs.declared.verdict.Reply.{Reply}
 use Rattle.registry_rules.specs.History.{History}
@@ -25,7 +25,7 @@ use Rattle.registry_commands.specs.Messages.{failure_of, reply_line}
 
 -- nothing is a prefix of anything
 pub nothing_of : (o : Option (List ℕ)) (bytes : List ℕ) → AppendsPrefix o o bytes
-nothing_of o bytes = record { front = []; rest = bytes; whole = refl; appended = Appends-nil o }
+nothing_of o bytes = record { front = []; rest = bytes; whole = refl; appended = appends_nil o }
 
 -- no fault of the registry is the output's
 pub not_of_output : (n : ℕ) (fault : Fault) → IsOfOutput n n (failure_of fault)

@@ -24,7 +24,7 @@ use Rattle.registry_commands.specs.Failures.{Told}
 use Rattle.registry_commands.specs.Messages.{reply_lines}
 use Rattle.registry_commands.specs.Apply.{IsApplied, IsRun, lines_between}
 use Rattle.registry_commands.specs.Reopened.{IsReopened, IsReopenedAt}
-use Rattle.registry_commands.proofs.ApplyLemmas.{Keeps-same, no_beginning}
+use Rattle.registry_commands.proofs.ApplyLemmas.{keeps_same, no_beginning}
 
 module _ {S : Type 0} {g : Ghosts S} where
   -- the registry is opened at one of the histories that the last one left
@@ -75,7 +75,7 @@ module _ {S : Type 0} {g : Ghosts S} where
                   out_new,
                   subst (λ (text : List ℕ). Appends out out_new text) (sym (ap reply_lines (between_all h rs a n refl))) through.gained,
                   no_beginning out_new (lines_between h rs n (n + 1)),
-                  inl (Keeps-same out_new),
+                  inl (keeps_same out_new),
                 );
                 answered = placed h rs n legal leaves clean;
               },

@@ -4,7 +4,7 @@ use Rattle.std.proofs.lemmas.List.{append-nil}
 use Rattle.std.specs.Io.KnownBytes.{Appends, Keeps}
 use Rattle.sqlite.specs.Store.{Ghosts}
 use Rattle.byte_streams.specs.Streams.{AppendsPrefix}
-use Rattle.byte_streams.proofs.StreamLemmas.{Appends-nil, Appends-then}
+use Rattle.byte_streams.proofs.StreamLemmas.{appends_nil, appends_then}
 use Rattle.registry_rules.specs.declared.order.Request.{Request}
 use Rattle.registry_rules.specs.declared.verdict.Reply.{Reply}
 use Rattle.registry_rules.specs.History.{History}
@@ -18,7 +18,7 @@ use Rattle.registry_commands.specs.declared.replies.ReplyLines.{ReplyLines}
 use Rattle.registry_commands.specs.Messages.{reply_line, reply_lines}
 use Rattle.registry_commands.specs.Apply.{IsStoppedAt, lines_between}
 use Rattle.registry_commands.specs.Replies.{CutsLine, TakesLine}
-use Rattle.registry_commands.proofs.ApplyLemmas.{Keeps-same, no_beginning}
+use Rattle.registry_commands.proofs.ApplyLemmas.{keeps_same, no_beginning}
 
 module _ {S : Type 0} {g : Ghosts S} (it : Registry S g) (h : History) where
   spent_or_there : (why : RunStop) → IsLeftAt why it h → (is_spent it ≡ true) ⊎ Stands it h
@@ -34,12 +34,12 @@ module _ {W : Type 0} (contents : W → Option (List ℕ)) (failures : W → ℕ
 
   pub taken_lines : (old new : ReplyLines W) (replies : List Reply) → HaveTaken (TakesLine contents failures) old new replies → AreOut old new replies
   taken_lines old new [] same =
-      subst (λ (k : ReplyLines W). AreOut old k []) (sym same) (record { same_output = refl; gained = Appends-nil (contents old.output.now); kept = refl })
+      subst (λ (k : ReplyLines W). AreOut old k []) (sym same) (record { same_output = refl; gained = appends_nil (contents old.output.now); kept = refl })
   taken_lines old new (reply ∷ replies) taken =
       let rest = taken_lines taken.0 new replies taken.2 in
       record {
         same_output = rest.same_output ∙ taken.1.same_output;
-        gained = Appends-then (contents old.output.now) (contents taken.0.output.now) (contents new.output.now) (reply_line reply) (reply_lines replies) taken.1.gained rest.gained;
+        gained = appends_then (contents old.output.now) (contents taken.0.output.now) (contents new.output.now) (reply_line reply) (reply_lines replies) taken.1.gained rest.gained;
         kept = rest.kept ∙ taken.1.kept;
       }
 
@@ -62,7 +62,7 @@ module _ {W : Type 0} (contents : W → Option (List ℕ)) (failures : W → ℕ
   next_acted : {S : Type 0} {g : Ghosts S} (it : Registry S g) (h : History) (why : RunStop) (middle new : ReplyLines W) (next : Reply) → IsCutBy (CutsLine contents failures) why middle new next
       → IsLeftAt why it h → Keeps (contents middle.output.now) (contents new.output.now) ⊎ Stands it h
   next_acted it h (stop.Fault fault) middle new next cut spent =
-      inl (subst (λ (k : ReplyLines W). Keeps (contents middle.output.now) (contents k.output.now)) (sym cut.0) (Keeps-same (contents middle.output.now)))
+      inl (subst (λ (k : ReplyLines W). Keeps (contents middle.output.now) (contents k.output.now)) (sym cut.0) (keeps_same (contents middle.output.now)))
   next_acted it h stop.Cut middle new next cut stands = inr stands
 
   pub stopped_lines : {S : Type 0} {g : Ghosts S} (it : Registry S g) (h : History) (rs : List Request) (a n : ℕ) (old new : ReplyLines W) (why : RunStop)

@@ -16,7 +16,7 @@ use Rattle.registry_store.specs.Promise.{Leaves, is_spent, state_of}
 use Rattle.registry_store.specs.Run.{IsPlace, IsStopped}
 use Rattle.registry_store.specs.RunTo.{HaveTaken, IsHalted, replies_between}
 use Rattle.registry_store.specs.Listed.{HasNoRoom, TakesReply}
-use Rattle.registry_store.proofs.Runs.{take-answers}
+use Rattle.registry_store.proofs.Runs.{take_answers}
 use Rattle.registry_store.proofs.ToLemmas.{answered_of}
 
 -- the replies stand at the end, and no room was lost
@@ -34,7 +34,7 @@ module _ (h : History) (rs : List Request) (a n : ℕ) (from : a ≤ n) (within 
   between_front : replies_between h rs a n ≡ take (n - a) (drop a (answers h rs))
   between_front =
       let far : n ≡ a + (n - a) = omega arith in
-      ap (λ (replies : List Reply). drop a replies) (take-answers n h rs ∙ ap (λ k. take k (answers h rs)) far) ∙ drop-take a (n - a) (answers h rs)
+      ap (λ (replies : List Reply). drop a replies) (take_answers n h rs ∙ ap (λ k. take k (answers h rs)) far) ∙ drop-take a (n - a) (answers h rs)
 
 module _ {S : Type 0} {g : Ghosts S} (it : Registry S g) (h : History) (rs : List Request) (a n : ℕ) (old new : Vec Reply Global) (none : old.items ≡ []) where
   in_list : (middle : Vec Reply Global) → HaveTaken TakesReply old middle (replies_between h rs a n) → middle.items ≡ replies_between h rs a n

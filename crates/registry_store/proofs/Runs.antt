@@ -7,19 +7,19 @@ use Rattle.registry_rules.specs.History.{History}
 use Rattle.registry_rules.specs.Run.{after, answers, after_one, answer_one}
 use Rattle.registry_store.specs.Promise.{Leaves}
 
-pub after-append : (h : History) (xs ys : List Request) → after h (xs ++ ys) ≡ after (after h xs) ys
-after-append h [] ys = refl
-after-append h (x ∷ xs) ys = after-append (after_one h x) xs ys
+pub after_append : (h : History) (xs ys : List Request) → after h (xs ++ ys) ≡ after (after h xs) ys
+after_append h [] ys = refl
+after_append h (x ∷ xs) ys = after_append (after_one h x) xs ys
 
-pub answers-append : (h : History) (xs ys : List Request) → answers h (xs ++ ys) ≡ answers h xs ++ answers (after h xs) ys
-answers-append h [] ys = refl
-answers-append h (x ∷ xs) ys = ap (λ zs. answer_one h x ∷ zs) (answers-append (after_one h x) xs ys)
+pub answers_append : (h : History) (xs ys : List Request) → answers h (xs ++ ys) ≡ answers h xs ++ answers (after h xs) ys
+answers_append h [] ys = refl
+answers_append h (x ∷ xs) ys = ap (λ zs. answer_one h x ∷ zs) (answers_append (after_one h x) xs ys)
 
 pub after_more : (h : History) (xs : List Request) (i : ℕ) (d : Request) → i < length xs → after h (take (i + 1) xs) ≡ after_one (after h (take i xs)) (get_or xs i d)
-after_more h xs i d low = ap (after h) (take_more xs i d low) ∙ after-append h (take i xs) (get_or xs i d ∷ [])
+after_more h xs i d low = ap (after h) (take_more xs i d low) ∙ after_append h (take i xs) (get_or xs i d ∷ [])
 
 pub answers_more : (h : History) (xs : List Request) (i : ℕ) (d : Request) → i < length xs → answers h (take (i + 1) xs) ≡ answers h (take i xs) ++ answer_one (after h (take i xs)) (get_or xs i d) ∷ []
-answers_more h xs i d low = ap (answers h) (take_more xs i d low) ∙ answers-append h (take i xs) (get_or xs i d ∷ [])
+answers_more h xs i d low = ap (answers h) (take_more xs i d low) ∙ answers_append h (take i xs) (get_or xs i d ∷ [])
 
 module _ (v : ℕ) (s : State) where
   pub leaves_weaker : (A B : History → Type 0) → ((x : History) → A x → B x) → Leaves v s A → Leaves v s B
@@ -32,7 +32,7 @@ after_item h xs i x low is = after_more h xs i x low ∙ ap (after_one (after h 
 pub answers_item : (h : History) (xs : List Request) (i : ℕ) (x : Request) → i < length xs → x ≡ get_or xs i x → answers h (take (i + 1) xs) ≡ answers h (take i xs) ++ answer_one (after h (take i xs)) x ∷ []
 answers_item h xs i x low is = answers_more h xs i x low ∙ ap (λ (y : Request). answers h (take i xs) ++ answer_one (after h (take i xs)) y ∷ []) (sym is)
 
-pub take-answers : (n : ℕ) (h : History) (rs : List Request) → answers h (take n rs) ≡ take n (answers h rs)
-take-answers zero h rs = refl
-take-answers (suc n) h [] = refl
-take-answers (suc n) h (r ∷ rs) = ap (λ x. answer_one h r ∷ x) (take-answers n (after_one h r) rs)
+pub take_answers : (n : ℕ) (h : History) (rs : List Request) → answers h (take n rs) ≡ take n (answers h rs)
+take_answers zero h rs = refl
+take_answers (suc n) h [] = refl
+take_answers (suc n) h (r ∷ rs) = ap (λ x. answer_one h r ∷ x) (take_answers n (after_one h r) rs)

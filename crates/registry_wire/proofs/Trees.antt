@@ -17,23 +17,23 @@ refused true found none = rw (none refl) refl
 refused false found none = refl
 
 -- a text that is no JSON is refused, and so are bytes that are no text
-pub object_of-refused : (bytes : List ℕ) → (IsUtf8 bytes → read bytes ≡ None) → object_of bytes ≡ Err BadJson
+pub object_of_refused : (bytes : List ℕ) → (IsUtf8 bytes → read bytes ≡ None) → object_of bytes ≡ Err BadJson
 unfolding object_of
-object_of-refused bytes none = refused (is_utf8 bytes) (read bytes) (λ e. none (IsUtf8-from_is_utf8 bytes e))
+object_of_refused bytes none = refused (is_utf8 bytes) (read bytes) (λ e. none (IsUtf8-from_is_utf8 bytes e))
 
-pub object_of-read : (bytes : List ℕ) (tree : Data) → IsUtf8 bytes → read bytes ≡ Some tree → object_of bytes ≡ object_or_bad (Some tree)
+pub object_of_read : (bytes : List ℕ) (tree : Data) → IsUtf8 bytes → read bytes ≡ Some tree → object_of bytes ≡ object_or_bad (Some tree)
 unfolding object_of
-object_of-read bytes tree text found = rw (is_utf8-from_IsUtf8 bytes text, found) refl
+object_of_read bytes tree text found = rw (is_utf8-from_IsUtf8 bytes text, found) refl
 
 no_table : (is_text : Bool) (found : Option Members) → (is_text ≡ true → found ≡ None) → present (BadFounding Toml) (cond is_text found None) ≡ Err (BadFounding Toml)
 no_table true found none = rw (none refl) refl
 no_table false found none = refl
 
 -- the same of a text that is no TOML
-pub table_of-refused : (bytes : List ℕ) → (IsUtf8 bytes → parse_document bytes ≡ None) → table_of bytes ≡ Err (BadFounding Toml)
+pub table_of_refused : (bytes : List ℕ) → (IsUtf8 bytes → parse_document bytes ≡ None) → table_of bytes ≡ Err (BadFounding Toml)
 unfolding table_of
-table_of-refused bytes none = no_table (is_utf8 bytes) (parse_document bytes) (λ e. none (IsUtf8-from_is_utf8 bytes e))
+table_of_refused bytes none = no_table (is_utf8 bytes) (parse_document bytes) (λ e. none (IsUtf8-from_is_utf8 bytes e))
 
-pub table_of-read : (bytes : List ℕ) (table : Members) → IsUtf8 bytes → parse_document bytes ≡ Some table → table_of bytes ≡ Ok table
+pub table_of_read : (bytes : List ℕ) (table : Members) → IsUtf8 bytes → parse_document bytes ≡ Some table → table_of bytes ≡ Ok table
 unfolding table_of
-table_of-read bytes table text found = rw (is_utf8-from_IsUtf8 bytes text, found) refl
+table_of_read bytes table text found = rw (is_utf8-from_IsUtf8 bytes text, found) refl

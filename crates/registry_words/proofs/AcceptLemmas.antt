@@ -27,9 +27,9 @@ abbrev pub no_kind : Kinds → Bool
 no_kind [] = true
 no_kind (k ∷ ks) = false
 
-pub no_kind-nil : (kinds : Kinds) → no_kind kinds ≡ true → kinds ≡ []
-no_kind-nil [] e = refl
-no_kind-nil (k ∷ ks) e = absurd (true≢false (sym e))
+pub no_kind_nil : (kinds : Kinds) → no_kind kinds ≡ true → kinds ≡ []
+no_kind_nil [] e = refl
+no_kind_nil (k ∷ ks) e = absurd (true≢false (sym e))
 
 none_or : (a b : Kinds) → no_kind (or_else a b) ≡ (no_kind a && no_kind b)
 none_or [] b = refl

@@ -26,11 +26,11 @@ module _ (low high : ℕ) (text : List ℕ) where
   IsWhole = IsNumeral 10 (without_leading_plus text) × (digits_value 10 (without_leading_plus text) < 2 ^ 64)
 
   -- a text that is read as a number is found where the number lies between
-  pub number-within : (n : ℕ) → IsWhole × (n ≡ digits_value 10 (without_leading_plus text)) → low ≤ n → n ≤ high → number_in low high text ≡ Some n
-  number-within n h least most = found n (h.0.0, h.0.1, rw (← h.1) least, rw (← h.1) most) (sym h.1)
+  pub number_within : (n : ℕ) → IsWhole × (n ≡ digits_value 10 (without_leading_plus text)) → low ≤ n → n ≤ high → number_in low high text ≡ Some n
+  number_within n h least most = found n (h.0.0, h.0.1, rw (← h.1) least, rw (← h.1) most) (sym h.1)
 
-  pub number-outside : (n : ℕ) → IsWhole × (n ≡ digits_value 10 (without_leading_plus text)) → ¬ ((low ≤ n) × (n ≤ high)) → number_in low high text ≡ None
-  number-outside n h out = lost (λ a. out (rw h.1 a.2, rw h.1 a.3))
+  pub number_outside : (n : ℕ) → IsWhole × (n ≡ digits_value 10 (without_leading_plus text)) → ¬ ((low ≤ n) × (n ≤ high)) → number_in low high text ≡ None
+  number_outside n h out = lost (λ a. out (rw h.1 a.2, rw h.1 a.3))
 
-  pub number-none : ¬ IsWhole → number_in low high text ≡ None
-  number-none h = lost (λ a. h (a.0, a.1))
+  pub number_none : ¬ IsWhole → number_in low high text ≡ None
+  number_none h = lost (λ a. h (a.0, a.1))

@@ -19,9 +19,9 @@ module _ {X : Type 0} (key : X → ℤ) where
   first_in (x ∷ xs) new above = rw above.0 refl
 
   -- what the key of a new row takes out makes no difference
-  pub insert_by-without_key : (xs : List X) (new : X) → IsKeyedBy key xs → insert_by key (without_key key xs (key new)) new ≡ insert_by key xs new
-  insert_by-without_key [] new up = refl
-  insert_by-without_key (x ∷ xs) new up = go (int_cmp (key x) (key new)) refl (insert_by-without_key xs new up.1)
+  pub insert_by_without_key : (xs : List X) (new : X) → IsKeyedBy key xs → insert_by key (without_key key xs (key new)) new ≡ insert_by key xs new
+  insert_by_without_key [] new up = refl
+  insert_by_without_key (x ∷ xs) new up = go (int_cmp (key x) (key new)) refl (insert_by_without_key xs new up.1)
     where
       rest : List X
       rest = without_key key xs (key new)
@@ -44,9 +44,9 @@ module _ {X : Type 0} (key : X → ℤ) where
           rw (apart, is, kept) refl
 
   -- nor does it where it is taken out again and again
-  pub insert_by-without_keys : (ids : List ℤ) (xs : List X) (new : X) → AllByRecursion (λ id. id ≡ key new) ids → IsKeyedBy key xs
+  pub insert_by_without_keys : (ids : List ℤ) (xs : List X) (new : X) → AllByRecursion (λ id. id ≡ key new) ids → IsKeyedBy key xs
       → insert_by key (fold (without_key key) xs ids) new ≡ insert_by key xs new
-  insert_by-without_keys [] xs new same up = refl
-  insert_by-without_keys (id ∷ ids) xs new same up =
-      insert_by-without_keys ids (without_key key xs id) new same.1 (IsKeyedBy-delete_where key (λ x. int_eq (key x) id) xs up)
-      ∙ ap (λ k. insert_by key (without_key key xs k) new) same.0 ∙ insert_by-without_key xs new up
+  insert_by_without_keys [] xs new same up = refl
+  insert_by_without_keys (id ∷ ids) xs new same up =
+      insert_by_without_keys ids (without_key key xs id) new same.1 (IsKeyedBy-delete_where key (λ x. int_eq (key x) id) xs up)
+      ∙ ap (λ k. insert_by key (without_key key xs k) new) same.0 ∙ insert_by_without_key xs new up

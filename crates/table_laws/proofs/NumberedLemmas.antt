@@ -22,7 +22,7 @@ use Rattle.sqlite_keyed.proofs.KeyedLemmas.{same_int, all-insert_by, IsKeyedBy-i
 use Rattle.sqlite_typed.proofs.RowLemmas.{puts-map, deletes-map}
 use Rattle.sqlite_typed.proofs.TestLemmas.{at_ints}
 use Rattle.table_laws.specs.Stored.{Stores}
-use Rattle.table_laws.proofs.KeyedLemmas.{insert_by-without_keys}
+use Rattle.table_laws.proofs.KeyedLemmas.{insert_by_without_keys}
 
 -- an index takes two numbers for one where they are
 pub equal_ints : (a b : ℤ) → equal (first_key plain).collation (Int a) (Int b) ≡ int_eq a b
@@ -63,7 +63,7 @@ module _ {X : Type 0} (IsValid : X → Type 0) (key : X → ℤ) (row : X → Ro
       let ids = conflict_ids indexes table xs x found free (subst (λ all. AreConflicts None indexes table all (row x) found) h.rows_are is) in
       record {
         rows_are = ap (λ all. put_all (without_all all (ids_of found)) (row x ∷ [])) h.rows_are ∙ ap (λ all. put_row (row x) all) (deletes-map key row keyed (ids_of found) xs)
-            ∙ puts-map key row keyed (x ∷ []) (fold (without_key key) xs (ids_of found)) ∙ ap (map row) (insert_by-without_keys key (ids_of found) xs x ids h.keyed);
+            ∙ puts-map key row keyed (x ∷ []) (fold (without_key key) xs (ids_of found)) ∙ ap (map row) (insert_by_without_keys key (ids_of found) xs x ids h.keyed);
         keyed = IsKeyedBy-insert_by key xs x h.keyed;
         valid = all-insert_by key IsValid xs x valid h.valid;
       }

@@ -28,14 +28,14 @@ module _ {X : Type 0} (cmp : X → X → Ordering) where
   first p = p.0
 
   module _ (P : ℤ × X → Type 0) where
-    all-insert : (new : ℤ × X) (xs : List (ℤ × X)) → P new → AllByRecursion P xs → AllByRecursion P (insert_sorted or_as_they_came new xs)
-    all-insert new [] h all = (h, tt)
-    all-insert new (x ∷ xs) h all =
-        elim (is_gt (or_as_they_came new x)) as (λ b. AllByRecursion P (cond b (x ∷ insert_sorted or_as_they_came new xs) (new ∷ x ∷ xs))) [ true ↦ (all.0, all-insert new xs h all.1) | false ↦ (h, all) ]
+    all_insert : (new : ℤ × X) (xs : List (ℤ × X)) → P new → AllByRecursion P xs → AllByRecursion P (insert_sorted or_as_they_came new xs)
+    all_insert new [] h all = (h, tt)
+    all_insert new (x ∷ xs) h all =
+        elim (is_gt (or_as_they_came new x)) as (λ b. AllByRecursion P (cond b (x ∷ insert_sorted or_as_they_came new xs) (new ∷ x ∷ xs))) [ true ↦ (all.0, all_insert new xs h all.1) | false ↦ (h, all) ]
 
-    all-sort : (xs : List (ℤ × X)) → AllByRecursion P xs → AllByRecursion P (sort_by or_as_they_came xs)
-    all-sort [] all = tt
-    all-sort (x ∷ xs) all = all-insert x (sort_by or_as_they_came xs) all.0 (all-sort xs all.1)
+    all_sort : (xs : List (ℤ × X)) → AllByRecursion P xs → AllByRecursion P (sort_by or_as_they_came xs)
+    all_sort [] all = tt
+    all_sort (x ∷ xs) all = all_insert x (sort_by or_as_they_came xs) all.0 (all_sort xs all.1)
 
   before_tie : (o : Ordering) → is_gt (ordering_then o Less) ≡ is_gt o
   before_tie Less = refl
@@ -53,7 +53,7 @@ module _ {X : Type 0} (cmp : X → X → Ordering) where
   pub sort_values : (xs : List (ℤ × X)) → IsKeyedBy first xs → map second (sort_by or_as_they_came xs) ≡ sort_by cmp (map second xs)
   sort_values [] up = refl
   sort_values (x ∷ xs) up =
-      insert_values x (sort_by or_as_they_came xs) (all-sort (λ (y : ℤ × X). x.0 <ℤ y.0) xs up.0) ∙ ap (insert_sorted cmp x.1) (sort_values xs up.1)
+      insert_values x (sort_by or_as_they_came xs) (all_sort (λ (y : ℤ × X). x.0 <ℤ y.0) xs up.0) ∙ ap (insert_sorted cmp x.1) (sort_values xs up.1)
 
 module _ {X : Type 0} (IsValid : X → Type 0) (row : X → Row) (db : Trees) (tree : ℕ) (xs : List X) (h : StoresUnnumbered IsValid row (db tree) xs)
     (q : Query) (params : Row) (p : X → Bool) (show : X → Row)

@@ -2,7 +2,7 @@ use Rattle.std.proofs.Common.{sym, subst, refl}
 use Rattle.registry_commands.specs.declared.messages.Failure.{Failure}
 use Rattle.registry_commands.specs.Failures.{IsOfInput, IsOfMemory, IsOfOutput, TellsFailure}
 use Rattle.registry_commands.specs.Lines.{requests_in}
-use Rattle.registry_commands.proofs.ApplyLemmas.{applied_more, fails_before, Keeps-same}
+use Rattle.registry_commands.proofs.ApplyLemmas.{applied_more, fails_before, keeps_same}
 use Rattle.registry_commands.proofs.FailureLemmas.{memory_of_input, within}
 use Rattle.registry_commands.proofs.apply.apply_lines.Goals as goal
 
@@ -29,5 +29,5 @@ returns-in-Err g c =
       c.in-Err.ensures.err.1,
       fails_before OfInput (IsOfOutput (g.W.Sink.failures c.args.output.now) (g.W.Sink.failures c.args.output.now))
           c.args.registry.now (requests_in bytes) c.args.answered _ _ c.fail.result c.fail.ensures.status told,
-      λ long. (c.fail.ensures.status, record { same = refl; silent = Keeps-same _; told = told }),
+      λ long. (c.fail.ensures.status, record { same = refl; silent = keeps_same _; told = told }),
     )

@@ -1,7 +1,7 @@
 use Rattle.std.proofs.Common.{inr}
 use Rattle.registry_commands.specs.Failures.{IsOfInput, IsOfOutput, TellsFailure}
 use Rattle.registry_commands.specs.Lines.{requests_in}
-use Rattle.registry_commands.proofs.ApplyLemmas.{Keeps-same, some_bytes}
+use Rattle.registry_commands.proofs.ApplyLemmas.{keeps_same, some_bytes}
 use Rattle.registry_commands.specs.Trial.{IsOfStart}
 use Rattle.registry_commands.proofs.FailureLemmas.{tells_more}
 use Rattle.registry_commands.proofs.EndLemmas.{of_start, trial_fails, tried}
@@ -16,7 +16,7 @@ returns-in-Err g c =
       bytes.0,
       bytes.1,
       trial_fails (IsOfInput before before bytes.0) (IsOfOutput count count) (requests_in bytes.0) _ _ c.fail.result c.fail.ensures.status told,
-      λ long. (c.fail.ensures.status, Keeps-same _, told),
+      λ long. (c.fail.ensures.status, keeps_same _, told),
     )
 
 pub returns : goal.returns
