@@ -11,7 +11,7 @@ use Rattle.registry_rules.specs.History.{History}
 use Rattle.registry_store.specs.declared.registry.Registry.{Registry}
 use Rattle.registry_store.specs.Promise.{state_of}
 use Rattle.registry_store.specs.Run.{HasAnswered}
-use Rattle.registry_store.proofs.ToLemmas.{between_none, place_left}
+use Rattle.registry_store.proofs.RunToLemmas.{between_none, place_left}
 use Rattle.registry_commands.specs.declared.lines.BadLine.{BadLine}
 use Rattle.registry_commands.specs.declared.messages.Failure.{Failure}
 use Rattle.registry_commands.specs.Failures.{TellsFailure, Told}

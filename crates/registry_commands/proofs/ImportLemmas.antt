@@ -15,7 +15,7 @@ use Rattle.registry_store.specs.declared.fault.Fault.TheVariants as faults
 use Rattle.registry_store.specs.declared.registry.Registry.{Registry}
 use Rattle.registry_store.specs.Promise.{Leaves, Stands, is_spent, state_of}
 use Rattle.registry_store.specs.RunTo.{MayBeActedOn}
-use Rattle.registry_store.proofs.Runs.{leaves_weaker}
+use Rattle.registry_store.proofs.RunLemmas.{leaves_weaker}
 use Rattle.registry_commands.specs.declared.messages.Failure.{Failure}
 use Rattle.registry_commands.specs.declared.messages.Failure.TheVariants.{Store, Memory, Foreign, Taken, Spent, File}
 use Rattle.registry_commands.specs.Apply.{IsOfRun}

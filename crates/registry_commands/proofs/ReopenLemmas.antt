@@ -16,8 +16,8 @@ use Rattle.registry_store.specs.declared.registry.Registry.{Registry}
 use Rattle.registry_store.specs.Promise.{Leaves, Stands, state_of}
 use Rattle.registry_store.specs.Reopen.{IsEither}
 use Rattle.registry_store.specs.Run.{HasAnswered, IsPlace}
-use Rattle.registry_store.proofs.Runs.{leaves_weaker}
-use Rattle.registry_store.proofs.ToLemmas.{between_all}
+use Rattle.registry_store.proofs.RunLemmas.{leaves_weaker}
+use Rattle.registry_store.proofs.RunToLemmas.{between_all}
 use Rattle.registry_commands.specs.declared.lines.BadLine.{BadLine}
 use Rattle.registry_commands.specs.declared.messages.Failure.{Failure}
 use Rattle.registry_commands.specs.Failures.{Told}

@@ -9,7 +9,7 @@ use Rattle.registry_store.specs.declared.fault.Fault.TheVariants as faults
 use Rattle.registry_store.specs.declared.registry.Registry.{Registry}
 use Rattle.registry_store.specs.Promise.{Stands, is_spent, state_of}
 use Rattle.std.specs.Prelude.{true}
-use Rattle.registry_store.proofs.Steps.{quiet_then}
+use Rattle.registry_store.proofs.TransactionLemmas.{quiet_then}
 use Rattle.registry_commands.specs.declared.messages.Failure.{Failure}
 use Rattle.registry_commands.specs.declared.messages.Failure.TheVariants.{Store, Memory, Foreign, Taken, Spent, File}
 use Rattle.registry_commands.specs.Messages.{failure_of}

@@ -21,7 +21,7 @@ use Rattle.registry_rules.proofs.OpenLemmas.{count_alike}
 use Rattle.registry_reports.specs.Census.{census_lines, census_of, free_count, held_count, returned_count, reserved_count, holds, listed}
 use Rattle.registry_reports.specs.Holders.{IsHolders, holder_lines}
 use Rattle.registry_reports.specs.Petitions.{petition_lines}
-use Rattle.registry_reports.proofs.OneLemmas.{list_is_one, one}
+use Rattle.registry_reports.proofs.UniqueLemmas.{list_is_one, one}
 use Rattle.registry_tables.specs.Lists.{IsPetitionList, IsVendorList}
 use Rattle.registry_tables.proofs.AscendLemmas.{one_order}
 use Rattle.registry_tables.proofs.ViewLemmas.{same_bytes}

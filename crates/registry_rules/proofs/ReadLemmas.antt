@@ -13,8 +13,8 @@ use Rattle.std.proofs.lemmas.Bool.Decides.{nat_tests}
 use Rattle.usbnum_core.specs.Number.{IsNumber, digits_of, lower_hex_digit, code_of}
 use Rattle.usbnum_core.specs.Text.{IsTitle}
 use Rattle.usbnum_core.specs.declared.number.Span.{Span}
-use Rattle.usbnum_core.proofs.Digits.{digits_read}
-use Rattle.usbnum_core.proofs.Same.{span_decides}
+use Rattle.usbnum_core.proofs.DigitLemmas.{digits_read}
+use Rattle.usbnum_core.proofs.SameSpansLemmas.{span_decides}
 use Rattle.registry_rules.specs.CanonicalForm.{fields_of, canonical_form, number_field, vendor_fields, item_field}
 use Rattle.registry_rules.specs.Orders.{IsOrder, IsItem, IsNumberIfAny}
 use Rattle.registry_rules.proofs.FieldLemmas.{HasNoTab, same_fields, slug_has_no_tab, title_has_no_tab, link_has_no_tab}

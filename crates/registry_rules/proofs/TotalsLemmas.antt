@@ -21,7 +21,7 @@ use Rattle.registry_rules.specs.Carrying.{Asks, Closes, HasTaken, Reserves, Rele
 use Rattle.registry_rules.specs.Verdict.{verdict, standing_at}
 use Rattle.registry_rules.proofs.FollowLemmas.{CanEnrol, CanAsk, CanGrant, CanClose, CanRelease, CanImport, Follows, new_follows}
 use Rattle.registry_rules.proofs.RunLemmas.{legal_new}
-use Rattle.registry_rules.proofs.Unrepeated.{licences_counted, ascending_distinct}
+use Rattle.registry_rules.proofs.NoRepeatLemmas.{licences_counted, ascending_distinct}
 use Rattle.registry_rules.proofs.NumberLemmas.{owned_or_reserved}
 use Rattle.registry_rules.proofs.OpenLemmas.{open_after_ask, open_after_close}
 use Rattle.registry_rules.proofs.TakenLemmas.{taken_more, same_test, reserves_taken, reserves_reserved, released_taken, released_reserved, unowned_by, in_span, takes_by, imported_taken}

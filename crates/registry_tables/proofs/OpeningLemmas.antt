@@ -29,7 +29,7 @@ use Rattle.registry_rules.specs.declared.limits.TheConstants.{MOST_CURATORS, MOS
 use Rattle.registry_rules.specs.declared.record.Vendor.{Vendor}
 use Rattle.registry_rules.proofs.FollowLemmas.{Follows, legal_follows}
 use Rattle.registry_rules.proofs.RunLemmas.{legal_before, legal_licences}
-use Rattle.registry_rules.proofs.Unrepeated.{NoneTwice, licences_counted, ascending_distinct, vendor_count}
+use Rattle.registry_rules.proofs.NoRepeatLemmas.{NoneTwice, licences_counted, ascending_distinct, vendor_count}
 use Rattle.registry_rows.specs.declared.meta.Meta.{Meta}
 use Rattle.registry_rows.specs.Rows.{by_bytes, by_beginning, is_named}
 use Rattle.registry_schema.specs.declared.fault.TableFault.{TableFault}

@@ -1,9 +1,9 @@
 pub mod AcceptLemmas
-pub mod Accepted
+pub mod AcceptedLemmas
 pub mod CommandLemmas
-pub mod CommandValues
+pub mod CommandValueLemmas
 pub mod EnteredLemmas
 pub mod LevelLemmas
 pub mod NumberLemmas
 pub mod UsageLemmas
-pub mod Vectors
+pub mod ExampleLemmas

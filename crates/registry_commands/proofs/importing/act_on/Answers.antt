@@ -1,6 +1,6 @@
 use Rattle.std.proofs.Common.{inl, inr, ap}
 use Rattle.std.specs.Prelude.{Err}
-use Rattle.registry_store.proofs.ToLemmas.{once, once_left}
+use Rattle.registry_store.proofs.RunToLemmas.{once, once_left}
 use Rattle.registry_store.specs.RunTo.{MayBeActedOn}
 use Rattle.registry_commands.specs.Failures.{IsOfOutput}
 use Rattle.registry_commands.proofs.ImportLemmas.{kind_of, not_of_output, nothing_of, of_act, replied}

@@ -6,7 +6,7 @@ use Rattle.sqlite.specs.Files.{file_state}
 use Rattle.registry_tables.specs.Rows.{newest}
 use Rattle.registry_store.specs.Promise.{Leaves}
 use Rattle.registry_store.specs.Reopen.{IsEither}
-use Rattle.registry_store.proofs.Crash.{closed_clean, in_newest}
+use Rattle.registry_store.proofs.CrashLemmas.{closed_clean, in_newest}
 use Rattle.registry_commands.specs.Failures.{IsOfInput, IsOfOutput, told_to}
 use Rattle.registry_commands.specs.Lines.{requests_in}
 use Rattle.registry_commands.proofs.ReopenLemmas.{if_reopened}

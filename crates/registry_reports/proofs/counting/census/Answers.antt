@@ -1,6 +1,6 @@
 use Rattle.std.proofs.Common.{arith}
 use Rattle.std.specs.String.{string_bytes}
-use Rattle.registry_reports.proofs.CensusLines.{census_next}
+use Rattle.registry_reports.proofs.CensusLineLemmas.{census_next}
 use Rattle.registry_reports.proofs.counting.census.Goals as goal
 
 pub loop-pair-preserved : goal.loop-pair-preserved

@@ -2,7 +2,7 @@
 use Rattle.std.proofs.Common.{sym, subst, drop, arith}
 use Rattle.std.proofs.lemmas.List.{length-drop}
 use Rattle.registry_rules.specs.Import.{IsTallyWithin}
-use Rattle.registry_rules.proofs.ItemWalks.{tally_below}
+use Rattle.registry_rules.proofs.ItemLemmas.{tally_below}
 use Rattle.registry_rules.specs.declared.limits.TheConstants.{MOST_ITEMS}
 use Rattle.registry_rules.proofs.importing.tally.Goals as goal
 

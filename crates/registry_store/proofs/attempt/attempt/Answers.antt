@@ -9,7 +9,7 @@ use Rattle.registry_tables.specs.Rows.{newest}
 use Rattle.registry_schema.specs.declared.fault.TableFault.TheVariants.{Foreign}
 use Rattle.registry_store.specs.Promise.{IsAt}
 use Rattle.registry_store.specs.Attempt.{CommitsOne}
-use Rattle.registry_store.proofs.Steps.{answered, one_at_most, as_before, never_foreign, said_of}
+use Rattle.registry_store.proofs.TransactionLemmas.{answered, one_at_most, as_before, never_foreign, said_of}
 use Rattle.registry_store.proofs.attempt.attempt.Goals as goal
 
 pub returns-in_ok-finish-in-New-clause-answered : goal.returns-in_ok-finish-in-New-clause-answered

@@ -1,5 +1,5 @@
 use Rattle.std.proofs.lemmas.Option.{IfSome_then}
-use Rattle.registry_store.proofs.Crash.{both}
+use Rattle.registry_store.proofs.CrashLemmas.{both}
 use Rattle.registry_store.proofs.reopen.crash_and_open_store.Goals as goal
 
 pub returns-clause-stands : goal.returns-clause-stands

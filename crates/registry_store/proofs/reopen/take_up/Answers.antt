@@ -4,7 +4,7 @@ use Rattle.sqlite.specs.State.{HasCleanDisk}
 use Rattle.sqlite.specs.Files.{file_state}
 use Rattle.registry_tables.specs.Rows.{Rows}
 use Rattle.registry_store.specs.Promise.{IsFreshAt}
-use Rattle.registry_store.proofs.Opening.{either_legal}
+use Rattle.registry_store.proofs.OpeningLemmas.{either_legal}
 use Rattle.registry_store.proofs.reopen.take_up.Goals as goal
 
 pub returns-in-Ok-clause-stands : goal.returns-in-Ok-clause-stands

@@ -1,6 +1,6 @@
 use Rattle.std.proofs.Common.{rules}
 use Rattle.toml.specs.View.{table_view}
-use Rattle.registry_wire.proofs.Trees.{table_of_read, table_of_refused}
+use Rattle.registry_wire.proofs.TreeLemmas.{table_of_read, table_of_refused}
 use Rattle.registry_wire.proofs.founding.table_of.Goals as goal
 
 pub returns-in-Ok : goal.returns-in-Ok

@@ -1,6 +1,6 @@
 use Rattle.std.proofs.Common.{rules}
 use Rattle.serde_json.specs.View.{view}
-use Rattle.registry_wire.proofs.Trees.{object_of_read, object_of_refused}
+use Rattle.registry_wire.proofs.TreeLemmas.{object_of_read, object_of_refused}
 use Rattle.registry_wire.proofs.request.object_of.Goals as goal
 
 pub returns-then-is_object : goal.returns-then-is_object

@@ -3,8 +3,8 @@ use Rattle.std.specs.Prelude.{IsSome}
 use Rattle.clap.specs.Words.{Text}
 use Rattle.registry_words.specs.Commands.{asked_by, command_of}
 use Rattle.registry_words.specs.declared.command.Command.{Command}
-use Rattle.registry_words.proofs.Accepted.{accepted}
-use Rattle.registry_words.proofs.CommandValues.{asks_for_a_command}
+use Rattle.registry_words.proofs.AcceptedLemmas.{accepted}
+use Rattle.registry_words.proofs.CommandValueLemmas.{asks_for_a_command}
 use Rattle.registry_words.proofs.command.command_of.Goals as goal
 
 -- `clap` took the arguments, so their command has its values

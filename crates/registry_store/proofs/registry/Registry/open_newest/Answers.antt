@@ -1,7 +1,7 @@
 use Rattle.std.proofs.Common.{refl, arith}
 use Rattle.sqlite.specs.State.{HasCleanDisk}
 use Rattle.sqlite.specs.Held.{state}
-use Rattle.registry_store.proofs.Opening.{still_at, at_rest, rows_now}
+use Rattle.registry_store.proofs.OpeningLemmas.{still_at, at_rest, rows_now}
 use Rattle.registry_store.proofs.registry.Registry.open_newest.Goals as goal
 
 pub returns-in-Ok-clause-stands : goal.returns-in-Ok-clause-stands

@@ -1,7 +1,7 @@
 use Rattle.sqlite.specs.Held.{state}
 use Rattle.registry_tables.specs.Lists.{IsOrgList}
-use Rattle.registry_store.proofs.Asking.{listed, kind_of}
-use Rattle.registry_store.proofs.Opening.{still_at, earlier}
+use Rattle.registry_store.proofs.QueryLemmas.{listed, kind_of}
+use Rattle.registry_store.proofs.OpeningLemmas.{still_at, earlier}
 use Rattle.registry_store.proofs.registry.Registry.orgs.Goals as goal
 
 pub returns-in-Ok-clause-answered : goal.returns-in-Ok-clause-answered

@@ -4,7 +4,7 @@ use Rattle.registry_rules.specs.Run.{after, answers}
 use Rattle.registry_rules.proofs.RunLemmas.{legal_after}
 use Rattle.registry_rules.proofs.NumberLemmas.{one_organisation}
 use Rattle.registry_store.specs.Promise.{is_spent}
-use Rattle.registry_store.proofs.ListLemmas.{has_room, listed, stopped_list}
+use Rattle.registry_store.proofs.RepliesLemmas.{has_room, listed, stopped_list}
 use Rattle.registry_store.proofs.registry.Registry.run_from.Goals as goal
 
 pub returns-in-Ok-run_to-clause-run : goal.returns-in-Ok-run_to-clause-run

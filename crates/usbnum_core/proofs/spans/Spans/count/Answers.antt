@@ -3,7 +3,7 @@ use Rattle.std.proofs.Common.{◌≡◌, ◌+◌, ◌<◌, take, sym, ◌∙◌,
 use Rattle.std.specs.List.{sum_by}
 use Rattle.std.proofs.lemmas.List.{take_all}
 use Rattle.std.proofs.lemmas.List.Sums.{sum_by_more_le}
-use Rattle.usbnum_core.proofs.Counts.{width, count_spans, spread_sum}
+use Rattle.usbnum_core.proofs.CountLemmas.{width, count_spans, spread_sum}
 use Rattle.usbnum_core.proofs.spans.Spans.count.Goals as goal
 
 pub overflow_add-total-in-loop-part : goal.overflow_add-total-in-loop-part

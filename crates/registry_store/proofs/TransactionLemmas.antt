@@ -27,7 +27,7 @@ use Rattle.registry_tables.specs.Finds.{Finds}
 use Rattle.registry_tables.proofs.RowsLemmas.{enters, goes_out}
 use Rattle.registry_store.specs.Promise.{Counts, IsAt}
 use Rattle.registry_store.specs.Attempt.{CommitsOne, Wrote}
-use Rattle.registry_store.proofs.Opening.{rows_now}
+use Rattle.registry_store.proofs.OpeningLemmas.{rows_now}
 
 abbrev Goes : State → State → Type 0
 Goes old new = Shows old new new.now old.committed true

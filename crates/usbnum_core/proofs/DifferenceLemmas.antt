@@ -10,8 +10,8 @@ use Rattle.std.proofs.lemmas.List.Folds.{list_any-append, list_any_none}
 use Rattle.usbnum_core.specs.declared.number.Span.{Span}
 use Rattle.usbnum_core.specs.Spans.{span_has, spans_have, IsSpread}
 use Rattle.usbnum_core.specs.Parts.{IsRestBefore, IsRestAfter, spliced, IsReach}
-use Rattle.usbnum_core.proofs.Spread.{spread_cut}
-use Rattle.usbnum_core.proofs.Members.{has, lacks_below, lacks_above, none_between, any_replaced, any_split, midst_below, midst_above}
+use Rattle.usbnum_core.proofs.SpreadLemmas.{spread_cut}
+use Rattle.usbnum_core.proofs.MemberLemmas.{has, lacks_below, lacks_above, none_between, any_replaced, any_split, midst_below, midst_above}
 
 -- maximal spans with the numbers of the parts that the span lacks
 pub record IsDifference (parts : List Span) (span : Span) (after : List Span) : Type 0 where

@@ -8,7 +8,7 @@ use Rattle.std.proofs.lemmas.List.Elements.{All-from_get_or}
 use Rattle.std.proofs.lemmas.List.Folds.{list_any-append, list_any_none, list_any_at}
 use Rattle.usbnum_core.specs.declared.number.Span.{Span}
 use Rattle.usbnum_core.specs.Spans.{span_has, spans_have, IsSpread}
-use Rattle.usbnum_core.proofs.Spread.{rising_first, rising_last}
+use Rattle.usbnum_core.proofs.SpreadLemmas.{rising_first, rising_last}
 
 pub has : (x : Span) (n : ℕ) → x.first ≤ n → n ≤ x.last → span_has x n ≡ true
 has x n low high = and_from _ _ (le-leb _ _ low) (le-leb _ _ high)

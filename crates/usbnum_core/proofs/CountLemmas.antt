@@ -7,8 +7,8 @@ use Rattle.std.proofs.lemmas.List.Sums.{sum_by-cons}
 use Rattle.std.proofs.lemmas.List.Folds.{list_any_none}
 use Rattle.usbnum_core.specs.declared.number.Span.{Span}
 use Rattle.usbnum_core.specs.Spans.{span_has, spans_have, IsSpread, count_to}
-use Rattle.usbnum_core.proofs.Spread.{spread_first}
-use Rattle.usbnum_core.proofs.Members.{has, lacks_below, lacks_above, within_of}
+use Rattle.usbnum_core.proofs.SpreadLemmas.{spread_first}
+use Rattle.usbnum_core.proofs.MemberLemmas.{has, lacks_below, lacks_above, within_of}
 
 -- how many numbers the span has
 abbrev pub width : Span → ℕ

@@ -7,8 +7,8 @@ use Rattle.std.proofs.lemmas.List.{get_or_default}
 use Rattle.std.proofs.lemmas.List.Folds.{list_any_at}
 use Rattle.usbnum_core.specs.declared.number.Span.{Span}
 use Rattle.usbnum_core.specs.Spans.{span_has, spans_have, IsSpread}
-use Rattle.usbnum_core.proofs.Spread.{spread_apart, rising_first}
-use Rattle.usbnum_core.proofs.Members.{has, within_of, none_between}
+use Rattle.usbnum_core.proofs.SpreadLemmas.{spread_apart, rising_first}
+use Rattle.usbnum_core.proofs.MemberLemmas.{has, within_of, none_between}
 
 module _ (xs : List Span) (spread : IsSpread 1 xs) (low : ℕ) (span : Span) (ended : AllWithin (λ part. part.last < span.first) xs 0 low) (not_ended : AllWithin (λ part. span.first ≤ part.last) xs low (length xs)) where
   -- past the last part no number from the span's first on is in the set

@@ -7,7 +7,7 @@ use Rattle.std.specs.List.{list_any}
 use Rattle.usbnum_core.specs.Spans.{span_has, spans_have}
 use Rattle.usbnum_core.specs.declared.number.Number.{Number}
 use Rattle.usbnum_core.specs.declared.number.Span.{Span}
-use Rattle.usbnum_core.proofs.Members.{has}
+use Rattle.usbnum_core.proofs.MemberLemmas.{has}
 use Rattle.registry_rules.specs.Number.{number, is_number}
 use Rattle.registry_rules.specs.History.{History, sooner, first_of, last_of}
 use Rattle.registry_rules.specs.Import.{Standing, class_of, classes_from}
@@ -30,7 +30,7 @@ use Rattle.registry_rules.specs.declared.record.Petition.{Petition}
 use Rattle.registry_rules.specs.declared.order.Order.{Order}
 use Rattle.registry_rules.specs.declared.order.Request.{Request}
 use Rattle.registry_rules.specs.declared.order.Order.TheVariants as orders
-use Rattle.registry_rules.proofs.SpanNumbers.{same_find, same_all}
+use Rattle.registry_rules.proofs.SpanNumberLemmas.{same_find, same_all}
 
 -- a deed that leaves a number held gives it an owner
 held_given : (n : Number) (act : Act) (owner : Option (List ℕ)) (held : Option Bool) → sooner owner (receiver n act) ≡ None →

@@ -16,8 +16,8 @@ use Rattle.registry_store.specs.Promise.{Leaves, is_spent, state_of}
 use Rattle.registry_store.specs.Run.{IsPlace, IsStopped}
 use Rattle.registry_store.specs.RunTo.{HaveTaken, IsHalted, replies_between}
 use Rattle.registry_store.specs.Listed.{HasNoRoom, TakesReply}
-use Rattle.registry_store.proofs.Runs.{take_answers}
-use Rattle.registry_store.proofs.ToLemmas.{answered_of}
+use Rattle.registry_store.proofs.RunLemmas.{take_answers}
+use Rattle.registry_store.proofs.RunToLemmas.{answered_of}
 
 -- the replies stand at the end, and no room was lost
 pub listed : (old new : Vec Reply Global) (replies : List Reply) → HaveTaken TakesReply old new replies → (new.items ≡ old.items ++ replies) × (vec_capacity old ≤ vec_capacity new)

@@ -9,8 +9,8 @@ use Rattle.std.proofs.lemmas.List.Edits.{between_none}
 use Rattle.usbnum_core.specs.declared.number.Span.{Span}
 use Rattle.usbnum_core.specs.Spans.{span_has, span_touches, spans_have, IsSpread}
 use Rattle.usbnum_core.specs.Parts.{IsReach, IsJoined}
-use Rattle.usbnum_core.proofs.Spread.{spread_first, spread_last, spread_apart, spread_one}
-use Rattle.usbnum_core.proofs.Members.{none_between, union_from_midst, midst_joined}
+use Rattle.usbnum_core.proofs.SpreadLemmas.{spread_first, spread_last, spread_apart, spread_one}
+use Rattle.usbnum_core.proofs.MemberLemmas.{none_between, union_from_midst, midst_joined}
 
 -- maximal spans with the numbers of the parts and of the span
 pub record IsUnion (parts : List Span) (span : Span) (after : List Span) : Type 0 where

@@ -9,8 +9,8 @@ use Rattle.std.proofs.lemmas.List.Folds.{list_any_none}
 use Rattle.std.proofs.lemmas.List.Kept.{AllPairs-from_increasing}
 use Rattle.usbnum_core.specs.declared.number.Span.{Span}
 use Rattle.usbnum_core.specs.Spans.{IsSpread, is_taken}
-use Rattle.usbnum_core.proofs.Spread.{rising_first}
-use Rattle.usbnum_core.proofs.Members.{none_between}
+use Rattle.usbnum_core.proofs.SpreadLemmas.{rising_first}
+use Rattle.usbnum_core.proofs.MemberLemmas.{none_between}
 
 -- the parts before one place and the numbers before another lie below the free number, and all below it is taken
 pub record IsPassed (parts : List Span) (numbers : List ℕ) (part place free : ℕ) : Type 0 where
