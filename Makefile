@@ -3,8 +3,8 @@
 #          registry in memory.
 # test:    the gate. Looks at the layout of all files; proves every crate and its tests from nothing,
 #          runs the tests and, as two compilers make it, each program; tries the must-fail edits, many
-#          in one check; runs the tests of the store and of the program, compiled with checks and not
-#          proved; then the scripts that try the program over files.
+#          in one check; runs the tests of the store, of the server and of the program, compiled with checks
+#          and not proved; then the scripts that try the program over files.
 # gate:    the same with the latter tests proved too, and each edit in a check of its own,
 #          as a bare `rt ci` does it: more than twice the time, for a release.
 # install: puts the program that `make` built into PREFIX/bin, and its page into PREFIX/share/man/man1.

@@ -1,8 +1,8 @@
 #!/usr/bin/env python3
 """The gate: the layout of all files; then `rt ci` over a copy of the repository, and beside it the must-fail edits, as
-many in one check as can be, over the libraries that `rt ci` has just proved; then the tests of the store and of the
-program, compiled with checks and not proved; then the scripts that try the program. Where a file is not laid out, which
-`rt ci` would refuse much later, the gate ends with that.
+many in one check as can be, over the libraries that `rt ci` has just proved; then the tests of the store, of the
+server and of the program, compiled with checks and not proved; then the scripts that try the program. Where a file is
+not laid out, which `rt ci` would refuse much later, the gate ends with that.
 
 The copy has the files as they stand, committed or not, and lies in a temporary folder, without the edits and without
 the crates of tests that are not proved here. What `rt ci` says of these, and of each edit by itself, `make gate` shows,
@@ -28,9 +28,9 @@ PROVED = re.compile(r"rt: (\w+) proved\n")
 NAMES = re.compile(r"(rt: )?FAILED: ")
 COUNT = re.compile(r"(\d+) passed, (\d+) failed\n?")
 
-# Crates of tests whose functions hold a registry over files. To prove a test shows that it keeps to what its calls
+# Crates of tests whose functions hold a registry. To prove a test shows that it keeps to what its calls
 # require and does not overflow; of these it takes longer than the proof of all that they call, so `make gate` does it.
-TRIED = ("registry_store_tests", "registry_cli_tests")
+TRIED = ("registry_store_tests", "registry_desk_tests", "registry_cli_tests")
 
 # How many crates have their edits tried while `rt ci` runs, which leaves about half of four processors idle, and the
 # bytes of memory that have to be free for one more.

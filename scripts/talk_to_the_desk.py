@@ -1,10 +1,9 @@
 #!/usr/bin/env python3
 """Talks HTTP to `usbreg serve`, as real clients do, and compares what comes back to the byte.
 
-The examples of docs/http.md run as they are written, by `curl`; then each refusal that its table of statuses has, by
-`curl` too, but for those that want a message that `curl` does not send. A client of its own sends each byte alone, sends
-half of a message and closes, sends nothing, sends a message and more after it, sends 5 MB that are refused unread, and
-makes 200 connections one after another. A port that is taken, a count of connections, a store that is open already and a
+Each refusal that the table of statuses in docs/http.md has is met by `curl`, but for those that want a message that
+`curl` does not send. A client of its own sends each byte alone, sends half of a message and closes, sends nothing,
+sends a message and more after it, sends 5 MB that are refused unread, and makes 200 connections one after another. A port that is taken, a count of connections, a store that is open already and a
 file that grows no more end the program as docs/requests.md says. And the program is killed as `kill -9` does it in the
 middle of commands: each one whose response came stands, at most one more does, and in the end the tables are those of
 a run without stops.
@@ -12,23 +11,23 @@ a run without stops.
 Usage: scripts/talk_to_the_desk.py [STOPS [PROGRAM]], by default 20 stops of the program that `make` builds. Wants curl:
 where it is not installed only what needs it is skipped, in so many words. The status is 0 where all of this held."""
 
+import contextlib
 import itertools
 import json
 import os
 import random
-import re
 import resource
 import shutil
 import signal
+import subprocess
 import sys
 import threading
 import time
 
-from serving import TEXT, command, connected, done, exchange, get, message, post, read_to_end, refusals, refused, response, serving
+from serving import PATIENCE, TEXT, command, connected, done, exchange, free_port, get, message, post, read_to_end, refusals, refused, response, serving
 from stop_and_go_on import kept, look
-from usbreg import EXAMPLES, TOP, apply, content, done as printed, folder, found, program, rounds, run, tables, write, write_requests
+from usbreg import apply, done as printed, folder, found, program, rounds, run, tables, write, write_requests
 
-PAGE = f"{TOP}/docs/http.md"
 LINK = "https://acme.example/"
 ENROL = {"caller": "ann", "key": "k1", "order": "enrol", "org": "acme", "title": "Acme Tools", "site": LINK}
 ENROLLED = done("enrolled acme")
@@ -51,35 +50,6 @@ def asked(key, order, caller="ann", **fields):
 
 def ask(key, **fields):
     return asked(key, "ask", **{"org": "acme", "title": "Lamp", "licence": "MIT", "site": LINK, "source": LINK, **fields})
-
-
-# The page.
-
-
-def examples(page):
-    """The command lines of a page with what each prints, which ends at the next one."""
-    for block in re.findall(r"^```\n(.*?)^```$", page, re.MULTILINE | re.DOTALL):
-        for text in re.split(r"^\$ ", block, flags=re.MULTILINE)[1:]:
-            words = re.match(r"(?:.*\\\n)*.*\n", text)[0]
-            yield words, text[len(words):]
-
-
-def run_page(usbreg, room):
-    """Runs the examples of docs/http.md in order, but on a port that is free."""
-    os.symlink(usbreg, f"{room}/usbreg")
-    os.symlink(EXAMPLES, f"{room}/examples")
-    count, server = 0, None
-    for words, wanted in examples(content(PAGE).decode()):
-        if words.endswith(" &\n"):
-            server = serving(usbreg, f"{room}/{words.split()[2]}").__enter__().up()
-            continue
-        line = words.replace(":8080", f":{server.port}") if server else words
-        status, output, errors = run(["sh", "-c", f'cd "$0" && {line}', room], env={"PATH": f"{room}:{os.environ['PATH']}"})
-        if (status, output.decode().replace("\r\n", "\n"), errors) != (0, wanted, b""):
-            sys.exit(f"docs/http.md: {words}: status {status}, {errors!r}, printed\n{output.decode()}")
-        count += 1
-    server.__exit__()
-    return count
 
 
 # Refusals.
@@ -310,8 +280,18 @@ def full(usbreg, room):
     return len(answered)
 
 
+def at_a_terminal(words):
+    """What a program says whose standard error is a terminal."""
+    ours, its = os.openpty()
+    same("at a terminal", subprocess.run(words, stdout=subprocess.PIPE, stderr=its, check=True, timeout=PATIENCE).stdout, b"")
+    os.close(its)
+    with open(ours, "rb", buffering=0) as terminal, contextlib.suppress(OSError):
+        return terminal.read(1000)
+    return b""
+
+
 def ends(usbreg, room):
-    """A count of none, a port that is taken, a store that is open already or is not there."""
+    """A count of none, a port that is taken, a store that is open already or is not there, and a terminal."""
     store, other = (found(usbreg, f"{room}/{name}.db") for name in ("store", "other"))
     before = tables(store)
     with serving(usbreg, store, count=0) as server:
@@ -325,6 +305,8 @@ def ends(usbreg, room):
         same("the end", server.ended()[1:], (b"", b""))
     words = [usbreg, "serve", f"{room}/none.db", "--port", "8080"]
     same("no store", run(words), (1, b"", b"fault: file\n"))
+    port = str(free_port())
+    same("at a terminal", at_a_terminal([usbreg, "serve", store, "--port", port, "--count", "0"]), f"listening on 127.0.0.1:{port}\r\n".encode())
     if tables(store) != before:
         sys.exit("a server that acted on nothing changed its store")
 
@@ -379,10 +361,7 @@ def main():
     stops = int(sys.argv[1]) if len(sys.argv) > 1 else 20
     usbreg = program(*sys.argv[2:3])
     with folder() as room:
-        if shutil.which("curl"):
-            count = run_page(usbreg, room)
-            print(f"docs/http.md: {count} lines of examples ran as they are written")
-        else:
+        if not shutil.which("curl"):
             print("SKIPPED: curl is not installed, so no message was sent by it")
         print(f"{each_refusal(usbreg, room)} refusals")
         own_client(usbreg, room)

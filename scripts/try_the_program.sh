@@ -17,7 +17,7 @@ for needed in python3 cc; do
     fi
 done
 [ "$failed" = 0 ] || exit 1
-for script in apply_in_files.py compare_with_plain_history.py show_in_files.py compare_man_page.py run_help_examples.py look_into_a_store.py open_older_stores.py use_debian_list.py "refuse_allocations.py --only trial" refuse_in_tests.py stop_and_go_on.py talk_to_the_desk.py serve_behind_nginx.py; do
+for script in apply_in_files.py compare_with_plain_history.py show_in_files.py compare_man_page.py run_help_examples.py look_into_a_store.py open_older_stores.py use_debian_list.py "refuse_allocations.py --only trial" refuse_in_tests.py stop_and_go_on.py run_http_examples.py talk_to_the_desk.py serve_behind_nginx.py; do
     # shellcheck disable=SC2086
     if ! said=$(./$script 2>&1); then
         printf 'FAILED: scripts/%s\n%s\n' "$script" "$said" >&2

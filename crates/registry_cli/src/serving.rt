@@ -7,7 +7,7 @@ use crate::files::open_registry;
 use registry_commands::{close_store, fail, failure_of};
 use registry_desk::{Connections, ServerStop, serve_all};
 use std::io;
-use std::io::{ErrorKind, Read};
+use std::io::{ErrorKind, IsTerminal, Read};
 use std::net::{Ipv4Addr, Shutdown, TcpListener, TcpStream};
 use std::time::{Duration, Instant};
 
@@ -114,6 +114,13 @@ impl Connections for Accepted<'_> {
     }
 }
 
+/// Tells a person at a terminal that it listens.
+fn say_listening(rt: &HostRuntime, port: u16) {
+    if rt.stderr().is_terminal() {
+        let _ = eprintln!(rt; "listening on 127.0.0.1:{port}");
+    }
+}
+
 /// Says that the port failed, and returns the status.
 fn fail_socket(rt: &HostRuntime) -> u8 {
     let _ = rt.eprintln("fault: socket");
@@ -133,6 +140,7 @@ pub fn run_serve(rt: &HostRuntime, store: &str, port: u16, count: Option<u32>) -
     };
     let status = match TcpListener::bind(rt, (Ipv4Addr::new(127, 0, 0, 1), port)) {
         Ok(listener) => {
+            say_listening(rt, port);
             let mut accepted = Accepted {
                 rt,
                 listener: &listener,

@@ -6,7 +6,8 @@ use Rattle.sqlite.specs.State.{HasCleanDisk}
 use Rattle.registry_rules.specs.History.{History}
 use Rattle.registry_store.specs.declared.fault.Fault.{Fault}
 use Rattle.registry_store.specs.declared.registry.Registry.{Registry as TheRegistry}
-use Rattle.registry_store.specs.Promise.{Stands, state_of}
+use Rattle.registry_tables.specs.Rows.{newest}
+use Rattle.registry_store.specs.Promise.{Stands, Leaves, state_of}
 use Rattle.registry_http.specs.Responses.{response_bytes, unavailable_response}
 use Rattle.registry_desk.specs.declared.fault.DeskFault.{DeskFault}
 use Rattle.registry_desk.specs.declared.fault.DeskFault.TheVariants.{NoMemory, Registry}
@@ -17,7 +18,7 @@ use Rattle.registry_desk.specs.Acting.{after_message, IsOfStanding, IsLeftAt}
 use Rattle.registry_desk.specs.Serving.{IsNext, IsServed}
 use Rattle.registry_desk.specs.declared.server.ServerStop.{ServerStop}
 use Rattle.registry_desk.specs.declared.server.ServerStop.TheVariants as stops
-use Rattle.registry_desk.specs.Server.{Visit, IsVisit, HaveVisited, IsTurn, Turns, Represents, IsHalted, EndsVisit, EndsServing, IfVisited, fault_in}
+use Rattle.registry_desk.specs.Server.{Visit, IsVisit, HaveVisited, IsTurn, Turns, Represents, IsHalted, EndsVisit, EndsServing, IsLeftAfter, IfVisited, fault_in}
 
 -- one connection more
 pub visited_more : {C R W : Type 0} (opens : C → C → R → W → Type 0) (closes : C → C → R → W → Option ℕ → Type 0) (remaining : R → Option (List ℕ)) (contents : W → Option (List ℕ)) (failures : W → ℕ)
@@ -74,6 +75,34 @@ module _ {S : Type 0} {g : Ghosts S} where
   halted_more mid new h visits visit fault before one =
       record { before = visits; last = visit; all = refl; middle = before.0; turns = before.1; halted = one before.0 before.2 }
 
+  -- and what a crash leaves then
+  pub with_crash : (it : TheRegistry S g) (h : History) (visits : List Visit) (fault : Option Fault) → EndsServing it h visits fault → HasCleanDisk (state_of it)
+      → EndsServing it h visits fault × Leaves newest (state_of it) (IsLeftAfter h visits)
+  with_crash it h visits None ends clean = (
+    ends,
+    λ db may. let left = ends.2.at.left clean db may in (left.0, inl (subst (λ x. Turns h visits x) (sym left.1) ends.1), left.2),
+  )
+  with_crash it h visits (Some fault) ends clean = (
+    ends,
+    λ db may.
+        let left = ends.halted.left.leaves db may in (
+          left.0,
+          inr (record {
+            before = ends.before;
+            last = ends.last;
+            all = ends.all;
+            middle = ends.middle;
+            turns = ends.turns;
+            fault = fault;
+            text_is = ends.halted.text_is;
+            next = ends.halted.next;
+            next_is = ends.halted.next_is;
+            is = left.1;
+          }),
+          left.2,
+        ),
+  )
+
 pub length_more : (visits : List Visit) (visit : Visit) (n : ℕ) → length visits ≡ n → length (visits ++ visit ∷ []) ≡ n + 1
 length_more visits visit n is = length-append visits (visit ∷ []) ∙ ap (λ (k : ℕ). k + 1) is
 
@@ -83,7 +112,7 @@ module _ {S C R W : Type 0} {g : Ghosts S} (opens : C → C → R → W → Type
       × HaveVisited opens closes remaining contents failures old middle visits
       × IfVisited result (new ≡ middle)
       × (length visits ≤ count) × OnOk result (length visits ≡ count)
-      × ((h : History) → Stands first h → HasCleanDisk (state_of last) → EndsServing last h visits (fault_in result))
+      × ((h : History) → Stands first h → HasCleanDisk (state_of last) → EndsServing last h visits (fault_in result) × Leaves newest (state_of last) (IsLeftAfter h visits))
 
   -- a server stops at a connection that does not come, or at a fault
   pub stops_at : (old middle new : C) (first mid last : TheRegistry S g) (count : ℕ) (visits : List Visit) (stop : ServerStop)
@@ -100,7 +129,7 @@ module _ {S C R W : Type 0} {g : Ghosts S} (opens : C → C → R → W → Type
     tt,
     omega (arith, less),
     tt,
-    λ h stands clean. subst (λ it. Represents it h visits) (sym (none refl)) (so_far h stands (early clean)),
+    λ h stands clean. with_crash last h visits None (subst (λ it. Represents it h visits) (sym (none refl)) (so_far h stands (early clean))) clean,
   )
   stops_at old middle new first mid last count visits (stops.Registry fault) before less early so_far came none =
       let longer = length_more visits came.0 (length visits) refl in (
@@ -110,7 +139,7 @@ module _ {S C R W : Type 0} {g : Ghosts S} (opens : C → C → R → W → Type
         refl,
         omega (arith, less, longer),
         tt,
-        λ h stands clean. halted_more mid last h visits came.0 fault (so_far h stands (early clean)) (λ x at. came.2 x at clean),
+        λ h stands clean. with_crash last h (visits ++ came.0 ∷ []) (Some fault) (halted_more mid last h visits came.0 fault (so_far h stands (early clean)) (λ x at. came.2 x at clean)) clean,
       )
 
   pub stopped_at : (result : Result (Unit {0}) ServerStop) (stop : ServerStop) → result ≡ Err stop → (old middle new : C) (first mid last : TheRegistry S g) (count : ℕ) (visits : List Visit)

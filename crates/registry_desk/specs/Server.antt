@@ -21,7 +21,7 @@ use Rattle.registry_desk.specs.declared.serve.Exchange.{Exchange}
 use Rattle.registry_desk.specs.declared.server.ServerStop.{ServerStop}
 use Rattle.registry_desk.specs.declared.server.ServerStop.TheVariants as stops
 use Rattle.registry_desk.specs.Faults.{unavailable_of}
-use Rattle.registry_desk.specs.Acting.{IsResponse, after_message, IsOfStanding, IsLeftAt}
+use Rattle.registry_desk.specs.Acting.{IsResponse, after_message, IsOfStanding, IsEither, IsLeftAt}
 use Rattle.registry_desk.specs.Serving.{IsNext}
 
 -- ---- connections
@@ -134,6 +134,25 @@ abbrev pub IfVisited : Result (Unit {0}) ServerStop → Type 0 → Type 0
 IfVisited (Ok done) P = P
 IfVisited (Err stops.Connections) P = ⊤
 IfVisited (Err (stops.Registry fault)) P = P
+
+-- ---- crashes
+
+-- The last of these connections got refusal 30 or 31 for a fault of the registry: the history after all messages before it, with or without its own.
+pub record IsCutShort (h : History) (visits : List Visit) (x : History) : Type 0 where
+  pub before : List Visit
+  pub last : Visit
+  pub all : visits ≡ before ++ last ∷ []
+  pub middle : History
+  pub turns : Turns h before middle
+  pub fault : Fault
+  pub text_is : last.text ≡ response_bytes (unavailable_response (unavailable_of (Registry fault)))
+  pub next : History
+  pub next_is : IsNext middle last.bytes (Registry fault) next
+  pub is : IsEither middle next x
+
+-- What a crash leaves: the history after the messages of a prefix of the connections. It holds each message that got its response, and at most one more.
+abbrev pub IsLeftAfter : History → List Visit → History → Type 0
+IsLeftAfter h visits x = Turns h visits x ⊎ IsCutShort h visits x
 
 module _ {S : Type 0} {g : Ghosts S} where
   abbrev pub EndsServing : TheRegistry S g → History → List Visit → Option Fault → Type 0

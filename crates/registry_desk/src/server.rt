@@ -4,8 +4,9 @@ ghost use Rattle.std.specs.Prelude.{◌≡◌, ◌≤◌, ℕ, List, Option, len
 ghost use Rattle.sqlite.specs.State.{HasCleanDisk};
 ghost use Rattle.byte_streams.specs.Streams.{MayGive};
 ghost use Rattle.registry_rules.specs.History.{History};
-ghost use Rattle.registry_store.specs.Promise.{Stands, Endures, state_of};
-ghost use Rattle.registry_desk.specs.Server.{Visit, IsVisit, IsWritten, HaveVisited, EndsVisit, EndsServing, IfVisited, fault_in, status_in, status_of};
+ghost use Rattle.registry_tables.specs.Rows.{newest};
+ghost use Rattle.registry_store.specs.Promise.{Stands, Endures, Leaves, state_of};
+ghost use Rattle.registry_desk.specs.Server.{Visit, IsVisit, IsWritten, HaveVisited, EndsVisit, EndsServing, IsLeftAfter, IfVisited, fault_in, status_in, status_of};
 
 use byte_streams::{Broken, Sink, Source};
 use crate::serve::serve_message;
@@ -120,8 +121,8 @@ pub fn serve_next<C: Connections, S: Alter>(
 /// Serves connections one after another, at most so many, up to the first fault of the registry.
 ///
 /// Of a registry that stands at a history, each message has its response over the history before it, and the registry then
-/// stands at the history after all of them, in order. At a fault of the registry a crash leaves the history after all messages
-/// before the last one, with or without that one.
+/// stands at the history after all of them, in order. A crash leaves the history after the messages of a prefix of the
+/// connections, which holds each message that got its response, and at most one more: that of a fault of the registry.
 pub fn serve_all<C: Connections, S: Alter>(
     alloc: Global,
     connections: &mut C,
@@ -132,7 +133,7 @@ pub fn serve_all<C: Connections, S: Alter>(
         × HaveVisited C.opens C.closes C.Reader.remaining C.Writer.contents C.Writer.failures connections.old middle visits
         × IfVisited result (connections.new ≡ middle)
         × (length visits ≤ count) × OnOk result (length visits ≡ count)
-        × ((h : History) → Stands registry.old h → HasCleanDisk (state_of registry.new) → EndsServing registry.new h visits (fault_in result)) }
+        × ((h : History) → Stands registry.old h → HasCleanDisk (state_of registry.new) → EndsServing registry.new h visits (fault_in result) × Leaves newest (state_of registry.new) (IsLeftAfter h visits)) }
     ensures endures { Endures (state_of registry.old) (state_of registry.new) }
 {
     for _ in 0..count {

@@ -1,6 +1,6 @@
 //! A registry in memory, and readers and writers of bytes.
 
-use byte_streams::{Broken, Inlet, Outlet, Source};
+use byte_streams::{Broken, Inlet, Outlet, Sink, Source};
 use registry_commands::trial_founding;
 use registry_desk::{PeerFault, Served, serve_one};
 use registry_store::Registry;
@@ -27,6 +27,35 @@ impl<'a> Source for Drip<'a> {
             room[0] = self.bytes[self.given];
             self.given += 1;
             return Ok(1);
+        }
+        self.failures = self.failures.saturating_add(1);
+        Err(Broken)
+    }
+}
+
+/// Takes so many bytes, and then fails.
+#[derive(Drop)]
+pub(crate) struct Brim {
+    pub(crate) bytes: Vec<u8>,
+    pub(crate) room: usize,
+    pub(crate) failures: u64,
+}
+
+impl Sink for Brim {
+    ghost use Rattle.std.specs.Prelude.{None};
+
+    ghost contents = { λ s. None };
+
+    ghost failures = { λ s. s.failures };
+
+    fn put(&mut self, bytes: &[u8]) -> Result<usize, Broken> {
+        let count = bytes.len().min(self.room);
+        if count > 0 && self.bytes.extend_from_slice(&bytes[..count]).is_ok() {
+            self.room -= count;
+            return Ok(count);
+        }
+        if bytes.len() == 0 {
+            return Ok(0);
         }
         self.failures = self.failures.saturating_add(1);
         Err(Broken)

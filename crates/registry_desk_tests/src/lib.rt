@@ -4,6 +4,8 @@
 #[cfg(test)]
 mod ends;
 #[cfg(test)]
+mod peers;
+#[cfg(test)]
 mod rows;
 #[cfg(test)]
 mod server;
