@@ -3,7 +3,7 @@
 use byte_streams::{Inlet, Outlet};
 use crate::shared::{Written, applied, founded, wrote};
 use registry_commands::{
-    export, import_list, import_of_arguments, look_up, reject_word, report, report_named,
+    export, import_list, import_of_arguments, look_up, reject_argument, report, report_named,
 };
 use registry_store::Registry;
 use registry_wire::stamp_from_text;
@@ -345,7 +345,7 @@ fn the_first_bad_argument_of_an_import_is_told(rt: HostRuntime) {
             .err()
             .expect(&rt, "a bad argument");
         let mut errors = Outlet::new(Vec::new(rt.alloc()));
-        assert_eq!(rt; reject_word(&mut errors, word), 2);
+        assert_eq!(rt; reject_argument(&mut errors, word), 2);
         assert_eq!(rt; errors.into_inner().as_slice(), told.as_bytes());
     }
 }

@@ -1,6 +1,6 @@
 //! The arguments of each command, and the texts of help.
 
-use registry_words::{Command, Usage, command_of};
+use registry_arguments::{Command, Usage, command_of};
 use std::alloc::{AllocError, Global};
 use std::process::Abort;
 

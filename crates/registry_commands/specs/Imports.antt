@@ -21,8 +21,8 @@ use Rattle.registry_store.specs.RunTo.{MayBeActedOn}
 use Rattle.registry_wire.specs.Import.{import_of}
 use Rattle.registry_commands.specs.declared.importing.Import.{Import}
 use Rattle.registry_commands.specs.declared.messages.Failure.{Failure}
-use Rattle.registry_commands.specs.declared.words.BadWord.{BadWord}
-use Rattle.registry_commands.specs.declared.words.BadWord.TheVariants.{Caller, Key, Org, Vendor}
+use Rattle.registry_commands.specs.declared.arguments.BadArgument.{BadArgument}
+use Rattle.registry_commands.specs.declared.arguments.BadArgument.TheVariants.{Caller, Key, Org, Vendor}
 use Rattle.registry_commands.specs.Apply.{IsOfRun}
 use Rattle.registry_commands.specs.Failures.{IsOfMemory, TellsFailure, TellsNothing, Told}
 use Rattle.registry_commands.specs.LookUp.{IsRefused}
@@ -32,11 +32,11 @@ use Rattle.registry_commands.specs.Printed.{IsUnprinted}
 -- ---- the arguments
 
 -- the vendor that an argument names, if it is given
-abbrev pub named_vendor : Option ℕ → Result (Option ℕ) BadWord
+abbrev pub named_vendor : Option ℕ → Result (Option ℕ) BadArgument
 named_vendor None = Err Vendor
 named_vendor (Some vid) = Ok (Some vid)
 
-abbrev pub vendor_argument : Option (List ℕ) → Result (Option ℕ) BadWord
+abbrev pub vendor_argument : Option (List ℕ) → Result (Option ℕ) BadArgument
 vendor_argument None = Ok None
 vendor_argument (Some text) = named_vendor (number_of text)
 
@@ -48,7 +48,7 @@ pub record AreOfImport (caller key org : List ℕ) (vendor : Option (List ℕ)) 
   pub vendor_is : vendor_argument vendor ≡ Ok import.vendor
 
 -- the first argument that is not valid
-abbrev pub IsFirstBad : List ℕ → List ℕ → List ℕ → Option (List ℕ) → BadWord → Type 0
+abbrev pub IsFirstBad : List ℕ → List ℕ → List ℕ → Option (List ℕ) → BadArgument → Type 0
 IsFirstBad caller key org vendor Caller = ¬ IsSlug caller
 IsFirstBad caller key org vendor Key = IsSlug caller × ¬ IsKey key
 IsFirstBad caller key org vendor Org = IsSlug caller × IsKey key × ¬ IsSlug org

@@ -9,7 +9,7 @@ use byte_streams::{Broken, Sink, Source};
 use crate::list_input::read_list;
 use crate::looking::put_fault;
 use crate::messages::{Failure, fail, failure_of, put_reply};
-use crate::words::BadWord;
+use crate::arguments::BadArgument;
 use registry_rules::{Reply, Request};
 use registry_store::Registry;
 use registry_wire::import_request;
@@ -39,23 +39,23 @@ pub fn import_of_arguments(
     key: &str,
     org: &str,
     vendor: Option<&str>,
-) -> Result<Result<Import, BadWord>, NoMemory>
+) -> Result<Result<Import, BadArgument>, NoMemory>
     ensures { IfOk result (λ read. MatchResult read (AreOfImport caller.now key.now org.now (option_copied vendor.entry)) (IsFirstBad caller.now key.now org.now (option_copied vendor.entry))) }
 {
     let Some(caller) = Slug::new(alloc, caller.as_bytes())? else {
-        return Ok(Err(BadWord::Caller));
+        return Ok(Err(BadArgument::Caller));
     };
     let Some(key) = Key::new(alloc, key.as_bytes())? else {
-        return Ok(Err(BadWord::Key));
+        return Ok(Err(BadArgument::Key));
     };
     let Some(org) = Slug::new(alloc, org.as_bytes())? else {
-        return Ok(Err(BadWord::Org));
+        return Ok(Err(BadArgument::Org));
     };
     let vendor = match vendor {
         None => None,
         Some(text) => match parse_vid(text.as_bytes()) {
             Some(vid) => Some(vid),
-            None => return Ok(Err(BadWord::Vendor)),
+            None => return Ok(Err(BadArgument::Vendor)),
         },
     };
     Ok(Ok(Import {

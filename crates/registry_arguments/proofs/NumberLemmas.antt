@@ -6,7 +6,7 @@ use Rattle.clap.specs.Values.{Accepts}
 use Rattle.clap.specs.ValueTests.{is_unsigned_in}
 use Rattle.clap.specs.declared.builder.value_parser.ValueParser.TheVariants as parser
 use Rattle.clap.proofs.ValueTestLemmas.{accepts-Accepts, Accepts-accepts}
-use Rattle.registry_words.specs.Commands.{number_in}
+use Rattle.registry_arguments.specs.Commands.{number_in}
 
 module _ (low high : ℕ) (text : List ℕ) where
   found : (n : ℕ) → Accepts false (parser.Unsigned low high) text → digits_value 10 (without_leading_plus text) ≡ n → number_in low high text ≡ Some n

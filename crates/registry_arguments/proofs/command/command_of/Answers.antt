@@ -1,11 +1,11 @@
 use Rattle.std.proofs.Common.{◌≡◌, ◌∙◌, List, Option, None, ap, is_some, map, string_bytes, sym, true≢false}
 use Rattle.std.specs.Prelude.{IsSome}
 use Rattle.clap.specs.Words.{Text}
-use Rattle.registry_words.specs.Commands.{asked_by, command_of}
-use Rattle.registry_words.specs.declared.command.Command.{Command}
-use Rattle.registry_words.proofs.AcceptedLemmas.{accepted}
-use Rattle.registry_words.proofs.CommandValueLemmas.{asks_for_a_command}
-use Rattle.registry_words.proofs.command.command_of.Goals as goal
+use Rattle.registry_arguments.specs.Commands.{asked_by, command_of}
+use Rattle.registry_arguments.specs.declared.command.Command.{Command}
+use Rattle.registry_arguments.proofs.AcceptedLemmas.{accepted}
+use Rattle.registry_arguments.proofs.CommandValueLemmas.{asks_for_a_command}
+use Rattle.registry_arguments.proofs.command.command_of.Goals as goal
 
 -- `clap` took the arguments, so their command has its values
 pub unreachable-requires : goal.unreachable-requires

@@ -4,8 +4,8 @@ use Rattle.clap.specs.Words.{IsAmong, Kinds, kind_of}
 use Rattle.clap.specs.declared.error.Error.{Error}
 use Rattle.clap.specs.declared.error.kind.ErrorKind.{ErrorKind}
 use Rattle.clap.specs.declared.error.kind.ErrorKind.TheVariants as kind
-use Rattle.registry_words.specs.Commands.{IsOfFaults, usage_by}
-use Rattle.registry_words.specs.declared.command.Usage.TheVariants as usage
+use Rattle.registry_arguments.specs.Commands.{IsOfFaults, usage_by}
+use Rattle.registry_arguments.specs.declared.command.Usage.TheVariants as usage
 
 pub refused : (k : ErrorKind) (e : Error) → (k ≡ kind.OutOfMemory → ⊥) → usage_by k e ≡ usage.Refused e
 refused kind.OutOfMemory e other = absurd (other refl)

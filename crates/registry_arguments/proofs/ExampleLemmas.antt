@@ -3,8 +3,8 @@ use Rattle.std.proofs.Common.{◌≡◌, List, [], ◌∷◌, codes, true, false
 use Rattle.std.specs.Prelude.{⊤}
 use Rattle.clap.specs.Words.{Text}
 use Rattle.clap.proofs.OnLiterals.{clap_on_literals}
-use Rattle.registry_words.specs.Commands.{accepts, apply_app, asked_by, bare_app, chosen, command_of, export_app, found_app, import_app, lookup_app, number_in, report_app, serve_app, trial_app}
-use Rattle.registry_words.specs.declared.command.Command.TheVariants as command
+use Rattle.registry_arguments.specs.Commands.{accepts, apply_app, asked_by, bare_app, chosen, command_of, export_app, found_app, import_app, lookup_app, number_in, report_app, serve_app, trial_app}
+use Rattle.registry_arguments.specs.declared.command.Command.TheVariants as command
 
 -- what a proof unfolds to compute the command of words that are written out
 unfoldable on_literals : ⊤

@@ -1,9 +1,9 @@
 use Rattle.std.proofs.Common.{◌≡◌, ◌∙◌, refl}
 use Rattle.std.proofs.lemmas.Result.{IfOk-weaker}
 use Rattle.clap.specs.Words.{App, app_of, with_subcommand}
-use Rattle.registry_words.specs.Commands.{serve_app, export_app, report_app, lookup_app}
-use Rattle.registry_words.proofs.CommandLemmas.{with_same}
-use Rattle.registry_words.proofs.program.with_views.Goals as goal
+use Rattle.registry_arguments.specs.Commands.{serve_app, export_app, report_app, lookup_app}
+use Rattle.registry_arguments.proofs.CommandLemmas.{with_same}
+use Rattle.registry_arguments.proofs.program.with_views.Goals as goal
 
 pub returns : goal.returns
 returns c =

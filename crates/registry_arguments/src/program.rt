@@ -3,7 +3,7 @@
 ghost use Rattle.std.specs.Prelude.{◌≡◌, ◌∷◌, [], IfOk, Some, false, codes, option_copied};
 ghost use Rattle.clap.specs.Words.{app_of, items_of, rule_of, new_app, with_rule, with_subcommand};
 ghost use Rattle.clap.specs.declared.builder.command.Command.TheViews.{out-Command};
-ghost use Rattle.registry_words.specs.Commands.{apply_app, export_app, found_app, import_app, lookup_app, needed_option, numeric, option, report_app, serve_app, trial_app, usbreg_app, versioned, word};
+ghost use Rattle.registry_arguments.specs.Commands.{apply_app, export_app, found_app, import_app, lookup_app, needed_option, numeric, option, report_app, serve_app, trial_app, usbreg_app, versioned, word};
 
 use clap::builder::ValueParser;
 use clap::{Arg, Command};

@@ -2,14 +2,14 @@
 
 ghost use Rattle.std.specs.Prelude.{◌≡◌};
 ghost use Rattle.registry_commands.specs.Failures.{Tells, told_to};
-ghost use Rattle.registry_commands.specs.Words.{bad_word_line};
+ghost use Rattle.registry_commands.specs.Arguments.{bad_argument_line};
 
 use byte_streams::Sink;
 use crate::messages::tell;
 
 /// An argument that is not valid.
 #[derive(Clone, Copy, Debug, PartialEq, Eq)]
-pub enum BadWord {
+pub enum BadArgument {
     /// The stamp of an export.
     Stamp,
     /// The name of a report.
@@ -28,32 +28,32 @@ pub enum BadWord {
     Vendor,
 }
 
-impl BadWord {
+impl BadArgument {
     ghost use Rattle.std.specs.Prelude.{◌≡◌};
-    ghost use Rattle.registry_commands.specs.Words.{bad_word_line};
+    ghost use Rattle.registry_commands.specs.Arguments.{bad_argument_line};
 
     /// What the user is told, as a line.
     pub fn line(self) -> &'static str
-        ensures { result.now ≡ bad_word_line self }
+        ensures { result.now ≡ bad_argument_line self }
     {
         match self {
-            BadWord::Stamp => "bad word: stamp\n",
-            BadWord::Name => "bad word: name\n",
-            BadWord::Vid => "bad word: vid\n",
-            BadWord::Pid => "bad word: pid\n",
-            BadWord::Caller => "bad word: caller\n",
-            BadWord::Key => "bad word: key\n",
-            BadWord::Org => "bad word: org\n",
-            BadWord::Vendor => "bad word: vendor\n",
+            BadArgument::Stamp => "bad word: stamp\n",
+            BadArgument::Name => "bad word: name\n",
+            BadArgument::Vid => "bad word: vid\n",
+            BadArgument::Pid => "bad word: pid\n",
+            BadArgument::Caller => "bad word: caller\n",
+            BadArgument::Key => "bad word: key\n",
+            BadArgument::Org => "bad word: org\n",
+            BadArgument::Vendor => "bad word: vendor\n",
         }
     }
 }
 
 /// Says which argument is not valid, and returns the exit status.
-pub fn reject_word<E: Sink>(errors: &mut E, word: BadWord) -> u8
+pub fn reject_argument<E: Sink>(errors: &mut E, argument: BadArgument) -> u8
     ensures status { result ≡ 2 }
-    ensures told { Tells (told_to E.contents E.failures errors.old errors.new) (bad_word_line word) }
+    ensures told { Tells (told_to E.contents E.failures errors.old errors.new) (bad_argument_line argument) }
 {
-    tell(errors, word.line());
+    tell(errors, argument.line());
     2
 }
