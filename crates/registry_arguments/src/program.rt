@@ -3,15 +3,15 @@
 ghost use Rattle.std.specs.Prelude.{◌≡◌, ◌∷◌, [], IfOk, Some, false, codes, option_copied};
 ghost use Rattle.clap.specs.Words.{app_of, items_of, rule_of, new_app, with_rule, with_subcommand};
 ghost use Rattle.clap.specs.declared.builder.command.Command.TheViews.{out-Command};
-ghost use Rattle.registry_arguments.specs.Commands.{apply_app, export_app, found_app, import_app, lookup_app, needed_option, numeric, option, report_app, serve_app, trial_app, usbreg_app, versioned, word};
+ghost use Rattle.registry_arguments.specs.Commands.{apply_app, export_app, found_app, import_app, lookup_app, needed_option, numeric, option, report_app, serve_app, trial_app, usbreg_app, versioned, positional};
 
 use clap::builder::ValueParser;
 use clap::{Arg, Command};
 use std::alloc::{AllocError, Global};
 
 /// An argument that has to be there, at its place.
-fn word<'a>(alloc: Global, name: &'a str, shown: &'a str, help: &'a str) -> Arg<'a>
-    ensures rule { rule_of result ≡ word name.entry.now }
+fn positional<'a>(alloc: Global, name: &'a str, shown: &'a str, help: &'a str) -> Arg<'a>
+    ensures rule { rule_of result ≡ positional name.entry.now }
     ensures local { result.global ≡ false }
     ensures texts { (result.help ≡ Some help.entry) × (items_of result.val_names ≡ shown.entry ∷ []) }
 {
@@ -103,11 +103,11 @@ fn found<'a>(alloc: Global) -> Result<Command<'a>, AllocError>
     );
     let command = with_arg(
         command,
-        word(alloc, "store", "STORE", "The registry's file"),
+        positional(alloc, "store", "STORE", "The registry's file"),
     )?;
     with_arg(
         command,
-        word(
+        positional(
             alloc,
             "founding",
             "FOUNDING",
@@ -132,11 +132,11 @@ fn apply<'a>(alloc: Global) -> Result<Command<'a>, AllocError>
     );
     let command = with_arg(
         command,
-        word(alloc, "store", "STORE", "The registry's file"),
+        positional(alloc, "store", "STORE", "The registry's file"),
     )?;
     let command = with_arg(
         command,
-        word(alloc, "file", "FILE", "One JSON object a line"),
+        positional(alloc, "file", "FILE", "One JSON object a line"),
     )?;
     let answered = option(
         alloc,
@@ -162,9 +162,9 @@ fn import<'a>(alloc: Global) -> Result<Command<'a>, AllocError>
     );
     let command = with_arg(
         command,
-        word(alloc, "store", "STORE", "The registry's file"),
+        positional(alloc, "store", "STORE", "The registry's file"),
     )?;
-    let command = with_arg(command, word(alloc, "list", "LIST", "A list as in usb.ids"))?;
+    let command = with_arg(command, positional(alloc, "list", "LIST", "A list as in usb.ids"))?;
     let command = with_sender(alloc, command)?;
     let vendor = option(alloc, "vendor", "V", "The vendor, if not the founding one");
     with_arg(command, vendor)
@@ -197,7 +197,7 @@ fn serve<'a>(alloc: Global) -> Result<Command<'a>, AllocError>
     );
     let command = with_arg(
         command,
-        word(alloc, "store", "STORE", "The registry's file"),
+        positional(alloc, "store", "STORE", "The registry's file"),
     )?;
     let port = needed_option(alloc, "port", "P", "The port, from 1 to 65535");
     let command = with_arg(command, numeric(port, 1, 65_535))?;
@@ -219,7 +219,7 @@ fn export<'a>(alloc: Global) -> Result<Command<'a>, AllocError>
     );
     let command = with_arg(
         command,
-        word(alloc, "store", "STORE", "The registry's file"),
+        positional(alloc, "store", "STORE", "The registry's file"),
     )?;
     let stamp = option(alloc, "stamp", "TEXT", "When the list was made");
     with_arg(command, stamp)
@@ -238,9 +238,9 @@ fn report<'a>(alloc: Global) -> Result<Command<'a>, AllocError>
     );
     let command = with_arg(
         command,
-        word(alloc, "store", "STORE", "The registry's file"),
+        positional(alloc, "store", "STORE", "The registry's file"),
     )?;
-    let name = word(alloc, "name", "NAME", "census, holders or petitions");
+    let name = positional(alloc, "name", "NAME", "census, holders or petitions");
     with_arg(command, name)
 }
 
@@ -255,14 +255,14 @@ fn lookup<'a>(alloc: Global) -> Result<Command<'a>, AllocError>
         "Print the name of a device in a list",
         "Example:\n  usbreg lookup examples/devices.ids 1209 0011",
     );
-    let command = with_arg(command, word(alloc, "list", "LIST", "A list as in usb.ids"))?;
+    let command = with_arg(command, positional(alloc, "list", "LIST", "A list as in usb.ids"))?;
     let command = with_arg(
         command,
-        word(alloc, "vid", "VID", "Four hexadecimal digits"),
+        positional(alloc, "vid", "VID", "Four hexadecimal digits"),
     )?;
     with_arg(
         command,
-        word(alloc, "pid", "PID", "Four hexadecimal digits"),
+        positional(alloc, "pid", "PID", "Four hexadecimal digits"),
     )
 }
 
@@ -275,7 +275,7 @@ fn bare<'a>(alloc: Global) -> Command<'a>
         .after_help(
             "With no command it is `trial`. `found`, `apply`, `import` and `serve` change a store; \
              the other commands leave its registry as it is.\n\nExit status: 0, 1 after a fault of the store, of \
-             memory or of a file, 2 for words or lines that are refused.",
+             memory or of a file, 2 for arguments or lines that are refused.",
         )
 }
 

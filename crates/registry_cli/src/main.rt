@@ -21,8 +21,8 @@ fn main(rt: HostRuntime) -> ExitCode {
 
 /// Reads the arguments, does what they ask for, and returns the exit status.
 fn run(rt: &HostRuntime) -> u8 {
-    let words = match words(rt) {
-        Ok(words) => words,
+    let arguments = match arguments(rt) {
+        Ok(arguments) => arguments,
         Err(error) if error.kind() == io::ErrorKind::InvalidData => {
             let _ = rt.eprintln("error: invalid UTF-8 was detected in one or more arguments");
             return 2;
@@ -32,13 +32,13 @@ fn run(rt: &HostRuntime) -> u8 {
             return 1;
         }
     };
-    match command_of(rt.alloc(), words.as_slice()) {
+    match command_of(rt.alloc(), arguments.as_slice()) {
         Ok(command) => perform(rt, command),
         Err(usage) => explain(rt, &usage),
     }
 }
 
-fn words(rt: &HostRuntime) -> io::Result<Vec<String>> {
+fn arguments(rt: &HostRuntime) -> io::Result<Vec<String>> {
     Ok(std::env::args(rt)?.collect(rt.alloc())?)
 }
 

@@ -10,7 +10,7 @@ use Rattle.registry_arguments.proofs.command.command_of.Goals as goal
 -- `clap` took the arguments, so their command has its values
 pub unreachable-requires : goal.unreachable-requires
 unreachable-requires c =
-    let words : List Text = map string_bytes c.args.words.now in
+    let words : List Text = map string_bytes c.args.arguments.now in
     let there : IsSome (command_of words) = asks_for_a_command words ((accepted words).0 c.in_ok-matches.ensures.taken) in
     let gone : None ≡ command_of words = c.in-None.ensures ∙ ap asked_by c.in_ok-matches.ensures.ok in
     true≢false (sym there ∙ ap (λ (o : Option (Command Text)). is_some o) (sym gone))
