@@ -46,12 +46,12 @@ found_more OfMemory OfInput more g conn new (Ok listed) errors status is =
 
 -- why a connection is handed back with no registry
 pub of_founding : {S : Type 0} (g : Ghosts S) (conn new : Held S) (fault : Fault)
-    → (fault ≡ faults.Taken → (new ≡ conn) × ¬ HasNoMeta (state g conn).now) → (fault ≢ faults.Spent) × (fault ≢ faults.Foreign)
+    → (fault ≡ faults.Taken → (new ≡ conn) × ¬ HasNoMeta (state g conn).now) → (fault ≢ faults.Poisoned) × (fault ≢ faults.Foreign)
     → IsOfFounding g conn new (failure_of fault)
 of_founding g conn new faults.Store taken kind = tt
 of_founding g conn new faults.NoMemory taken kind = tt
 of_founding g conn new faults.Taken taken kind = taken refl
-of_founding g conn new faults.Spent taken kind = absurd (kind.0 refl)
+of_founding g conn new faults.Poisoned taken kind = absurd (kind.0 refl)
 of_founding g conn new faults.Foreign taken kind = absurd (kind.1 refl)
 
 -- a failure before any line is acted on
@@ -89,7 +89,7 @@ tried OfInput OfOutput it new founding trial stands (Ok rs) out out_new errors s
               record { founding = founding; trial = trial; n = at.0; within = at.1.within; middle = at.1.gained.0; whole = at.1.gained.1; cut = at.1.gained.2 }
               ),
           tells_more (λ failure. IsOfRun it new (λ h. HasAnswered it h rs 0) failure × OfOutput failure) (λ failure. IsOfSoundRun failure × OfOutput failure) errors
-              (λ failure is. (of_standing it new (λ h. HasAnswered it h rs 0) (founded founding) (inl stands) stands.unspent (memory_is_clean new) failure is.0, is.1)) told,
+              (λ failure is. (of_standing it new (λ h. HasAnswered it h rs 0) (founded founding) (inl stands) stands.not_poisoned (memory_is_clean new) failure is.0, is.1)) told,
         ))
       ]
     ]

@@ -7,9 +7,9 @@ use Rattle.registry_rules.specs.History.{History}
 use Rattle.registry_store.specs.declared.fault.Fault.{Fault}
 use Rattle.registry_store.specs.declared.fault.Fault.TheVariants as faults
 use Rattle.registry_store.specs.declared.registry.Registry.{Registry}
-use Rattle.registry_store.specs.Promise.{is_spent, state_of}
+use Rattle.registry_store.specs.Promise.{is_poisoned, state_of}
 use Rattle.registry_commands.specs.declared.messages.Failure.{Failure}
-use Rattle.registry_commands.specs.declared.messages.Failure.TheVariants.{Store, Memory, Foreign, Taken, Spent, File}
+use Rattle.registry_commands.specs.declared.messages.Failure.TheVariants.{Store, Memory, Foreign, Taken, Poisoned, File}
 use Rattle.registry_commands.specs.Failures.{IsOfInput, IsOfMemory, IsOfOutput, IsOfSoundRun, IsTooLong, TellsFailure, Told}
 use Rattle.registry_commands.specs.Messages.{failure_of}
 use Rattle.registry_commands.specs.Apply.{IsOfRun}
@@ -38,21 +38,21 @@ module _ {S : Type 0} {g : Ghosts S} where
   of_reply it new These failure (inr is) = subst (λ (f : Failure). IsOfRun it new These f) (sym is) tt
 
   -- a run that ends by a fault, while the output did not fail
-  pub of_fault : (it new : Registry S g) (These : History → Type 0) (old_count new_count : ℕ) → new_count ≡ old_count → (fault : Fault) → (fault ≡ faults.Spent → is_spent it ≡ true)
+  pub of_fault : (it new : Registry S g) (These : History → Type 0) (old_count new_count : ℕ) → new_count ≡ old_count → (fault : Fault) → (fault ≡ faults.Poisoned → is_poisoned it ≡ true)
       → ((h : History) → These h → HasCleanDisk (state_of new) → (fault ≡ faults.Store) ⊎ (fault ≡ faults.NoMemory))
       → IsOfRun it new These (failure_of fault) × IsOfOutput old_count new_count (failure_of fault)
-  of_fault it new These old_count new_count same faults.Store spent kind = (tt, same)
-  of_fault it new These old_count new_count same faults.NoMemory spent kind = (tt, same)
-  of_fault it new These old_count new_count same faults.Foreign spent kind = (λ at. elim (kind at.0 at.1 at.2) [ inl e ↦ absurd cc | inr e ↦ absurd cc ], same)
-  of_fault it new These old_count new_count same faults.Taken spent kind = (λ at. elim (kind at.0 at.1 at.2) [ inl e ↦ absurd cc | inr e ↦ absurd cc ], same)
-  of_fault it new These old_count new_count same faults.Spent spent kind = (spent refl, same)
+  of_fault it new These old_count new_count same faults.Store poisoned kind = (tt, same)
+  of_fault it new These old_count new_count same faults.NoMemory poisoned kind = (tt, same)
+  of_fault it new These old_count new_count same faults.Foreign poisoned kind = (λ at. elim (kind at.0 at.1 at.2) [ inl e ↦ absurd cc | inr e ↦ absurd cc ], same)
+  of_fault it new These old_count new_count same faults.Taken poisoned kind = (λ at. elim (kind at.0 at.1 at.2) [ inl e ↦ absurd cc | inr e ↦ absurd cc ], same)
+  of_fault it new These old_count new_count same faults.Poisoned poisoned kind = (poisoned refl, same)
 
   -- a registry that stands, over a clean disk
-  pub of_standing : (it new : Registry S g) (These : History → Type 0) (h : History) → These h → is_spent it ≡ false → HasCleanDisk (state_of new)
+  pub of_standing : (it new : Registry S g) (These : History → Type 0) (h : History) → These h → is_poisoned it ≡ false → HasCleanDisk (state_of new)
       → (failure : Failure) → IsOfRun it new These failure → IsOfSoundRun failure
-  of_standing it new These h here unspent clean Spent spent = absurd cc
-  of_standing it new These h here unspent clean Foreign none = absurd (none (h, here, clean))
-  of_standing it new These h here unspent clean Taken none = absurd (none (h, here, clean))
-  of_standing it new These h here unspent clean Store is = tt
-  of_standing it new These h here unspent clean Memory is = tt
-  of_standing it new These h here unspent clean File is = tt
+  of_standing it new These h here not_poisoned clean Poisoned poisoned = absurd cc
+  of_standing it new These h here not_poisoned clean Foreign none = absurd (none (h, here, clean))
+  of_standing it new These h here not_poisoned clean Taken none = absurd (none (h, here, clean))
+  of_standing it new These h here not_poisoned clean Store is = tt
+  of_standing it new These h here not_poisoned clean Memory is = tt
+  of_standing it new These h here not_poisoned clean File is = tt

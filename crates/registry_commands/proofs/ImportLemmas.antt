@@ -13,11 +13,11 @@ use Rattle.registry_tables.specs.Rows.{newest}
 use Rattle.registry_store.specs.declared.fault.Fault.{Fault}
 use Rattle.registry_store.specs.declared.fault.Fault.TheVariants as faults
 use Rattle.registry_store.specs.declared.registry.Registry.{Registry}
-use Rattle.registry_store.specs.Promise.{Leaves, Stands, is_spent, state_of}
+use Rattle.registry_store.specs.Promise.{Leaves, Stands, is_poisoned, state_of}
 use Rattle.registry_store.specs.RunTo.{MayBeActedOn}
 use Rattle.registry_store.proofs.RunLemmas.{leaves_weaker}
 use Rattle.registry_commands.specs.declared.messages.Failure.{Failure}
-use Rattle.registry_commands.specs.declared.messages.Failure.TheVariants.{Store, Memory, Foreign, Taken, Spent, File}
+use Rattle.registry_commands.specs.declared.messages.Failure.TheVariants.{Store, Memory, Foreign, Taken, Poisoned, File}
 use Rattle.registry_commands.specs.Apply.{IsOfRun}
 use Rattle.registry_commands.specs.Failures.{IsOfOutput, Told}
 use Rattle.registry_commands.specs.Imports.{GivesReply, IsCut, IsFailed, IsReplied}
@@ -33,17 +33,17 @@ not_of_output n faults.Store = refl
 not_of_output n faults.NoMemory = refl
 not_of_output n faults.Foreign = refl
 not_of_output n faults.Taken = refl
-not_of_output n faults.Spent = refl
+not_of_output n faults.Poisoned = refl
 
 module _ {S : Type 0} {g : Ghosts S} where
   -- what a request that is not acted on fails of
-  pub of_act : (it new : Registry S g) (These : History → Type 0) (fault : Fault) → (fault ≡ faults.Spent → is_spent it ≡ true)
+  pub of_act : (it new : Registry S g) (These : History → Type 0) (fault : Fault) → (fault ≡ faults.Poisoned → is_poisoned it ≡ true)
       → ((h : History) → These h → HasCleanDisk (state_of new) → (fault ≡ faults.Store) ⊎ (fault ≡ faults.NoMemory)) → IsOfRun it new These (failure_of fault)
-  of_act it new These faults.Store spent kind = tt
-  of_act it new These faults.NoMemory spent kind = tt
-  of_act it new These faults.Foreign spent kind = λ at. elim (kind at.0 at.1 at.2) [ inl e ↦ absurd cc | inr e ↦ absurd cc ]
-  of_act it new These faults.Taken spent kind = λ at. elim (kind at.0 at.1 at.2) [ inl e ↦ absurd cc | inr e ↦ absurd cc ]
-  of_act it new These faults.Spent spent kind = spent refl
+  of_act it new These faults.Store poisoned kind = tt
+  of_act it new These faults.NoMemory poisoned kind = tt
+  of_act it new These faults.Foreign poisoned kind = λ at. elim (kind at.0 at.1 at.2) [ inl e ↦ absurd cc | inr e ↦ absurd cc ]
+  of_act it new These faults.Taken poisoned kind = λ at. elim (kind at.0 at.1 at.2) [ inl e ↦ absurd cc | inr e ↦ absurd cc ]
+  of_act it new These faults.Poisoned poisoned kind = poisoned refl
 
   -- what a reply that is not written fails of
   of_end : (it new : Registry S g) (These : History → Type 0) (failure : Failure) → (failure ≡ Memory) ⊎ (failure ≡ File) → IsOfRun it new These failure

@@ -12,7 +12,7 @@ use Rattle.registry_rules.specs.Run.{after}
 use Rattle.registry_store.specs.declared.registry.Registry.{Registry}
 use Rattle.registry_store.specs.declared.replies.RunStop.{RunStop}
 use Rattle.registry_store.specs.declared.replies.RunStop.TheVariants as stop
-use Rattle.registry_store.specs.Promise.{Stands, is_spent}
+use Rattle.registry_store.specs.Promise.{Stands, is_poisoned}
 use Rattle.registry_store.specs.RunTo.{HaveTaken, IsCutBy, IsHalted, IsLeftAt}
 use Rattle.registry_commands.specs.declared.replies.ReplyLines.{ReplyLines}
 use Rattle.registry_commands.specs.Messages.{reply_line, reply_lines}
@@ -21,9 +21,9 @@ use Rattle.registry_commands.specs.Replies.{CutsLine, TakesLine}
 use Rattle.registry_commands.proofs.ApplyLemmas.{keeps_same, no_beginning}
 
 module _ {S : Type 0} {g : Ghosts S} (it : Registry S g) (h : History) where
-  spent_or_there : (why : RunStop) → IsLeftAt why it h → (is_spent it ≡ true) ⊎ Stands it h
-  spent_or_there (stop.Fault fault) spent = inl spent
-  spent_or_there stop.Cut stands = inr stands
+  poisoned_or_there : (why : RunStop) → IsLeftAt why it h → (is_poisoned it ≡ true) ⊎ Stands it h
+  poisoned_or_there (stop.Fault fault) poisoned = inl poisoned
+  poisoned_or_there stop.Cut stands = inr stands
 
 module _ {W : Type 0} (contents : W → Option (List ℕ)) (failures : W → ℕ) where
   -- the lines of all these replies are out
@@ -61,7 +61,7 @@ module _ {W : Type 0} (contents : W → Option (List ℕ)) (failures : W → ℕ
   -- nothing of it is out, or its request is acted on
   next_acted : {S : Type 0} {g : Ghosts S} (it : Registry S g) (h : History) (why : RunStop) (middle new : ReplyLines W) (next : Reply) → IsCutBy (CutsLine contents failures) why middle new next
       → IsLeftAt why it h → Keeps (contents middle.output.now) (contents new.output.now) ⊎ Stands it h
-  next_acted it h (stop.Fault fault) middle new next cut spent =
+  next_acted it h (stop.Fault fault) middle new next cut poisoned =
       inl (subst (λ (k : ReplyLines W). Keeps (contents middle.output.now) (contents k.output.now)) (sym cut.0) (keeps_same (contents middle.output.now)))
   next_acted it h stop.Cut middle new next cut stands = inr stands
 
@@ -80,5 +80,5 @@ module _ {W : Type 0} (contents : W → Option (List ℕ)) (failures : W → ℕ
           next_acted it (after h (take (n + 1) rs)) why middle new halted.reply.0 halted.reply.2 halted.ends,
         );
         leaves = halted.leaves;
-        ends = elim (spent_or_there it (after h (take (n + 1) rs)) why halted.ends) [ inl spent ↦ inl spent | inr stands ↦ inr (inr (halted.within, stands)) ];
+        ends = elim (poisoned_or_there it (after h (take (n + 1) rs)) why halted.ends) [ inl poisoned ↦ inl poisoned | inr stands ↦ inr (inr (halted.within, stands)) ];
       }

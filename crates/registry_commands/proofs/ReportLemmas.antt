@@ -14,7 +14,7 @@ use Rattle.registry_reports.proofs.ListLemmas.{Joins, joins_next}
 use Rattle.registry_store.specs.declared.fault.Fault.{Fault}
 use Rattle.registry_store.specs.declared.fault.Fault.TheVariants as faults
 use Rattle.registry_store.specs.declared.registry.Registry.{Registry}
-use Rattle.registry_store.specs.Promise.{is_spent}
+use Rattle.registry_store.specs.Promise.{is_poisoned}
 use Rattle.registry_commands.specs.declared.messages.Failure.{Failure}
 use Rattle.registry_commands.specs.declared.messages.Failure.TheVariants.{Memory}
 use Rattle.registry_commands.specs.Messages.{failure_of}
@@ -38,13 +38,13 @@ reserved_next h vendors i v old new spans within is put has so_far = rw put (rec
 })
 
 module _ {S : Type 0} {g : Ghosts S} where
-  -- a set is not given: the registry was spent, or there was no memory
-  pub of_reserved : (it : Registry S g) (fault : Fault) → (is_spent it ≡ true → fault ≡ faults.Spent) → (is_spent it ≡ false → fault ≡ faults.NoMemory) → IsOfReading it it (failure_of fault)
-  of_reserved it fault spent unspent = go (is_spent it) refl
+  -- a set is not given: the registry was poisoned, or there was no memory
+  pub of_reserved : (it : Registry S g) (fault : Fault) → (is_poisoned it ≡ true → fault ≡ faults.Poisoned) → (is_poisoned it ≡ false → fault ≡ faults.NoMemory) → IsOfReading it it (failure_of fault)
+  of_reserved it fault poisoned not_poisoned = go (is_poisoned it) refl
     where
-      go : (b : Bool) → is_spent it ≡ b → IsOfReading it it (failure_of fault)
-      go true e = subst (λ (f : Fault). IsOfReading it it (failure_of f)) (sym (spent e)) e
-      go false e = subst (λ (f : Fault). IsOfReading it it (failure_of f)) (sym (unspent e)) tt
+      go : (b : Bool) → is_poisoned it ≡ b → IsOfReading it it (failure_of fault)
+      go true e = subst (λ (f : Fault). IsOfReading it it (failure_of f)) (sym (poisoned e)) e
+      go false e = subst (λ (f : Fault). IsOfReading it it (failure_of f)) (sym (not_poisoned e)) tt
 
   -- reading may want memory
   pub of_memory : (it new : Registry S g) (failure : Failure) → failure ≡ Memory → IsOfReading it new failure

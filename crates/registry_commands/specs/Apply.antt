@@ -9,11 +9,11 @@ use Rattle.registry_rules.specs.History.{History}
 use Rattle.registry_rules.specs.Run.{after, answers}
 use Rattle.registry_tables.specs.Rows.{newest}
 use Rattle.registry_store.specs.declared.registry.Registry.{Registry}
-use Rattle.registry_store.specs.Promise.{Leaves, Stands, is_spent, state_of}
+use Rattle.registry_store.specs.Promise.{Leaves, Stands, is_poisoned, state_of}
 use Rattle.registry_store.specs.Run.{HasAnswered, IsPlace}
 use Rattle.registry_commands.specs.declared.lines.BadLine.{BadLine}
 use Rattle.registry_commands.specs.declared.messages.Failure.{Failure}
-use Rattle.registry_commands.specs.declared.messages.Failure.TheVariants.{Foreign, Spent, Taken}
+use Rattle.registry_commands.specs.declared.messages.Failure.TheVariants.{Foreign, Poisoned, Taken}
 use Rattle.registry_commands.specs.Failures.{Tells, TellsFailure, TellsNothing, Told}
 use Rattle.registry_commands.specs.Messages.{bad_line_text, exceeds_text, reply_lines}
 
@@ -22,10 +22,10 @@ abbrev pub lines_between : History → List Request → ℕ → ℕ → List ℕ
 lines_between h rs a n = reply_lines (drop a (answers h (take n rs)))
 
 module _ {S : Type 0} {g : Ghosts S} where
-  -- What a run over this registry may fail of: Spent only where it was spent before, Foreign and Taken only where it stood at
+  -- What a run over this registry may fail of: Poisoned only where it was poisoned before, Foreign and Taken only where it stood at
   -- none of these histories or the disk isn't clean.
   abbrev pub IsOfRun : Registry S g → Registry S g → (History → Type 0) → Failure → Type 0
-  IsOfRun it new These Spent = is_spent it ≡ true
+  IsOfRun it new These Poisoned = is_poisoned it ≡ true
   IsOfRun it new These Foreign = ¬ ((h : History) × These h × HasCleanDisk (state_of new))
   IsOfRun it new These Taken = ¬ ((h : History) × These h × HasCleanDisk (state_of new))
   IsOfRun it new These _ = ⊤
@@ -43,7 +43,7 @@ module _ {S : Type 0} {g : Ghosts S} where
     pub gained : (middle : Option (List ℕ)) × Appends old middle (lines_between h rs a n) × AppendsPrefix middle new (lines_between h rs n (n + 1))
         × (Keeps middle new ⊎ Stands it (after h (take (n + 1) rs)))
     pub leaves : Leaves newest (state_of it) (IsPlace h rs n)
-    pub ends : (is_spent it ≡ true) ⊎ HasAnswered it h rs n
+    pub ends : (is_poisoned it ≡ true) ⊎ HasAnswered it h rs n
 
   -- Nothing was acted on and no reply was written. The errors say why, or that the input failed or there was no memory to say it.
   pub record IsRejected (OfInput : Failure → Type 0) (it new : Registry S g) (out out_new : Option (List ℕ)) (errors : Told) (text : List ℕ) (status : ℕ) : Type 0 where

@@ -57,7 +57,7 @@ abbrev pub IsOfOutput : ℕ → ℕ → Failure → Type 0
 IsOfOutput old new File = HasFailed old new
 IsOfOutput old new _ = new ≡ old
 
--- of a registry that stands, over a clean disk: neither Foreign nor Taken nor Spent
+-- of a registry that stands, over a clean disk: neither Foreign nor Taken nor Poisoned
 abbrev pub IsOfSoundRun : Failure → Type 0
 IsOfSoundRun Store = ⊤
 IsOfSoundRun Memory = ⊤

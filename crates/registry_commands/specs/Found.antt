@@ -21,7 +21,7 @@ module _ {S : Type 0} (g : Ghosts S) where
     pub none_before : HasNoMeta (state g old).now
     pub rows : HasCleanDisk (state g new) → IsAt newest (state g new) (founded founding)
 
-  -- What a founding may fail of: Taken only where there was a table meta, and then nothing is changed; never Foreign, Spent or File.
+  -- What a founding may fail of: Taken only where there was a table meta, and then nothing is changed; never Foreign, Poisoned or File.
   abbrev pub IsOfFounding : Held S → Held S → Failure → Type 0
   IsOfFounding old new Store = ⊤
   IsOfFounding old new Memory = ⊤

@@ -16,7 +16,7 @@ use Rattle.registry_rules.specs.History.{History}
 use Rattle.registry_rules.specs.Run.{after_one, answer_one}
 use Rattle.registry_tables.specs.Rows.{newest}
 use Rattle.registry_store.specs.declared.registry.Registry.{Registry}
-use Rattle.registry_store.specs.Promise.{Endures, Leaves, Stands, is_spent, state_of}
+use Rattle.registry_store.specs.Promise.{Endures, Leaves, Stands, is_poisoned, state_of}
 use Rattle.registry_store.specs.RunTo.{MayBeActedOn}
 use Rattle.registry_wire.specs.Import.{import_of}
 use Rattle.registry_commands.specs.declared.importing.Import.{Import}
@@ -81,11 +81,11 @@ module _ {S : Type 0} {g : Ghosts S} where
     pub quiet : TellsNothing errors
     pub answered : (h : History) → MayBeActedOn it h r → HasCleanDisk (state_of new) → (reply ≡ answer_one h r) × Stands new (after_one h r)
 
-  -- A prefix of the reply's line is out. A crash leaves the history before the request or after it, and the registry is spent or stands after it.
+  -- A prefix of the reply's line is out. A crash leaves the history before the request or after it, and the registry is poisoned or stands after it.
   pub record IsCut (new : Registry S g) (h : History) (r : Request) (out out_new : Option (List ℕ)) : Type 0 where
     pub gained : AppendsPrefix out out_new (reply_line (answer_one h r))
     pub leaves : Leaves newest (state_of new) (λ x. (x ≡ h) ⊎ (x ≡ after_one h r))
-    pub ends : (is_spent new ≡ true) ⊎ Stands new (after_one h r)
+    pub ends : (is_poisoned new ≡ true) ⊎ Stands new (after_one h r)
 
   -- The request failed, or the output did.
   pub record IsFailed (OfOutput : Failure → Type 0) (it new : Registry S g) (r : Request) (out out_new : Option (List ℕ)) (errors : Told) (status : ℕ) : Type 0 where

@@ -11,7 +11,7 @@ use Rattle.registry_commands.specs.declared.input.InputFault.{InputFault}
 use Rattle.registry_commands.specs.declared.input.InputFault.TheVariants as inputs
 use Rattle.registry_commands.specs.declared.lines.BadLine.{BadLine}
 use Rattle.registry_commands.specs.declared.messages.Failure.{Failure}
-use Rattle.registry_commands.specs.declared.messages.Failure.TheVariants.{Store, Memory, Foreign, Taken, Spent, File}
+use Rattle.registry_commands.specs.declared.messages.Failure.TheVariants.{Store, Memory, Foreign, Taken, Poisoned, File}
 
 -- a reply as a line of the output
 unfoldable pub reply_line : Reply → List ℕ
@@ -40,7 +40,7 @@ failure_line Store = codes "fault: store\n"
 failure_line Memory = codes "fault: memory\n"
 failure_line Foreign = codes "fault: foreign\n"
 failure_line Taken = codes "fault: taken\n"
-failure_line Spent = codes "fault: spent\n"
+failure_line Poisoned = codes "fault: spent\n"
 failure_line File = codes "fault: file\n"
 
 -- the failure that a fault of the registry is
@@ -49,7 +49,7 @@ failure_of faults.Store = Store
 failure_of faults.NoMemory = Memory
 failure_of faults.Foreign = Foreign
 failure_of faults.Taken = Taken
-failure_of faults.Spent = Spent
+failure_of faults.Poisoned = Poisoned
 
 -- the failure that an input's fault is
 abbrev pub input_failure : InputFault → Failure

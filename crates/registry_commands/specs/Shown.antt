@@ -9,7 +9,7 @@ use Rattle.usbids_text.specs.Writing.{written}
 use Rattle.registry_rules.specs.History.{History}
 use Rattle.registry_reports.specs.History.{IsListing}
 use Rattle.registry_store.specs.declared.registry.Registry.{Registry}
-use Rattle.registry_store.specs.Promise.{Stands, is_spent, state_of}
+use Rattle.registry_store.specs.Promise.{Stands, is_poisoned, state_of}
 use Rattle.registry_commands.specs.declared.messages.Failure.{Failure}
 use Rattle.registry_commands.specs.Apply.{IsOfRun}
 use Rattle.registry_commands.specs.Failures.{Told}
@@ -19,10 +19,10 @@ module _ {S : Type 0} {g : Ghosts S} where
   -- the registry stands where it stood, and nothing was committed
   pub record IsLeft (it new : Registry S g) : Type 0 where
     pub stays : (h : History) → Stands it h → Stands new h
-    pub spends_nothing : is_spent new ≡ is_spent it
+    pub poisons_nothing : is_poisoned new ≡ is_poisoned it
     pub survives : Survives (state_of it) (state_of new) (λ _. ⊥)
 
-  -- what the reading of a registry may fail of: Spent only where it was spent before, Foreign and Taken of none that stands over a clean disk
+  -- what the reading of a registry may fail of: Poisoned only where it was poisoned before, Foreign and Taken of none that stands over a clean disk
   abbrev pub IsOfReading : Registry S g → Registry S g → Failure → Type 0
   IsOfReading it new = IsOfRun it new (λ h. Stands it h)
 

@@ -43,7 +43,7 @@ pub record IsTriedInPart (rs : List Request) (out out_new : Option (List ℕ)) :
   pub whole : Appends out middle (lines_between (founded founding) rs 0 n)
   pub cut : AppendsPrefix middle out_new (lines_between (founded founding) rs n (n + 1))
 
--- What a trial writes, and its status. Its registry stands, so no failure is Foreign, Taken or Spent.
+-- What a trial writes, and its status. Its registry stands, so no failure is Foreign, Taken or Poisoned.
 abbrev pub IsTrialOf : (Failure → Type 0) → (Failure → Type 0) → Result (List Request) BadLine → Option (List ℕ) → Option (List ℕ) → Told → ℕ → Type 0
 IsTrialOf OfInput OfOutput (Err bad) out out_new errors status =
     Keeps out out_new × (((status ≡ 2) × Tells errors (bad_line_text bad)) ⊎ ((status ≡ 1) × TellsFailure (IsOfStart OfInput) errors))

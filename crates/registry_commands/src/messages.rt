@@ -29,7 +29,7 @@ pub enum Failure {
     /// The store holds a registry already.
     Taken,
     /// The registry had a fault before.
-    Spent,
+    Poisoned,
     /// An input or the output failed.
     File,
 }
@@ -47,7 +47,7 @@ impl Failure {
             Failure::Memory => "fault: memory\n",
             Failure::Foreign => "fault: foreign\n",
             Failure::Taken => "fault: taken\n",
-            Failure::Spent => "fault: spent\n",
+            Failure::Poisoned => "fault: spent\n",
             Failure::File => "fault: file\n",
         }
     }
@@ -62,7 +62,7 @@ pub fn failure_of(fault: Fault) -> Failure
         Fault::NoMemory => Failure::Memory,
         Fault::Foreign => Failure::Foreign,
         Fault::Taken => Failure::Taken,
-        Fault::Spent => Failure::Spent,
+        Fault::Poisoned => Failure::Poisoned,
     }
 }
 

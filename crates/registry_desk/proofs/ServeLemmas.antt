@@ -82,8 +82,8 @@ module _ {S : Type 0} {g : Ghosts S} where
     left = err.1;
   })
 
--- only a spent registry is said to be spent
-pub tells_spent : (done : Result Response DeskFault) (text : List ℕ) (served : Served) → IsTold done text served → served.fault ≡ Some faults.Spent → done ≡ Err (Registry faults.Spent)
-tells_spent (Ok response) text served told spent = let none = sym (ap (λ (s : Served). s.fault) told.3) ∙ spent in absurd cc
-tells_spent (Err NoMemory) text served told spent = let none = sym (ap (λ (s : Served). s.fault) told.1) ∙ spent in absurd cc
-tells_spent (Err (Registry fault)) text served told spent = let same = sym (ap (λ (s : Served). s.fault) told.1) ∙ spent in cc
+-- only a poisoned registry is said to be poisoned
+pub tells_poisoned : (done : Result Response DeskFault) (text : List ℕ) (served : Served) → IsTold done text served → served.fault ≡ Some faults.Poisoned → done ≡ Err (Registry faults.Poisoned)
+tells_poisoned (Ok response) text served told poisoned = let none = sym (ap (λ (s : Served). s.fault) told.3) ∙ poisoned in absurd cc
+tells_poisoned (Err NoMemory) text served told poisoned = let none = sym (ap (λ (s : Served). s.fault) told.1) ∙ poisoned in absurd cc
+tells_poisoned (Err (Registry fault)) text served told poisoned = let same = sym (ap (λ (s : Served). s.fault) told.1) ∙ poisoned in cc

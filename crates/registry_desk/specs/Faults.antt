@@ -16,7 +16,7 @@ unavailable_of (Registry faults.NoMemory) = unavailable.NoMemory
 unavailable_of (Registry faults.Store) = unavailable.StoreFault
 unavailable_of (Registry faults.Foreign) = unavailable.StoreFault
 unavailable_of (Registry faults.Taken) = unavailable.StoreFault
-unavailable_of (Registry faults.Spent) = unavailable.StoreFault
+unavailable_of (Registry faults.Poisoned) = unavailable.StoreFault
 
 -- the registry's fault behind it
 abbrev pub fault_of : DeskFault → Option Fault
@@ -30,4 +30,4 @@ failed_by failures.Store = Registry faults.Store
 failed_by failures.File = Registry faults.Store
 failed_by failures.Foreign = Registry faults.Foreign
 failed_by failures.Taken = Registry faults.Taken
-failed_by failures.Spent = Registry faults.Spent
+failed_by failures.Poisoned = Registry faults.Poisoned

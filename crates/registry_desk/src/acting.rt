@@ -4,7 +4,7 @@ ghost use Rattle.std.specs.Prelude.{◌≡◌, ◌≢◌, true, Err, IfOk, IfErr
 ghost use Rattle.sqlite.specs.State.{HasCleanDisk};
 ghost use Rattle.registry_rules.specs.History.{History};
 ghost use Rattle.registry_rules.specs.Run.{after_one, answer_one};
-ghost use Rattle.registry_store.specs.Promise.{Stands, Endures, is_spent, state_of};
+ghost use Rattle.registry_store.specs.Promise.{Stands, Endures, is_poisoned, state_of};
 ghost use Rattle.registry_store.specs.declared.fault.Fault.TheVariants as faults;
 ghost use Rattle.registry_desk.specs.declared.fault.DeskFault.TheVariants as desk_faults;
 ghost use Rattle.registry_http.specs.Responses.{refusal_response, reply_response};
@@ -29,7 +29,7 @@ fn act_on<S: Alter>(
         → IfOk result (λ response. (response ≡ reply_response (answer_one h request.now)) × Stands registry.new (after_one h request.now)) }
     ensures left { (h : History) → Stands registry.old h → HasCleanDisk (state_of registry.new)
         → IfErr result (λ fault. IsOfStanding fault × IsLeftAt fault registry.new h (after_one h request.now)) }
-    ensures only_spent { result ≡ Err (desk_faults.Registry faults.Spent) → is_spent registry.old ≡ true }
+    ensures only_poisoned { result ≡ Err (desk_faults.Registry faults.Poisoned) → is_poisoned registry.old ≡ true }
     ensures endures { Endures (state_of registry.old) (state_of registry.new) }
 {
     match registry.act(request) {
@@ -63,7 +63,7 @@ pub(crate) fn response_to<S: Alter>(
     ensures left { (h : History) → Stands registry.old h → HasCleanDisk (state_of registry.new)
         → IfErr result (λ fault. IsOfStanding fault × IsLeftAt fault registry.new h (after_message h said)) }
     ensures asked { IfErr result (λ fault. fault ≢ desk_faults.NoMemory → IsOk said) }
-    ensures only_spent { result ≡ Err (desk_faults.Registry faults.Spent) → is_spent registry.old ≡ true }
+    ensures only_poisoned { result ≡ Err (desk_faults.Registry faults.Poisoned) → is_poisoned registry.old ≡ true }
     ensures endures { Endures (state_of registry.old) (state_of registry.new) }
 {
     match said {

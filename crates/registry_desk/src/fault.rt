@@ -26,7 +26,7 @@ pub(crate) fn unavailable_of(fault: DeskFault) -> Unavailable
         DeskFault::Registry(Fault::Store) => Unavailable::StoreFault,
         DeskFault::Registry(Fault::Foreign) => Unavailable::StoreFault,
         DeskFault::Registry(Fault::Taken) => Unavailable::StoreFault,
-        DeskFault::Registry(Fault::Spent) => Unavailable::StoreFault,
+        DeskFault::Registry(Fault::Poisoned) => Unavailable::StoreFault,
     }
 }
 
@@ -50,6 +50,6 @@ pub(crate) fn failed_by(failure: Failure) -> DeskFault
         Failure::File => DeskFault::Registry(Fault::Store),
         Failure::Foreign => DeskFault::Registry(Fault::Foreign),
         Failure::Taken => DeskFault::Registry(Fault::Taken),
-        Failure::Spent => DeskFault::Registry(Fault::Spent),
+        Failure::Poisoned => DeskFault::Registry(Fault::Poisoned),
     }
 }

@@ -9,7 +9,7 @@ ghost use Rattle.registry_rules.specs.Query.{is_reserved, has_vendor, org_of, pe
 ghost use Rattle.registry_rules.specs.Rows.{entry_of};
 ghost use Rattle.registry_rules.specs.declared.verdict.Reply.TheVariants as replies;
 ghost use Rattle.registry_rules.specs.declared.refusal.Refusal.TheVariants as rule_refusals;
-ghost use Rattle.registry_store.specs.Promise.{Stands, is_spent, state_of};
+ghost use Rattle.registry_store.specs.Promise.{Stands, is_poisoned, state_of};
 ghost use Rattle.registry_store.specs.declared.fault.Fault.TheVariants as faults;
 ghost use Rattle.registry_commands.specs.Shown.{IsLeft};
 ghost use Rattle.registry_http.specs.Responses.{reply_response, text_response};
@@ -42,7 +42,7 @@ fn ask_number<S: Alter>(
     ensures answered { (h : History) → Stands registry.old h → HasCleanDisk (state_of registry.new) → IfOk result (λ response. response ≡ number_response vendor pid (is_reserved h (number vid pid)) (entry_of h (number vid pid))) }
     ensures kind { (h : History) → Stands registry.old h → HasCleanDisk (state_of registry.new) → IfErr result IsOfStanding }
     ensures left { IsLeft registry.old registry.new }
-    ensures only_spent { result ≡ Err (desk_faults.Registry faults.Spent) → is_spent registry.old ≡ true }
+    ensures only_poisoned { result ≡ Err (desk_faults.Registry faults.Poisoned) → is_poisoned registry.old ≡ true }
 {
     let reserved = match registry.is_reserved(Number { vid, pid }) {
         Ok(reserved) => reserved,
@@ -77,7 +77,7 @@ fn ask_vendor_number<S: Alter>(
     ensures answered { (h : History) → Stands registry.old h → HasCleanDisk (state_of registry.new) → IfOk result (λ response. response ≡ vendor_number_at h vid pid) }
     ensures kind { (h : History) → Stands registry.old h → HasCleanDisk (state_of registry.new) → IfErr result IsOfStanding }
     ensures left { IsLeft registry.old registry.new }
-    ensures only_spent { result ≡ Err (desk_faults.Registry faults.Spent) → is_spent registry.old ≡ true }
+    ensures only_poisoned { result ≡ Err (desk_faults.Registry faults.Poisoned) → is_poisoned registry.old ≡ true }
 {
     match registry.has_vendor(vid) {
         Ok(true) => ask_number(alloc, registry, Some(vid), vid, pid),
@@ -95,7 +95,7 @@ fn ask_org<S: Alter>(
     ensures answered { (h : History) → Stands registry.old h → HasCleanDisk (state_of registry.new) → IfOk result (λ response. response ≡ org_response (org_of h slug.now)) }
     ensures kind { (h : History) → Stands registry.old h → HasCleanDisk (state_of registry.new) → IfErr result IsOfStanding }
     ensures left { IsLeft registry.old registry.new }
-    ensures only_spent { result ≡ Err (desk_faults.Registry faults.Spent) → is_spent registry.old ≡ true }
+    ensures only_poisoned { result ≡ Err (desk_faults.Registry faults.Poisoned) → is_poisoned registry.old ≡ true }
 {
     match registry.org(slug) {
         Ok(org) => match org_response(alloc, org.as_ref()) {
@@ -115,7 +115,7 @@ fn ask_petition<S: Alter>(
     ensures answered { (h : History) → Stands registry.old h → HasCleanDisk (state_of registry.new) → IfOk result (λ response. response ≡ petition_response h.founding.vendor id (petition_of h id)) }
     ensures kind { (h : History) → Stands registry.old h → HasCleanDisk (state_of registry.new) → IfErr result IsOfStanding }
     ensures left { IsLeft registry.old registry.new }
-    ensures only_spent { result ≡ Err (desk_faults.Registry faults.Spent) → is_spent registry.old ≡ true }
+    ensures only_poisoned { result ≡ Err (desk_faults.Registry faults.Poisoned) → is_poisoned registry.old ≡ true }
 {
     let founding = registry.founding().vendor;
     match registry.petition(id) {
@@ -144,7 +144,7 @@ fn ask_list<S: Alter>(alloc: Global, registry: &mut Registry<S>) -> Result<Respo
     ensures answered { (h : History) → Stands registry.old h → HasCleanDisk (state_of registry.new) → IfOk result (IsListResponse h) }
     ensures kind { (h : History) → Stands registry.old h → HasCleanDisk (state_of registry.new) → IfErr result IsOfStanding }
     ensures left { IsLeft registry.old registry.new }
-    ensures only_spent { result ≡ Err (desk_faults.Registry faults.Spent) → is_spent registry.old ≡ true }
+    ensures only_poisoned { result ≡ Err (desk_faults.Registry faults.Poisoned) → is_poisoned registry.old ≡ true }
 {
     match document_of(alloc, registry) {
         Ok(document) => list_response(alloc, &document),
@@ -171,7 +171,7 @@ fn ask_report<S: Alter>(
     ensures answered { (h : History) → Stands registry.old h → HasCleanDisk (state_of registry.new) → IfOk result (IsReportResponse h report) }
     ensures kind { (h : History) → Stands registry.old h → HasCleanDisk (state_of registry.new) → IfErr result IsOfStanding }
     ensures left { IsLeft registry.old registry.new }
-    ensures only_spent { result ≡ Err (desk_faults.Registry faults.Spent) → is_spent registry.old ≡ true }
+    ensures only_poisoned { result ≡ Err (desk_faults.Registry faults.Poisoned) → is_poisoned registry.old ≡ true }
 {
     match report_of(alloc, registry, kind_of(report)) {
         Ok(text) => Ok(text_response(text.into_bytes())),
@@ -188,7 +188,7 @@ pub(crate) fn ask<S: Alter>(
     ensures answered { (h : History) → Stands registry.old h → HasCleanDisk (state_of registry.new) → IfOk result (IsQueryResponse h query.now) }
     ensures kind { (h : History) → Stands registry.old h → HasCleanDisk (state_of registry.new) → IfErr result IsOfStanding }
     ensures left { IsLeft registry.old registry.new }
-    ensures only_spent { result ≡ Err (desk_faults.Registry faults.Spent) → is_spent registry.old ≡ true }
+    ensures only_poisoned { result ≡ Err (desk_faults.Registry faults.Poisoned) → is_poisoned registry.old ≡ true }
 {
     match query {
         Query::Number { vendor, pid } => match vendor {

@@ -4,7 +4,7 @@ ghost use Rattle.std.specs.Prelude.{◌≡◌, ◌≢◌, ◌⊎◌, true, ℕ, 
 ghost use Rattle.sqlite.specs.State.{HasCleanDisk};
 ghost use Rattle.byte_streams.specs.Streams.{HasFailed, MayGive, Writes};
 ghost use Rattle.registry_rules.specs.History.{History};
-ghost use Rattle.registry_store.specs.Promise.{Stands, Endures, is_spent, state_of};
+ghost use Rattle.registry_store.specs.Promise.{Stands, Endures, is_poisoned, state_of};
 ghost use Rattle.registry_store.specs.declared.fault.Fault.TheVariants as faults;
 ghost use Rattle.registry_http.specs.Responses.{response_bytes, unavailable_response};
 ghost use Rattle.registry_desk.specs.declared.serve.Served.{Served};
@@ -89,7 +89,7 @@ pub(crate) fn serve_message<R: Source, W: Sink, S: Alter>(
         × Writes (W.contents sink.old) (W.contents sink.new) (W.failures sink.old) (W.failures sink.new) exchange.sent text
         × IsOfServed exchange served
         × ((h : History) → Stands registry.old h → HasCleanDisk (state_of registry.new) → IsServed registry.new h bytes text served)) }
-    ensures spent { IfOk result (λ exchange. exchange.fault ≡ Some faults.Spent → is_spent registry.old ≡ true) }
+    ensures poisoned { IfOk result (λ exchange. exchange.fault ≡ Some faults.Poisoned → is_poisoned registry.old ≡ true) }
     ensures read { OnErr result (HasFailed (R.failures source.old) (R.failures source.new) × (sink.new ≡ sink.old) × (registry.new ≡ registry.old)) }
     ensures endures { Endures (state_of registry.old) (state_of registry.new) }
 {
@@ -137,7 +137,7 @@ pub fn serve_one<R: Source, W: Sink, S: Alter>(
         × ((result ≡ Err PeerFault.Read) ⊎ (Writes (W.contents sink.old) (W.contents sink.new) (W.failures sink.old) (W.failures sink.new) result text
         × IfOk result (λ it. it ≡ served)
         × ((h : History) → Stands registry.old h → HasCleanDisk (state_of registry.new) → IsServed registry.new h bytes text served))) }
-    ensures spent { IfOk result (λ it. it.fault ≡ Some faults.Spent → is_spent registry.old ≡ true) }
+    ensures poisoned { IfOk result (λ it. it.fault ≡ Some faults.Poisoned → is_poisoned registry.old ≡ true) }
     ensures read { result ≡ Err PeerFault.Read → HasFailed (R.failures source.old) (R.failures source.new) × (sink.new ≡ sink.old) × (registry.new ≡ registry.old) }
     ensures endures { Endures (state_of registry.old) (state_of registry.new) }
 {

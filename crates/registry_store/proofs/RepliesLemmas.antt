@@ -12,7 +12,7 @@ use Rattle.registry_tables.specs.Rows.{newest}
 use Rattle.registry_store.specs.declared.fault.Fault.{Fault}
 use Rattle.registry_store.specs.declared.replies.RunStop.TheVariants as stop
 use Rattle.registry_store.specs.declared.registry.Registry.{Registry}
-use Rattle.registry_store.specs.Promise.{Leaves, is_spent, state_of}
+use Rattle.registry_store.specs.Promise.{Leaves, is_poisoned, state_of}
 use Rattle.registry_store.specs.Run.{IsPlace, IsStopped}
 use Rattle.registry_store.specs.RunTo.{HaveTaken, IsHalted, replies_between}
 use Rattle.registry_store.specs.Listed.{HasNoRoom, TakesReply}
@@ -41,8 +41,8 @@ module _ {S : Type 0} {g : Ghosts S} (it : Registry S g) (h : History) (rs : Lis
   in_list middle taken = (listed old middle (replies_between h rs a n) taken).0 ∙ ap (λ (xs : List Reply). xs ++ replies_between h rs a n) none
 
   -- at a fault the list has the replies so far
-  pub stopped_list : (fault : Fault) → is_spent it ≡ true → IsHalted TakesReply HasNoRoom it h rs a n old new (stop.Fault fault) → IsStopped it h rs a new.items fault
-  stopped_list fault spent halted =
+  pub stopped_list : (fault : Fault) → is_poisoned it ≡ true → IsHalted TakesReply HasNoRoom it h rs a n old new (stop.Fault fault) → IsStopped it h rs a new.items fault
+  stopped_list fault poisoned halted =
       let last = halted.reply.2 in
       let items : new.items ≡ replies_between h rs a n = ap (λ (v : Vec Reply Global). v.items) last.0 ∙ in_list halted.middle halted.taken in
       let count : length new.items ≡ n - a = ap (λ (xs : List Reply). length xs) items ∙ between_count h rs a n halted.from halted.within in
@@ -52,7 +52,7 @@ module _ {S : Type 0} {g : Ghosts S} (it : Registry S g) (h : History) (rs : Lis
         front = items ∙ between_front h rs a n halted.from halted.within ∙ ap (λ k. take k (drop a (answers h rs))) (sym count);
         leaves = subst (λ k. Leaves newest (state_of it) (IsPlace h rs k)) end halted.leaves;
         kind = last.1;
-        ends = inl spent;
+        ends = inl poisoned;
       }
 
   -- a list with room for all replies is never full

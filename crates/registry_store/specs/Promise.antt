@@ -55,11 +55,11 @@ module _ {S : Type 0} {g : Ghosts S} where
   state_of it = state g it.conn
 
   -- a fault of an earlier call
-  abbrev pub is_spent : Registry S g → Bool
-  is_spent it = it.spent
+  abbrev pub is_poisoned : Registry S g → Bool
+  is_poisoned it = it.poisoned
 
-  -- a registry that is not spent is at this history: its totals, its tables, and what a crash may leave
+  -- a registry that is not poisoned is at this history: its totals, its tables, and what a crash may leave
   pub record Stands (it : Registry S g) (h : History) : Type 0 where
-    pub unspent : is_spent it ≡ false
+    pub not_poisoned : is_poisoned it ≡ false
     pub counts : Counts it.totals h
     pub at : IsAt newest (state_of it) h

@@ -16,12 +16,12 @@ pub enum Fault {
     /// There is a registry already, where one was to be founded.
     Taken,
     /// An earlier call of this registry had a fault. It is closed and opened again.
-    Spent,
+    Poisoned,
 }
 
 /// The registry's name for a fault of its tables.
 pub(crate) fn fault_of(fault: TableFault) -> Fault
-    ensures unspent { result ≢ Fault.Spent }
+    ensures not_poisoned { result ≢ Fault.Poisoned }
     ensures found { result ≢ Fault.Taken }
     ensures foreign { (result ≡ Fault.Foreign) ↔ (fault ≡ TableFault.Foreign) }
     ensures memory { (result ≡ Fault.NoMemory) ↔ (fault ≡ TableFault.NoMemory) }

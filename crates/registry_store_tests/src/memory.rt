@@ -1,4 +1,4 @@
-//! A registry that finds no memory while it acts is spent, and right again once it is opened. That shows where an allocation is
+//! A registry that finds no memory while it acts is poisoned, and right again once it is opened. That shows where an allocation is
 //! refused (`rt try --test --fail-alloc N`); else nothing here runs short.
 
 use crate::disks::{PLAIN, connected};
@@ -94,7 +94,7 @@ fn is_right(told: Told) -> bool {
     match (first, again) {
         (Answer::Enrolled, Answer::Enrolled) => orgs == Some(1) || orgs.is_none(),
         (Answer::Enrolled, fault) => is_short(fault) && orgs.is_none(),
-        (fault, Answer::Fault(Fault::Spent)) => is_short(fault) && orgs.is_none(),
+        (fault, Answer::Fault(Fault::Poisoned)) => is_short(fault) && orgs.is_none(),
         _ => false,
     }
 }
@@ -104,7 +104,7 @@ fn is_whole(told: Told) -> bool {
 }
 
 #[test]
-fn want_of_memory_spends_a_registry_and_loses_nothing(rt: HostRuntime) -> Result<(), Fail> {
+fn out_of_memory_poisons_a_registry_and_loses_nothing(rt: HostRuntime) -> Result<(), Fail> {
     let alloc = rt.alloc();
     let founding = founding(alloc)?;
     let (enrol, _) = ENROL;

@@ -41,14 +41,14 @@ fn round_of(
     })
 }
 
-// A run that came to its end has no fault. After a stop the registry is spent.
+// A run that came to its end has no fault. After a stop the registry is poisoned.
 fn ends_well(rt: &impl Abort, first: &First, calls: u64) {
     match first.fault {
         Some(fault) => assert_eq!(rt; fault, Fault::Store, "at {calls}"),
         None => {}
     }
     if first.is_open && first.fault.is_some() {
-        assert_eq!(rt; first.spent.as_deref(), Some(SPENT), "at {calls}");
+        assert_eq!(rt; first.poisoned.as_deref(), Some(SPENT), "at {calls}");
     }
 }
 

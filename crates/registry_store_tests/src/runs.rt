@@ -18,12 +18,12 @@ pub struct First {
     /// Whether the registry was opened.
     pub is_open: bool,
     pub replies: Vec<Reply>,
-    pub spent: Option<String>,
+    pub poisoned: Option<String>,
 }
 
-/// What a spent registry returns for a request, for a run and for what it is asked.
+/// What a poisoned registry returns for a request, for a run and for what it is asked.
 pub const SPENT: &str =
-    "Some(Spent)\nSome(Spent), 0 replies\nErr(Spent)\nErr(Spent)\nErr(Spent)\nErr(Spent)\n";
+    "Some(Poisoned)\nSome(Poisoned), 0 replies\nErr(Poisoned)\nErr(Poisoned)\nErr(Poisoned)\nErr(Poisoned)\n";
 
 fn tell_act<S: Alter>(registry: &mut Registry<S>, requests: &[Request], text: &mut String) -> bool {
     match requests.first() {
@@ -60,7 +60,7 @@ fn answers<S: Alter>(
 
 fn run_first<S: Alter>(alloc: Global, registry: &mut Registry<S>, requests: &[Request]) -> First {
     let RunEnd { replies, fault } = registry.run_from(requests, 0);
-    let spent = match fault {
+    let poisoned = match fault {
         Some(_) => answers(alloc, registry, requests),
         None => None,
     };
@@ -68,7 +68,7 @@ fn run_first<S: Alter>(alloc: Global, registry: &mut Registry<S>, requests: &[Re
         fault,
         is_open: true,
         replies,
-        spent,
+        poisoned,
     }
 }
 
@@ -77,7 +77,7 @@ fn not_run(alloc: Global, fault: Option<Fault>) -> First {
         fault,
         is_open: false,
         replies: Vec::new(alloc),
-        spent: None,
+        poisoned: None,
     }
 }
 

@@ -12,7 +12,7 @@ returns-in-Ok-clause-stands g c h legal rest clean =
     let shown = rest early it.0 in
     let at = at_rest g.S.Store c.args.conn h g.met.S.Store.settled (λ _. (it.0, shown.0, shown.1)) in
     record {
-      unspent = refl;
+      not_poisoned = refl;
       counts = record { legal = legal; totals_are = it.1 h legal (rows_now old h at early it.0) };
       at = still_at old (state g.S.Store c.totals.new.conn) h at c.totals.ensures.same c.totals.ensures.survives;
     }
