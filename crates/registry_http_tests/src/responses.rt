@@ -6,7 +6,7 @@ use registry_http::{
     Response, Unavailable, number_response, org_response, petition_response, reply_response,
     text_response, write_response, write_unavailable,
 };
-use registry_rules::{Card, Entry, Org, Petition, PetitionState, Refusal, Reply, Terms, Text};
+use registry_rules::{Card, Entry, Org, Petition, PetitionState, Refusal, Reply, ReplyText, Terms};
 use std::alloc::Global;
 use std::process::Abort;
 use std::test::Fail;
@@ -257,7 +257,7 @@ fn petitions(rt: HostRuntime) -> Result<(), Fail> {
 }
 
 fn expect_replies(rt: &impl Abort, alloc: Global) -> Result<(), NoMemory> {
-    let done = Reply::Done(Text::new(String::from_str(alloc, "enrolled acme")?));
+    let done = Reply::Done(ReplyText::new(String::from_str(alloc, "enrolled acme")?));
     expect(
         rt,
         alloc,

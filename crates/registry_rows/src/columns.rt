@@ -8,7 +8,7 @@ ghost use Rattle.usbnum_core.specs.Text.{IsSlug, IsKey, IsTitle, IsLink};
 ghost use Rattle.registry_rows.specs.Rows.{flag, whole, IsSpan};
 ghost use Rattle.usbnum_core.specs.declared.number.Span.{Span as SpanValue};
 
-use registry_rules::{CanonicalForm, Text};
+use registry_rules::{CanonicalForm, ReplyText};
 use registry_schema::TableFault;
 use sqlite::Row;
 use sqlite::types::ValueRef;
@@ -100,7 +100,7 @@ pub fn link_or_null_at(alloc: Global, row: &Row, at: usize) -> Result<Option<Lin
 }
 
 /// The reply in the column.
-pub fn reply_at(alloc: Global, row: &Row, at: usize) -> Result<Text, TableFault>
+pub fn reply_at(alloc: Global, row: &Row, at: usize) -> Result<ReplyText, TableFault>
     ensures ok { IfOk result (λ text. column row.now at ≡ TextValue text) }
     ensures foreign { result ≡ Err TableFault.Foreign → (text : _) → IsUtf8 text → column row.now at ≢ TextValue text }
 {
@@ -111,7 +111,7 @@ pub fn reply_at(alloc: Global, row: &Row, at: usize) -> Result<Text, TableFault>
         return Err(TableFault::Foreign);
     };
     match String::from_str(alloc, text) {
-        Ok(text) => Ok(Text::new(text)),
+        Ok(text) => Ok(ReplyText::new(text)),
         Err(_) => Err(TableFault::NoMemory),
     }
 }

@@ -9,7 +9,7 @@ ghost use Rattle.registry_rows.specs.Steps.{Answers, Changes};
 
 use crate::columns::{canonical_form_at, key_at, reply_at, slug_at};
 use crate::decode::{FromRow, first_from};
-use registry_rules::{CanonicalForm, Kept, Text};
+use registry_rules::{CanonicalForm, Kept, ReplyText};
 use registry_schema::{TableFault, fault_of};
 use sqlite::{Alter, Row, Transaction, params};
 use std::alloc::Global;
@@ -51,7 +51,7 @@ pub fn put_kept<S: Alter>(
     caller: &Slug,
     key: &Key,
     order: &CanonicalForm,
-    reply: &Text,
+    reply: &ReplyText,
 ) -> Result<(), TableFault>
     ensures same_reference { tx.new.conn.ghost_name ≡ tx.old.conn.ghost_name }
     ensures put { HasCleanDisk (state S.Store tx.new.conn.now) → IsTrue (state S.Store tx.old.conn.now).in_transaction

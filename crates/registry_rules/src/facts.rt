@@ -4,7 +4,7 @@ ghost use Rattle.std.specs.Prelude.{◌≡◌, find};
 ghost use Rattle.std.specs.Option.{option_copied};
 ghost use Rattle.registry_rules.specs.Number.{is_number};
 
-use crate::{CanonicalForm, Founding, Holding, Org, Petition, Text, Vendors};
+use crate::{CanonicalForm, Founding, Holding, Org, Petition, ReplyText, Vendors};
 use std::marker::Model;
 use usbnum_core::{Number, Pid, Spans, Vid};
 
@@ -52,7 +52,7 @@ pub struct Kept {
     /// The canonical form of its order.
     pub order: CanonicalForm,
     /// Its reply.
-    pub reply: Text,
+    pub reply: ReplyText,
 }
 
 /// What has to be known of a history to judge a request.

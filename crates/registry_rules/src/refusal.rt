@@ -3,7 +3,7 @@
 ghost use Rattle.std.specs.Prelude.{◌≡◌, IfOk};
 ghost use Rattle.registry_rules.specs.Reply.{refusal_number, refusal_name, refusal_detail};
 
-use crate::{NumberName, Text};
+use crate::{NumberName, ReplyText};
 use std::alloc::Global;
 use usbnum_core::{NoMemory, Slug};
 
@@ -118,12 +118,12 @@ impl Refusal {
     }
 
     /// What it says more than its name: the owner that stands in the way, or the least owned number.
-    pub fn detail(&self, alloc: Global) -> Result<Option<Text>, NoMemory>
+    pub fn detail(&self, alloc: Global) -> Result<Option<ReplyText>, NoMemory>
         ensures { IfOk result (λ detail. detail ≡ refusal_detail self.now) }
     {
         match self {
-            Refusal::NumberOwned(owner) => Ok(Some(Text::new(format!(in alloc; "{owner}")?))),
-            Refusal::RangeOwned(name) => Ok(Some(Text::new(format!(in alloc; "{name}")?))),
+            Refusal::NumberOwned(owner) => Ok(Some(ReplyText::new(format!(in alloc; "{owner}")?))),
+            Refusal::RangeOwned(name) => Ok(Some(ReplyText::new(format!(in alloc; "{name}")?))),
             _ => Ok(None),
         }
     }

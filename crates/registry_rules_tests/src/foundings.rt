@@ -5,7 +5,7 @@ use registry_rules::laws::{
     has_four_states, has_one_organisation, has_own_canonical_form, has_row_if_owned,
     is_kept_for_good, is_legal_from_start, is_owned_or_reserved, may_be_repeated, stays_legal,
 };
-use registry_rules::{CanonicalForm, Curators, Holdings, Licences, Text, Totals};
+use registry_rules::{CanonicalForm, Curators, Holdings, Licences, ReplyText, Totals};
 
 #[test]
 fn a_founding_says_what_it_has(rt: HostRuntime) {
@@ -67,7 +67,7 @@ fn texts_say_what_they_are(rt: HostRuntime) {
     let form = CanonicalForm::new(bytes).clone().expect(&rt, "memory");
     assert_eq!(rt; form.as_bytes(), b"grant".as_slice());
     let text = String::from_str(rt.alloc(), "petition 1").expect(&rt, "memory");
-    let text = Text::new(text).clone().expect(&rt, "memory");
+    let text = ReplyText::new(text).clone().expect(&rt, "memory");
     assert_eq!(rt; text.as_str(), "petition 1");
     assert_eq!(rt; Holdings::new(Vec::new(rt.alloc())).as_slice().len(), 0);
 }

@@ -15,7 +15,7 @@ ghost use Rattle.registry_tables.specs.Rows.{HoldsRows, newest};
 ghost use Rattle.registry_store.specs.Promise.{Counts, IsAt};
 ghost use Rattle.registry_store.specs.Attempt.{CommitsOne, Wrote};
 
-use registry_rules::{Deed, Reply, Request, Text, Totals, Verdict, changes, judge, reply_text};
+use registry_rules::{Deed, Reply, ReplyText, Request, Totals, Verdict, changes, judge, reply_text};
 use registry_tables::{TableFault, facts_for, keep_reply, store};
 use sqlite::{Alter, Connection, Error, ErrorCode, Transaction};
 use std::alloc::Global;
@@ -47,7 +47,7 @@ fn write<S: Alter>(
     totals: &mut Totals,
     request: &Request,
     deed: &Deed,
-    reply: &Text,
+    reply: &ReplyText,
 ) -> Result<(), TableFault>
     requires { reply.now ≡ act_text deed.now.act }
     ensures same_reference { tx.new.conn.ghost_name ≡ tx.old.conn.ghost_name }

@@ -12,7 +12,7 @@ ghost use Rattle.registry_tables.specs.Calls.{IsKeptAs};
 
 use crate::TableFault;
 use registry_rows::put_kept;
-use registry_rules::{Request, Text, request_bytes};
+use registry_rules::{ReplyText, Request, request_bytes};
 use sqlite::{Alter, Transaction};
 use std::alloc::Global;
 
@@ -25,7 +25,7 @@ pub fn keep_reply<S: Alter>(
     alloc: Global,
     tx: &mut Transaction<'_, S>,
     request: &Request,
-    reply: &Text,
+    reply: &ReplyText,
 ) -> Result<(), TableFault>
     ensures same_reference { tx.new.conn.ghost_name ≡ tx.old.conn.ghost_name }
     ensures goes_on { HasCleanDisk (state S.Store tx.new.conn.now) → IsTrue (state S.Store tx.old.conn.now).in_transaction

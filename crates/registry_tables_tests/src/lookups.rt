@@ -3,7 +3,7 @@
 use crate::stores::{Calls, add_answer, check, create_in, make};
 use crate::values::{a_number, founding, put_entry, put_org, put_petition, slug};
 use registry_rules::{
-    Change, Facts, Founding, Order, PetitionState, Request, Return, Text, Totals, Withdraw,
+    Change, Facts, Founding, Order, PetitionState, ReplyText, Request, Return, Totals, Withdraw,
 };
 use registry_tables::{facts_for, keep_reply, totals};
 use sqlite::{Alter, Connection};
@@ -17,7 +17,7 @@ use usbnum_core::{Key, Pid};
 struct Lookups<'a> {
     founding: &'a Founding,
     changes: &'a [Change],
-    reply: &'a Text,
+    reply: &'a ReplyText,
     accepted: &'a Request,
     others: &'a [Request],
 }
@@ -26,7 +26,7 @@ fn keep<S: Alter>(
     alloc: Global,
     conn: &mut Connection<S>,
     request: &Request,
-    reply: &Text,
+    reply: &ReplyText,
 ) -> bool {
     if !conn.is_autocommit() {
         return false;
@@ -148,7 +148,7 @@ fn look_up(
 ) -> Result<(), Fail> {
     let accepted = withdrawal(alloc, "ann")?;
     let others = others(alloc)?;
-    let reply = Text::new(format!(in alloc; "withdrawn petition 1")?);
+    let reply = ReplyText::new(format!(in alloc; "withdrawn petition 1")?);
     let lookups = Lookups {
         founding,
         changes,

@@ -140,21 +140,21 @@ impl WireRefusal {
 
     /// What the refusal is about: the name of the bad header or field, the line of a list with its fault,
     /// as `line 2: NoParent`, or the bad key of a founding file.
-    pub fn detail(self, alloc: Global) -> Result<Option<Text>, NoMemory>
+    pub fn detail(self, alloc: Global) -> Result<Option<ReplyText>, NoMemory>
         ensures { IfOk result (λ detail. detail ≡ detail_of self) }
     {
         Ok(match self {
             WireRefusal::BadHeader(header) => Some(text_of(alloc, header.name())?),
             WireRefusal::BadField(field) => Some(text_of(alloc, field.name())?),
-            WireRefusal::BadList(fault) => Some(Text::new(format!(in alloc; "{fault}")?)),
+            WireRefusal::BadList(fault) => Some(ReplyText::new(format!(in alloc; "{fault}")?)),
             WireRefusal::BadFounding(fault) => Some(text_of(alloc, fault.name())?),
             _ => None,
         })
     }
 }
 
-fn text_of(alloc: Global, text: &str) -> Result<Text, NoMemory>
+fn text_of(alloc: Global, text: &str) -> Result<ReplyText, NoMemory>
     ensures { IfOk result (λ copy. copy ≡ text.now) }
 {
-    Ok(Text::new(String::from_str(alloc, text)?))
+    Ok(ReplyText::new(String::from_str(alloc, text)?))
 }

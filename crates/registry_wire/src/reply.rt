@@ -8,7 +8,7 @@ ghost use Rattle.registry_rules.specs.Reply.{refusal_number, refusal_name, refus
 ghost use Rattle.registry_wire.specs.Replies.{refused_data, refusal_data, reply_data};
 
 use crate::WireRefusal;
-use registry_rules::{Refusal, Reply, Text};
+use registry_rules::{Refusal, Reply, ReplyText};
 use serde_json::{Value, json};
 use std::alloc::{AllocError, Global};
 use usbnum_core::NoMemory;
@@ -56,7 +56,7 @@ fn refused_for(
     alloc: Global,
     number: u16,
     name: &str,
-    detail: Option<Text>,
+    detail: Option<ReplyText>,
 ) -> Result<Value, NoMemory>
     ensures { IfOk result (λ value. view value ≡ refused_data number name.now detail) }
 {

@@ -1,6 +1,6 @@
 //! Replies and refusals, and the line that each one is written as.
 
-use registry_rules::{NumberName, Refusal, Reply, Text};
+use registry_rules::{NumberName, Refusal, Reply, ReplyText};
 use registry_wire::{Field, FoundingFault, Header, WireRefusal, refusal_json, reply_json};
 use std::alloc::Global;
 use std::process::Abort;
@@ -22,7 +22,7 @@ fn expect_refused(
 #[test]
 fn done(rt: HostRuntime) -> Result<(), Fail> {
     let text = String::from_str(rt.alloc(), "added licence \"x\" \\ é")?;
-    let text = reply_json(rt.alloc(), &Reply::Done(Text::new(text)))?;
+    let text = reply_json(rt.alloc(), &Reply::Done(ReplyText::new(text)))?;
     assert_eq!(rt; text.as_str(), r#"{"done":"added licence \"x\" \\ é"}"#);
     Ok(())
 }
