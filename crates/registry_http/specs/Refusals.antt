@@ -5,8 +5,8 @@ use Rattle.registry_wire.specs.declared.refusal.WireRefusal.TheVariants as refus
 use Rattle.registry_http.specs.declared.refusal.Allow.{Allow}
 use Rattle.registry_http.specs.declared.refusal.HttpRefusal.{HttpRefusal}
 use Rattle.registry_http.specs.declared.refusal.HttpRefusal.TheVariants.{Wire, WrongMethod}
-use Rattle.registry_http.specs.declared.stop.Stop.{Stop}
-use Rattle.registry_http.specs.declared.stop.Stop.TheVariants.{Refused, OutOfMemory}
+use Rattle.registry_http.specs.declared.rejection.Rejection.{Rejection}
+use Rattle.registry_http.specs.declared.rejection.Rejection.TheVariants.{Refused, OutOfMemory}
 
 -- the refusal that is told
 abbrev pub wire_refusal : HttpRefusal → WireRefusal
@@ -30,7 +30,7 @@ present refusal None = Err (Wire refusal)
 present refusal (Some x) = Ok x
 
 -- the result is the reading, unless memory ran out
-abbrev pub Gives : {A : Type 0} → Result A Stop → Result A HttpRefusal → Type 0
+abbrev pub Gives : {A : Type 0} → Result A Rejection → Result A HttpRefusal → Type 0
 Gives (Ok x) reading = reading ≡ Ok x
 Gives (Err (Refused refusal)) reading = reading ≡ Err refusal
 Gives (Err OutOfMemory) reading = ⊤

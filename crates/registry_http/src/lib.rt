@@ -9,13 +9,13 @@ mod message;
 mod parts;
 mod reading;
 mod refusal;
+mod rejection;
 mod resources;
 mod response;
 mod response_head;
 mod route;
 mod routes;
 mod status;
-mod stop;
 mod unavailable;
 mod write;
 

@@ -19,7 +19,7 @@ use crate::head::{HeadEnd, InputFault, read_head};
 use crate::reading::{Head, OrderHead, head_in};
 use crate::refusal::HttpRefusal;
 use crate::route::{Endpoint, Query};
-use crate::stop::Stop;
+use crate::rejection::Rejection;
 use httparse::spans::{EMPTY_HEADER_SPAN, HeaderSpan, RequestSpans};
 use registry_rules::Request;
 use registry_wire::{WireRefusal, import_request, request_from_json};
@@ -183,8 +183,8 @@ fn head_at(
         &spans[..head.headers],
     ) {
         Ok(call) => Ok(Ok(call)),
-        Err(Stop::Refused(refusal)) => Ok(Err(refusal)),
-        Err(Stop::OutOfMemory) => Err(InputFault::NoMemory),
+        Err(Rejection::Refused(refusal)) => Ok(Err(refusal)),
+        Err(Rejection::OutOfMemory) => Err(InputFault::NoMemory),
     }
 }
 

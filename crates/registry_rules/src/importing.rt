@@ -9,7 +9,7 @@ ghost use Rattle.registry_rules.specs.declared.order.Order.TheVariants as orders
 
 use crate::checks::{check_curator, check_vendor};
 use crate::limits::MOST_ITEMS;
-use crate::stop::Stop;
+use crate::rejection::Rejection;
 use crate::{Act, Facts, Import, Item, ItemClass, Items, Refusal, Tally};
 use std::alloc::{AllocError, Global};
 use usbnum_core::{Number, Pid, Slug, Vid};
@@ -134,18 +134,18 @@ pub(crate) fn import(
     facts: &Facts<'_>,
     caller: &Slug,
     it: &Import,
-) -> Result<Act, Stop>
+) -> Result<Act, Rejection>
     ensures { Gives result (outcome_on facts.now caller.now (orders.Import it.now)) }
 {
     let vid = facts.vendor;
     check_curator(facts.founding, caller)?;
     if facts.org.is_none() {
-        return Err(Stop::Refused(Refusal::NoOrg));
+        return Err(Rejection::Refused(Refusal::NoOrg));
     }
     check_vendor(facts, vid)?;
     let items = it.items.as_slice();
     if items.len() > MOST_ITEMS {
-        return Err(Stop::Refused(Refusal::ImportTooLong));
+        return Err(Rejection::Refused(Refusal::ImportTooLong));
     }
     let classes = classes(alloc, facts, vid, items)?;
     Ok(Act::Imported {

@@ -12,13 +12,13 @@ use crate::order_checks::{
     add_licence, add_vendor, amend, amend_org, ask, decline, enrol, give_back, grant, withdraw,
 };
 use crate::span_checks::{release, reserve};
-use crate::stop::Stop;
+use crate::rejection::Rejection;
 use crate::{Act, Deed, Facts, Kept, Order, Refusal, Request, Verdict, request_bytes};
 use std::alloc::{AllocError, Global};
 use usbnum_core::{NoMemory, Slug};
 
 // What the order does, by its checks.
-fn act_on(alloc: Global, facts: &Facts<'_>, caller: &Slug, order: &Order) -> Result<Act, Stop>
+fn act_on(alloc: Global, facts: &Facts<'_>, caller: &Slug, order: &Order) -> Result<Act, Rejection>
     ensures { Gives result (outcome_on facts.now caller.now order.now) }
 {
     match order {
@@ -71,7 +71,7 @@ pub fn judge(alloc: Global, facts: &Facts<'_>, request: &Request) -> Result<Verd
     }
     match act_on(alloc, facts, &request.caller, &request.order) {
         Ok(act) => Ok(Verdict::New(deed_of(request, act)?)),
-        Err(Stop::Refused(refusal)) => Ok(Verdict::Refused(refusal)),
-        Err(Stop::OutOfMemory) => Err(NoMemory),
+        Err(Rejection::Refused(refusal)) => Ok(Verdict::Refused(refusal)),
+        Err(Rejection::OutOfMemory) => Err(NoMemory),
     }
 }

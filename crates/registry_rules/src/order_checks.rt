@@ -11,7 +11,7 @@ use crate::checks::{
     check_petition, check_vendor, check_wanted, number_name,
 };
 use crate::limits::{MOST_LICENCES, MOST_OPEN, MOST_ORGS, MOST_PETITIONS, MOST_VENDORS};
-use crate::stop::Stop;
+use crate::rejection::Rejection;
 use crate::{
     Act, AddLicence, AddVendor, Amend, AmendOrg, Ask, Card, Decline, Enrol, Facts, Grant, Org,
     Petition, PetitionState, Refusal, Return, Withdraw,
@@ -19,14 +19,14 @@ use crate::{
 use usbnum_core::{Number, Slug, Vid};
 
 #[tactic(auto, unfolding(crate::specs::OnFacts::outcome_on))]
-pub(crate) fn enrol(facts: &Facts<'_>, caller: &Slug, it: &Enrol) -> Result<Act, Stop>
+pub(crate) fn enrol(facts: &Facts<'_>, caller: &Slug, it: &Enrol) -> Result<Act, Rejection>
     ensures { Gives result (outcome_on facts.now caller.now (orders.Enrol it.now)) }
 {
     if facts.org.is_some() {
-        return Err(Stop::Refused(Refusal::OrgTaken));
+        return Err(Rejection::Refused(Refusal::OrgTaken));
     }
     if facts.orgs >= MOST_ORGS {
-        return Err(Stop::Refused(Refusal::Full));
+        return Err(Rejection::Refused(Refusal::Full));
     }
     Ok(Act::Enrolled(Org {
         slug: it.org.clone()?,
@@ -37,11 +37,11 @@ pub(crate) fn enrol(facts: &Facts<'_>, caller: &Slug, it: &Enrol) -> Result<Act,
 }
 
 #[tactic(auto, unfolding(crate::specs::OnFacts::outcome_on))]
-pub(crate) fn amend_org(facts: &Facts<'_>, caller: &Slug, it: &AmendOrg) -> Result<Act, Stop>
+pub(crate) fn amend_org(facts: &Facts<'_>, caller: &Slug, it: &AmendOrg) -> Result<Act, Rejection>
     ensures { Gives result (outcome_on facts.now caller.now (orders.AmendOrg it.now)) }
 {
     let Some(org) = &facts.org else {
-        return Err(Stop::Refused(Refusal::NoOrg));
+        return Err(Rejection::Refused(Refusal::NoOrg));
     };
     check_keeper(org, caller)?;
     Ok(Act::OrgAmended(Org {
@@ -52,7 +52,7 @@ pub(crate) fn amend_org(facts: &Facts<'_>, caller: &Slug, it: &AmendOrg) -> Resu
     }))
 }
 
-fn new_petition(vid: Vid, it: &Ask) -> Result<Petition, Stop>
+fn new_petition(vid: Vid, it: &Ask) -> Result<Petition, Rejection>
     ensures { Gives result (Ok (new_petition vid it.now.org it.now.want it.now.title it.now.terms)) }
 {
     Ok(Petition {
@@ -66,21 +66,21 @@ fn new_petition(vid: Vid, it: &Ask) -> Result<Petition, Stop>
 }
 
 #[tactic(auto, unfolding(crate::specs::OnFacts::outcome_on))]
-pub(crate) fn ask(facts: &Facts<'_>, caller: &Slug, it: &Ask) -> Result<Act, Stop>
+pub(crate) fn ask(facts: &Facts<'_>, caller: &Slug, it: &Ask) -> Result<Act, Rejection>
     ensures { Gives result (outcome_on facts.now caller.now (orders.Ask it.now)) }
 {
     let vid = facts.vendor;
     let Some(known) = &facts.org else {
-        return Err(Stop::Refused(Refusal::NoOrg));
+        return Err(Rejection::Refused(Refusal::NoOrg));
     };
     check_keeper(known, caller)?;
     check_vendor(facts, vid)?;
     check_licence(facts.founding, &it.terms.licence)?;
     if facts.open_count >= MOST_OPEN {
-        return Err(Stop::Refused(Refusal::TooManyOpen));
+        return Err(Rejection::Refused(Refusal::TooManyOpen));
     }
     if facts.petitions >= MOST_PETITIONS {
-        return Err(Stop::Refused(Refusal::Full));
+        return Err(Rejection::Refused(Refusal::Full));
     }
     check_wanted(facts, vid, it.want, &it.org)?;
     Ok(Act::Asked {
@@ -90,13 +90,13 @@ pub(crate) fn ask(facts: &Facts<'_>, caller: &Slug, it: &Ask) -> Result<Act, Sto
 }
 
 #[tactic(auto, unfolding(crate::specs::OnFacts::outcome_on))]
-pub(crate) fn grant(facts: &Facts<'_>, caller: &Slug, it: &Grant) -> Result<Act, Stop>
+pub(crate) fn grant(facts: &Facts<'_>, caller: &Slug, it: &Grant) -> Result<Act, Rejection>
     ensures { Gives result (outcome_on facts.now caller.now (orders.Grant it.now)) }
 {
     check_curator(facts.founding, caller)?;
     let petition = check_petition(facts)?;
     let Some(pid) = it.number.or(petition.want).or(facts.least) else {
-        return Err(Stop::Refused(Refusal::NoneFree));
+        return Err(Rejection::Refused(Refusal::NoneFree));
     };
     let number = Number {
         vid: petition.vid,
@@ -111,7 +111,7 @@ pub(crate) fn grant(facts: &Facts<'_>, caller: &Slug, it: &Grant) -> Result<Act,
 }
 
 #[tactic(auto, unfolding(crate::specs::OnFacts::outcome_on))]
-pub(crate) fn decline(facts: &Facts<'_>, caller: &Slug, it: &Decline) -> Result<Act, Stop>
+pub(crate) fn decline(facts: &Facts<'_>, caller: &Slug, it: &Decline) -> Result<Act, Rejection>
     ensures { Gives result (outcome_on facts.now caller.now (orders.Decline it.now)) }
 {
     check_curator(facts.founding, caller)?;
@@ -123,11 +123,11 @@ pub(crate) fn decline(facts: &Facts<'_>, caller: &Slug, it: &Decline) -> Result<
 }
 
 #[tactic(auto, unfolding(crate::specs::OnFacts::outcome_on))]
-pub(crate) fn withdraw(facts: &Facts<'_>, caller: &Slug, it: &Withdraw) -> Result<Act, Stop>
+pub(crate) fn withdraw(facts: &Facts<'_>, caller: &Slug, it: &Withdraw) -> Result<Act, Rejection>
     ensures { Gives result (outcome_on facts.now caller.now (orders.Withdraw it.now)) }
 {
     if facts.petition.is_none() {
-        return Err(Stop::Refused(Refusal::NoPetition));
+        return Err(Rejection::Refused(Refusal::NoPetition));
     }
     check_known_keeper(facts, caller)?;
     let petition = check_petition(facts)?;
@@ -138,7 +138,7 @@ pub(crate) fn withdraw(facts: &Facts<'_>, caller: &Slug, it: &Withdraw) -> Resul
 }
 
 #[tactic(auto, unfolding(crate::specs::OnFacts::outcome_on))]
-pub(crate) fn amend(facts: &Facts<'_>, caller: &Slug, it: &Amend) -> Result<Act, Stop>
+pub(crate) fn amend(facts: &Facts<'_>, caller: &Slug, it: &Amend) -> Result<Act, Rejection>
     ensures { Gives result (outcome_on facts.now caller.now (orders.Amend it.now)) }
 {
     let number = Number {
@@ -157,7 +157,7 @@ pub(crate) fn amend(facts: &Facts<'_>, caller: &Slug, it: &Amend) -> Result<Act,
 }
 
 #[tactic(auto, unfolding(crate::specs::OnFacts::outcome_on))]
-pub(crate) fn give_back(facts: &Facts<'_>, caller: &Slug, it: &Return) -> Result<Act, Stop>
+pub(crate) fn give_back(facts: &Facts<'_>, caller: &Slug, it: &Return) -> Result<Act, Rejection>
     ensures { Gives result (outcome_on facts.now caller.now (orders.Return it.now)) }
 {
     let number = Number {
@@ -170,15 +170,15 @@ pub(crate) fn give_back(facts: &Facts<'_>, caller: &Slug, it: &Return) -> Result
 }
 
 #[tactic(auto, unfolding(crate::specs::OnFacts::outcome_on))]
-pub(crate) fn add_vendor(facts: &Facts<'_>, caller: &Slug, it: &AddVendor) -> Result<Act, Stop>
+pub(crate) fn add_vendor(facts: &Facts<'_>, caller: &Slug, it: &AddVendor) -> Result<Act, Rejection>
     ensures { Gives result (outcome_on facts.now caller.now (orders.AddVendor it.now)) }
 {
     check_curator(facts.founding, caller)?;
     if facts.vendors.contains(it.vendor) {
-        return Err(Stop::Refused(Refusal::VendorTaken));
+        return Err(Rejection::Refused(Refusal::VendorTaken));
     }
     if facts.vendors.len() >= MOST_VENDORS {
-        return Err(Stop::Refused(Refusal::Full));
+        return Err(Rejection::Refused(Refusal::Full));
     }
     Ok(Act::VendorAdded {
         vendor: it.vendor,
@@ -187,15 +187,15 @@ pub(crate) fn add_vendor(facts: &Facts<'_>, caller: &Slug, it: &AddVendor) -> Re
 }
 
 #[tactic(auto, unfolding(crate::specs::OnFacts::outcome_on))]
-pub(crate) fn add_licence(facts: &Facts<'_>, caller: &Slug, it: &AddLicence) -> Result<Act, Stop>
+pub(crate) fn add_licence(facts: &Facts<'_>, caller: &Slug, it: &AddLicence) -> Result<Act, Rejection>
     ensures { Gives result (outcome_on facts.now caller.now (orders.AddLicence it.now)) }
 {
     check_curator(facts.founding, caller)?;
     if facts.founding.licences.contains(&it.licence) {
-        return Err(Stop::Refused(Refusal::LicenceTaken));
+        return Err(Rejection::Refused(Refusal::LicenceTaken));
     }
     if facts.founding.licences.len() >= MOST_LICENCES {
-        return Err(Stop::Refused(Refusal::Full));
+        return Err(Rejection::Refused(Refusal::Full));
     }
     Ok(Act::LicenceAdded {
         licence: it.licence.clone()?,

@@ -6,7 +6,7 @@ ghost use Rattle.registry_rules.specs.OnFacts.{is_owned_in, least_with, span_mee
 ghost use Rattle.registry_rules.specs.declared.order.Order.TheVariants as orders;
 
 use crate::checks::{check_curator, check_vendor, number_name, span_name};
-use crate::stop::Stop;
+use crate::rejection::Rejection;
 use crate::{Act, Facts, Founding, Holding, Holdings, Refusal, Release, Reserve};
 use usbnum_core::{Number, Pid, Slug, Span, Spans, Vid};
 
@@ -59,35 +59,35 @@ fn least_owned(holdings: &Holdings, vid: Vid, span: &Span) -> Option<Pid>
 }
 
 #[tactic(auto, unfolding(crate::specs::OnFacts::outcome_on))]
-pub(crate) fn reserve(facts: &Facts<'_>, caller: &Slug, it: &Reserve) -> Result<Act, Stop>
+pub(crate) fn reserve(facts: &Facts<'_>, caller: &Slug, it: &Reserve) -> Result<Act, Rejection>
     ensures { Gives result (outcome_on facts.now caller.now (orders.Reserve it.now)) }
 {
     let vid = facts.vendor;
     check_curator(facts.founding, caller)?;
     check_vendor(facts, vid)?;
     if meets_fixed(facts.founding, vid, &it.span) {
-        return Err(Stop::Refused(Refusal::RangeFixed));
+        return Err(Rejection::Refused(Refusal::RangeFixed));
     }
     let name = span_name(facts.founding, vid, &it.span);
     if let Some(pid) = least_owned(&facts.holdings, vid, &it.span) {
         let name = number_name(facts.founding, &Number { vid, pid });
-        return Err(Stop::Refused(Refusal::RangeOwned(name)));
+        return Err(Rejection::Refused(Refusal::RangeOwned(name)));
     }
     Ok(Act::Reserved { name })
 }
 
 #[tactic(auto, unfolding(crate::specs::OnFacts::outcome_on))]
-pub(crate) fn release(facts: &Facts<'_>, caller: &Slug, it: &Release) -> Result<Act, Stop>
+pub(crate) fn release(facts: &Facts<'_>, caller: &Slug, it: &Release) -> Result<Act, Rejection>
     ensures { Gives result (outcome_on facts.now caller.now (orders.Release it.now)) }
 {
     let vid = facts.vendor;
     check_curator(facts.founding, caller)?;
     check_vendor(facts, vid)?;
     if meets_fixed(facts.founding, vid, &it.span) {
-        return Err(Stop::Refused(Refusal::RangeFixed));
+        return Err(Rejection::Refused(Refusal::RangeFixed));
     }
     if !is_reserved(facts.reserved, &it.span) {
-        return Err(Stop::Refused(Refusal::RangeNotReserved));
+        return Err(Rejection::Refused(Refusal::RangeNotReserved));
     }
     let name = span_name(facts.founding, vid, &it.span);
     Ok(Act::Released { name })

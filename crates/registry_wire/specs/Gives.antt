@@ -1,8 +1,8 @@
 -- Readings that may be refused, and what a function that reads returns.
 use Rattle.std.specs.Prelude.{◌≡◌, ⊤, Option, Some, None, Result, Ok, Err}
 use Rattle.registry_wire.specs.declared.refusal.WireRefusal.{WireRefusal}
-use Rattle.registry_wire.specs.declared.stop.Stop.{Stop}
-use Rattle.registry_wire.specs.declared.stop.Stop.TheVariants.{Refused, OutOfMemory}
+use Rattle.registry_wire.specs.declared.rejection.Rejection.{Rejection}
+use Rattle.registry_wire.specs.declared.rejection.Rejection.TheVariants.{Refused, OutOfMemory}
 
 -- one reading after the other: the first refusal is the whole's
 infixl 10 ◌>>=◌
@@ -16,13 +16,13 @@ present refusal None = Err refusal
 present refusal (Some x) = Ok x
 
 -- what was answered is the reading, unless memory ran out
-abbrev pub Gives : {A : Type 0} → Result A Stop → Result A WireRefusal → Type 0
+abbrev pub Gives : {A : Type 0} → Result A Rejection → Result A WireRefusal → Type 0
 Gives (Ok x) reading = reading ≡ Ok x
 Gives (Err (Refused refusal)) reading = reading ≡ Err refusal
 Gives (Err OutOfMemory) reading = ⊤
 
 -- the same of a value that stands for what is read
-abbrev pub GivesSeen : {A B : Type 0} → (A → B) → Result A Stop → Result B WireRefusal → Type 0
+abbrev pub GivesSeen : {A B : Type 0} → (A → B) → Result A Rejection → Result B WireRefusal → Type 0
 GivesSeen seen (Ok x) reading = reading ≡ Ok (seen x)
 GivesSeen seen (Err (Refused refusal)) reading = reading ≡ Err refusal
 GivesSeen seen (Err OutOfMemory) reading = ⊤

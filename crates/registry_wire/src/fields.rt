@@ -10,7 +10,7 @@ ghost use Rattle.registry_wire.specs.Reading.{wanted, text_in, given_in, slug_in
 use crate::kind::{Kind, kind_of};
 use crate::link::link_of;
 use crate::span::span_of;
-use crate::stop::{Stop, present};
+use crate::rejection::{Rejection, present};
 use crate::text::{key_of, slug_of, title_of};
 use crate::{Field, WireRefusal};
 use serde_json::Value;
@@ -18,7 +18,7 @@ use std::alloc::Global;
 use usbnum_core::{Key, Link, Pid, Slug, Span, Title, Vid, parse_pid, parse_vid};
 
 // The value of a field, or that the field is bad.
-fn wanted<T>(field: Field, found: Option<T>) -> Result<T, Stop>
+fn wanted<T>(field: Field, found: Option<T>) -> Result<T, Rejection>
     ensures { Gives result (wanted field found) }
 {
     present(WireRefusal::BadField(field), found)
@@ -35,7 +35,7 @@ fn text_at(value: &Value, field: Field) -> Option<&str>
 }
 
 #[tactic(auto, unfolding(crate::specs::Reading::slug_in))]
-pub(crate) fn slug_at(alloc: Global, value: &Value, field: Field) -> Result<Slug, Stop>
+pub(crate) fn slug_at(alloc: Global, value: &Value, field: Field) -> Result<Slug, Rejection>
     ensures { Gives result (slug_in field (view value.now)) }
 {
     let Some(text) = text_at(value, field) else {
@@ -45,7 +45,7 @@ pub(crate) fn slug_at(alloc: Global, value: &Value, field: Field) -> Result<Slug
 }
 
 #[tactic(auto, unfolding(crate::specs::Reading::key_in))]
-pub(crate) fn key_at(alloc: Global, value: &Value, field: Field) -> Result<Key, Stop>
+pub(crate) fn key_at(alloc: Global, value: &Value, field: Field) -> Result<Key, Rejection>
     ensures { Gives result (key_in field (view value.now)) }
 {
     let Some(text) = text_at(value, field) else {
@@ -55,7 +55,7 @@ pub(crate) fn key_at(alloc: Global, value: &Value, field: Field) -> Result<Key, 
 }
 
 #[tactic(auto, unfolding(crate::specs::Reading::title_in))]
-pub(crate) fn title_at(alloc: Global, value: &Value, field: Field) -> Result<Title, Stop>
+pub(crate) fn title_at(alloc: Global, value: &Value, field: Field) -> Result<Title, Rejection>
     ensures { Gives result (title_in field (view value.now)) }
 {
     let Some(text) = text_at(value, field) else {
@@ -65,7 +65,7 @@ pub(crate) fn title_at(alloc: Global, value: &Value, field: Field) -> Result<Tit
 }
 
 #[tactic(auto, unfolding(crate::specs::Reading::link_in))]
-pub(crate) fn link_at(alloc: Global, value: &Value, field: Field) -> Result<Link, Stop>
+pub(crate) fn link_at(alloc: Global, value: &Value, field: Field) -> Result<Link, Rejection>
     ensures { Gives result (link_in field (view value.now)) }
 {
     let Some(text) = text_at(value, field) else {
@@ -75,7 +75,7 @@ pub(crate) fn link_at(alloc: Global, value: &Value, field: Field) -> Result<Link
 }
 
 #[tactic(auto, unfolding(crate::specs::Reading::kind_in))]
-pub(crate) fn kind_at(value: &Value) -> Result<Kind, Stop>
+pub(crate) fn kind_at(value: &Value) -> Result<Kind, Rejection>
     ensures { Gives result (kind_in (view value.now)) }
 {
     let Some(text) = text_at(value, Field::Order) else {
@@ -85,7 +85,7 @@ pub(crate) fn kind_at(value: &Value) -> Result<Kind, Stop>
 }
 
 #[tactic(auto, unfolding(crate::specs::Reading::number_in))]
-pub(crate) fn pid_at(value: &Value, field: Field) -> Result<Pid, Stop>
+pub(crate) fn pid_at(value: &Value, field: Field) -> Result<Pid, Rejection>
     ensures { Gives result (number_in field (view value.now)) }
 {
     let Some(text) = text_at(value, field) else {
@@ -95,7 +95,7 @@ pub(crate) fn pid_at(value: &Value, field: Field) -> Result<Pid, Stop>
 }
 
 #[tactic(auto, unfolding(crate::specs::Reading::number_in))]
-pub(crate) fn vid_at(value: &Value, field: Field) -> Result<Vid, Stop>
+pub(crate) fn vid_at(value: &Value, field: Field) -> Result<Vid, Rejection>
     ensures { Gives result (number_in field (view value.now)) }
 {
     let Some(text) = text_at(value, field) else {
@@ -125,7 +125,7 @@ fn vid_of(value: &Value) -> Option<Vid>
 }
 
 #[tactic(auto, unfolding(crate::specs::Reading::optional_number_in))]
-pub(crate) fn optional_pid_at(value: &Value, field: Field) -> Result<Option<Pid>, Stop>
+pub(crate) fn optional_pid_at(value: &Value, field: Field) -> Result<Option<Pid>, Rejection>
     ensures { Gives result (optional_number_in field (view value.now)) }
 {
     match given_at(value, field) {
@@ -135,7 +135,7 @@ pub(crate) fn optional_pid_at(value: &Value, field: Field) -> Result<Option<Pid>
 }
 
 #[tactic(auto, unfolding(crate::specs::Reading::optional_number_in))]
-pub(crate) fn optional_vid_at(value: &Value, field: Field) -> Result<Option<Vid>, Stop>
+pub(crate) fn optional_vid_at(value: &Value, field: Field) -> Result<Option<Vid>, Rejection>
     ensures { Gives result (optional_number_in field (view value.now)) }
 {
     match given_at(value, field) {
@@ -166,7 +166,7 @@ fn whole_at(value: &Value, field: Field) -> Option<u64>
 }
 
 #[tactic(auto, unfolding(crate::specs::Reading::petition_in))]
-pub(crate) fn petition_at(value: &Value) -> Result<u32, Stop>
+pub(crate) fn petition_at(value: &Value) -> Result<u32, Rejection>
     ensures { Gives result (petition_in (view value.now)) }
 {
     match whole_at(value, Field::Petition) {
@@ -176,7 +176,7 @@ pub(crate) fn petition_at(value: &Value) -> Result<u32, Stop>
 }
 
 #[tactic(auto, unfolding(crate::specs::Reading::span_in))]
-pub(crate) fn span_at(value: &Value) -> Result<Span, Stop>
+pub(crate) fn span_at(value: &Value) -> Result<Span, Rejection>
     ensures { Gives result (span_in (view value.now)) }
 {
     let first = pid_at(value, Field::First)?;

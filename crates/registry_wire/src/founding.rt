@@ -9,7 +9,7 @@ ghost use Rattle.usbnum_core.specs.Spans.{span_has, spans_have};
 ghost use Rattle.registry_wire.specs.Founding.{value_in, one_in, some_in, fixed_in, listed_in, table_of, founding_listed, Founds, ReadsAs};
 ghost use Rattle.registry_wire.specs.Listing.{seen};
 
-use crate::stop::{Stop, present};
+use crate::rejection::{Rejection, present};
 use crate::toml_value::{FromToml, all_of};
 use crate::{FoundingFault, WireRefusal};
 use registry_rules::limits::{MOST_CURATORS, MOST_LICENCES};
@@ -36,7 +36,7 @@ fn value_at<'a>(table: &'a Table, key: FoundingFault) -> Option<&'a Value>
 }
 
 #[tactic(auto, unfolding(crate::specs::Founding::one_in))]
-fn one_at<T: FromToml>(alloc: Global, table: &Table, key: FoundingFault) -> Result<T, Stop>
+fn one_at<T: FromToml>(alloc: Global, table: &Table, key: FoundingFault) -> Result<T, Rejection>
     ensures { Gives result (one_in T.kind key (table_view table.now)) }
 {
     let Some(found) = value_at(table, key) else {
@@ -52,61 +52,61 @@ fn some_at<T: FromToml>(
     table: &Table,
     key: FoundingFault,
     most: usize,
-) -> Result<Vec<T>, Stop>
+) -> Result<Vec<T>, Rejection>
     ensures reading { GivesSeen (λ list. list.items) result (some_in T.kind most key (table_view table.now)) }
     ensures counted { IfOk result (λ list. (1 ≤ length list.items) × (length list.items ≤ most)) }
 {
     let Some(found) = value_at(table, key) else {
-        return Err(Stop::Refused(WireRefusal::BadFounding(key)));
+        return Err(Rejection::Refused(WireRefusal::BadFounding(key)));
     };
     let Some(array) = found.as_array() else {
-        return Err(Stop::Refused(WireRefusal::BadFounding(key)));
+        return Err(Rejection::Refused(WireRefusal::BadFounding(key)));
     };
     match all_of(alloc, array)? {
         Some(list) => {
             if list.is_empty() || list.len() > most {
-                return Err(Stop::Refused(WireRefusal::BadFounding(key)));
+                return Err(Rejection::Refused(WireRefusal::BadFounding(key)));
             }
             Ok(list)
         }
-        None => Err(Stop::Refused(WireRefusal::BadFounding(key))),
+        None => Err(Rejection::Refused(WireRefusal::BadFounding(key))),
     }
 }
 
 #[tactic(auto, unfolding(crate::specs::Founding::fixed_in))]
-fn fixed_at(alloc: Global, table: &Table) -> Result<Vec<Span>, Stop>
+fn fixed_at(alloc: Global, table: &Table) -> Result<Vec<Span>, Rejection>
     ensures { GivesSeen (λ list. list.items) result (fixed_in (table_view table.now)) }
 {
     let Some(found) = value_at(table, FoundingFault::Fixed) else {
         return Ok(Vec::new(alloc));
     };
     let Some(array) = found.as_array() else {
-        return Err(Stop::Refused(WireRefusal::BadFounding(FoundingFault::Fixed)));
+        return Err(Rejection::Refused(WireRefusal::BadFounding(FoundingFault::Fixed)));
     };
     match all_of(alloc, array)? {
         Some(list) => Ok(list),
-        None => Err(Stop::Refused(WireRefusal::BadFounding(FoundingFault::Fixed))),
+        None => Err(Rejection::Refused(WireRefusal::BadFounding(FoundingFault::Fixed))),
     }
 }
 
 #[tactic(auto, unfolding(crate::specs::Founding::table_of))]
-fn table_of(alloc: Global, bytes: &[u8]) -> Result<Table, Stop>
+fn table_of(alloc: Global, bytes: &[u8]) -> Result<Table, Rejection>
     ensures { GivesSeen table_view result (table_of bytes.now) }
 {
     match toml::table_from_slice(alloc, bytes) {
         Ok(table) => Ok(table),
         Err(error) => {
             if error.is_memory() {
-                Err(Stop::OutOfMemory)
+                Err(Rejection::OutOfMemory)
             } else {
-                Err(Stop::Refused(WireRefusal::BadFounding(FoundingFault::Toml)))
+                Err(Rejection::Refused(WireRefusal::BadFounding(FoundingFault::Toml)))
             }
         }
     }
 }
 
 #[tactic(auto, unfolding(crate::specs::Founding::listed_in))]
-fn listing_at(alloc: Global, table: &Table) -> Result<Listing, Stop>
+fn listing_at(alloc: Global, table: &Table) -> Result<Listing, Rejection>
     ensures reading { GivesSeen seen result (listed_in (table_view table.now)) }
     ensures curators { IfOk result (λ listing. (1 ≤ length listing.curators.items) × (length listing.curators.items ≤ MOST_CURATORS)) }
     ensures licences { IfOk result (λ listing. (1 ≤ length listing.licences.items) × (length listing.licences.items ≤ MOST_LICENCES)) }
@@ -126,7 +126,7 @@ fn listing_at(alloc: Global, table: &Table) -> Result<Listing, Stop>
 }
 
 #[tactic(auto, unfolding(crate::specs::Founding::founding_listed))]
-fn read_listing(alloc: Global, bytes: &[u8]) -> Result<Listing, Stop>
+fn read_listing(alloc: Global, bytes: &[u8]) -> Result<Listing, Rejection>
     ensures reading { GivesSeen seen result (founding_listed bytes.now) }
     ensures curators { IfOk result (λ listing. (1 ≤ length listing.curators.items) × (length listing.curators.items ≤ MOST_CURATORS)) }
     ensures licences { IfOk result (λ listing. (1 ≤ length listing.licences.items) × (length listing.licences.items ≤ MOST_LICENCES)) }
@@ -180,7 +180,7 @@ pub fn founding_from_toml(
 {
     match read_listing(alloc, bytes) {
         Ok(listing) => Ok(Ok(founding_of(alloc, listing)?)),
-        Err(Stop::Refused(refusal)) => Ok(Err(refusal)),
-        Err(Stop::OutOfMemory) => Err(NoMemory),
+        Err(Rejection::Refused(refusal)) => Ok(Err(refusal)),
+        Err(Rejection::OutOfMemory) => Err(NoMemory),
     }
 }

@@ -7,7 +7,7 @@ ghost use Rattle.registry_wire.specs.Reading.{object_of, body_reading, line_read
 
 use crate::fields::{key_at, slug_at};
 use crate::orders::order_at;
-use crate::stop::Stop;
+use crate::rejection::Rejection;
 use crate::{Field, WireRefusal};
 use registry_rules::Request;
 use serde_json::Value;
@@ -16,7 +16,7 @@ use usbnum_core::{Key, NoMemory, Slug};
 
 // The JSON object that the bytes are.
 #[tactic(auto, unfolding(crate::specs::Reading::object_of))]
-fn object_of(alloc: Global, bytes: &[u8]) -> Result<Value, Stop>
+fn object_of(alloc: Global, bytes: &[u8]) -> Result<Value, Rejection>
     ensures { GivesSeen view result (object_of bytes.now) }
 {
     match Value::from_slice(alloc, bytes) {
@@ -24,21 +24,21 @@ fn object_of(alloc: Global, bytes: &[u8]) -> Result<Value, Stop>
             if value.is_object() {
                 Ok(value)
             } else {
-                Err(Stop::Refused(WireRefusal::BadJson))
+                Err(Rejection::Refused(WireRefusal::BadJson))
             }
         }
         Err(error) => {
             if error.is_memory() {
-                Err(Stop::OutOfMemory)
+                Err(Rejection::OutOfMemory)
             } else {
-                Err(Stop::Refused(WireRefusal::BadJson))
+                Err(Rejection::Refused(WireRefusal::BadJson))
             }
         }
     }
 }
 
 #[tactic(auto, unfolding(crate::specs::Reading::line_reading))]
-fn read_line(alloc: Global, bytes: &[u8]) -> Result<Request, Stop>
+fn read_line(alloc: Global, bytes: &[u8]) -> Result<Request, Rejection>
     ensures { Gives result (line_reading bytes.now) }
 {
     let value = object_of(alloc, bytes)?;
@@ -49,7 +49,7 @@ fn read_line(alloc: Global, bytes: &[u8]) -> Result<Request, Stop>
 }
 
 #[tactic(auto, unfolding(crate::specs::Reading::body_reading))]
-fn read_body(alloc: Global, caller: Slug, key: Key, bytes: &[u8]) -> Result<Request, Stop>
+fn read_body(alloc: Global, caller: Slug, key: Key, bytes: &[u8]) -> Result<Request, Rejection>
     ensures { Gives result (body_reading caller key bytes.now) }
 {
     let value = object_of(alloc, bytes)?;
@@ -63,8 +63,8 @@ pub fn line_request(alloc: Global, line: &[u8]) -> Result<Result<Request, WireRe
 {
     match read_line(alloc, line) {
         Ok(request) => Ok(Ok(request)),
-        Err(Stop::Refused(refusal)) => Ok(Err(refusal)),
-        Err(Stop::OutOfMemory) => Err(NoMemory),
+        Err(Rejection::Refused(refusal)) => Ok(Err(refusal)),
+        Err(Rejection::OutOfMemory) => Err(NoMemory),
     }
 }
 
@@ -79,7 +79,7 @@ pub fn request_from_json(
 {
     match read_body(alloc, caller, key, body) {
         Ok(request) => Ok(Ok(request)),
-        Err(Stop::Refused(refusal)) => Ok(Err(refusal)),
-        Err(Stop::OutOfMemory) => Err(NoMemory),
+        Err(Rejection::Refused(refusal)) => Ok(Err(refusal)),
+        Err(Rejection::OutOfMemory) => Err(NoMemory),
     }
 }

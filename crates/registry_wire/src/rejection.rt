@@ -8,28 +8,28 @@ use usbnum_core::NoMemory;
 
 // Why nothing was read.
 #[derive(Clone, Copy, Debug, PartialEq, Eq)]
-pub(crate) enum Stop {
+pub(crate) enum Rejection {
     Refused(WireRefusal),
     OutOfMemory,
 }
 
-impl From<NoMemory> for Stop {
+impl From<NoMemory> for Rejection {
     ghost use Rattle.std.specs.Prelude.{◌≡◌};
-    ghost use Rattle.registry_wire.specs.declared.stop.Stop.TheVariants.{OutOfMemory};
+    ghost use Rattle.registry_wire.specs.declared.rejection.Rejection.TheVariants.{OutOfMemory};
 
-    ghost from_gives = { λ _ stop. stop ≡ OutOfMemory };
+    ghost from_gives = { λ _ rejection. rejection ≡ OutOfMemory };
 
-    fn from(_error: NoMemory) -> Stop {
-        Stop::OutOfMemory
+    fn from(_error: NoMemory) -> Rejection {
+        Rejection::OutOfMemory
     }
 }
 
 // The value, or the refusal where there is none.
-pub(crate) fn present<T>(refusal: WireRefusal, found: Option<T>) -> Result<T, Stop>
+pub(crate) fn present<T>(refusal: WireRefusal, found: Option<T>) -> Result<T, Rejection>
     ensures { Gives result (present refusal found) }
 {
     match found {
         Some(value) => Ok(value),
-        None => Err(Stop::Refused(refusal)),
+        None => Err(Rejection::Refused(refusal)),
     }
 }
