@@ -6,8 +6,8 @@ use crate::steps::{EACH_KIND, TEN};
 use crate::values::{founding, requests_of};
 use registry_rules::Request;
 use registry_store::{
-    Closed, Registry, close_and_open, close_files, crash_and_open, crash_and_open_store, leave,
-    leave_and_open, open_files, stop, take_up,
+    Closed, Registry, abandon, close_and_open, close_files, crash_and_open, crash_and_open_store,
+    leave, leave_and_open, open_files, take_up,
 };
 use sqlite::{Connection, FileStore, Files};
 use sqlite_disk::{Crash, Disk};
@@ -49,7 +49,7 @@ fn stop_and_open<D: Disk + Drop>(
     alloc: Global,
     registry: Registry<FileStore<D>>,
 ) -> Option<Registry<FileStore<D>>> {
-    open_again(alloc, stop(registry).close())
+    open_again(alloc, abandon(registry).close())
 }
 
 fn close_store_and_open<D: Disk + Drop>(
