@@ -14,7 +14,7 @@ use Rattle.registry_tables.specs.Calls.{HasNoMeta}
 use Rattle.registry_store.specs.declared.fault.Fault.{Fault}
 use Rattle.registry_store.specs.declared.fault.Fault.TheVariants as faults
 use Rattle.registry_store.specs.declared.registry.Registry.{Registry}
-use Rattle.registry_store.specs.Promise.{Stands, state_of}
+use Rattle.registry_store.specs.Promise.{Represents, state_of}
 use Rattle.registry_store.specs.Run.{HasAnswered}
 use Rattle.registry_wire.specs.declared.refusal.WireRefusal.{WireRefusal}
 use Rattle.registry_wire.specs.Founding.{Listed}
@@ -70,7 +70,7 @@ pub memory_is_clean : (it : Registry MemStore over_memory) → HasCleanDisk (sta
 unfolding doubt
 memory_is_clean it = refl
 
-pub tried : (OfInput OfOutput : Failure → Type 0) (it new : Registry MemStore over_memory) (founding : Founding) → IsTrial founding → Stands it (founded founding) → (read : Result (List Request) BadLine)
+pub tried : (OfInput OfOutput : Failure → Type 0) (it new : Registry MemStore over_memory) (founding : Founding) → IsTrial founding → Represents it (founded founding) → (read : Result (List Request) BadLine)
     (out out_new : Option (List ℕ)) (errors : Told) (status : ℕ) → IsApplied OfInput OfOutput it new read 0 out out_new errors status → IsTrialOf OfInput OfOutput read out out_new errors status
 tried OfInput OfOutput it new founding trial stands (Err bad) out out_new errors status applied =
     (applied.silent, elim applied.told [ inl said ↦ inl said | inr failed ↦ inr (failed.0, tells_more OfInput (IsOfStart OfInput) errors (λ failure is. inr is) failed.1) ])

@@ -13,7 +13,7 @@ use Rattle.registry_rules.specs.Run.{Legal, after}
 use Rattle.registry_rules.proofs.RunLemmas.{legal_after}
 use Rattle.registry_tables.specs.Rows.{newest}
 use Rattle.registry_store.specs.declared.registry.Registry.{Registry}
-use Rattle.registry_store.specs.Promise.{Leaves, Stands, state_of}
+use Rattle.registry_store.specs.Promise.{Leaves, Represents, state_of}
 use Rattle.registry_store.specs.Reopen.{IsEither}
 use Rattle.registry_store.specs.Run.{HasAnswered, IsPlace}
 use Rattle.registry_store.proofs.RunLemmas.{leaves_weaker}
@@ -30,26 +30,26 @@ module _ {S : Type 0} {g : Ghosts S} where
   -- the registry is opened at one of the histories that the last one left
   abbrev pub Opens : Registry S g → Registry S g → Type 0
   Opens last it = (h next : History) → Legal h → Legal next → (HasCleanDisk (state_of last) → Leaves newest (state_of last) (IsEither h next))
-      → HasCleanDisk (state_of it) → ∥ ((x : History) × IsEither h next x × Stands it x) ∥₁
+      → HasCleanDisk (state_of it) → ∥ ((x : History) × IsEither h next x × Represents it x) ∥₁
 
-  at_place : (it : Registry S g) (h : History) (rs : List Request) (n : ℕ) (x : History) → IsEither (after h (take n rs)) (after h (take (n + 1) rs)) x → Stands it x → HasAnswered it h rs n
-  at_place it h rs n x (inl e) stands = inl (subst (Stands it) e stands)
+  at_place : (it : Registry S g) (h : History) (rs : List Request) (n : ℕ) (x : History) → IsEither (after h (take n rs)) (after h (take (n + 1) rs)) x → Represents it x → HasAnswered it h rs n
+  at_place it h rs n x (inl e) stands = inl (subst (Represents it) e stands)
   at_place it h rs n x (inr e) stands = elim (cases_lt n (length rs)) [
-    | inl more ↦ inr (more, subst (Stands it) e stands)
-    | inr none ↦ inl (subst (Stands it) (e ∙ ap (after h) (take_all (n + 1) rs (omega (arith, none)) ∙ sym (take_all n rs none))) stands)
+    | inl more ↦ inr (more, subst (Represents it) e stands)
+    | inr none ↦ inl (subst (Represents it) (e ∙ ap (after h) (take_all (n + 1) rs (omega (arith, none)) ∙ sym (take_all n rs none))) stands)
   ]
 
   module _ (first last it : Registry S g) (opens : Opens last it) (before : HasCleanDisk (state_of it) → HasCleanDisk (state_of last)) where
     -- a registry is opened where it stood
-    stays : (h : History) → Stands last h → HasCleanDisk (state_of it) → ∥ Stands it h ∥₁
+    stays : (h : History) → Represents last h → HasCleanDisk (state_of it) → ∥ Represents it h ∥₁
     stays h stands clean =
         let legal = stands.counts.legal in
         ∥∥₁_map (opens h h legal legal (λ was. leaves_weaker newest (state_of last) (λ x. x ≡ h) (IsEither h h) (λ x e. inl e) (stands.at.left was)) clean)
-        (λ found. subst (Stands it) (elim found.1 [ inl e ↦ e | inr e ↦ e ]) found.2)
+        (λ found. subst (Represents it) (elim found.1 [ inl e ↦ e | inr e ↦ e ]) found.2)
 
     -- nothing was acted on
-    as_before : last ≡ first → (h : History) → Stands first h → HasCleanDisk (state_of it) → ∥ Stands it h ∥₁
-    as_before same h stands = stays h (subst (λ (x : Registry S g). Stands x h) (sym same) stands)
+    as_before : last ≡ first → (h : History) → Represents first h → HasCleanDisk (state_of it) → ∥ Represents it h ∥₁
+    as_before same h stands = stays h (subst (λ (x : Registry S g). Represents x h) (sym same) stands)
 
     placed : (h : History) (rs : List Request) (n : ℕ) → Legal h → Leaves newest (state_of last) (IsPlace h rs n) → HasCleanDisk (state_of it) → ∥ HasAnswered it h rs n ∥₁
     placed h rs n legal leaves clean =
@@ -105,7 +105,7 @@ module _ {S : Type 0} {g : Ghosts S} where
 
   abbrev pub MayOpen : Registry S g → Option (Registry S g) → Type 0
   MayOpen last opened = (h next : History) → Legal h → Legal next → (HasCleanDisk (state_of last) → Leaves newest (state_of last) (IsEither h next))
-      → IfSome opened (λ it. HasCleanDisk (state_of it) → ∥ ((x : History) × IsEither h next x × Stands it x) ∥₁)
+      → IfSome opened (λ it. HasCleanDisk (state_of it) → ∥ ((x : History) × IsEither h next x × Represents it x) ∥₁)
 
   -- the same of a registry that may be opened
   pub if_reopened : (OfInput OfOutput : Failure → Type 0) (first last : Registry S g) (read : Result (List Request) BadLine) (a : ℕ) (out out_new : Option (List ℕ)) (errors : Told) (status : ℕ)

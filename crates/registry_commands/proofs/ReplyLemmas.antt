@@ -12,7 +12,7 @@ use Rattle.registry_rules.specs.Run.{after}
 use Rattle.registry_store.specs.declared.registry.Registry.{Registry}
 use Rattle.registry_store.specs.declared.replies.RunStop.{RunStop}
 use Rattle.registry_store.specs.declared.replies.RunStop.TheVariants as stop
-use Rattle.registry_store.specs.Promise.{Stands, is_poisoned}
+use Rattle.registry_store.specs.Promise.{Represents, is_poisoned}
 use Rattle.registry_store.specs.RunTo.{HaveTaken, IsCutBy, IsHalted, IsLeftAt}
 use Rattle.registry_commands.specs.declared.replies.ReplyLines.{ReplyLines}
 use Rattle.registry_commands.specs.Messages.{reply_line, reply_lines}
@@ -21,7 +21,7 @@ use Rattle.registry_commands.specs.Replies.{CutsLine, TakesLine}
 use Rattle.registry_commands.proofs.ApplyLemmas.{keeps_same, no_beginning}
 
 module _ {S : Type 0} {g : Ghosts S} (it : Registry S g) (h : History) where
-  poisoned_or_there : (why : RunStop) → IsLeftAt why it h → (is_poisoned it ≡ true) ⊎ Stands it h
+  poisoned_or_there : (why : RunStop) → IsLeftAt why it h → (is_poisoned it ≡ true) ⊎ Represents it h
   poisoned_or_there (stop.Fault fault) poisoned = inl poisoned
   poisoned_or_there stop.Cut stands = inr stands
 
@@ -60,7 +60,7 @@ module _ {W : Type 0} (contents : W → Option (List ℕ)) (failures : W → ℕ
 
   -- nothing of it is out, or its request is acted on
   next_acted : {S : Type 0} {g : Ghosts S} (it : Registry S g) (h : History) (why : RunStop) (middle new : ReplyLines W) (next : Reply) → IsCutBy (CutsLine contents failures) why middle new next
-      → IsLeftAt why it h → Keeps (contents middle.output.now) (contents new.output.now) ⊎ Stands it h
+      → IsLeftAt why it h → Keeps (contents middle.output.now) (contents new.output.now) ⊎ Represents it h
   next_acted it h (stop.Fault fault) middle new next cut poisoned =
       inl (subst (λ (k : ReplyLines W). Keeps (contents middle.output.now) (contents k.output.now)) (sym cut.0) (keeps_same (contents middle.output.now)))
   next_acted it h stop.Cut middle new next cut stands = inr stands

@@ -7,7 +7,7 @@ use Rattle.registry_rules.specs.History.{History}
 use Rattle.registry_store.specs.declared.fault.Fault.{Fault}
 use Rattle.registry_store.specs.declared.fault.Fault.TheVariants as faults
 use Rattle.registry_store.specs.declared.registry.Registry.{Registry}
-use Rattle.registry_store.specs.Promise.{Stands, is_poisoned, state_of}
+use Rattle.registry_store.specs.Promise.{Represents, is_poisoned, state_of}
 use Rattle.std.specs.Prelude.{true}
 use Rattle.registry_store.proofs.TransactionLemmas.{quiet_then}
 use Rattle.registry_commands.specs.declared.messages.Failure.{Failure}
@@ -19,7 +19,7 @@ use Rattle.registry_commands.specs.Shown.{IsLeft, IsOfReading}
 module _ {S : Type 0} {g : Ghosts S} where
   -- a list is not given
   pub of_list : (it new : Registry S g) (fault : Fault) → (fault ≡ faults.Poisoned → is_poisoned it ≡ true)
-      → ((h : History) → Stands it h → HasCleanDisk (state_of new) → (fault ≡ faults.Store) ⊎ (fault ≡ faults.NoMemory)) → IsOfReading it new (failure_of fault)
+      → ((h : History) → Represents it h → HasCleanDisk (state_of new) → (fault ≡ faults.Store) ⊎ (fault ≡ faults.NoMemory)) → IsOfReading it new (failure_of fault)
   of_list it new faults.Store poisoned kind = tt
   of_list it new faults.NoMemory poisoned kind = tt
   of_list it new faults.Foreign poisoned kind = λ at. elim (kind at.0 at.1 at.2) [ inl e ↦ absurd cc | inr e ↦ absurd cc ]

@@ -9,7 +9,7 @@ use Rattle.registry_rules.specs.History.{History}
 use Rattle.registry_rules.specs.Run.{after, answers}
 use Rattle.registry_tables.specs.Rows.{newest}
 use Rattle.registry_store.specs.declared.registry.Registry.{Registry}
-use Rattle.registry_store.specs.Promise.{Leaves, Stands, is_poisoned, state_of}
+use Rattle.registry_store.specs.Promise.{Leaves, Represents, is_poisoned, state_of}
 use Rattle.registry_store.specs.Run.{HasAnswered, IsPlace}
 use Rattle.registry_commands.specs.declared.lines.BadLine.{BadLine}
 use Rattle.registry_commands.specs.declared.messages.Failure.{Failure}
@@ -22,7 +22,7 @@ abbrev pub lines_between : History → List Request → ℕ → ℕ → List ℕ
 lines_between h rs a n = reply_lines (drop a (answers h (take n rs)))
 
 module _ {S : Type 0} {g : Ghosts S} where
-  -- What a run over this registry may fail of: Poisoned only where it was poisoned before, Foreign and Taken only where it stood at
+  -- What a run over this registry may fail of: Poisoned only where it was poisoned before, Foreign and Taken only where it represented
   -- none of these histories or the disk isn't clean.
   abbrev pub IsOfRun : Registry S g → Registry S g → (History → Type 0) → Failure → Type 0
   IsOfRun it new These Poisoned = is_poisoned it ≡ true
@@ -33,7 +33,7 @@ module _ {S : Type 0} {g : Ghosts S} where
   -- All requests from this place on are answered: their reply lines are out, and the registry is at the history after them.
   pub record IsThrough (it : Registry S g) (h : History) (rs : List Request) (a : ℕ) (old new : Option (List ℕ)) : Type 0 where
     pub gained : Appends old new (reply_lines (drop a (answers h rs)))
-    pub stands : Stands it (after h rs)
+    pub stands : Represents it (after h rs)
 
   -- The run stopped with n requests answered, whose reply lines are out. Of the next line nothing is out; or at most a prefix
   -- is, and the registry is at the history after its request. A crash leaves these n requests, and at most one more.
@@ -41,7 +41,7 @@ module _ {S : Type 0} {g : Ghosts S} where
     pub from : a ≤ n
     pub within : n ≤ length rs
     pub gained : (middle : Option (List ℕ)) × Appends old middle (lines_between h rs a n) × AppendsPrefix middle new (lines_between h rs n (n + 1))
-        × (Keeps middle new ⊎ Stands it (after h (take (n + 1) rs)))
+        × (Keeps middle new ⊎ Represents it (after h (take (n + 1) rs)))
     pub leaves : Leaves newest (state_of it) (IsPlace h rs n)
     pub ends : (is_poisoned it ≡ true) ⊎ HasAnswered it h rs n
 

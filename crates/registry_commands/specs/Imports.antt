@@ -16,7 +16,7 @@ use Rattle.registry_rules.specs.History.{History}
 use Rattle.registry_rules.specs.Run.{after_one, answer_one}
 use Rattle.registry_tables.specs.Rows.{newest}
 use Rattle.registry_store.specs.declared.registry.Registry.{Registry}
-use Rattle.registry_store.specs.Promise.{Endures, Leaves, Stands, is_poisoned, state_of}
+use Rattle.registry_store.specs.Promise.{Endures, Leaves, Represents, is_poisoned, state_of}
 use Rattle.registry_store.specs.RunTo.{MayBeActedOn}
 use Rattle.registry_wire.specs.Import.{import_of}
 use Rattle.registry_commands.specs.declared.importing.Import.{Import}
@@ -73,19 +73,19 @@ abbrev pub request_of : Import → ℕ → List TopEntry → Request
 request_of import founding doc = import_of import.caller import.key import.org founding import.vendor doc
 
 module _ {S : Type 0} {g : Ghosts S} where
-  -- The request was acted on: its reply's line is out, and the registry stands at the history after it.
+  -- The request was acted on: its reply's line is out, and the registry represents the history after it.
   pub record GivesReply (it new : Registry S g) (r : Request) (out out_new : Option (List ℕ)) (errors : Told) (status : ℕ) : Type 0 where
     pub reply : Reply
     pub status_is : status ≡ status_of reply
     pub gained : Appends out out_new (reply_line reply)
     pub quiet : TellsNothing errors
-    pub answered : (h : History) → MayBeActedOn it h r → HasCleanDisk (state_of new) → (reply ≡ answer_one h r) × Stands new (after_one h r)
+    pub answered : (h : History) → MayBeActedOn it h r → HasCleanDisk (state_of new) → (reply ≡ answer_one h r) × Represents new (after_one h r)
 
   -- A prefix of the reply's line is out. A crash leaves the history before the request or after it, and the registry is poisoned or stands after it.
   pub record IsCut (new : Registry S g) (h : History) (r : Request) (out out_new : Option (List ℕ)) : Type 0 where
     pub gained : AppendsPrefix out out_new (reply_line (answer_one h r))
     pub leaves : Leaves newest (state_of new) (λ x. (x ≡ h) ⊎ (x ≡ after_one h r))
-    pub ends : (is_poisoned new ≡ true) ⊎ Stands new (after_one h r)
+    pub ends : (is_poisoned new ≡ true) ⊎ Represents new (after_one h r)
 
   -- The request failed, or the output did.
   pub record IsFailed (OfOutput : Failure → Type 0) (it new : Registry S g) (r : Request) (out out_new : Option (List ℕ)) (errors : Told) (status : ℕ) : Type 0 where
@@ -105,7 +105,7 @@ module _ {S : Type 0} {g : Ghosts S} where
   -- the request of this list is acted on; or it is told why the bytes are no list, and nothing is done
   abbrev pub IsImportOf : (Failure → Type 0) → Registry S g → Registry S g → Import → Result (List TopEntry) ReadFault → Option (List ℕ) → Option (List ℕ) → Told → ℕ → Type 0
   IsImportOf OfOutput it new import (Ok doc) out out_new errors status =
-      ((r : Request) × ((h : History) → Stands it h → r ≡ request_of import h.founding.vendor doc) × IsActedOn OfOutput it new r out out_new errors status)
+      ((r : Request) × ((h : History) → Represents it h → r ≡ request_of import h.founding.vendor doc) × IsActedOn OfOutput it new r out out_new errors status)
       ⊎ IsNotMade IsOfMemory it new out out_new errors status
   IsImportOf OfOutput it new import (Err fault) out out_new errors status = (new ≡ it) × Keeps out out_new × IsRefused fault errors status
 

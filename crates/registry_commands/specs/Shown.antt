@@ -9,7 +9,7 @@ use Rattle.usbids_text.specs.Writing.{written}
 use Rattle.registry_rules.specs.History.{History}
 use Rattle.registry_reports.specs.History.{IsListing}
 use Rattle.registry_store.specs.declared.registry.Registry.{Registry}
-use Rattle.registry_store.specs.Promise.{Stands, is_poisoned, state_of}
+use Rattle.registry_store.specs.Promise.{Represents, is_poisoned, state_of}
 use Rattle.registry_commands.specs.declared.messages.Failure.{Failure}
 use Rattle.registry_commands.specs.Apply.{IsOfRun}
 use Rattle.registry_commands.specs.Failures.{Told}
@@ -18,17 +18,17 @@ use Rattle.registry_commands.specs.Printed.{IsPrinted, IsUnprinted}
 module _ {S : Type 0} {g : Ghosts S} where
   -- the registry stands where it stood, and nothing was committed
   pub record IsLeft (it new : Registry S g) : Type 0 where
-    pub stays : (h : History) → Stands it h → Stands new h
+    pub stays : (h : History) → Represents it h → Represents new h
     pub poisons_nothing : is_poisoned new ≡ is_poisoned it
     pub survives : Survives (state_of it) (state_of new) (λ _. ⊥)
 
   -- what the reading of a registry may fail of: Poisoned only where it was poisoned before, Foreign and Taken of none that stands over a clean disk
   abbrev pub IsOfReading : Registry S g → Registry S g → Failure → Type 0
-  IsOfReading it new = IsOfRun it new (λ h. Stands it h)
+  IsOfReading it new = IsOfRun it new (λ h. Represents it h)
 
   -- what the reading gives of a registry that stands over a clean disk
   abbrev pub Gives : Registry S g → Registry S g → (History → Type 0) → Type 0
-  Gives it new P = (h : History) → Stands it h → HasCleanDisk (state_of new) → P h
+  Gives it new P = (h : History) → Represents it h → HasCleanDisk (state_of new) → P h
 
   -- a document that is the list of the history is written, and what is written spells it; or nothing is written, after a failure
   pub record IsExported (OfOutput : Failure → Type 0) (it new : Registry S g) (stamp : Option Moment) (out out_new : Option (List ℕ)) (errors : Told) (status : ℕ) : Type 0 where

@@ -8,7 +8,7 @@ ghost use Rattle.registry_reports.specs.History.{IsListing};
 ghost use Rattle.registry_reports.specs.Listing.{list_of};
 ghost use Rattle.registry_tables.specs.Lists.{IsVendorList};
 ghost use Rattle.sqlite.specs.State.{HasCleanDisk};
-ghost use Rattle.registry_store.specs.Promise.{Stands, state_of};
+ghost use Rattle.registry_store.specs.Promise.{Represents, state_of};
 ghost use Rattle.registry_commands.specs.Failures.{IsOfOutput, told_to};
 ghost use Rattle.registry_commands.specs.Printed.{IsPrinted};
 ghost use Rattle.registry_commands.specs.Shown.{IsExported, IsLeft, IsOfReading};
@@ -44,7 +44,7 @@ fn list_under<S: Alter>(
     registry: &mut Registry<S>,
     vendors: &[Vendor],
 ) -> Result<Document, Failure>
-    ensures answered { (h : History) → Stands registry.old h → HasCleanDisk (state_of registry.new) → IsVendorList h vendors.now → IfOk result (λ doc. IsListing h doc) }
+    ensures answered { (h : History) → Represents registry.old h → HasCleanDisk (state_of registry.new) → IsVendorList h vendors.now → IfOk result (λ doc. IsListing h doc) }
     ensures failure { IfErr result (IsOfReading registry.old registry.new) }
     ensures left { IsLeft registry.old registry.new }
 {
@@ -58,7 +58,7 @@ fn list_under<S: Alter>(
 ///
 /// It fails where the registry does, or where memory is short.
 pub fn document_of<S: Alter>(alloc: Global, registry: &mut Registry<S>) -> Result<Document, Failure>
-    ensures answered { (h : History) → Stands registry.old h → HasCleanDisk (state_of registry.new) → IfOk result (λ doc. IsListing h doc) }
+    ensures answered { (h : History) → Represents registry.old h → HasCleanDisk (state_of registry.new) → IfOk result (λ doc. IsListing h doc) }
     ensures failure { IfErr result (IsOfReading registry.old registry.new) }
     ensures left { IsLeft registry.old registry.new }
 {

@@ -4,7 +4,7 @@ ghost use Rattle.std.specs.Prelude.{IfErr, IfOk};
 ghost use Rattle.sqlite.specs.State.{HasCleanDisk};
 ghost use Rattle.registry_rules.specs.History.{History};
 ghost use Rattle.registry_tables.specs.Lists.{IsNumberList, IsPetitionList, IsVendorList};
-ghost use Rattle.registry_store.specs.Promise.{Stands, state_of};
+ghost use Rattle.registry_store.specs.Promise.{Represents, state_of};
 ghost use Rattle.registry_commands.specs.Shown.{IsLeft, IsOfReading};
 
 use crate::messages::{Failure, failure_of};
@@ -15,7 +15,7 @@ use usbnum_core::Number;
 
 /// All vendors of the registry, by their numbers.
 pub(crate) fn vendors_of<S: Alter>(registry: &mut Registry<S>) -> Result<Vec<Vendor>, Failure>
-    ensures answered { (h : History) → Stands registry.old h → HasCleanDisk (state_of registry.new) → IfOk result (λ list. IsVendorList h list.items) }
+    ensures answered { (h : History) → Represents registry.old h → HasCleanDisk (state_of registry.new) → IfOk result (λ list. IsVendorList h list.items) }
     ensures failure { IfErr result (IsOfReading registry.old registry.new) }
     ensures left { IsLeft registry.old registry.new }
 {
@@ -29,7 +29,7 @@ pub(crate) fn vendors_of<S: Alter>(registry: &mut Registry<S>) -> Result<Vec<Ven
 pub(crate) fn numbers_of<S: Alter>(
     registry: &mut Registry<S>,
 ) -> Result<Vec<(Number, Entry)>, Failure>
-    ensures answered { (h : History) → Stands registry.old h → HasCleanDisk (state_of registry.new) → IfOk result (λ list. IsNumberList h list.items) }
+    ensures answered { (h : History) → Represents registry.old h → HasCleanDisk (state_of registry.new) → IfOk result (λ list. IsNumberList h list.items) }
     ensures failure { IfErr result (IsOfReading registry.old registry.new) }
     ensures left { IsLeft registry.old registry.new }
 {
@@ -43,7 +43,7 @@ pub(crate) fn numbers_of<S: Alter>(
 pub(crate) fn petitions_of<S: Alter>(
     registry: &mut Registry<S>,
 ) -> Result<Vec<(u32, Petition)>, Failure>
-    ensures answered { (h : History) → Stands registry.old h → HasCleanDisk (state_of registry.new) → IfOk result (λ list. IsPetitionList h list.items) }
+    ensures answered { (h : History) → Represents registry.old h → HasCleanDisk (state_of registry.new) → IfOk result (λ list. IsPetitionList h list.items) }
     ensures failure { IfErr result (IsOfReading registry.old registry.new) }
     ensures left { IsLeft registry.old registry.new }
 {

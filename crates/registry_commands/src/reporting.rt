@@ -8,7 +8,7 @@ ghost use Rattle.registry_rules.specs.History.{History};
 ghost use Rattle.registry_rules.specs.Number.{number};
 ghost use Rattle.registry_rules.specs.Query.{is_reserved};
 ghost use Rattle.registry_tables.specs.Lists.{IsNumberList, IsPetitionList, IsVendorList};
-ghost use Rattle.registry_store.specs.Promise.{Stands, state_of};
+ghost use Rattle.registry_store.specs.Promise.{Represents, state_of};
 ghost use Rattle.registry_commands.specs.Failures.{IsOfOutput, told_to};
 ghost use Rattle.registry_commands.specs.Reports.{AreReserved, IsCensus, IsHoldersReport, IsPetitionsReport, IsReport, IsReported, report_named};
 ghost use Rattle.registry_commands.specs.Shown.{IsLeft, IsOfReading};
@@ -53,7 +53,7 @@ pub fn report_named(name: &str) -> Option<ReportKind>
 
 /// The reserved numbers of a vendor.
 fn reserved_under<S: Alter>(registry: &Registry<S>, vid: Vid) -> Result<Spans, Failure>
-    ensures answered { (h : History) → Stands registry.now h → IfOk result (λ spans. (pid : ℕ) → spans_have spans pid ≡ is_reserved h (number vid pid)) }
+    ensures answered { (h : History) → Represents registry.now h → IfOk result (λ spans. (pid : ℕ) → spans_have spans pid ≡ is_reserved h (number vid pid)) }
     ensures failure { IfErr result (IsOfReading registry.now registry.now) }
 {
     match registry.reserved(vid) {
@@ -79,7 +79,7 @@ fn put_reserved<S: Alter>(
     pairs: &mut Vec<(Vid, Spans)>,
     vid: Vid,
 ) -> Result<(), Failure>
-    ensures put { (h : History) → Stands registry.now h → OnOk result ((spans : List Span) × (pairs.new.items ≡ pairs.old.items ++ (vid, spans) ∷ [])
+    ensures put { (h : History) → Represents registry.now h → OnOk result ((spans : List Span) × (pairs.new.items ≡ pairs.old.items ++ (vid, spans) ∷ [])
         × ((pid : ℕ) → spans_have spans pid ≡ is_reserved h (number vid pid))) }
     ensures failure { IfErr result (IsOfReading registry.now registry.now) }
 {
@@ -95,7 +95,7 @@ fn reserved_of<S: Alter>(
     registry: &Registry<S>,
     vendors: &[Vendor],
 ) -> Result<Vec<(Vid, Spans)>, Failure>
-    ensures answered { (h : History) → Stands registry.now h → IfOk result (λ pairs. AreReserved h vendors.now pairs.items) }
+    ensures answered { (h : History) → Represents registry.now h → IfOk result (λ pairs. AreReserved h vendors.now pairs.items) }
     ensures failure { IfErr result (IsOfReading registry.now registry.now) }
 {
     let mut pairs = Vec::new(alloc);
@@ -131,7 +131,7 @@ fn census_with<S: Alter>(
     vendors: &[Vendor],
     numbers: &[(Number, Entry)],
 ) -> Result<String, Failure>
-    ensures answered { (h : History) → Stands registry.now h → IsVendorList h vendors.now → IsNumberList h numbers.now → IfOk result (λ text. IsCensus h (string_bytes text)) }
+    ensures answered { (h : History) → Represents registry.now h → IsVendorList h vendors.now → IsNumberList h numbers.now → IfOk result (λ text. IsCensus h (string_bytes text)) }
     ensures failure { IfErr result (IsOfReading registry.now registry.now) }
 {
     match reserved_of(alloc, registry, vendors) {
@@ -146,7 +146,7 @@ fn census_under<S: Alter>(
     registry: &mut Registry<S>,
     vendors: &[Vendor],
 ) -> Result<String, Failure>
-    ensures answered { (h : History) → Stands registry.old h → HasCleanDisk (state_of registry.new) → IsVendorList h vendors.now → IfOk result (λ text. IsCensus h (string_bytes text)) }
+    ensures answered { (h : History) → Represents registry.old h → HasCleanDisk (state_of registry.new) → IsVendorList h vendors.now → IfOk result (λ text. IsCensus h (string_bytes text)) }
     ensures failure { IfErr result (IsOfReading registry.old registry.new) }
     ensures left { IsLeft registry.old registry.new }
 {
@@ -157,7 +157,7 @@ fn census_under<S: Alter>(
 }
 
 fn census_of<S: Alter>(alloc: Global, registry: &mut Registry<S>) -> Result<String, Failure>
-    ensures answered { (h : History) → Stands registry.old h → HasCleanDisk (state_of registry.new) → IfOk result (λ text. IsCensus h (string_bytes text)) }
+    ensures answered { (h : History) → Represents registry.old h → HasCleanDisk (state_of registry.new) → IfOk result (λ text. IsCensus h (string_bytes text)) }
     ensures failure { IfErr result (IsOfReading registry.old registry.new) }
     ensures left { IsLeft registry.old registry.new }
 {
@@ -179,7 +179,7 @@ fn held_by(alloc: Global, numbers: &[(Number, Entry)]) -> Result<String, Failure
 }
 
 fn holders_of<S: Alter>(alloc: Global, registry: &mut Registry<S>) -> Result<String, Failure>
-    ensures answered { (h : History) → Stands registry.old h → HasCleanDisk (state_of registry.new) → IfOk result (λ text. IsHoldersReport h (string_bytes text)) }
+    ensures answered { (h : History) → Represents registry.old h → HasCleanDisk (state_of registry.new) → IfOk result (λ text. IsHoldersReport h (string_bytes text)) }
     ensures failure { IfErr result (IsOfReading registry.old registry.new) }
     ensures left { IsLeft registry.old registry.new }
 {
@@ -201,7 +201,7 @@ fn open_ones(alloc: Global, founding: Vid, petitions: &[(u32, Petition)]) -> Res
 }
 
 fn open_ones_of<S: Alter>(alloc: Global, registry: &mut Registry<S>) -> Result<String, Failure>
-    ensures answered { (h : History) → Stands registry.old h → HasCleanDisk (state_of registry.new) → IfOk result (λ text. IsPetitionsReport h (string_bytes text)) }
+    ensures answered { (h : History) → Represents registry.old h → HasCleanDisk (state_of registry.new) → IfOk result (λ text. IsPetitionsReport h (string_bytes text)) }
     ensures failure { IfErr result (IsOfReading registry.old registry.new) }
     ensures left { IsLeft registry.old registry.new }
 {
@@ -220,7 +220,7 @@ pub fn report_of<S: Alter>(
     registry: &mut Registry<S>,
     name: ReportKind,
 ) -> Result<String, Failure>
-    ensures answered { (h : History) → Stands registry.old h → HasCleanDisk (state_of registry.new) → IfOk result (λ text. IsReport name h (string_bytes text)) }
+    ensures answered { (h : History) → Represents registry.old h → HasCleanDisk (state_of registry.new) → IfOk result (λ text. IsReport name h (string_bytes text)) }
     ensures failure { IfErr result (IsOfReading registry.old registry.new) }
     ensures left { IsLeft registry.old registry.new }
 {

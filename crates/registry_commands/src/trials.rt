@@ -7,7 +7,7 @@ ghost use Rattle.usbnum_core.specs.Spans.{spans_have};
 ghost use Rattle.registry_rules.specs.Texts.{AreInOrder};
 ghost use Rattle.registry_rules.specs.declared.founding.Founding.{Founding};
 ghost use Rattle.registry_rules.specs.History.{founded};
-ghost use Rattle.registry_store.specs.Promise.{Stands};
+ghost use Rattle.registry_store.specs.Promise.{Represents};
 ghost use Rattle.registry_commands.specs.Failures.{IsOfInput, IsOfOutput, IsTooLong, TellsFailure, told_to};
 ghost use Rattle.registry_commands.specs.Lines.{requests_in};
 ghost use Rattle.registry_commands.specs.Trial.{IsOfStart, IsTrial, IsTrialOf};
@@ -83,7 +83,7 @@ pub fn trial_founding(alloc: Global) -> Result<Founding, NoMemory>
 
 /// Founds the registry of a trial in memory.
 fn found_trial(alloc: Global) -> Result<Registry<MemStore>, Failure>
-    ensures ok { IfOk result (λ it. (founding : Founding) × IsTrial founding × Stands it (founded founding)) }
+    ensures ok { IfOk result (λ it. (founding : Founding) × IsTrial founding × Represents it (founded founding)) }
     ensures err { IfErr result (λ failure. (failure ≡ Failure.Store) ⊎ (failure ≡ Failure.Memory)) }
 {
     let Ok(founding) = trial_founding(alloc) else {

@@ -6,7 +6,7 @@ use Rattle.sqlite.specs.State.{HasCleanDisk}
 use Rattle.registry_rules.specs.History.{History}
 use Rattle.registry_store.specs.declared.registry.Registry.{Registry as TheRegistry}
 use Rattle.registry_store.specs.declared.fault.Fault.TheVariants as faults
-use Rattle.registry_store.specs.Promise.{Stands, state_of}
+use Rattle.registry_store.specs.Promise.{Represents, state_of}
 use Rattle.registry_http.specs.declared.response.Response.{Response}
 use Rattle.registry_http.specs.declared.refusal.HttpRefusal.{HttpRefusal}
 use Rattle.registry_http.specs.declared.message.Message.{Message}
@@ -28,7 +28,7 @@ status_31 = refl
 
 module _ {S : Type 0} {g : Ghosts S} where
   -- memory was short before the message was read
-  pub served_early : (it : TheRegistry S g) (h : History) (bytes : List ℕ) → Stands it h → HasCleanDisk (state_of it)
+  pub served_early : (it : TheRegistry S g) (h : History) (bytes : List ℕ) → Represents it h → HasCleanDisk (state_of it)
       → IsServed it h bytes (response_bytes (unavailable_response (unavailable_of NoMemory))) (given_up NoMemory)
   served_early it h bytes stands clean = inr (record {
     fault = NoMemory;
@@ -43,7 +43,7 @@ module _ {S : Type 0} {g : Ghosts S} where
   -- the message was read, and its response was sent, or 31 in its place
   sent_then : (new : TheRegistry S g) (h : History) (bytes text : List ℕ) (served : Served) (said : Result Message HttpRefusal) (response written : Response)
       → Says h.founding.vendor bytes said → HasCleanDisk (state_of new)
-      → IsResponse h said response × Stands new (after_message h said)
+      → IsResponse h said response × Represents new (after_message h said)
       → IsInPlaceOf written response → text ≡ response_bytes written → served ≡ answered written → IsServed new h bytes text served
   sent_then new h bytes text served said response written says clean ok (inl same) text_is served_is = inl (record {
     said = said;
@@ -67,7 +67,7 @@ module _ {S : Type 0} {g : Ghosts S} where
   -- the message was read, and this was done
   pub served_then : (new : TheRegistry S g) (h : History) (bytes text : List ℕ) (served : Served) (said : Result Message HttpRefusal) (done : Result Response DeskFault)
       → Says h.founding.vendor bytes said → HasCleanDisk (state_of new)
-      → IfOk done (λ response. IsResponse h said response × Stands new (after_message h said))
+      → IfOk done (λ response. IsResponse h said response × Represents new (after_message h said))
       → IfErr done (λ fault. IsOfStanding fault × IsLeftAt fault new h (after_message h said))
       → IfErr done (λ fault. fault ≢ NoMemory → IsOk said)
       → IsTold done text served → IsServed new h bytes text served

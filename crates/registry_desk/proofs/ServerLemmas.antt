@@ -7,7 +7,7 @@ use Rattle.registry_rules.specs.History.{History}
 use Rattle.registry_store.specs.declared.fault.Fault.{Fault}
 use Rattle.registry_store.specs.declared.registry.Registry.{Registry as TheRegistry}
 use Rattle.registry_tables.specs.Rows.{newest}
-use Rattle.registry_store.specs.Promise.{Stands, Leaves, state_of}
+use Rattle.registry_store.specs.Promise.{Represents, Leaves, state_of}
 use Rattle.registry_http.specs.Responses.{response_bytes, unavailable_response}
 use Rattle.registry_desk.specs.declared.fault.DeskFault.{DeskFault}
 use Rattle.registry_desk.specs.declared.fault.DeskFault.TheVariants.{NoMemory, Registry}
@@ -18,7 +18,7 @@ use Rattle.registry_desk.specs.Acting.{after_message, IsOfStanding, IsLeftAt}
 use Rattle.registry_desk.specs.Serving.{IsNext, IsServed}
 use Rattle.registry_desk.specs.declared.server.ServerStop.{ServerStop}
 use Rattle.registry_desk.specs.declared.server.ServerStop.TheVariants as stops
-use Rattle.registry_desk.specs.Server.{Visit, IsVisit, HaveVisited, IsTurn, Turns, Represents, IsHalted, EndsVisit, EndsServing, IsLeftAfter, IfVisited, fault_in}
+use Rattle.registry_desk.specs.Server.{Visit, IsVisit, HaveVisited, IsTurn, Turns, RepresentsAfter, IsHalted, EndsVisit, EndsServing, IsLeftAfter, IfVisited, fault_in}
 
 -- one connection more
 pub visited_more : {C R W : Type 0} (opens : C → C → R → W → Type 0) (closes : C → C → R → W → Option ℕ → Type 0) (remaining : R → Option (List ℕ)) (contents : W → Option (List ℕ)) (failures : W → ℕ)
@@ -37,7 +37,7 @@ turns_more h middle next (first ∷ visits) visit before one = (before.0, before
 module _ {S : Type 0} {g : Ghosts S} where
   -- what was served where memory alone was short, by where the registry stands
   short_turn : (new : TheRegistry S g) (h : History) (bytes text : List ℕ) (exchange : Exchange) (next : History)
-      → text ≡ response_bytes (unavailable_response (unavailable_of NoMemory)) → IsNext h bytes NoMemory next → Stands new h ⊎ Stands new next
+      → text ≡ response_bytes (unavailable_response (unavailable_of NoMemory)) → IsNext h bytes NoMemory next → Represents new h ⊎ Represents new next
       → EndsVisit new h (record { bytes = bytes; text = text; end = Ok exchange }) None
   short_turn new h bytes text exchange next text_is next_is (inl stands) = (h, inr (text_is, inl (refl, refl)), stands)
   short_turn new h bytes text exchange next text_is next_is (inr stands) = (next, inr (text_is, next_is), stands)
@@ -63,15 +63,15 @@ module _ {S : Type 0} {g : Ghosts S} where
       (given_up_visit new h bytes text exchange it.fault it.next it.kind it.text_is it.next_is it.left)
 
   -- the history after one connection more
-  pub represents_more : (mid new : TheRegistry S g) (h : History) (visits : List Visit) (visit : Visit) → Represents mid h visits
-      → ((x : History) → Stands mid x → EndsVisit new x visit None) → Represents new h (visits ++ visit ∷ [])
+  pub represents_more : (mid new : TheRegistry S g) (h : History) (visits : List Visit) (visit : Visit) → RepresentsAfter mid h visits
+      → ((x : History) → Represents mid x → EndsVisit new x visit None) → RepresentsAfter new h (visits ++ visit ∷ [])
   represents_more mid new h visits visit before one =
       let it = one before.0 before.2 in
       (it.0, turns_more h before.0 it.0 visits visit before.1 it.1, it.2)
 
   -- the fault at one connection more
-  pub halted_more : (mid new : TheRegistry S g) (h : History) (visits : List Visit) (visit : Visit) (fault : Fault) → Represents mid h visits
-      → ((x : History) → Stands mid x → EndsVisit new x visit (Some fault)) → IsHalted new h (visits ++ visit ∷ []) fault
+  pub halted_more : (mid new : TheRegistry S g) (h : History) (visits : List Visit) (visit : Visit) (fault : Fault) → RepresentsAfter mid h visits
+      → ((x : History) → Represents mid x → EndsVisit new x visit (Some fault)) → IsHalted new h (visits ++ visit ∷ []) fault
   halted_more mid new h visits visit fault before one =
       record { before = visits; last = visit; all = refl; middle = before.0; turns = before.1; halted = one before.0 before.2 }
 
@@ -112,15 +112,15 @@ module _ {S C R W : Type 0} {g : Ghosts S} (opens : C → C → R → W → Type
       × HaveVisited opens closes remaining contents failures old middle visits
       × IfVisited result (new ≡ middle)
       × (length visits ≤ count) × OnOk result (length visits ≡ count)
-      × ((h : History) → Stands first h → HasCleanDisk (state_of last) → EndsServing last h visits (fault_in result) × Leaves newest (state_of last) (IsLeftAfter h visits))
+      × ((h : History) → Represents first h → HasCleanDisk (state_of last) → EndsServing last h visits (fault_in result) × Leaves newest (state_of last) (IsLeftAfter h visits))
 
   -- a server stops at a connection that does not come, or at a fault
   pub stops_at : (old middle new : C) (first mid last : TheRegistry S g) (count : ℕ) (visits : List Visit) (stop : ServerStop)
       → HaveVisited opens closes remaining contents failures old middle visits → length visits < count
       → (HasCleanDisk (state_of last) → HasCleanDisk (state_of mid))
-      → ((h : History) → Stands first h → HasCleanDisk (state_of mid) → Represents mid h visits)
+      → ((h : History) → Represents first h → HasCleanDisk (state_of mid) → RepresentsAfter mid h visits)
       → IfVisited (Err stop) ((visit : Visit) × IsVisit opens closes remaining contents failures middle new visit
-      × ((h : History) → Stands mid h → HasCleanDisk (state_of last) → EndsVisit last h visit (fault_in (Err stop))))
+      × ((h : History) → Represents mid h → HasCleanDisk (state_of last) → EndsVisit last h visit (fault_in (Err stop))))
       → (stop ≡ stops.Connections → last ≡ mid) → Ends old new first last count (Err stop)
   stops_at old middle new first mid last count visits stops.Connections before less early so_far came none = (
     visits,
@@ -129,7 +129,7 @@ module _ {S C R W : Type 0} {g : Ghosts S} (opens : C → C → R → W → Type
     tt,
     omega (arith, less),
     tt,
-    λ h stands clean. with_crash last h visits None (subst (λ it. Represents it h visits) (sym (none refl)) (so_far h stands (early clean))) clean,
+    λ h stands clean. with_crash last h visits None (subst (λ it. RepresentsAfter it h visits) (sym (none refl)) (so_far h stands (early clean))) clean,
   )
   stops_at old middle new first mid last count visits (stops.Registry fault) before less early so_far came none =
       let longer = length_more visits came.0 (length visits) refl in (
@@ -145,9 +145,9 @@ module _ {S C R W : Type 0} {g : Ghosts S} (opens : C → C → R → W → Type
   pub stopped_at : (result : Result (Unit {0}) ServerStop) (stop : ServerStop) → result ≡ Err stop → (old middle new : C) (first mid last : TheRegistry S g) (count : ℕ) (visits : List Visit)
       → HaveVisited opens closes remaining contents failures old middle visits → length visits < count
       → (HasCleanDisk (state_of last) → HasCleanDisk (state_of mid))
-      → ((h : History) → Stands first h → HasCleanDisk (state_of mid) → Represents mid h visits)
+      → ((h : History) → Represents first h → HasCleanDisk (state_of mid) → RepresentsAfter mid h visits)
       → IfVisited (Err stop) ((visit : Visit) × IsVisit opens closes remaining contents failures middle new visit
-      × ((h : History) → Stands mid h → HasCleanDisk (state_of last) → EndsVisit last h visit (fault_in (Err stop))))
+      × ((h : History) → Represents mid h → HasCleanDisk (state_of last) → EndsVisit last h visit (fault_in (Err stop))))
       → (stop ≡ stops.Connections → last ≡ mid) → Ends old new first last count result
   stopped_at result stop is old middle new first mid last count visits before less early so_far came none =
       subst (λ (r : Result (Unit {0}) ServerStop). Ends old new first last count r) (sym is) (stops_at old middle new first mid last count visits stop before less early so_far came none)

@@ -14,7 +14,7 @@ use Rattle.registry_reports.specs.History.{IsListing}
 use Rattle.registry_tables.specs.Rows.{newest}
 use Rattle.registry_store.specs.declared.fault.Fault.TheVariants as faults
 use Rattle.registry_store.specs.declared.registry.Registry.{Registry as TheRegistry}
-use Rattle.registry_store.specs.Promise.{Leaves, Stands, is_poisoned, state_of}
+use Rattle.registry_store.specs.Promise.{Leaves, Represents, is_poisoned, state_of}
 use Rattle.registry_commands.specs.Reports.{IsReport}
 use Rattle.registry_commands.specs.declared.reporting.ReportKind.{ReportKind}
 use Rattle.registry_commands.specs.declared.reporting.ReportKind.TheVariants as kinds
@@ -86,10 +86,10 @@ IsEither h next x = (x ≡ h) ⊎ (x ≡ next)
 module _ {S : Type 0} {g : Ghosts S} where
   -- running out of memory by itself poisons no registry
   abbrev pub EndsAt : DeskFault → TheRegistry S g → History → History → Type 0
-  EndsAt NoMemory it h next = Stands it h ⊎ Stands it next
-  EndsAt (Registry fault) it h next = (is_poisoned it ≡ true) ⊎ (Stands it h ⊎ Stands it next)
+  EndsAt NoMemory it h next = Represents it h ⊎ Represents it next
+  EndsAt (Registry fault) it h next = (is_poisoned it ≡ true) ⊎ (Represents it h ⊎ Represents it next)
 
-  -- A message got no response of its own. The store leaves the one history or the other, and a registry that is not poisoned stands at one of them.
+  -- A message got no response of its own. The store leaves the one history or the other, and a registry that is not poisoned represents one of them.
   pub record IsLeftAt (fault : DeskFault) (it : TheRegistry S g) (h next : History) : Type 0 where
     pub leaves : Leaves newest (state_of it) (IsEither h next)
     pub ends : EndsAt fault it h next

@@ -9,7 +9,7 @@ use Rattle.byte_streams.specs.Streams.{MayGive, Writes}
 use Rattle.registry_rules.specs.History.{History}
 use Rattle.registry_store.specs.declared.fault.Fault.{Fault}
 use Rattle.registry_store.specs.declared.registry.Registry.{Registry as TheRegistry}
-use Rattle.registry_store.specs.Promise.{Stands}
+use Rattle.registry_store.specs.Promise.{Represents}
 use Rattle.registry_http.specs.declared.response.Response.{Response}
 use Rattle.registry_http.specs.declared.refusal.HttpRefusal.{HttpRefusal}
 use Rattle.registry_http.specs.declared.message.Message.{Message}
@@ -97,9 +97,9 @@ Turns h (visit ∷ visits) next = (middle : History) × IsTurn h visit middle ×
 -- ---- the registry
 
 module _ {S : Type 0} {g : Ghosts S} where
-  -- the registry stands at the history after the messages of all these connections, in their order
-  abbrev pub Represents : TheRegistry S g → History → List Visit → Type 0
-  Represents it h visits = (next : History) × Turns h visits next × Stands it next
+  -- the registry represents the history after the messages of all these connections, in their order
+  abbrev pub RepresentsAfter : TheRegistry S g → History → List Visit → Type 0
+  RepresentsAfter it h visits = (next : History) × Turns h visits next × Represents it next
 
   -- The registry had a fault at this connection. A crash leaves the history with or without its message.
   pub record IsHaltedAt (it : TheRegistry S g) (h : History) (visit : Visit) (fault : Fault) : Type 0 where
@@ -120,7 +120,7 @@ module _ {S : Type 0} {g : Ghosts S} where
 
   -- one connection, without a fault of the registry or with one
   abbrev pub EndsVisit : TheRegistry S g → History → Visit → Option Fault → Type 0
-  EndsVisit it h visit None = (next : History) × IsTurn h visit next × Stands it next
+  EndsVisit it h visit None = (next : History) × IsTurn h visit next × Represents it next
   EndsVisit it h visit (Some fault) = IsHaltedAt it h visit fault
 
 -- the registry's fault that stopped a server
@@ -156,5 +156,5 @@ IsLeftAfter h visits x = Turns h visits x ⊎ IsCutShort h visits x
 
 module _ {S : Type 0} {g : Ghosts S} where
   abbrev pub EndsServing : TheRegistry S g → History → List Visit → Option Fault → Type 0
-  EndsServing it h visits None = Represents it h visits
+  EndsServing it h visits None = RepresentsAfter it h visits
   EndsServing it h visits (Some fault) = IsHalted it h visits fault

@@ -3,7 +3,7 @@ use Rattle.std.specs.Prelude.{◌≡◌, ◌≢◌, ◌⊎◌, ℕ, List, None, 
 use Rattle.sqlite.specs.Store.{Ghosts}
 use Rattle.registry_rules.specs.History.{History}
 use Rattle.registry_store.specs.declared.registry.Registry.{Registry as TheRegistry}
-use Rattle.registry_store.specs.Promise.{Stands}
+use Rattle.registry_store.specs.Promise.{Represents}
 use Rattle.registry_http.specs.declared.response.Response.{Response}
 use Rattle.registry_http.specs.declared.refusal.HttpRefusal.{HttpRefusal}
 use Rattle.registry_http.specs.declared.message.Message.{Message}
@@ -38,7 +38,7 @@ pub record IsOfServed (exchange : Exchange) (served : Served) : Type 0 where
   pub fault : exchange.fault ≡ served.fault
   pub status : IfOk exchange.sent (λ status. status ≡ served.status)
 
--- the history that a registry may stand at besides h: the one after the message, or h itself where memory was short before the message was read
+-- the history that a registry may represent besides h: the one after the message, or h itself where memory was short before the message was read
 abbrev pub IsNext : History → List ℕ → DeskFault → History → Type 0
 IsNext h bytes fault next =
     ((fault ≡ NoMemory) × (next ≡ h))
@@ -53,7 +53,7 @@ module _ {S : Type 0} {g : Ghosts S} where
     pub is : IsResponse h said response
     pub text_is : text ≡ response_bytes response
     pub served_is : served ≡ answered response
-    pub stands : Stands new (after_message h said)
+    pub stands : Represents new (after_message h said)
 
   -- the text is 30 or 31, and what is left is of h or of the history after the message
   pub record IsGivenUp (new : TheRegistry S g) (h : History) (bytes text : List ℕ) (served : Served) : Type 0 where

@@ -4,7 +4,7 @@ ghost use Rattle.std.specs.Prelude.{◌≡◌, ◌≢◌, true, Err, IfOk, IfErr
 ghost use Rattle.sqlite.specs.State.{HasCleanDisk};
 ghost use Rattle.registry_rules.specs.History.{History};
 ghost use Rattle.registry_rules.specs.Run.{after_one, answer_one};
-ghost use Rattle.registry_store.specs.Promise.{Stands, Endures, is_poisoned, state_of};
+ghost use Rattle.registry_store.specs.Promise.{Represents, Endures, is_poisoned, state_of};
 ghost use Rattle.registry_store.specs.declared.fault.Fault.TheVariants as faults;
 ghost use Rattle.registry_desk.specs.declared.fault.DeskFault.TheVariants as desk_faults;
 ghost use Rattle.registry_http.specs.Responses.{refusal_response, reply_response};
@@ -25,9 +25,9 @@ fn act_on<S: Alter>(
     registry: &mut Registry<S>,
     request: &Request,
 ) -> Result<Response, DeskFault>
-    ensures answered { (h : History) → Stands registry.old h → HasCleanDisk (state_of registry.new)
-        → IfOk result (λ response. (response ≡ reply_response (answer_one h request.now)) × Stands registry.new (after_one h request.now)) }
-    ensures left { (h : History) → Stands registry.old h → HasCleanDisk (state_of registry.new)
+    ensures answered { (h : History) → Represents registry.old h → HasCleanDisk (state_of registry.new)
+        → IfOk result (λ response. (response ≡ reply_response (answer_one h request.now)) × Represents registry.new (after_one h request.now)) }
+    ensures left { (h : History) → Represents registry.old h → HasCleanDisk (state_of registry.new)
         → IfErr result (λ fault. IsOfStanding fault × IsLeftAt fault registry.new h (after_one h request.now)) }
     ensures only_poisoned { result ≡ Err (desk_faults.Registry faults.Poisoned) → is_poisoned registry.old ≡ true }
     ensures endures { Endures (state_of registry.old) (state_of registry.new) }
@@ -58,9 +58,9 @@ pub(crate) fn response_to<S: Alter>(
     registry: &mut Registry<S>,
     said: Result<Message, HttpRefusal>,
 ) -> Result<Response, DeskFault>
-    ensures answered { (h : History) → Stands registry.old h → HasCleanDisk (state_of registry.new)
-        → IfOk result (λ response. IsResponse h said response × Stands registry.new (after_message h said)) }
-    ensures left { (h : History) → Stands registry.old h → HasCleanDisk (state_of registry.new)
+    ensures answered { (h : History) → Represents registry.old h → HasCleanDisk (state_of registry.new)
+        → IfOk result (λ response. IsResponse h said response × Represents registry.new (after_message h said)) }
+    ensures left { (h : History) → Represents registry.old h → HasCleanDisk (state_of registry.new)
         → IfErr result (λ fault. IsOfStanding fault × IsLeftAt fault registry.new h (after_message h said)) }
     ensures asked { IfErr result (λ fault. fault ≢ desk_faults.NoMemory → IsOk said) }
     ensures only_poisoned { result ≡ Err (desk_faults.Registry faults.Poisoned) → is_poisoned registry.old ≡ true }

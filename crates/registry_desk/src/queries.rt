@@ -9,7 +9,7 @@ ghost use Rattle.registry_rules.specs.Query.{is_reserved, has_vendor, org_of, pe
 ghost use Rattle.registry_rules.specs.Rows.{entry_of};
 ghost use Rattle.registry_rules.specs.declared.verdict.Reply.TheVariants as replies;
 ghost use Rattle.registry_rules.specs.declared.refusal.Refusal.TheVariants as rule_refusals;
-ghost use Rattle.registry_store.specs.Promise.{Stands, is_poisoned, state_of};
+ghost use Rattle.registry_store.specs.Promise.{Represents, is_poisoned, state_of};
 ghost use Rattle.registry_store.specs.declared.fault.Fault.TheVariants as faults;
 ghost use Rattle.registry_commands.specs.Shown.{IsLeft};
 ghost use Rattle.registry_http.specs.Responses.{reply_response, text_response};
@@ -39,8 +39,8 @@ fn ask_number<S: Alter>(
     vid: Vid,
     pid: Pid,
 ) -> Result<Response, DeskFault>
-    ensures answered { (h : History) → Stands registry.old h → HasCleanDisk (state_of registry.new) → IfOk result (λ response. response ≡ number_response vendor pid (is_reserved h (number vid pid)) (entry_of h (number vid pid))) }
-    ensures kind { (h : History) → Stands registry.old h → HasCleanDisk (state_of registry.new) → IfErr result IsOfStanding }
+    ensures answered { (h : History) → Represents registry.old h → HasCleanDisk (state_of registry.new) → IfOk result (λ response. response ≡ number_response vendor pid (is_reserved h (number vid pid)) (entry_of h (number vid pid))) }
+    ensures kind { (h : History) → Represents registry.old h → HasCleanDisk (state_of registry.new) → IfErr result IsOfStanding }
     ensures left { IsLeft registry.old registry.new }
     ensures only_poisoned { result ≡ Err (desk_faults.Registry faults.Poisoned) → is_poisoned registry.old ≡ true }
 {
@@ -74,8 +74,8 @@ fn ask_vendor_number<S: Alter>(
     vid: Vid,
     pid: Pid,
 ) -> Result<Response, DeskFault>
-    ensures answered { (h : History) → Stands registry.old h → HasCleanDisk (state_of registry.new) → IfOk result (λ response. response ≡ vendor_number_at h vid pid) }
-    ensures kind { (h : History) → Stands registry.old h → HasCleanDisk (state_of registry.new) → IfErr result IsOfStanding }
+    ensures answered { (h : History) → Represents registry.old h → HasCleanDisk (state_of registry.new) → IfOk result (λ response. response ≡ vendor_number_at h vid pid) }
+    ensures kind { (h : History) → Represents registry.old h → HasCleanDisk (state_of registry.new) → IfErr result IsOfStanding }
     ensures left { IsLeft registry.old registry.new }
     ensures only_poisoned { result ≡ Err (desk_faults.Registry faults.Poisoned) → is_poisoned registry.old ≡ true }
 {
@@ -92,8 +92,8 @@ fn ask_org<S: Alter>(
     registry: &mut Registry<S>,
     slug: &Slug,
 ) -> Result<Response, DeskFault>
-    ensures answered { (h : History) → Stands registry.old h → HasCleanDisk (state_of registry.new) → IfOk result (λ response. response ≡ org_response (org_of h slug.now)) }
-    ensures kind { (h : History) → Stands registry.old h → HasCleanDisk (state_of registry.new) → IfErr result IsOfStanding }
+    ensures answered { (h : History) → Represents registry.old h → HasCleanDisk (state_of registry.new) → IfOk result (λ response. response ≡ org_response (org_of h slug.now)) }
+    ensures kind { (h : History) → Represents registry.old h → HasCleanDisk (state_of registry.new) → IfErr result IsOfStanding }
     ensures left { IsLeft registry.old registry.new }
     ensures only_poisoned { result ≡ Err (desk_faults.Registry faults.Poisoned) → is_poisoned registry.old ≡ true }
 {
@@ -112,8 +112,8 @@ fn ask_petition<S: Alter>(
     registry: &mut Registry<S>,
     id: u32,
 ) -> Result<Response, DeskFault>
-    ensures answered { (h : History) → Stands registry.old h → HasCleanDisk (state_of registry.new) → IfOk result (λ response. response ≡ petition_response h.founding.vendor id (petition_of h id)) }
-    ensures kind { (h : History) → Stands registry.old h → HasCleanDisk (state_of registry.new) → IfErr result IsOfStanding }
+    ensures answered { (h : History) → Represents registry.old h → HasCleanDisk (state_of registry.new) → IfOk result (λ response. response ≡ petition_response h.founding.vendor id (petition_of h id)) }
+    ensures kind { (h : History) → Represents registry.old h → HasCleanDisk (state_of registry.new) → IfErr result IsOfStanding }
     ensures left { IsLeft registry.old registry.new }
     ensures only_poisoned { result ≡ Err (desk_faults.Registry faults.Poisoned) → is_poisoned registry.old ≡ true }
 {
@@ -141,8 +141,8 @@ fn list_response(alloc: Global, document: &Document) -> Result<Response, DeskFau
 
 /// Asks for the list of the numbers that are held.
 fn ask_list<S: Alter>(alloc: Global, registry: &mut Registry<S>) -> Result<Response, DeskFault>
-    ensures answered { (h : History) → Stands registry.old h → HasCleanDisk (state_of registry.new) → IfOk result (IsListResponse h) }
-    ensures kind { (h : History) → Stands registry.old h → HasCleanDisk (state_of registry.new) → IfErr result IsOfStanding }
+    ensures answered { (h : History) → Represents registry.old h → HasCleanDisk (state_of registry.new) → IfOk result (IsListResponse h) }
+    ensures kind { (h : History) → Represents registry.old h → HasCleanDisk (state_of registry.new) → IfErr result IsOfStanding }
     ensures left { IsLeft registry.old registry.new }
     ensures only_poisoned { result ≡ Err (desk_faults.Registry faults.Poisoned) → is_poisoned registry.old ≡ true }
 {
@@ -168,8 +168,8 @@ fn ask_report<S: Alter>(
     registry: &mut Registry<S>,
     report: Report,
 ) -> Result<Response, DeskFault>
-    ensures answered { (h : History) → Stands registry.old h → HasCleanDisk (state_of registry.new) → IfOk result (IsReportResponse h report) }
-    ensures kind { (h : History) → Stands registry.old h → HasCleanDisk (state_of registry.new) → IfErr result IsOfStanding }
+    ensures answered { (h : History) → Represents registry.old h → HasCleanDisk (state_of registry.new) → IfOk result (IsReportResponse h report) }
+    ensures kind { (h : History) → Represents registry.old h → HasCleanDisk (state_of registry.new) → IfErr result IsOfStanding }
     ensures left { IsLeft registry.old registry.new }
     ensures only_poisoned { result ≡ Err (desk_faults.Registry faults.Poisoned) → is_poisoned registry.old ≡ true }
 {
@@ -185,8 +185,8 @@ pub(crate) fn ask<S: Alter>(
     registry: &mut Registry<S>,
     query: &Query,
 ) -> Result<Response, DeskFault>
-    ensures answered { (h : History) → Stands registry.old h → HasCleanDisk (state_of registry.new) → IfOk result (IsQueryResponse h query.now) }
-    ensures kind { (h : History) → Stands registry.old h → HasCleanDisk (state_of registry.new) → IfErr result IsOfStanding }
+    ensures answered { (h : History) → Represents registry.old h → HasCleanDisk (state_of registry.new) → IfOk result (IsQueryResponse h query.now) }
+    ensures kind { (h : History) → Represents registry.old h → HasCleanDisk (state_of registry.new) → IfErr result IsOfStanding }
     ensures left { IsLeft registry.old registry.new }
     ensures only_poisoned { result ≡ Err (desk_faults.Registry faults.Poisoned) → is_poisoned registry.old ≡ true }
 {

@@ -4,7 +4,7 @@ ghost use Rattle.std.specs.Prelude.{◌≡◌, ◌≢◌, ◌⊎◌, true, ℕ, 
 ghost use Rattle.sqlite.specs.State.{HasCleanDisk};
 ghost use Rattle.byte_streams.specs.Streams.{HasFailed, MayGive, Writes};
 ghost use Rattle.registry_rules.specs.History.{History};
-ghost use Rattle.registry_store.specs.Promise.{Stands, Endures, is_poisoned, state_of};
+ghost use Rattle.registry_store.specs.Promise.{Represents, Endures, is_poisoned, state_of};
 ghost use Rattle.registry_store.specs.declared.fault.Fault.TheVariants as faults;
 ghost use Rattle.registry_http.specs.Responses.{response_bytes, unavailable_response};
 ghost use Rattle.registry_desk.specs.declared.serve.Served.{Served};
@@ -88,7 +88,7 @@ pub(crate) fn serve_message<R: Source, W: Sink, S: Alter>(
     ensures served { (bytes : List ℕ) × MayGive (R.remaining source.old) bytes × IfOk result (λ exchange. (text : List ℕ) × (served : Served)
         × Writes (W.contents sink.old) (W.contents sink.new) (W.failures sink.old) (W.failures sink.new) exchange.sent text
         × IsOfServed exchange served
-        × ((h : History) → Stands registry.old h → HasCleanDisk (state_of registry.new) → IsServed registry.new h bytes text served)) }
+        × ((h : History) → Represents registry.old h → HasCleanDisk (state_of registry.new) → IsServed registry.new h bytes text served)) }
     ensures poisoned { IfOk result (λ exchange. exchange.fault ≡ Some faults.Poisoned → is_poisoned registry.old ≡ true) }
     ensures read { OnErr result (HasFailed (R.failures source.old) (R.failures source.new) × (sink.new ≡ sink.old) × (registry.new ≡ registry.old)) }
     ensures endures { Endures (state_of registry.old) (state_of registry.new) }
@@ -136,7 +136,7 @@ pub fn serve_one<R: Source, W: Sink, S: Alter>(
     ensures served { (bytes : List ℕ) × MayGive (R.remaining source.old) bytes × (text : List ℕ) × (served : Served)
         × ((result ≡ Err PeerFault.Read) ⊎ (Writes (W.contents sink.old) (W.contents sink.new) (W.failures sink.old) (W.failures sink.new) result text
         × IfOk result (λ it. it ≡ served)
-        × ((h : History) → Stands registry.old h → HasCleanDisk (state_of registry.new) → IsServed registry.new h bytes text served))) }
+        × ((h : History) → Represents registry.old h → HasCleanDisk (state_of registry.new) → IsServed registry.new h bytes text served))) }
     ensures poisoned { IfOk result (λ it. it.fault ≡ Some faults.Poisoned → is_poisoned registry.old ≡ true) }
     ensures read { result ≡ Err PeerFault.Read → HasFailed (R.failures source.old) (R.failures source.new) × (sink.new ≡ sink.old) × (registry.new ≡ registry.old) }
     ensures endures { Endures (state_of registry.old) (state_of registry.new) }

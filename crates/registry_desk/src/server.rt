@@ -5,7 +5,7 @@ ghost use Rattle.sqlite.specs.State.{HasCleanDisk};
 ghost use Rattle.byte_streams.specs.Streams.{MayGive};
 ghost use Rattle.registry_rules.specs.History.{History};
 ghost use Rattle.registry_tables.specs.Rows.{newest};
-ghost use Rattle.registry_store.specs.Promise.{Stands, Endures, Leaves, state_of};
+ghost use Rattle.registry_store.specs.Promise.{Represents, Endures, Leaves, state_of};
 ghost use Rattle.registry_desk.specs.Server.{Visit, IsVisit, IsWritten, HaveVisited, EndsVisit, EndsServing, IsLeftAfter, IfVisited, fault_in, status_in, status_of};
 
 use byte_streams::{Broken, Sink, Source};
@@ -74,7 +74,7 @@ fn serve_between<R: Source, W: Sink, S: Alter>(
     ensures served { (visit : Visit) × MayGive (R.remaining reader.old) visit.bytes
         × IsWritten W.contents W.failures writer.old writer.new visit
         × (result.status ≡ status_of visit.end)
-        × ((h : History) → Stands registry.old h → HasCleanDisk (state_of registry.new) → EndsVisit registry.new h visit result.fault) }
+        × ((h : History) → Represents registry.old h → HasCleanDisk (state_of registry.new) → EndsVisit registry.new h visit result.fault) }
     ensures endures { Endures (state_of registry.old) (state_of registry.new) }
 {
     match serve_message(alloc, reader, writer, registry) {
@@ -100,7 +100,7 @@ pub fn serve_next<C: Connections, S: Alter>(
 ) -> Result<(), ServerStop>
     ensures visited { IfVisited result ((visit : Visit)
         × IsVisit C.opens C.closes C.Reader.remaining C.Writer.contents C.Writer.failures connections.old connections.new visit
-        × ((h : History) → Stands registry.old h → HasCleanDisk (state_of registry.new) → EndsVisit registry.new h visit (fault_in result))) }
+        × ((h : History) → Represents registry.old h → HasCleanDisk (state_of registry.new) → EndsVisit registry.new h visit (fault_in result))) }
     ensures none { result ≡ Err ServerStop.Connections → registry.new ≡ registry.old }
     ensures endures { Endures (state_of registry.old) (state_of registry.new) }
 {
@@ -120,8 +120,8 @@ pub fn serve_next<C: Connections, S: Alter>(
 
 /// Serves connections one after another, at most so many, up to the first fault of the registry.
 ///
-/// Of a registry that stands at a history, each message has its response over the history before it, and the registry then
-/// stands at the history after all of them, in order. A crash leaves the history after the messages of a prefix of the
+/// Of a registry that represents a history, each message has its response over the history before it, and the registry then
+/// represents the history after all of them, in order. A crash leaves the history after the messages of a prefix of the
 /// connections, which holds each message that got its response, and at most one more: that of a fault of the registry.
 pub fn serve_all<C: Connections, S: Alter>(
     alloc: Global,
@@ -133,7 +133,7 @@ pub fn serve_all<C: Connections, S: Alter>(
         × HaveVisited C.opens C.closes C.Reader.remaining C.Writer.contents C.Writer.failures connections.old middle visits
         × IfVisited result (connections.new ≡ middle)
         × (length visits ≤ count) × OnOk result (length visits ≡ count)
-        × ((h : History) → Stands registry.old h → HasCleanDisk (state_of registry.new) → EndsServing registry.new h visits (fault_in result) × Leaves newest (state_of registry.new) (IsLeftAfter h visits)) }
+        × ((h : History) → Represents registry.old h → HasCleanDisk (state_of registry.new) → EndsServing registry.new h visits (fault_in result) × Leaves newest (state_of registry.new) (IsLeftAfter h visits)) }
     ensures endures { Endures (state_of registry.old) (state_of registry.new) }
 {
     for _ in 0..count {

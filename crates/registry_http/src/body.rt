@@ -3,7 +3,7 @@
 ghost use Rattle.std.specs.Prelude.{Err, ◌≡◌, ◌≤◌, ◌<◌, ◌+◌, ◌++◌, [], true, false, ℕ, List, length, drop, nat_le, IfOk, OnOk};
 ghost use Rattle.std.specs.Io.KnownBytes.{Consumes, IsAtEnd};
 ghost use Rattle.byte_streams.specs.Streams.{HasFailed, MayGive};
-ghost use Rattle.usbids_text.specs.Readers.{Stands};
+ghost use Rattle.usbids_text.specs.Readers.{WasFed};
 ghost use Rattle.registry_http.specs.Bodies.{IsHeld, IsFed};
 
 use byte_streams::{Broken, Source};
@@ -59,7 +59,7 @@ fn feed_more<R: Source>(
     requires { 0 < most }
     ensures ok { IfOk result (λ n. (more : List ℕ) × (length more ≡ n) × (n ≤ most)
         × Consumes (R.remaining source.old) (R.remaining source.new) more × (n ≡ 0 → IsAtEnd (R.remaining source.new))
-        × ((t : List ℕ) → Stands reader.old t → Stands reader.new (t ++ more))) }
+        × ((t : List ℕ) → WasFed reader.old t → WasFed reader.new (t ++ more))) }
     ensures kept { OnOk result (R.failures source.new ≡ R.failures source.old) }
     ensures broken { result ≡ Err InputFault.Broken → HasFailed (R.failures source.old) (R.failures source.new) }
 {
@@ -82,7 +82,7 @@ fn feed_from<R: Source>(
 ) -> Result<bool, InputFault>
     ensures ok { IfOk result (λ whole. (more : List ℕ) × Consumes (R.remaining source.old) (R.remaining source.new) more
         × (length more ≤ wanted) × (whole ≡ nat_le wanted (length more)) × (whole ≡ false → IsAtEnd (R.remaining source.new))
-        × ((t : List ℕ) → Stands reader.old t → Stands reader.new (t ++ more))) }
+        × ((t : List ℕ) → WasFed reader.old t → WasFed reader.new (t ++ more))) }
     ensures kept { OnOk result (R.failures source.new ≡ R.failures source.old) }
     ensures broken { result ≡ Err InputFault.Broken → HasFailed (R.failures source.old) (R.failures source.new) }
 {
@@ -104,7 +104,7 @@ pub(crate) fn feed_body<R: Source>(
     come: &[u8],
     count: usize,
 ) -> Result<bool, InputFault>
-    requires { Stands reader.old [] }
+    requires { WasFed reader.old [] }
     ensures ok { IfOk result (λ whole. (rest : List ℕ) × MayGive (R.remaining source.old) rest × IsFed whole reader.new count (come.now ++ rest)) }
     ensures kept { OnOk result (R.failures source.new ≡ R.failures source.old) }
     ensures broken { result ≡ Err InputFault.Broken → HasFailed (R.failures source.old) (R.failures source.new) }

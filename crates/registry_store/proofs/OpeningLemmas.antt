@@ -10,7 +10,7 @@ use Rattle.registry_tables.specs.Calls.{KeepsAll}
 use Rattle.registry_rules.specs.Run.{Legal}
 use Rattle.registry_rules.specs.TotalsOf.{AreTotalsOf}
 use Rattle.registry_store.specs.declared.registry.Registry.{Registry}
-use Rattle.registry_store.specs.Promise.{IsAt, IsFreshAt, Stands, is_poisoned, state_of}
+use Rattle.registry_store.specs.Promise.{IsAt, IsFreshAt, Represents, is_poisoned, state_of}
 use Rattle.registry_store.specs.Reopen.{IsEither}
 
 -- whatever was read in a transaction that was rolled back, the connection is where it was
@@ -50,6 +50,6 @@ earlier old new P survives clean = omega (arith, survives.clean)
 -- a registry over a connection that shows the rows at rest
 pub stands_fresh : {S : Type 0} (g : Ghosts S) (it : Registry S g) (h : History)
     → ((s : S) (db : Trees) → IsTrue (g.view s).is_open → g.recovers s db → db ≡ (g.view s).committed)
-    → is_poisoned it ≡ false → Legal h → AreTotalsOf h it.totals → IsFreshAt newest (state_of it) h → Stands it h
+    → is_poisoned it ≡ false → Legal h → AreTotalsOf h it.totals → IsFreshAt newest (state_of it) h → Represents it h
 stands_fresh g it h settled not_poisoned legal totals fresh =
     record { not_poisoned = not_poisoned; counts = record { legal = legal; totals_are = totals }; at = at_rest g it.conn h settled fresh }

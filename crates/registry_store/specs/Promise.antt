@@ -59,7 +59,7 @@ module _ {S : Type 0} {g : Ghosts S} where
   is_poisoned it = it.poisoned
 
   -- a registry that is not poisoned is at this history: its totals, its tables, and what a crash may leave
-  pub record Stands (it : Registry S g) (h : History) : Type 0 where
+  pub record Represents (it : Registry S g) (h : History) : Type 0 where
     pub not_poisoned : is_poisoned it ≡ false
     pub counts : Counts it.totals h
     pub at : IsAt newest (state_of it) h

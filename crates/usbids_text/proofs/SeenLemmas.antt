@@ -11,7 +11,7 @@ use Rattle.usbids_text.specs.declared.reader.Reader.{Reader}
 use Rattle.usbids_text.specs.Lines.{class_of}
 use Rattle.usbids_text.specs.Documents.{FaultIn, fault_of}
 use Rattle.usbids_text.specs.Opens.{whole}
-use Rattle.usbids_text.specs.Readers.{Stands, state_of}
+use Rattle.usbids_text.specs.Readers.{WasFed, state_of}
 use Rattle.usbids_text.proofs.InnerLemmas.{AreInner, cut_inner, with_rest_inner}
 use Rattle.usbids_text.specs.Cut.{cut, lines, with_rest}
 use Rattle.usbids_text.specs.Feeding.{Held, Fed, refused, start, with_last}
@@ -63,7 +63,7 @@ seen_over h ls rest f (inl g) e = elim (cases_Bool (nat_lt 65536 (length rest)))
       let none : Some (Line f) ≡ None = sym e ∙ (ap (λ (k : Held). k.fault) same ∙ g.clear) in absurd cc
 ]
 
-so_far_is : (r : Reader) (t : List ℕ) (o : Option ReadFault) → Stands r t → r.taken.fault ≡ o → AnswersSoFar t o
+so_far_is : (r : Reader) (t : List ℕ) (o : Option ReadFault) → WasFed r t → r.taken.fault ≡ o → AnswersSoFar t o
 unfolding outcome lines
 so_far_is r t None s e = tt
 so_far_is r t (Some NoMemory) s e = tt
@@ -72,7 +72,7 @@ so_far_is r t (Some (Line f)) (inr s) e =
     let held : over (done start.held (cut t).0) (cut t).1 ≡ (state_of r).held = sym (fed_outcome [] start.held t tt (omega arith)) ∙ ap (λ (x : Fed). x.held) (sym s) in
     seen_over (done start.held (cut t).0) (cut t).0 (cut t).1 f (verdict_of (cut t).0 (cut_inner t).0) (ap (λ (k : Held). k.fault) held ∙ e)
 
-pub answers_so_far : (r : Reader) (t : List ℕ) → Stands r t → AnswersSoFar t r.taken.fault
+pub answers_so_far : (r : Reader) (t : List ℕ) → WasFed r t → AnswersSoFar t r.taken.fault
 answers_so_far r t s = so_far_is r t r.taken.fault s refl
 
 abbrev Texts : Type 0
@@ -128,7 +128,7 @@ seen_found ls rest n why whole_inner inner s = elim (cases_lt (length s.0.before
 ]
 
 -- a fault that is seen is the reader's
-pub seen_is : (r : Reader) (t : List ℕ) (n : ℕ) (why : Why) → Stands r t → SeenFault t n why → (r.taken.fault ≡ Some NoMemory) ⊎ (r.taken.fault ≡ Some (Line (record { line = n; why = why })))
+pub seen_is : (r : Reader) (t : List ℕ) (n : ℕ) (why : Why) → WasFed r t → SeenFault t n why → (r.taken.fault ≡ Some NoMemory) ⊎ (r.taken.fault ≡ Some (Line (record { line = n; why = why })))
 unfolding outcome lines
 seen_is r t n why (inl m) seen = inl m
 seen_is r t n why (inr s) seen =

@@ -14,5 +14,5 @@ abbrev pub fault_of : Reader → Option ReadFault
 fault_of r = r.taken.fault
 
 -- the reader was fed these bytes in all, or has run out of memory, for good
-abbrev pub Stands : Reader → List ℕ → Type 0
-Stands r text = (fault_of r ≡ Some NoMemory) ⊎ (state_of r ≡ fed start text)
+abbrev pub WasFed : Reader → List ℕ → Type 0
+WasFed r text = (fault_of r ≡ Some NoMemory) ⊎ (state_of r ≡ fed start text)

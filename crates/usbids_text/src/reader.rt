@@ -27,7 +27,7 @@ pub struct Reader {
 
 impl Reader {
     ghost use Rattle.usbids_text.specs.Held.{held_of};
-    ghost use Rattle.usbids_text.specs.Readers.{state_of, fault_of, Stands};
+    ghost use Rattle.usbids_text.specs.Readers.{state_of, fault_of, WasFed};
 
     // Ends the line that is pending, with these bytes.
     fn end_pending(&mut self, part: &[u8]) -> Result<(), NoMemory>
@@ -119,7 +119,7 @@ impl Reader {
 
     /// A reader that was fed nothing yet.
     pub fn new(alloc: Global) -> Reader
-        ensures stands { Stands result [] }
+        ensures stands { WasFed result [] }
         ensures clear { fault_of result ≡ None }
     {
         Reader {
@@ -139,10 +139,10 @@ impl Reader {
     /// The first faulty line of all bytes so far, once its line feed has come or it has passed
     /// 65,536 bytes, or out of memory. The reader returns that fault from then on, from `finish` too.
     pub fn feed(&mut self, piece: &[u8]) -> Result<(), ReadFault>
-        ensures stands { (t : List ℕ) → Stands self.old t → Stands self.new (t ++ piece.now) }
+        ensures stands { (t : List ℕ) → WasFed self.old t → WasFed self.new (t ++ piece.now) }
         ensures answer { result ≡ answer_of (fault_of self.new) }
-        ensures faulty { (t : List ℕ) → Stands self.old t → AnswersSoFar (t ++ piece.now) (fault_of self.new) }
-        ensures seen { (t : List ℕ) (n : ℕ) (why : Why) → Stands self.old t → SeenFault (t ++ piece.now) n why → HasFault (fault_of self.new) n why }
+        ensures faulty { (t : List ℕ) → WasFed self.old t → AnswersSoFar (t ++ piece.now) (fault_of self.new) }
+        ensures seen { (t : List ℕ) (n : ℕ) (why : Why) → WasFed self.old t → SeenFault (t ++ piece.now) n why → HasFault (fault_of self.new) n why }
         ensures sticks { is_some (fault_of self.old) ≡ true → self.new ≡ self.old }
     {
         if let Some(fault) = self.taken.fault {
@@ -158,7 +158,7 @@ impl Reader {
     ///
     /// The first faulty line, or out of memory.
     pub fn finish(mut self) -> Result<Document, ReadFault>
-        ensures answers { (t : List ℕ) → Stands self t → Answers t result }
+        ensures answers { (t : List ℕ) → WasFed self t → Answers t result }
         ensures sticks { (f : ReadFault) → fault_of self ≡ Some f → result ≡ Err f }
     {
         if let Some(fault) = self.taken.fault {
@@ -172,11 +172,11 @@ impl Reader {
 }
 
 impl Intake for Reader {
-    ghost use Rattle.usbids_text.specs.Readers.{Stands};
+    ghost use Rattle.usbids_text.specs.Readers.{WasFed};
 
     type Wanted = ();
 
-    ghost was_fed = { λ reader _ text. Stands reader text };
+    ghost was_fed = { λ reader _ text. WasFed reader text };
 
     fn take_in(&mut self, piece: &[u8]) {
         let _ = self.feed(piece);
