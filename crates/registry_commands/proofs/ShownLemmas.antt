@@ -1,4 +1,4 @@
--- A registry is read, and stands where it stood.
+-- A registry is read, and is as it was.
 use Rattle.std.proofs.Common.{◌≡◌, ◌⊎◌, inl, inr, sym, ap, refl, ◌∙◌, ◌≤◌, arith}
 use Rattle.sqlite.specs.Store.{Ghosts}
 use Rattle.sqlite.specs.State.{HasCleanDisk, Survives}

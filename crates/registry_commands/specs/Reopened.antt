@@ -14,7 +14,7 @@ use Rattle.registry_commands.specs.declared.lines.BadLine.{BadLine}
 use Rattle.registry_commands.specs.Apply.{lines_between}
 
 module _ {S : Type 0} {g : Ghosts S} where
-  -- Nothing was acted on and no reply was written: the registry that is opened stands where the first one stood.
+  -- Nothing was acted on and no reply was written: the registry that is opened represents what the first one did.
   abbrev pub IsReopenedAsBefore : Registry S g → Registry S g → Option (List ℕ) → Option (List ℕ) → Type 0
   IsReopenedAsBefore first it out out_new = Keeps out out_new × ((h : History) → Represents first h → HasCleanDisk (state_of it) → ∥ Represents it h ∥₁)
 

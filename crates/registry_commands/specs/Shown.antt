@@ -16,7 +16,7 @@ use Rattle.registry_commands.specs.Failures.{Told}
 use Rattle.registry_commands.specs.Printed.{IsPrinted, IsUnprinted}
 
 module _ {S : Type 0} {g : Ghosts S} where
-  -- the registry stands where it stood, and nothing was committed
+  -- the registry is as it was, and nothing was committed
   pub record IsLeft (it new : Registry S g) : Type 0 where
     pub stays : (h : History) → Represents it h → Represents new h
     pub poisons_nothing : is_poisoned new ≡ is_poisoned it
