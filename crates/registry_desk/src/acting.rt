@@ -17,7 +17,6 @@ use registry_rules::Request;
 use registry_store::Registry;
 use sqlite::Alter;
 use std::alloc::Global;
-use usbnum_core::NoMemory;
 
 /// Acts on an order.
 fn act_on<S: Alter>(
@@ -32,13 +31,8 @@ fn act_on<S: Alter>(
     ensures only_poisoned { result ≡ Err (desk_faults.Registry faults.Poisoned) → is_poisoned registry.old ≡ true }
     ensures endures { Endures (state_of registry.old) (state_of registry.new) }
 {
-    match registry.act(request) {
-        Ok(reply) => match reply_response(alloc, &reply) {
-            Ok(response) => Ok(response),
-            Err(NoMemory) => Err(DeskFault::NoMemory),
-        },
-        Err(fault) => Err(DeskFault::Registry(fault)),
-    }
+    let reply = registry.act(request)?;
+    Ok(reply_response(alloc, &reply)?)
 }
 
 /// The response to a message that is refused.
@@ -46,10 +40,7 @@ fn refuse(alloc: Global, refusal: HttpRefusal) -> Result<Response, DeskFault>
     ensures ok { IfOk result (λ response. response ≡ refusal_response refusal) }
     ensures err { IfErr result (λ fault. fault ≡ desk_faults.NoMemory) }
 {
-    match refusal_response(alloc, refusal) {
-        Ok(response) => Ok(response),
-        Err(NoMemory) => Err(DeskFault::NoMemory),
-    }
+    Ok(refusal_response(alloc, refusal)?)
 }
 
 /// The response to what a message says.

@@ -1,11 +1,13 @@
 //! Why a message has no response of its own: the registry has a fault, or memory is short.
 
 ghost use Rattle.std.specs.Prelude.{◌≡◌};
+ghost use Rattle.registry_desk.specs.declared.fault.DeskFault.TheVariants.{Registry, NoMemory as OutOfMemory};
 ghost use Rattle.registry_desk.specs.Faults.{unavailable_of, fault_of, failed_by};
 
 use registry_commands::Failure;
 use registry_http::Unavailable;
 use registry_store::Fault;
+use usbnum_core::NoMemory;
 
 /// Why a message has no response of its own.
 #[derive(Clone, Copy, Debug, Drop, PartialEq, Eq)]
@@ -14,6 +16,22 @@ pub(crate) enum DeskFault {
     Registry(Fault),
     /// Memory is short for the message or its response.
     NoMemory,
+}
+
+impl From<Fault> for DeskFault {
+    ghost from_gives = { λ fault gives. gives ≡ Registry fault };
+
+    fn from(fault: Fault) -> DeskFault {
+        DeskFault::Registry(fault)
+    }
+}
+
+impl From<NoMemory> for DeskFault {
+    ghost from_gives = { λ _ gives. gives ≡ OutOfMemory };
+
+    fn from(_error: NoMemory) -> DeskFault {
+        DeskFault::NoMemory
+    }
 }
 
 /// The refusal that is sent then: 31 where memory runs out, 30 for any other fault.

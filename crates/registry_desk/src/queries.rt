@@ -29,7 +29,7 @@ use registry_store::Registry;
 use sqlite::Alter;
 use std::alloc::Global;
 use usbids_text::{Document, WriteFault, write};
-use usbnum_core::{NoMemory, Number, Pid, Slug, Vid};
+use usbnum_core::{Number, Pid, Slug, Vid};
 
 /// Asks for a number of a vendor, which the response names if it is to.
 fn ask_number<S: Alter>(
@@ -44,27 +44,16 @@ fn ask_number<S: Alter>(
     ensures left { IsLeft registry.old registry.new }
     ensures only_poisoned { result ≡ Err (desk_faults.Registry faults.Poisoned) → is_poisoned registry.old ≡ true }
 {
-    let reserved = match registry.is_reserved(Number { vid, pid }) {
-        Ok(reserved) => reserved,
-        Err(fault) => return Err(DeskFault::Registry(fault)),
-    };
-    match registry.entry(Number { vid, pid }) {
-        Ok(entry) => match number_response(alloc, vendor, pid, reserved, entry.as_ref()) {
-            Ok(response) => Ok(response),
-            Err(NoMemory) => Err(DeskFault::NoMemory),
-        },
-        Err(fault) => Err(DeskFault::Registry(fault)),
-    }
+    let reserved = registry.is_reserved(Number { vid, pid })?;
+    let entry = registry.entry(Number { vid, pid })?;
+    Ok(number_response(alloc, vendor, pid, reserved, entry.as_ref())?)
 }
 
 fn no_vendor(alloc: Global) -> Result<Response, DeskFault>
     ensures ok { IfOk result (λ response. response ≡ reply_response (replies.Refused rule_refusals.NoVendor)) }
     ensures err { IfErr result (λ fault. fault ≡ desk_faults.NoMemory) }
 {
-    match reply_response(alloc, &Reply::Refused(Refusal::NoVendor)) {
-        Ok(response) => Ok(response),
-        Err(NoMemory) => Err(DeskFault::NoMemory),
-    }
+    Ok(reply_response(alloc, &Reply::Refused(Refusal::NoVendor))?)
 }
 
 /// Asks for a number of a vendor that is named; refusal 34 where there is no such vendor.
@@ -79,10 +68,10 @@ fn ask_vendor_number<S: Alter>(
     ensures left { IsLeft registry.old registry.new }
     ensures only_poisoned { result ≡ Err (desk_faults.Registry faults.Poisoned) → is_poisoned registry.old ≡ true }
 {
-    match registry.has_vendor(vid) {
-        Ok(true) => ask_number(alloc, registry, Some(vid), vid, pid),
-        Ok(false) => no_vendor(alloc),
-        Err(fault) => Err(DeskFault::Registry(fault)),
+    if registry.has_vendor(vid)? {
+        ask_number(alloc, registry, Some(vid), vid, pid)
+    } else {
+        no_vendor(alloc)
     }
 }
 
@@ -97,13 +86,8 @@ fn ask_org<S: Alter>(
     ensures left { IsLeft registry.old registry.new }
     ensures only_poisoned { result ≡ Err (desk_faults.Registry faults.Poisoned) → is_poisoned registry.old ≡ true }
 {
-    match registry.org(slug) {
-        Ok(org) => match org_response(alloc, org.as_ref()) {
-            Ok(response) => Ok(response),
-            Err(NoMemory) => Err(DeskFault::NoMemory),
-        },
-        Err(fault) => Err(DeskFault::Registry(fault)),
-    }
+    let org = registry.org(slug)?;
+    Ok(org_response(alloc, org.as_ref())?)
 }
 
 /// Asks for a petition.
@@ -118,13 +102,8 @@ fn ask_petition<S: Alter>(
     ensures only_poisoned { result ≡ Err (desk_faults.Registry faults.Poisoned) → is_poisoned registry.old ≡ true }
 {
     let founding = registry.founding().vendor;
-    match registry.petition(id) {
-        Ok(petition) => match petition_response(alloc, founding, id, petition.as_ref()) {
-            Ok(response) => Ok(response),
-            Err(NoMemory) => Err(DeskFault::NoMemory),
-        },
-        Err(fault) => Err(DeskFault::Registry(fault)),
-    }
+    let petition = registry.petition(id)?;
+    Ok(petition_response(alloc, founding, id, petition.as_ref())?)
 }
 
 /// The response of a list: the document as it is written, without a stamp.
