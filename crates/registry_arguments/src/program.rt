@@ -164,7 +164,10 @@ fn import<'a>(alloc: Global) -> Result<Command<'a>, AllocError>
         command,
         positional(alloc, "store", "STORE", "The registry's file"),
     )?;
-    let command = with_arg(command, positional(alloc, "list", "LIST", "A list as in usb.ids"))?;
+    let command = with_arg(
+        command,
+        positional(alloc, "list", "LIST", "A list as in usb.ids"),
+    )?;
     let command = with_sender(alloc, command)?;
     let vendor = option(alloc, "vendor", "V", "The vendor, if not the founding one");
     with_arg(command, vendor)
@@ -255,7 +258,10 @@ fn lookup<'a>(alloc: Global) -> Result<Command<'a>, AllocError>
         "Print the name of a device in a list",
         "Example:\n  usbreg lookup examples/devices.ids 1209 0011",
     );
-    let command = with_arg(command, positional(alloc, "list", "LIST", "A list as in usb.ids"))?;
+    let command = with_arg(
+        command,
+        positional(alloc, "list", "LIST", "A list as in usb.ids"),
+    )?;
     let command = with_arg(
         command,
         positional(alloc, "vid", "VID", "Four hexadecimal digits"),

@@ -1,8 +1,10 @@
 //! The command that imports a list.
 
-use byte_streams::Outlet;
 use crate::files::{open_input, open_registry};
-use registry_commands::{BadArgument, Failure, Import, close_store, fail, import_list, reject_argument};
+use byte_streams::Outlet;
+use registry_commands::{
+    BadArgument, Failure, Import, close_store, fail, import_list, reject_argument,
+};
 use usbnum_core::NoMemory;
 
 /// Imports the list in a file into the registry in a file, where the arguments say what is asked for.

@@ -8,8 +8,8 @@ mod views;
 
 use files::{run_apply, run_found, run_trial};
 use imports::run_import;
-use registry_commands::import_of_arguments;
 use registry_arguments::{Command, Usage, command_of};
+use registry_commands::import_of_arguments;
 use serving::run_serve;
 use std::io;
 use std::process::ExitCode;

@@ -2,8 +2,8 @@
 
 ghost use Rattle.std.specs.Prelude.{⊤};
 
-use byte_streams::{Broken, Inlet, Outlet};
 use crate::files::open_registry;
+use byte_streams::{Broken, Inlet, Outlet};
 use registry_commands::{close_store, fail, failure_of};
 use registry_desk::{Connections, ServerStop, serve_all};
 use std::io;

@@ -1,7 +1,7 @@
 //! The commands that show something and change nothing: they open what the arguments name, and hand it on.
 
-use byte_streams::Outlet;
 use crate::files::{open_input, open_registry};
+use byte_streams::Outlet;
 use registry_commands::{
     BadArgument, close_store, export, fail, look_up, reject_argument, report, report_named,
 };

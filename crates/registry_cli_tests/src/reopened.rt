@@ -1,7 +1,7 @@
 //! One run of the program after another, over files in memory.
 
-use byte_streams::{Inlet, Outlet};
 use crate::shared::{ASK, ASKED, ENROL, ENROLLED, GRANT, GRANTED, joined};
+use byte_streams::{Inlet, Outlet};
 use registry_commands::{apply_and_crash, apply_and_open, apply_lines, trial_founding};
 use registry_store::Registry;
 use sqlite::{Alter, Connection, FileStore, Files, Options};

@@ -1,8 +1,8 @@
 //! Request lines over registries in memory: what is written, and the status, where an input or an output fails.
 
-use byte_streams::{Inlet, Outlet};
 use crate::lines::Stumbling;
 use crate::shared::{ENROL, ENROLLED, joined, tried, wrote};
+use byte_streams::{Inlet, Outlet};
 use registry_commands::{Failure, store_failure, trial, trial_founding};
 use sqlite::{Error, ErrorCode};
 use std::io;

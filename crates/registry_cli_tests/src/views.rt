@@ -1,7 +1,7 @@
 //! What commands show of a registry in memory, what an import does to it, and look-ups.
 
-use byte_streams::{Inlet, Outlet};
 use crate::shared::{Written, applied, founded, wrote};
+use byte_streams::{Inlet, Outlet};
 use registry_commands::{
     export, import_list, import_of_arguments, look_up, reject_argument, report, report_named,
 };

@@ -11,11 +11,11 @@ ghost use Rattle.registry_commands.specs.Messages.{bad_line_text};
 ghost use Rattle.registry_commands.specs.Apply.{IsApplied, IsOfRun, IsStoppedAt, IsThrough, IsUnread};
 ghost use Rattle.registry_commands.specs.Failures.{IsOfInput, IsOfMemory, IsOfOutput, IsTooLong, Tells, TellsFailure, told_to};
 
-use byte_streams::{Sink, Source};
 use crate::input::read_all;
 use crate::lines::{BadLine, requests_in};
 use crate::messages::{Failure, bad_line_text, fail, failure_of, input_failure, tell};
 use crate::replies::ReplyLines;
+use byte_streams::{Sink, Source};
 use registry_rules::Request;
 use registry_store::{Registry, RunStop};
 use sqlite::Alter;

@@ -4,8 +4,8 @@ ghost use Rattle.std.specs.Prelude.{◌≡◌};
 ghost use Rattle.registry_commands.specs.Failures.{Tells, told_to};
 ghost use Rattle.registry_commands.specs.Arguments.{bad_argument_line};
 
-use byte_streams::Sink;
 use crate::messages::tell;
+use byte_streams::Sink;
 
 /// An argument that is not valid.
 #[derive(Clone, Copy, Debug, PartialEq, Eq)]

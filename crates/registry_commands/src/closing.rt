@@ -10,8 +10,8 @@ ghost use Rattle.registry_store.specs.Promise.{LeavesFrom};
 ghost use Rattle.registry_store.specs.Reopen.{AreClosed, HoldEither, IsEither};
 ghost use Rattle.registry_commands.specs.Failures.{IsOfStore, TellsFailure, told_to};
 
-use byte_streams::Sink;
 use crate::messages::{fail, store_failure};
+use byte_streams::Sink;
 use registry_store::{Closed, close_files, leave_store};
 use sqlite::{Connection, FileStore, Files};
 use sqlite_disk::Disk;

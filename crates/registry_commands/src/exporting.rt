@@ -13,9 +13,9 @@ ghost use Rattle.registry_commands.specs.Failures.{IsOfOutput, told_to};
 ghost use Rattle.registry_commands.specs.Printed.{IsPrinted};
 ghost use Rattle.registry_commands.specs.Shown.{IsExported, IsLeft, IsOfReading};
 
-use byte_streams::Sink;
 use crate::messages::{Failure, fail};
 use crate::reading::{numbers_of, vendors_of};
+use byte_streams::Sink;
 use registry_reports::list_document;
 use registry_rules::{Entry, Vendor};
 use registry_store::Registry;

@@ -7,9 +7,9 @@ ghost use Rattle.registry_commands.specs.Failures.{IsOfInput, IsOfMemory, IsTooL
 ghost use Rattle.registry_commands.specs.Messages.{refusal_line};
 ghost use Rattle.registry_commands.specs.Found.{IsFoundBy, IsTriedOn};
 
-use byte_streams::{Sink, Source};
 use crate::input::read_all;
 use crate::messages::{Failure, fail, failure_of, input_failure, refusal_line, tell};
+use byte_streams::{Sink, Source};
 use registry_rules::Founding;
 use registry_store::Registry;
 use registry_wire::{WireRefusal, founding_from_toml};

@@ -5,11 +5,11 @@ ghost use Rattle.byte_streams.specs.Streams.{MayGive};
 ghost use Rattle.registry_commands.specs.Failures.{IsOfInput, IsOfOutput, told_to};
 ghost use Rattle.registry_commands.specs.Imports.{AreOfImport, IsActedOn, IsFirstBad, IsImportOf, IsImported, IsReplied, status_of};
 
-use byte_streams::{Broken, Sink, Source};
+use crate::arguments::BadArgument;
 use crate::list_input::read_list;
 use crate::looking::put_fault;
 use crate::messages::{Failure, fail, failure_of, put_reply};
-use crate::arguments::BadArgument;
+use byte_streams::{Broken, Sink, Source};
 use registry_rules::{Reply, Request};
 use registry_store::Registry;
 use registry_wire::import_request;

@@ -5,10 +5,10 @@ ghost use Rattle.byte_streams.specs.Streams.{MayGive};
 ghost use Rattle.registry_commands.specs.Failures.{IsOfInput, IsOfOutput, told_to};
 ghost use Rattle.registry_commands.specs.LookUp.{IsAnswered, IsLookedUp, IsMatched, IsNamed, IsRefused};
 
-use byte_streams::{Broken, Sink, Source};
 use crate::found::reject;
 use crate::messages::{Failure, fail, tell};
 use crate::printing::print;
+use byte_streams::{Broken, Sink, Source};
 use registry_wire::WireRefusal;
 use std::alloc::Global;
 use usbids_text::{Name, ReadFault, Scan, feed_all};

@@ -7,9 +7,9 @@ ghost use Rattle.byte_streams.specs.Streams.{AppendsPrefix};
 ghost use Rattle.registry_commands.specs.Failures.{IsOfOutput, Tells, told_to};
 ghost use Rattle.registry_commands.specs.Messages.{bad_line_text, failure_line, failure_of, input_failure, refusal_line, reply_line};
 
-use byte_streams::{Broken, Sink, put_all};
 use crate::input::InputFault;
 use crate::lines::BadLine;
+use byte_streams::{Broken, Sink, put_all};
 use registry_rules::Reply;
 use registry_store::Fault;
 use registry_wire::{WireRefusal, refusal_json, reply_json};

@@ -3,8 +3,8 @@
 ghost use Rattle.registry_commands.specs.Failures.{IsOfOutput, told_to};
 ghost use Rattle.registry_commands.specs.Printed.{IsPrinted};
 
-use byte_streams::{Broken, Sink, put_all};
 use crate::messages::{Failure, fail};
+use byte_streams::{Broken, Sink, put_all};
 
 /// Writes a text, and returns the exit status: 0, or 1 where the output failed, which the errors name.
 pub(crate) fn print<W: Sink, E: Sink>(output: &mut W, errors: &mut E, text: &[u8]) -> u8

@@ -5,9 +5,9 @@ ghost use Rattle.byte_streams.specs.Streams.{MayGive};
 ghost use Rattle.registry_commands.specs.Lines.{requests_in};
 ghost use Rattle.registry_commands.specs.Reopened.{IsReopened};
 
-use byte_streams::{Sink, Source};
 use crate::apply::apply_lines;
 use crate::closing::close_store;
+use byte_streams::{Sink, Source};
 use registry_store::{Registry, crash_and_open, open_files};
 use sqlite::{FileStore, Options};
 use sqlite_disk::{Crash, Disk};

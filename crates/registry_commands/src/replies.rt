@@ -2,8 +2,8 @@
 
 ghost use Rattle.registry_commands.specs.Replies.{CutsLine, TakesLine};
 
-use byte_streams::Sink;
 use crate::messages::{Failure, put_reply};
+use byte_streams::Sink;
 use registry_rules::Reply;
 use registry_store::{Cut, Replies};
 use std::alloc::Global;

@@ -13,10 +13,10 @@ ghost use Rattle.registry_commands.specs.Failures.{IsOfOutput, told_to};
 ghost use Rattle.registry_commands.specs.Reports.{AreReserved, IsCensus, IsHoldersReport, IsPetitionsReport, IsReport, IsReported, report_named};
 ghost use Rattle.registry_commands.specs.Shown.{IsLeft, IsOfReading};
 
-use byte_streams::Sink;
 use crate::messages::{Failure, fail, failure_of};
 use crate::printing::print;
 use crate::reading::{numbers_of, petitions_of, vendors_of};
+use byte_streams::Sink;
 use registry_reports::{census, holders, open_petitions};
 use registry_rules::{Entry, Petition, Vendor};
 use registry_store::Registry;

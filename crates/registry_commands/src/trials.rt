@@ -12,9 +12,9 @@ ghost use Rattle.registry_commands.specs.Failures.{IsOfInput, IsOfOutput, IsTooL
 ghost use Rattle.registry_commands.specs.Lines.{requests_in};
 ghost use Rattle.registry_commands.specs.Trial.{IsOfStart, IsTrial, IsTrialOf};
 
-use byte_streams::{Sink, Source};
 use crate::apply::apply_lines;
 use crate::messages::{Failure, fail, failure_of};
+use byte_streams::{Sink, Source};
 use registry_rules::{Curators, Founding, Licences};
 use registry_store::Registry;
 use sqlite::{Connection, MemStore};

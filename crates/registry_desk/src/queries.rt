@@ -17,8 +17,8 @@ ghost use Rattle.registry_http.specs.Resources.{number_response, org_response, p
 ghost use Rattle.registry_desk.specs.declared.fault.DeskFault.TheVariants as desk_faults;
 ghost use Rattle.registry_desk.specs.Acting.{IsListResponse, IsQueryResponse, IsReportResponse, IsOfStanding, kind_of, vendor_number_at};
 
-use byte_streams::Outlet;
 use crate::fault::{DeskFault, failed_by};
+use byte_streams::Outlet;
 use registry_commands::{ReportKind, document_of, report_of};
 use registry_http::{
     Query, Report, Response, number_response, org_response, petition_response, reply_response,

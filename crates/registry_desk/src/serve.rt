@@ -11,9 +11,9 @@ ghost use Rattle.registry_desk.specs.declared.serve.Served.{Served};
 ghost use Rattle.registry_desk.specs.Faults.{unavailable_of};
 ghost use Rattle.registry_desk.specs.Serving.{IsOfServed, IsSent, IsTold, IsServed, given_up};
 
-use byte_streams::{Broken, Sink, Source};
 use crate::acting::response_to;
 use crate::fault::{DeskFault, fault_of, unavailable_of};
+use byte_streams::{Broken, Sink, Source};
 use registry_http::{InputFault, Response, read_message, write_response, write_unavailable};
 use registry_store::{Fault, Registry};
 use sqlite::Alter;

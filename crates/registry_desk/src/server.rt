@@ -8,8 +8,8 @@ ghost use Rattle.registry_tables.specs.Rows.{newest};
 ghost use Rattle.registry_store.specs.Promise.{Represents, Endures, Leaves, state_of};
 ghost use Rattle.registry_desk.specs.Server.{Visit, IsVisit, IsWritten, HaveVisited, EndsVisit, EndsServing, IsLeftAfter, IfVisited, fault_in, status_in, status_of};
 
-use byte_streams::{Broken, Sink, Source};
 use crate::serve::serve_message;
+use byte_streams::{Broken, Sink, Source};
 use registry_store::{Fault, Registry};
 use sqlite::Alter;
 use std::alloc::Global;

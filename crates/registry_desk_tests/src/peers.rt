@@ -1,7 +1,7 @@
 //! Peers that fail: a reader after each byte of an order, a writer after each byte of its response.
 
-use byte_streams::{Inlet, Outlet};
 use crate::ends::{Brim, Drip, ENROL, ENROLLED, founded, told};
+use byte_streams::{Inlet, Outlet};
 use registry_desk::{PeerFault, serve_one};
 use registry_store::Registry;
 use sqlite::MemStore;

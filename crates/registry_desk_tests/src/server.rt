@@ -1,7 +1,7 @@
 //! The server over connections in memory.
 
-use byte_streams::{Broken, Inlet, Outlet};
 use crate::ends::{ENROL, ENROLLED, founded, text};
+use byte_streams::{Broken, Inlet, Outlet};
 use registry_desk::{Connections, ServerStop, serve_all};
 use std::alloc::Global;
 use std::test::Fail;

@@ -6,8 +6,8 @@ ghost use Rattle.byte_streams.specs.Streams.{HasFailed, MayGive};
 ghost use Rattle.usbids_text.specs.Readers.{WasFed};
 ghost use Rattle.registry_http.specs.Bodies.{IsHeld, IsFed};
 
-use byte_streams::{Broken, Source};
 use crate::head::{InputFault, take_more};
+use byte_streams::{Broken, Source};
 use usbids_text::Reader;
 
 /// Reads until the buffer has so many bytes, and says whether it has: else the source is at its end. No read begins

@@ -13,13 +13,13 @@ ghost use Rattle.registry_http.specs.Messages.{BodySays, HeadSays, Says};
 ghost use Rattle.registry_http.specs.declared.message.Message.{Message};
 ghost use Rattle.registry_http.specs.declared.refusal.HttpRefusal.{HttpRefusal};
 
-use byte_streams::Source;
 use crate::body::{feed_body, read_body};
 use crate::head::{HeadEnd, InputFault, read_head};
 use crate::reading::{Head, OrderHead, head_in};
 use crate::refusal::HttpRefusal;
-use crate::route::{Endpoint, Query};
 use crate::rejection::Rejection;
+use crate::route::{Endpoint, Query};
+use byte_streams::Source;
 use httparse::spans::{EMPTY_HEADER_SPAN, HeaderSpan, RequestSpans};
 use registry_rules::Request;
 use registry_wire::{WireRefusal, import_request, request_from_json};

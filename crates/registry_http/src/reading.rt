@@ -11,9 +11,9 @@ ghost use Rattle.registry_wire.specs.declared.refusal.Header.TheVariants as head
 use crate::fields::{has_field, length_of, only_value};
 use crate::parts::slug_of;
 use crate::refusal::{Allow, HttpRefusal};
+use crate::rejection::Rejection;
 use crate::route::{Endpoint, Query, Route};
 use crate::routes::route_of;
-use crate::rejection::Rejection;
 use httparse::spans::HeaderSpan;
 use registry_wire::{Header, WireRefusal};
 use std::alloc::Global;

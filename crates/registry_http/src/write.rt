@@ -5,10 +5,10 @@ ghost use Rattle.byte_streams.specs.Streams.{Writes};
 ghost use Rattle.registry_http.specs.declared.response.Response.{Response as TheResponse};
 ghost use Rattle.registry_http.specs.Responses.{response_head, response_bytes, unavailable_response, IsInPlaceOf};
 
-use byte_streams::{Broken, Sink, put_all};
 use crate::response::Response;
 use crate::response_head::response_head;
 use crate::unavailable::{Unavailable, unavailable_text};
+use byte_streams::{Broken, Sink, put_all};
 use std::alloc::Global;
 use usbnum_core::NoMemory;
 

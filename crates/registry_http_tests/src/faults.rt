@@ -1,7 +1,7 @@
 //! Messages with a fault, and the response to the first one of each.
 
-use byte_streams::Inlet;
 use crate::ends::{Drip, read};
+use byte_streams::Inlet;
 use std::alloc::Global;
 use std::process::Abort;
 use std::test::Fail;

@@ -1,7 +1,7 @@
 //! Messages without a fault, and what each says.
 
-use byte_streams::Inlet;
 use crate::ends::{Drip, read};
+use byte_streams::Inlet;
 use std::alloc::Global;
 use std::process::Abort;
 use std::test::Fail;

@@ -1,7 +1,7 @@
 //! Values and the whole response that each one gets.
 
-use byte_streams::{Broken, Inlet, Outlet};
 use crate::ends::{Brim, read, text};
+use byte_streams::{Broken, Inlet, Outlet};
 use registry_http::{
     Response, Unavailable, number_response, org_response, petition_response, reply_response,
     text_response, write_response, write_unavailable,

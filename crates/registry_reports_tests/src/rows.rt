@@ -1,9 +1,9 @@
 //! Each text of the lists of some registries.
 
-use byte_streams::Outlet;
 use crate::kept::{
     NumberRows, PetitionRows, VendorRows, numbers, petitions, reserved, vendors, vid,
 };
+use byte_streams::Outlet;
 use registry_reports::{census, holders, list_document, open_petitions};
 use std::test::Fail;
 use usbids_text::write;

@@ -11,8 +11,8 @@ use crate::importing::import;
 use crate::order_checks::{
     add_licence, add_vendor, amend, amend_org, ask, decline, enrol, give_back, grant, withdraw,
 };
-use crate::span_checks::{release, reserve};
 use crate::rejection::Rejection;
+use crate::span_checks::{release, reserve};
 use crate::{Act, Deed, Facts, Kept, Order, Refusal, Request, Verdict, request_bytes};
 use std::alloc::{AllocError, Global};
 use usbnum_core::{NoMemory, Slug};

@@ -187,7 +187,11 @@ pub(crate) fn add_vendor(facts: &Facts<'_>, caller: &Slug, it: &AddVendor) -> Re
 }
 
 #[tactic(auto, unfolding(crate::specs::OnFacts::outcome_on))]
-pub(crate) fn add_licence(facts: &Facts<'_>, caller: &Slug, it: &AddLicence) -> Result<Act, Rejection>
+pub(crate) fn add_licence(
+    facts: &Facts<'_>,
+    caller: &Slug,
+    it: &AddLicence,
+) -> Result<Act, Rejection>
     ensures { Gives result (outcome_on facts.now caller.now (orders.AddLicence it.now)) }
 {
     check_curator(facts.founding, caller)?;

@@ -15,7 +15,9 @@ ghost use Rattle.registry_tables.specs.Rows.{HoldsRows, newest};
 ghost use Rattle.registry_store.specs.Promise.{Counts, IsAt};
 ghost use Rattle.registry_store.specs.Attempt.{CommitsOne, Wrote};
 
-use registry_rules::{Deed, Reply, ReplyText, Request, Totals, Verdict, changes, judge, reply_text};
+use registry_rules::{
+    Deed, Reply, ReplyText, Request, Totals, Verdict, changes, judge, reply_text,
+};
 use registry_tables::{TableFault, facts_for, keep_reply, store};
 use sqlite::{Alter, Connection, Error, ErrorCode, Transaction};
 use std::alloc::Global;

@@ -9,8 +9,8 @@ ghost use Rattle.registry_wire.specs.Reading.{wanted, text_in, given_in, slug_in
 
 use crate::kind::{Kind, kind_of};
 use crate::link::link_of;
-use crate::span::span_of;
 use crate::rejection::{Rejection, present};
+use crate::span::span_of;
 use crate::text::{key_of, slug_of, title_of};
 use crate::{Field, WireRefusal};
 use serde_json::Value;

@@ -2,8 +2,8 @@
 ghost use Rattle.std.specs.Prelude.{◌≡◌, [], ◌++◌, OnOk, true, false};
 ghost use Rattle.usbids_text.specs.Gathering.{Gathers};
 
-use byte_streams::{Broken, Sink, put_all};
 use arrayvec::ArrayVec;
+use byte_streams::{Broken, Sink, put_all};
 
 /// The bytes that wait for the sink.
 #[derive(Drop)]

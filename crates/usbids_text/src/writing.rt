@@ -7,12 +7,12 @@ ghost use Rattle.usbids_text.specs.Entries.{leaf_row, mid_row, top_row, leaves_r
 ghost use Rattle.usbids_text.specs.Writing.{code_text, gap, line_text, row_text, rows_text, stamp_text, title, head_text, written};
 ghost use Rattle.usbids_text.specs.Documents.{Spells};
 
-use byte_streams::{Broken, Sink};
 use crate::document::{Document, Leaf, Mid, Top};
 use crate::gather::{Waiting, gather, gather_three, pour};
 use crate::kind::Kind;
 use crate::stamp::Stamp;
 use arrayvec::ArrayVec;
+use byte_streams::{Broken, Sink};
 use std::error::Error;
 use std::fmt;
 
