@@ -3,7 +3,7 @@
 ghost use Rattle.std.specs.Prelude.{◌≡◌, IfOk};
 
 use crate::Field;
-use registry_rules::Text;
+use registry_rules::ReplyText;
 use std::alloc::Global;
 use usbids_text::LineFault;
 use usbnum_core::NoMemory;
