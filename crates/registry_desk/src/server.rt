@@ -121,8 +121,8 @@ pub fn serve_next<C: Connections, S: Alter>(
 /// Serves connections one after another, at most so many, up to the first fault of the registry.
 ///
 /// Of a registry that stands at a history, each message has its response over the history before it, and the registry then
-/// stands at the history after all of them, in order. A crash leaves the history after the messages of a prefix of the
-/// connections, which holds each message that got its response, and at most one more: that of a fault of the registry.
+/// stands at the history after all of them, in order. A crash leaves the history after all of them too, and where the registry
+/// had a fault at the last one, with that one or without. So it holds each message whose response was written whole.
 pub fn serve_all<C: Connections, S: Alter>(
     alloc: Global,
     connections: &mut C,
