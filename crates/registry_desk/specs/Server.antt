@@ -150,7 +150,7 @@ pub record IsCutShort (h : History) (visits : List Visit) (x : History) : Type 0
   pub next_is : IsNext middle last.bytes (Registry fault) next
   pub is : IsEither middle next x
 
--- What a crash leaves: the history after the messages of a prefix of the connections. It holds each message that got its response, and at most one more.
+-- What a crash leaves: the history after the messages of all these connections, or of all but the last one, where the registry had a fault at that. So it holds each message whose response was written whole. It also holds one that was acted on while its writer failed, and may hold one that got 31.
 abbrev pub IsLeftAfter : History → List Visit → History → Type 0
 IsLeftAfter h visits x = Turns h visits x ⊎ IsCutShort h visits x
 
