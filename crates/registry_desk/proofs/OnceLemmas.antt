@@ -1,11 +1,9 @@
 -- Lists that ascend by a key and find the same are one.
 use Rattle.std.proofs.Common.{◌≡◌, ℕ, Bool, true, false, List, [], ◌∷◌, Option, Some, None, find, Ordering, Less, Equal, Greater, is_eq, refl, sym, ap, subst, ◌∙◌, arith}
-use Rattle.std.specs.Ordering.{nat_cmp, ordering_then, ordering_reverse}
+use Rattle.std.specs.Ordering.{nat_cmp, ordering_reverse}
 use Rattle.std.specs.List.{AllByRecursion}
 use Rattle.std.specs.List.Sorted.{IsStrictlySortedBy}
 use Rattle.std.specs.Cmp.{IsTotalOrder}
-use Rattle.std.proofs.lemmas.Bool.Decides.{nat_tests}
-use Rattle.std.proofs.lemmas.Cmp.{nat_cmp_total, on_total, then_total}
 use Rattle.sqlite_keyed.proofs.ListLemmas.{all_weaker}
 use Rattle.usbnum_core.specs.declared.number.Number.{Number}
 use Rattle.registry_rules.specs.Number.{is_number}
@@ -13,6 +11,7 @@ use Rattle.registry_rules.specs.History.{History}
 use Rattle.registry_rules.specs.declared.record.Entry.{Entry}
 use Rattle.registry_rows.specs.Rows.{by_number}
 use Rattle.registry_tables.specs.Lists.{IsNumberList}
+use Rattle.registry_tables.proofs.ListLemmas.{both_equal, level, number_total}
 use Rattle.registry_tables.proofs.ViewLemmas.{same_number, number_same}
 
 module _ {X K : Type 0} (key : X → K) (cmp : X → X → Ordering) (total : IsTotalOrder cmp) (same : K → K → Bool)
@@ -72,21 +71,6 @@ module _ {X K : Type 0} (key : X → K) (cmp : X → X → Ordering) (total : Is
           rw (here, rest) refl
 
 -- ---- the numbers of a history
-
-number_total : IsTotalOrder by_number
-number_total =
-    then_total {R = λ (a b : Number × Entry). nat_cmp a.0.vid b.0.vid} {S = λ (a b : Number × Entry). nat_cmp a.0.pid b.0.pid}
-    (on_total (λ (a : Number × Entry). a.0.vid) nat_cmp_total) (on_total (λ (a : Number × Entry). a.0.pid) nat_cmp_total)
-
-both_equal : (o p : Ordering) → is_eq (ordering_then o p) ≡ true → (o ≡ Equal) × (p ≡ Equal)
-both_equal Equal Equal is = (refl, refl)
-both_equal Equal Less is = absurd cc
-both_equal Equal Greater is = absurd cc
-both_equal Less p is = absurd cc
-both_equal Greater p is = absurd cc
-
-level : (x y : ℕ) → nat_cmp x y ≡ Equal → x ≡ y
-level x y is = grind (arith, nat_tests)
 
 even : (n : ℕ) → nat_cmp n n ≡ Equal
 even n = grind arith

@@ -57,17 +57,17 @@ vendor_list h db t has had all is = record {
 
 -- ---- numbers
 
-both_equal : (o p : Ordering) → is_eq (ordering_then o p) ≡ true → (o ≡ Equal) × (p ≡ Equal)
+pub both_equal : (o p : Ordering) → is_eq (ordering_then o p) ≡ true → (o ≡ Equal) × (p ≡ Equal)
 both_equal Equal Equal is = (refl, refl)
 both_equal Equal Less is = absurd cc
 both_equal Equal Greater is = absurd cc
 both_equal Less p is = absurd cc
 both_equal Greater p is = absurd cc
 
-level : (x y : ℕ) → nat_cmp x y ≡ Equal → x ≡ y
+pub level : (x y : ℕ) → nat_cmp x y ≡ Equal → x ≡ y
 level x y is = grind (arith, nat_tests)
 
-number_total : IsTotalOrder by_number
+pub number_total : IsTotalOrder by_number
 number_total =
     then_total {R = λ (a b : Number × Entry). nat_cmp a.0.vid b.0.vid} {S = λ (a b : Number × Entry). nat_cmp a.0.pid b.0.pid}
     (on_total (λ (a : Number × Entry). a.0.vid) nat_cmp_total) (on_total (λ (a : Number × Entry). a.0.pid) nat_cmp_total)
