@@ -114,7 +114,7 @@ impl Connections for Accepted<'_> {
     }
 }
 
-/// Tells a person at a terminal that it listens.
+/// Prints a person at a terminal that it listens.
 fn say_listening(rt: &HostRuntime, port: u16) {
     if rt.stderr().is_terminal() {
         let _ = eprintln!(rt; "listening on 127.0.0.1:{port}");

@@ -14,7 +14,7 @@ use Rattle.registry_store.specs.Run.{HasAnswered}
 use Rattle.registry_store.proofs.RunToLemmas.{between_none, place_left}
 use Rattle.registry_commands.specs.declared.lines.BadLine.{BadLine}
 use Rattle.registry_commands.specs.declared.messages.Failure.{Failure}
-use Rattle.registry_commands.specs.Failures.{TellsFailure, Told}
+use Rattle.registry_commands.specs.Failures.{PrintsFailure, ErrorOutput}
 use Rattle.registry_commands.specs.Messages.{bad_line_text, exceeds_text, reply_lines}
 use Rattle.registry_commands.specs.Apply.{IsApplied, IsRejected, IsRun, IsStoppedAt, lines_between}
 use Rattle.registry_commands.proofs.FailureLemmas.{tells_more}
@@ -45,8 +45,8 @@ module _ {S : Type 0} {g : Ghosts S} where
   -- ---- all of it
 
   -- a failure before the first request
-  pub fails_before : (OfInput OfOutput : Failure → Type 0) (it : Registry S g) (read : Result (List Request) BadLine) (a : ℕ) (out : Option (List ℕ)) (errors : Told) (status : ℕ)
-      → status ≡ 1 → TellsFailure OfInput errors → IsApplied OfInput OfOutput it it read a out out errors status
+  pub fails_before : (OfInput OfOutput : Failure → Type 0) (it : Registry S g) (read : Result (List Request) BadLine) (a : ℕ) (out : Option (List ℕ)) (errors : ErrorOutput) (status : ℕ)
+      → status ≡ 1 → PrintsFailure OfInput errors → IsApplied OfInput OfOutput it it read a out out errors status
   fails_before OfInput OfOutput it (Err bad) a out errors status one told = record { same = refl; silent = keeps_same out; told = inr (one, told) }
   fails_before OfInput OfOutput it (Ok rs) a out errors status one told = (
     λ more. record { same = refl; silent = keeps_same out; told = inr (one, told) },
@@ -60,7 +60,7 @@ module _ {S : Type 0} {g : Ghosts S} where
   )
 
   module _ (OfMemory OfInput OfOutput : Failure → Type 0) (more : (failure : Failure) → OfMemory failure → OfInput failure)
-      (it new : Registry S g) (out out_new : Option (List ℕ)) (errors : Told) (status : ℕ) where
+      (it new : Registry S g) (out out_new : Option (List ℕ)) (errors : ErrorOutput) (status : ℕ) where
     rejected_more : (text : List ℕ) → IsRejected OfMemory it new out out_new errors text status → IsRejected OfInput it new out out_new errors text status
     rejected_more text is = record {
       same = is.same;

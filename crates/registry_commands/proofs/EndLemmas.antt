@@ -21,7 +21,7 @@ use Rattle.registry_wire.specs.Founding.{Listed}
 use Rattle.registry_commands.specs.declared.lines.BadLine.{BadLine}
 use Rattle.registry_commands.specs.declared.messages.Failure.{Failure}
 use Rattle.registry_commands.specs.declared.messages.Failure.TheVariants.{Store, Memory}
-use Rattle.registry_commands.specs.Failures.{IsOfInput, IsOfSoundRun, TellsFailure, Told}
+use Rattle.registry_commands.specs.Failures.{IsOfInput, IsOfSoundRun, PrintsFailure, ErrorOutput}
 use Rattle.registry_commands.specs.Messages.{failure_of}
 use Rattle.registry_commands.specs.Apply.{IsApplied, IsOfRun}
 use Rattle.registry_commands.specs.Found.{IsFoundBy, IsOfFounding}
@@ -30,14 +30,14 @@ use Rattle.registry_commands.proofs.ApplyLemmas.{keeps_same}
 use Rattle.registry_commands.proofs.FailureLemmas.{memory_of_input, of_standing, tells_more}
 
 -- a failure before anything is founded
-pub founding_fails : {S : Type 0} (OfInput : Failure → Type 0) (g : Ghosts S) (conn : Held S) (read : Result Listed WireRefusal) (errors : Told) (status : ℕ)
-    → status ≡ 1 → TellsFailure OfInput errors → IsFoundBy g OfInput conn conn read errors status
+pub founding_fails : {S : Type 0} (OfInput : Failure → Type 0) (g : Ghosts S) (conn : Held S) (read : Result Listed WireRefusal) (errors : ErrorOutput) (status : ℕ)
+    → status ≡ 1 → PrintsFailure OfInput errors → IsFoundBy g OfInput conn conn read errors status
 founding_fails OfInput g conn (Err refusal) errors status one told = (refl, inr (one, told))
 founding_fails OfInput g conn (Ok listed) errors status one told = inl (refl, one, told)
 
 -- the founding file was read of an input, which may fail too
 pub found_more : {S : Type 0} (OfMemory OfInput : Failure → Type 0) → ((failure : Failure) → OfMemory failure → OfInput failure)
-    → (g : Ghosts S) (conn new : Held S) (read : Result Listed WireRefusal) (errors : Told) (status : ℕ)
+    → (g : Ghosts S) (conn new : Held S) (read : Result Listed WireRefusal) (errors : ErrorOutput) (status : ℕ)
     → IsFoundBy g OfMemory conn new read errors status → IsFoundBy g OfInput conn new read errors status
 found_more OfMemory OfInput more g conn new (Err refusal) errors status is =
     (is.0, elim is.1 [ inl said ↦ inl said | inr failed ↦ inr (failed.0, tells_more OfMemory OfInput errors more failed.1) ])
@@ -55,8 +55,8 @@ of_founding g conn new faults.Poisoned taken kind = absurd (kind.0 refl)
 of_founding g conn new faults.Foreign taken kind = absurd (kind.1 refl)
 
 -- a failure before any line is acted on
-pub trial_fails : (OfInput OfOutput : Failure → Type 0) (read : Result (List Request) BadLine) (out : Option (List ℕ)) (errors : Told) (status : ℕ)
-    → status ≡ 1 → TellsFailure (IsOfStart OfInput) errors → IsTrialOf OfInput OfOutput read out out errors status
+pub trial_fails : (OfInput OfOutput : Failure → Type 0) (read : Result (List Request) BadLine) (out : Option (List ℕ)) (errors : ErrorOutput) (status : ℕ)
+    → status ≡ 1 → PrintsFailure (IsOfStart OfInput) errors → IsTrialOf OfInput OfOutput read out out errors status
 trial_fails OfInput OfOutput (Err bad) out errors status one told = (keeps_same out, inr (one, told))
 trial_fails OfInput OfOutput (Ok rs) out errors status one told = inr (inl (one, keeps_same out, told))
 
@@ -71,7 +71,7 @@ unfolding doubt
 memory_is_clean it = refl
 
 pub tried : (OfInput OfOutput : Failure → Type 0) (it new : Registry MemStore over_memory) (founding : Founding) → IsTrial founding → Represents it (founded founding) → (read : Result (List Request) BadLine)
-    (out out_new : Option (List ℕ)) (errors : Told) (status : ℕ) → IsApplied OfInput OfOutput it new read 0 out out_new errors status → IsTrialOf OfInput OfOutput read out out_new errors status
+    (out out_new : Option (List ℕ)) (errors : ErrorOutput) (status : ℕ) → IsApplied OfInput OfOutput it new read 0 out out_new errors status → IsTrialOf OfInput OfOutput read out out_new errors status
 tried OfInput OfOutput it new founding trial stands (Err bad) out out_new errors status applied =
     (applied.silent, elim applied.told [ inl said ↦ inl said | inr failed ↦ inr (failed.0, tells_more OfInput (IsOfStart OfInput) errors (λ failure is. inr is) failed.1) ])
 tried OfInput OfOutput it new founding trial stands (Ok rs) out out_new errors status applied =

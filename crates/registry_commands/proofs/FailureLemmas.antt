@@ -10,7 +10,7 @@ use Rattle.registry_store.specs.declared.registry.Registry.{Registry}
 use Rattle.registry_store.specs.Promise.{is_poisoned, state_of}
 use Rattle.registry_commands.specs.declared.messages.Failure.{Failure}
 use Rattle.registry_commands.specs.declared.messages.Failure.TheVariants.{Store, Memory, Foreign, Taken, Poisoned, File}
-use Rattle.registry_commands.specs.Failures.{IsOfInput, IsOfMemory, IsOfOutput, IsOfSoundRun, IsTooLong, TellsFailure, Told}
+use Rattle.registry_commands.specs.Failures.{IsOfInput, IsOfMemory, IsOfOutput, IsOfSoundRun, IsTooLong, PrintsFailure, ErrorOutput}
 use Rattle.registry_commands.specs.Messages.{failure_of}
 use Rattle.registry_commands.specs.Apply.{IsOfRun}
 
@@ -19,8 +19,8 @@ if_err P Q (Ok x) f p = tt
 if_err P Q (Err e) f p = f e p
 
 -- what may be told in a narrow place may be told in a wide one
-pub tells_more : (Narrow Wide : Failure → Type 0) (errors : Told) → ((failure : Failure) → Narrow failure → Wide failure)
-    → TellsFailure Narrow errors → TellsFailure Wide errors
+pub tells_more : (Narrow Wide : Failure → Type 0) (errors : ErrorOutput) → ((failure : Failure) → Narrow failure → Wide failure)
+    → PrintsFailure Narrow errors → PrintsFailure Wide errors
 tells_more Narrow Wide errors more told = (told.0, more told.0 told.1, told.2)
 
 -- what was read keeps to the limit of an input

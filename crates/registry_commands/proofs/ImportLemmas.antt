@@ -19,7 +19,7 @@ use Rattle.registry_store.proofs.RunLemmas.{leaves_weaker}
 use Rattle.registry_commands.specs.declared.messages.Failure.{Failure}
 use Rattle.registry_commands.specs.declared.messages.Failure.TheVariants.{Store, Memory, Foreign, Taken, Poisoned, File}
 use Rattle.registry_commands.specs.Apply.{IsOfRun}
-use Rattle.registry_commands.specs.Failures.{IsOfOutput, Told}
+use Rattle.registry_commands.specs.Failures.{IsOfOutput, ErrorOutput}
 use Rattle.registry_commands.specs.Imports.{GivesReply, IsCut, IsFailed, IsReplied}
 use Rattle.registry_commands.specs.Messages.{failure_of, reply_line}
 
@@ -67,7 +67,7 @@ module _ {S : Type 0} {g : Ghosts S} where
   }
 
   -- a request has its reply, whose line is written or cut
-  pub replied : (OfOutput : Failure → Type 0) (it new : Registry S g) (r : Request) (out out_new : Option (List ℕ)) (errors : Told) (status : ℕ) (reply : Reply)
+  pub replied : (OfOutput : Failure → Type 0) (it new : Registry S g) (r : Request) (out out_new : Option (List ℕ)) (errors : ErrorOutput) (status : ℕ) (reply : Reply)
       → ((h : History) → MayBeActedOn it h r → HasCleanDisk (state_of new) → (reply ≡ answer_one h r) × Represents new (after_one h r))
       → IsReplied (λ failure. ((failure ≡ Memory) ⊎ (failure ≡ File)) × OfOutput failure) reply out out_new errors status
       → GivesReply it new r out out_new errors status ⊎ IsFailed OfOutput it new r out out_new errors status

@@ -20,7 +20,7 @@ use Rattle.registry_store.proofs.RunLemmas.{leaves_weaker}
 use Rattle.registry_store.proofs.RunToLemmas.{between_all}
 use Rattle.registry_commands.specs.declared.lines.BadLine.{BadLine}
 use Rattle.registry_commands.specs.declared.messages.Failure.{Failure}
-use Rattle.registry_commands.specs.Failures.{Told}
+use Rattle.registry_commands.specs.Failures.{ErrorOutput}
 use Rattle.registry_commands.specs.Messages.{reply_lines}
 use Rattle.registry_commands.specs.Apply.{IsApplied, IsRun, lines_between}
 use Rattle.registry_commands.specs.Reopened.{IsReopened, IsReopenedAt}
@@ -56,7 +56,7 @@ module _ {S : Type 0} {g : Ghosts S} where
         ∥∥₁_map (opens (after h (take n rs)) (after h (take (n + 1) rs)) (legal_after h (take n rs) legal) (legal_after h (take (n + 1) rs) legal) (λ _. leaves) clean)
         (λ found. at_place it h rs n found.0 found.1 found.2)
 
-    module _ (OfInput OfOutput : Failure → Type 0) (out out_new : Option (List ℕ)) (errors : Told) (status : ℕ) where
+    module _ (OfInput OfOutput : Failure → Type 0) (out out_new : Option (List ℕ)) (errors : ErrorOutput) (status : ℕ) where
       ran : (rs : List Request) (a : ℕ) → a ≤ length rs → IsRun OfInput OfOutput first last rs a out out_new errors status
           → (h : History) → Legal h → HasAnswered first h rs a → HasCleanDisk (state_of it) → (n : ℕ) × IsReopenedAt it h rs a n out out_new status
       ran rs a within run h legal at clean = elim run.statuses [
@@ -108,7 +108,7 @@ module _ {S : Type 0} {g : Ghosts S} where
       → IfSome opened (λ it. HasCleanDisk (state_of it) → ∥ ((x : History) × IsEither h next x × Represents it x) ∥₁)
 
   -- the same of a registry that may be opened
-  pub if_reopened : (OfInput OfOutput : Failure → Type 0) (first last : Registry S g) (read : Result (List Request) BadLine) (a : ℕ) (out out_new : Option (List ℕ)) (errors : Told) (status : ℕ)
+  pub if_reopened : (OfInput OfOutput : Failure → Type 0) (first last : Registry S g) (read : Result (List Request) BadLine) (a : ℕ) (out out_new : Option (List ℕ)) (errors : ErrorOutput) (status : ℕ)
       → IsApplied OfInput OfOutput first last read a out out_new errors status
       → (opened : Option (Registry S g)) → MayOpen last opened → IfSome opened (λ it. HasCleanDisk (state_of it) → HasCleanDisk (state_of last))
       → IfSome opened (IsReopened first read a out out_new status)

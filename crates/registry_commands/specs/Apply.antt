@@ -14,7 +14,7 @@ use Rattle.registry_store.specs.Run.{HasAnswered, IsPlace}
 use Rattle.registry_commands.specs.declared.lines.BadLine.{BadLine}
 use Rattle.registry_commands.specs.declared.messages.Failure.{Failure}
 use Rattle.registry_commands.specs.declared.messages.Failure.TheVariants.{Foreign, Poisoned, Taken}
-use Rattle.registry_commands.specs.Failures.{Tells, TellsFailure, TellsNothing, Told}
+use Rattle.registry_commands.specs.Failures.{Prints, PrintsFailure, PrintsNothing, ErrorOutput}
 use Rattle.registry_commands.specs.Messages.{bad_line_text, exceeds_text, reply_lines}
 
 -- the reply lines of the requests from one place up to another
@@ -46,28 +46,28 @@ module _ {S : Type 0} {g : Ghosts S} where
     pub ends : (is_poisoned it ≡ true) ⊎ HasAnswered it h rs n
 
   -- Nothing was acted on and no reply was written. The errors say why, or that the input failed or there was no memory to say it.
-  pub record IsRejected (OfInput : Failure → Type 0) (it new : Registry S g) (out out_new : Option (List ℕ)) (errors : Told) (text : List ℕ) (status : ℕ) : Type 0 where
+  pub record IsRejected (OfInput : Failure → Type 0) (it new : Registry S g) (out out_new : Option (List ℕ)) (errors : ErrorOutput) (text : List ℕ) (status : ℕ) : Type 0 where
     pub same : new ≡ it
     pub silent : Keeps out out_new
-    pub told : ((status ≡ 2) × Tells errors text) ⊎ ((status ≡ 1) × TellsFailure OfInput errors)
+    pub told : ((status ≡ 2) × Prints errors text) ⊎ ((status ≡ 1) × PrintsFailure OfInput errors)
 
   -- The input failed, or there was no memory for its requests. Nothing was acted on and no reply was written.
-  pub record IsUnread (OfInput : Failure → Type 0) (it new : Registry S g) (out out_new : Option (List ℕ)) (errors : Told) : Type 0 where
+  pub record IsUnread (OfInput : Failure → Type 0) (it new : Registry S g) (out out_new : Option (List ℕ)) (errors : ErrorOutput) : Type 0 where
     pub same : new ≡ it
     pub silent : Keeps out out_new
-    pub told : TellsFailure OfInput errors
+    pub told : PrintsFailure OfInput errors
 
   -- The requests from this place on were acted on in turn: all of them, or up to a failure.
-  pub record IsRun (OfInput OfOutput : Failure → Type 0) (it new : Registry S g) (rs : List Request) (a : ℕ) (out out_new : Option (List ℕ)) (errors : Told) (status : ℕ) : Type 0 where
+  pub record IsRun (OfInput OfOutput : Failure → Type 0) (it new : Registry S g) (rs : List Request) (a : ℕ) (out out_new : Option (List ℕ)) (errors : ErrorOutput) (status : ℕ) : Type 0 where
     pub statuses : (status ≡ 0) ⊎ (status ≡ 1)
     pub through : status ≡ 0 → (h : History) → HasAnswered it h rs a → HasCleanDisk (state_of new) → IsThrough new h rs a out out_new
-    pub quiet : status ≡ 0 → TellsNothing errors
+    pub quiet : status ≡ 0 → PrintsNothing errors
     pub stopped : status ≡ 1 → (h : History) → HasAnswered it h rs a → HasCleanDisk (state_of new) → (n : ℕ) × IsStoppedAt new h rs a n out out_new
     pub told : status ≡ 1 → IsUnread OfInput it new out out_new errors
-        ⊎ TellsFailure (λ failure. IsOfRun it new (λ h. HasAnswered it h rs a) failure × OfOutput failure) errors
+        ⊎ PrintsFailure (λ failure. IsOfRun it new (λ h. HasAnswered it h rs a) failure × OfOutput failure) errors
 
   -- What becomes of the requests that were read, of which the first are answered already, or of a line that is not one.
-  abbrev pub IsApplied : (Failure → Type 0) → (Failure → Type 0) → Registry S g → Registry S g → Result (List Request) BadLine → ℕ → Option (List ℕ) → Option (List ℕ) → Told → ℕ → Type 0
+  abbrev pub IsApplied : (Failure → Type 0) → (Failure → Type 0) → Registry S g → Registry S g → Result (List Request) BadLine → ℕ → Option (List ℕ) → Option (List ℕ) → ErrorOutput → ℕ → Type 0
   IsApplied OfInput OfOutput it new (Err bad) a out out_new errors status = IsRejected OfInput it new out out_new errors (bad_line_text bad) status
   IsApplied OfInput OfOutput it new (Ok rs) a out out_new errors status =
       (length rs < a → IsRejected OfInput it new out out_new errors exceeds_text status)

@@ -7,15 +7,15 @@ use Rattle.registry_commands.specs.declared.messages.Failure.TheVariants.{Store,
 use Rattle.registry_commands.specs.Messages.{failure_line}
 
 -- what the errors had taken and how often they had failed, before a command and after it
-pub record Told : Type 0 where
+pub record ErrorOutput : Type 0 where
   pub old : Option (List ℕ)
   pub new : Option (List ℕ)
   pub failures : ℕ
   pub failures_new : ℕ
 
 -- the same of the errors themselves, by their contents and their failures
-abbrev pub told_to : {E : Type 0} → (E → Option (List ℕ)) → (E → ℕ) → E → E → Told
-told_to contents failures errors errors_new = record {
+abbrev pub error_output : {E : Type 0} → (E → Option (List ℕ)) → (E → ℕ) → E → E → ErrorOutput
+error_output contents failures errors errors_new = record {
   old = contents errors;
   new = contents errors_new;
   failures = failures errors;
@@ -23,16 +23,16 @@ told_to contents failures errors errors_new = record {
 }
 
 -- the text was written: all of it, or a prefix of it and the errors failed
-abbrev pub Tells : Told → List ℕ → Type 0
-Tells errors text = AppendsPrefix errors.old errors.new text × (HasFailed errors.failures errors.failures_new ⊎ Appends errors.old errors.new text)
+abbrev pub Prints : ErrorOutput → List ℕ → Type 0
+Prints errors text = AppendsPrefix errors.old errors.new text × (HasFailed errors.failures errors.failures_new ⊎ Appends errors.old errors.new text)
 
 -- nothing was written, and the errors did not fail
-abbrev pub TellsNothing : Told → Type 0
-TellsNothing errors = Keeps errors.old errors.new × (errors.failures_new ≡ errors.failures)
+abbrev pub PrintsNothing : ErrorOutput → Type 0
+PrintsNothing errors = Keeps errors.old errors.new × (errors.failures_new ≡ errors.failures)
 
 -- the message of a failure that may come here was written: all of it, or a prefix of it and the errors failed
-abbrev pub TellsFailure : (Failure → Type 0) → Told → Type 0
-TellsFailure May errors = (failure : Failure) × May failure × Tells errors (failure_line failure)
+abbrev pub PrintsFailure : (Failure → Type 0) → ErrorOutput → Type 0
+PrintsFailure May errors = (failure : Failure) × May failure × Prints errors (failure_line failure)
 
 -- more bytes than an input may have
 abbrev pub IsTooLong : List ℕ → Type 0

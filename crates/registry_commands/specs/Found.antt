@@ -12,7 +12,7 @@ use Rattle.registry_wire.specs.declared.refusal.WireRefusal.{WireRefusal}
 use Rattle.registry_wire.specs.Founding.{Founds, Listed}
 use Rattle.registry_commands.specs.declared.messages.Failure.{Failure}
 use Rattle.registry_commands.specs.declared.messages.Failure.TheVariants.{Memory, Store, Taken}
-use Rattle.registry_commands.specs.Failures.{Tells, TellsFailure, TellsNothing, Told}
+use Rattle.registry_commands.specs.Failures.{Prints, PrintsFailure, PrintsNothing, ErrorOutput}
 use Rattle.registry_commands.specs.Messages.{refusal_line}
 
 module _ {S : Type 0} (g : Ghosts S) where
@@ -29,14 +29,14 @@ module _ {S : Type 0} (g : Ghosts S) where
   IsOfFounding old new _ = ⊥
 
   -- A founding was tried. Whatever came of it, a crash leaves what it could leave before or, where no registry was, the whole of this one.
-  pub record IsTriedOn (old new : Held S) (founding : Founding) (errors : Told) (status : ℕ) : Type 0 where
+  pub record IsTriedOn (old new : Held S) (founding : Founding) (errors : ErrorOutput) (status : ℕ) : Type 0 where
     pub survives : Survives (state g old) (state g new) (λ db. HasNoMeta (state g old).now × Rows newest db (founded founding))
-    pub ends : ((status ≡ 0) × IsFounded old new founding × TellsNothing errors) ⊎ ((status ≡ 1) × TellsFailure (IsOfFounding old new) errors)
+    pub ends : ((status ≡ 0) × IsFounded old new founding × PrintsNothing errors) ⊎ ((status ≡ 1) × PrintsFailure (IsOfFounding old new) errors)
 
   -- what becomes of the connection by what a founding file lists, or by its first fault
-  abbrev pub IsFoundBy : (Failure → Type 0) → Held S → Held S → Result Listed WireRefusal → Told → ℕ → Type 0
+  abbrev pub IsFoundBy : (Failure → Type 0) → Held S → Held S → Result Listed WireRefusal → ErrorOutput → ℕ → Type 0
   IsFoundBy OfInput old new (Err refusal) errors status =
-      (new ≡ old) × (((status ≡ 2) × Tells errors (refusal_line refusal)) ⊎ ((status ≡ 1) × TellsFailure OfInput errors))
+      (new ≡ old) × (((status ≡ 2) × Prints errors (refusal_line refusal)) ⊎ ((status ≡ 1) × PrintsFailure OfInput errors))
   IsFoundBy OfInput old new (Ok listed) errors status =
-      ((new ≡ old) × (status ≡ 1) × TellsFailure OfInput errors)
+      ((new ≡ old) × (status ≡ 1) × PrintsFailure OfInput errors)
       ⊎ ((founding : Founding) × Founds listed founding × IsTriedOn old new founding errors status)

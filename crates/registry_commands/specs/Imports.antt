@@ -24,7 +24,7 @@ use Rattle.registry_commands.specs.declared.messages.Failure.{Failure}
 use Rattle.registry_commands.specs.declared.arguments.BadArgument.{BadArgument}
 use Rattle.registry_commands.specs.declared.arguments.BadArgument.TheVariants.{Caller, Key, Org, Vendor}
 use Rattle.registry_commands.specs.Apply.{IsOfRun}
-use Rattle.registry_commands.specs.Failures.{IsOfMemory, TellsFailure, TellsNothing, Told}
+use Rattle.registry_commands.specs.Failures.{IsOfMemory, PrintsFailure, PrintsNothing, ErrorOutput}
 use Rattle.registry_commands.specs.LookUp.{IsRefused}
 use Rattle.registry_commands.specs.Messages.{reply_line}
 use Rattle.registry_commands.specs.Printed.{IsUnprinted}
@@ -63,10 +63,10 @@ status_of (Done text) = 0
 status_of (Refused refusal) = 2
 
 -- the reply's line is out and the status says whether it is a refusal; or a prefix of it is out, after a failure
-abbrev pub IsReplied : (Failure → Type 0) → Reply → Option (List ℕ) → Option (List ℕ) → Told → ℕ → Type 0
+abbrev pub IsReplied : (Failure → Type 0) → Reply → Option (List ℕ) → Option (List ℕ) → ErrorOutput → ℕ → Type 0
 IsReplied May reply out out_new errors status =
-    ((status ≡ status_of reply) × Appends out out_new (reply_line reply) × TellsNothing errors)
-    ⊎ ((status ≡ 1) × AppendsPrefix out out_new (reply_line reply) × TellsFailure May errors)
+    ((status ≡ status_of reply) × Appends out out_new (reply_line reply) × PrintsNothing errors)
+    ⊎ ((status ≡ 1) × AppendsPrefix out out_new (reply_line reply) × PrintsFailure May errors)
 
 -- the request of an import, by the founding vendor and the list
 abbrev pub request_of : Import → ℕ → List TopEntry → Request
@@ -74,11 +74,11 @@ request_of import founding doc = import_of import.caller import.key import.org f
 
 module _ {S : Type 0} {g : Ghosts S} where
   -- The request was acted on: its reply's line is out, and the registry represents the history after it.
-  pub record GivesReply (it new : Registry S g) (r : Request) (out out_new : Option (List ℕ)) (errors : Told) (status : ℕ) : Type 0 where
+  pub record GivesReply (it new : Registry S g) (r : Request) (out out_new : Option (List ℕ)) (errors : ErrorOutput) (status : ℕ) : Type 0 where
     pub reply : Reply
     pub status_is : status ≡ status_of reply
     pub gained : Appends out out_new (reply_line reply)
-    pub quiet : TellsNothing errors
+    pub quiet : PrintsNothing errors
     pub answered : (h : History) → MayBeActedOn it h r → HasCleanDisk (state_of new) → (reply ≡ answer_one h r) × Represents new (after_one h r)
 
   -- A prefix of the reply's line is out. A crash leaves the history before the request or after it, and the registry is poisoned or stands after it.
@@ -88,29 +88,29 @@ module _ {S : Type 0} {g : Ghosts S} where
     pub ends : (is_poisoned new ≡ true) ⊎ Represents new (after_one h r)
 
   -- The request failed, or the output did.
-  pub record IsFailed (OfOutput : Failure → Type 0) (it new : Registry S g) (r : Request) (out out_new : Option (List ℕ)) (errors : Told) (status : ℕ) : Type 0 where
+  pub record IsFailed (OfOutput : Failure → Type 0) (it new : Registry S g) (r : Request) (out out_new : Option (List ℕ)) (errors : ErrorOutput) (status : ℕ) : Type 0 where
     pub status_is : status ≡ 1
     pub cut : (h : History) → MayBeActedOn it h r → HasCleanDisk (state_of new) → IsCut new h r out out_new
-    pub told : TellsFailure (λ failure. IsOfRun it new (λ h. MayBeActedOn it h r) failure × OfOutput failure) errors
+    pub told : PrintsFailure (λ failure. IsOfRun it new (λ h. MayBeActedOn it h r) failure × OfOutput failure) errors
 
   -- one request was acted on, or stopped by a failure
-  pub record IsActedOn (OfOutput : Failure → Type 0) (it new : Registry S g) (r : Request) (out out_new : Option (List ℕ)) (errors : Told) (status : ℕ) : Type 0 where
+  pub record IsActedOn (OfOutput : Failure → Type 0) (it new : Registry S g) (r : Request) (out out_new : Option (List ℕ)) (errors : ErrorOutput) (status : ℕ) : Type 0 where
     pub ends : GivesReply it new r out out_new errors status ⊎ IsFailed OfOutput it new r out out_new errors status
     pub endures : Endures (state_of it) (state_of new)
 
   -- there was no memory for the request, and nothing was done
-  abbrev pub IsNotMade : (Failure → Type 0) → Registry S g → Registry S g → Option (List ℕ) → Option (List ℕ) → Told → ℕ → Type 0
+  abbrev pub IsNotMade : (Failure → Type 0) → Registry S g → Registry S g → Option (List ℕ) → Option (List ℕ) → ErrorOutput → ℕ → Type 0
   IsNotMade May it new out out_new errors status = (new ≡ it) × IsUnprinted May out out_new errors status
 
   -- the request of this list is acted on; or it is told why the bytes are no list, and nothing is done
-  abbrev pub IsImportOf : (Failure → Type 0) → Registry S g → Registry S g → Import → Result (List TopEntry) ReadFault → Option (List ℕ) → Option (List ℕ) → Told → ℕ → Type 0
+  abbrev pub IsImportOf : (Failure → Type 0) → Registry S g → Registry S g → Import → Result (List TopEntry) ReadFault → Option (List ℕ) → Option (List ℕ) → ErrorOutput → ℕ → Type 0
   IsImportOf OfOutput it new import (Ok doc) out out_new errors status =
       ((r : Request) × ((h : History) → Represents it h → r ≡ request_of import h.founding.vendor doc) × IsActedOn OfOutput it new r out out_new errors status)
       ⊎ IsNotMade IsOfMemory it new out out_new errors status
   IsImportOf OfOutput it new import (Err fault) out out_new errors status = (new ≡ it) × Keeps out out_new × IsRefused fault errors status
 
   -- what was read in these bytes is imported; or the input failed, or had more than an input may have, and nothing is done
-  abbrev pub IsImported : (Failure → Type 0) → (Failure → Type 0) → Registry S g → Registry S g → Import → List ℕ → Option (List ℕ) → Option (List ℕ) → Told → ℕ → Type 0
+  abbrev pub IsImported : (Failure → Type 0) → (Failure → Type 0) → Registry S g → Registry S g → Import → List ℕ → Option (List ℕ) → Option (List ℕ) → ErrorOutput → ℕ → Type 0
   IsImported OfInput OfOutput it new import bytes out out_new errors status =
       ((read : Result (List TopEntry) ReadFault) × (length bytes ≤ 4294967295) × Answers bytes read × IsImportOf OfOutput it new import read out out_new errors status)
       ⊎ IsNotMade OfInput it new out out_new errors status

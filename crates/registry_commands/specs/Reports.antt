@@ -20,7 +20,7 @@ use Rattle.registry_store.specs.declared.registry.Registry.{Registry}
 use Rattle.registry_commands.specs.declared.messages.Failure.{Failure}
 use Rattle.registry_commands.specs.declared.reporting.ReportKind.{ReportKind}
 use Rattle.registry_commands.specs.declared.reporting.ReportKind.TheVariants.{Census, Holders, Petitions}
-use Rattle.registry_commands.specs.Failures.{Told}
+use Rattle.registry_commands.specs.Failures.{ErrorOutput}
 use Rattle.registry_commands.specs.Printed.{IsPrinted, IsUnprinted}
 use Rattle.registry_commands.specs.Shown.{Gives, IsLeft, IsOfReading}
 
@@ -68,7 +68,7 @@ IsReport Petitions h text = IsPetitionsReport h text
 
 module _ {S : Type 0} {g : Ghosts S} where
   -- the report of the history is written; or nothing is written, after a failure
-  pub record IsReported (OfOutput : Failure → Type 0) (it new : Registry S g) (name : ReportKind) (out out_new : Option (List ℕ)) (errors : Told) (status : ℕ) : Type 0 where
+  pub record IsReported (OfOutput : Failure → Type 0) (it new : Registry S g) (name : ReportKind) (out out_new : Option (List ℕ)) (errors : ErrorOutput) (status : ℕ) : Type 0 where
     pub left : IsLeft it new
     pub shown : ((text : List ℕ) × Gives it new (λ h. IsReport name h text) × IsPrinted OfOutput text out out_new errors status)
         ⊎ IsUnprinted (IsOfReading it new) out out_new errors status

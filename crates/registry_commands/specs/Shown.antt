@@ -2,7 +2,7 @@
 use Rattle.std.specs.Prelude.{◌≡◌, ◌⊎◌, ℕ, List, Option}
 use Rattle.sqlite.specs.Store.{Ghosts}
 use Rattle.sqlite.specs.State.{HasCleanDisk, Survives}
-use Rattle.usbids_text.specs.Documents.{Spells}
+use Rattle.usbids_text.specs.Documents.{IsTextOf}
 use Rattle.usbids_text.specs.Entries.{TopEntry}
 use Rattle.usbids_text.specs.Moments.{Moment}
 use Rattle.usbids_text.specs.Writing.{written}
@@ -12,7 +12,7 @@ use Rattle.registry_store.specs.declared.registry.Registry.{Registry}
 use Rattle.registry_store.specs.Promise.{Represents, is_poisoned, state_of}
 use Rattle.registry_commands.specs.declared.messages.Failure.{Failure}
 use Rattle.registry_commands.specs.Apply.{IsOfRun}
-use Rattle.registry_commands.specs.Failures.{Told}
+use Rattle.registry_commands.specs.Failures.{ErrorOutput}
 use Rattle.registry_commands.specs.Printed.{IsPrinted, IsUnprinted}
 
 module _ {S : Type 0} {g : Ghosts S} where
@@ -31,7 +31,7 @@ module _ {S : Type 0} {g : Ghosts S} where
   Gives it new P = (h : History) → Represents it h → HasCleanDisk (state_of new) → P h
 
   -- a document that is the list of the history is written, and what is written spells it; or nothing is written, after a failure
-  pub record IsExported (OfOutput : Failure → Type 0) (it new : Registry S g) (stamp : Option Moment) (out out_new : Option (List ℕ)) (errors : Told) (status : ℕ) : Type 0 where
+  pub record IsExported (OfOutput : Failure → Type 0) (it new : Registry S g) (stamp : Option Moment) (out out_new : Option (List ℕ)) (errors : ErrorOutput) (status : ℕ) : Type 0 where
     pub left : IsLeft it new
-    pub shown : ((doc : List TopEntry) × Gives it new (λ h. IsListing h doc) × Spells (written doc stamp) doc × IsPrinted OfOutput (written doc stamp) out out_new errors status)
+    pub shown : ((doc : List TopEntry) × Gives it new (λ h. IsListing h doc) × IsTextOf (written doc stamp) doc × IsPrinted OfOutput (written doc stamp) out out_new errors status)
         ⊎ IsUnprinted (IsOfReading it new) out out_new errors status

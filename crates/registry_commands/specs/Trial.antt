@@ -11,7 +11,7 @@ use Rattle.registry_rules.specs.Run.{answers}
 use Rattle.registry_commands.specs.declared.lines.BadLine.{BadLine}
 use Rattle.registry_commands.specs.declared.messages.Failure.{Failure}
 use Rattle.registry_commands.specs.declared.messages.Failure.TheVariants.{Store}
-use Rattle.registry_commands.specs.Failures.{IsOfSoundRun, Tells, TellsFailure, TellsNothing, Told}
+use Rattle.registry_commands.specs.Failures.{IsOfSoundRun, Prints, PrintsFailure, PrintsNothing, ErrorOutput}
 use Rattle.registry_commands.specs.Messages.{bad_line_text, reply_lines}
 use Rattle.registry_commands.specs.Apply.{lines_between}
 
@@ -44,10 +44,10 @@ pub record IsTriedInPart (rs : List Request) (out out_new : Option (List ℕ)) :
   pub cut : AppendsPrefix middle out_new (lines_between (founded founding) rs n (n + 1))
 
 -- What a trial writes, and its status. Its registry stands, so no failure is Foreign, Taken or Poisoned.
-abbrev pub IsTrialOf : (Failure → Type 0) → (Failure → Type 0) → Result (List Request) BadLine → Option (List ℕ) → Option (List ℕ) → Told → ℕ → Type 0
+abbrev pub IsTrialOf : (Failure → Type 0) → (Failure → Type 0) → Result (List Request) BadLine → Option (List ℕ) → Option (List ℕ) → ErrorOutput → ℕ → Type 0
 IsTrialOf OfInput OfOutput (Err bad) out out_new errors status =
-    Keeps out out_new × (((status ≡ 2) × Tells errors (bad_line_text bad)) ⊎ ((status ≡ 1) × TellsFailure (IsOfStart OfInput) errors))
+    Keeps out out_new × (((status ≡ 2) × Prints errors (bad_line_text bad)) ⊎ ((status ≡ 1) × PrintsFailure (IsOfStart OfInput) errors))
 IsTrialOf OfInput OfOutput (Ok rs) out out_new errors status =
-    ((status ≡ 0) × IsTried rs out out_new × TellsNothing errors)
-    ⊎ ((status ≡ 1) × Keeps out out_new × TellsFailure (IsOfStart OfInput) errors)
-    ⊎ ((status ≡ 1) × IsTriedInPart rs out out_new × TellsFailure (λ failure. IsOfSoundRun failure × OfOutput failure) errors)
+    ((status ≡ 0) × IsTried rs out out_new × PrintsNothing errors)
+    ⊎ ((status ≡ 1) × Keeps out out_new × PrintsFailure (IsOfStart OfInput) errors)
+    ⊎ ((status ≡ 1) × IsTriedInPart rs out out_new × PrintsFailure (λ failure. IsOfSoundRun failure × OfOutput failure) errors)

@@ -9,7 +9,7 @@ ghost use Rattle.registry_store.specs.Run.{HasAnswered};
 ghost use Rattle.registry_commands.specs.Lines.{requests_in};
 ghost use Rattle.registry_commands.specs.Messages.{bad_line_text};
 ghost use Rattle.registry_commands.specs.Apply.{IsApplied, IsOfRun, IsStoppedAt, IsThrough, IsUnread};
-ghost use Rattle.registry_commands.specs.Failures.{IsOfInput, IsOfMemory, IsOfOutput, IsTooLong, Tells, TellsFailure, told_to};
+ghost use Rattle.registry_commands.specs.Failures.{IsOfInput, IsOfMemory, IsOfOutput, IsTooLong, Prints, PrintsFailure, error_output};
 
 use crate::input::read_all;
 use crate::lines::{BadLine, requests_in};
@@ -76,8 +76,8 @@ fn answer_from<S: Alter, W: Sink>(
 
 /// Says which line is not a request, and returns the exit status.
 fn reject_line<E: Sink>(alloc: Global, errors: &mut E, bad: BadLine) -> u8
-    ensures { ((result ≡ 2) × Tells (told_to E.contents E.failures errors.old errors.new) (bad_line_text bad))
-        ⊎ ((result ≡ 1) × TellsFailure IsOfMemory (told_to E.contents E.failures errors.old errors.new)) }
+    ensures { ((result ≡ 2) × Prints (error_output E.contents E.failures errors.old errors.new) (bad_line_text bad))
+        ⊎ ((result ≡ 1) × PrintsFailure IsOfMemory (error_output E.contents E.failures errors.old errors.new)) }
 {
     let Ok(text) = bad_line_text(alloc, bad) else {
         return fail(errors, Failure::Memory);
@@ -96,7 +96,7 @@ fn apply_requests<S: Alter, W: Sink, E: Sink>(
     errors: &mut E,
 ) -> u8
     ensures { IsApplied IsOfMemory (IsOfOutput (W.failures output.old) (W.failures output.new)) registry.old registry.new (Ok requests.now) answered
-        (W.contents output.old) (W.contents output.new) (told_to E.contents E.failures errors.old errors.new) result }
+        (W.contents output.old) (W.contents output.new) (error_output E.contents E.failures errors.old errors.new) result }
 {
     if answered > requests.len() as u64 {
         tell(errors, "answered exceeds requests\n");
@@ -118,7 +118,7 @@ fn apply_bytes<S: Alter, W: Sink, E: Sink>(
     errors: &mut E,
 ) -> u8
     ensures { IsApplied IsOfMemory (IsOfOutput (W.failures output.old) (W.failures output.new)) registry.old registry.new (requests_in bytes.now) answered
-        (W.contents output.old) (W.contents output.new) (told_to E.contents E.failures errors.old errors.new) result }
+        (W.contents output.old) (W.contents output.new) (error_output E.contents E.failures errors.old errors.new) result }
 {
     match requests_in(alloc, bytes) {
         Ok(Ok(requests)) => apply_requests(
@@ -153,8 +153,8 @@ pub fn apply_lines<R: Source, S: Alter, W: Sink, E: Sink>(
 ) -> u8
     ensures { (bytes : List ℕ) × MayGive (R.remaining source.old) bytes
         × IsApplied (IsOfInput (R.failures source.old) (R.failures source.new) bytes) (IsOfOutput (W.failures output.old) (W.failures output.new))
-        registry.old registry.new (requests_in bytes) answered (W.contents output.old) (W.contents output.new) (told_to E.contents E.failures errors.old errors.new) result
-        × (IsTooLong bytes → (result ≡ 1) × IsUnread (IsOfInput (R.failures source.old) (R.failures source.new) bytes) registry.old registry.new (W.contents output.old) (W.contents output.new) (told_to E.contents E.failures errors.old errors.new)) }
+        registry.old registry.new (requests_in bytes) answered (W.contents output.old) (W.contents output.new) (error_output E.contents E.failures errors.old errors.new) result
+        × (IsTooLong bytes → (result ≡ 1) × IsUnread (IsOfInput (R.failures source.old) (R.failures source.new) bytes) registry.old registry.new (W.contents output.old) (W.contents output.new) (error_output E.contents E.failures errors.old errors.new)) }
 {
     match read_all(alloc, source) {
         Ok(bytes) => apply_bytes(alloc, bytes.as_slice(), answered, registry, output, errors),

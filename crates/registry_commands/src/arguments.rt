@@ -1,7 +1,7 @@
 //! Arguments of the command line that are not valid.
 
 ghost use Rattle.std.specs.Prelude.{◌≡◌};
-ghost use Rattle.registry_commands.specs.Failures.{Tells, told_to};
+ghost use Rattle.registry_commands.specs.Failures.{Prints, error_output};
 ghost use Rattle.registry_commands.specs.Arguments.{bad_argument_line};
 
 use crate::messages::tell;
@@ -52,7 +52,7 @@ impl BadArgument {
 /// Says which argument is not valid, and returns the exit status.
 pub fn reject_argument<E: Sink>(errors: &mut E, argument: BadArgument) -> u8
     ensures status { result ≡ 2 }
-    ensures told { Tells (told_to E.contents E.failures errors.old errors.new) (bad_argument_line argument) }
+    ensures told { Prints (error_output E.contents E.failures errors.old errors.new) (bad_argument_line argument) }
 {
     tell(errors, argument.line());
     2

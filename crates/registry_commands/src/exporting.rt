@@ -1,7 +1,7 @@
 //! The list of a registry's held numbers.
 
 ghost use Rattle.std.specs.Prelude.{◌≡◌, IfErr, IfOk};
-ghost use Rattle.usbids_text.specs.Documents.{Spells};
+ghost use Rattle.usbids_text.specs.Documents.{IsTextOf};
 ghost use Rattle.usbids_text.specs.Writing.{written};
 ghost use Rattle.registry_rules.specs.History.{History};
 ghost use Rattle.registry_reports.specs.History.{IsListing};
@@ -9,7 +9,7 @@ ghost use Rattle.registry_reports.specs.Listing.{list_of};
 ghost use Rattle.registry_tables.specs.Lists.{IsVendorList};
 ghost use Rattle.sqlite.specs.State.{HasCleanDisk};
 ghost use Rattle.registry_store.specs.Promise.{Represents, state_of};
-ghost use Rattle.registry_commands.specs.Failures.{IsOfOutput, told_to};
+ghost use Rattle.registry_commands.specs.Failures.{IsOfOutput, error_output};
 ghost use Rattle.registry_commands.specs.Printed.{IsPrinted};
 ghost use Rattle.registry_commands.specs.Shown.{IsExported, IsLeft, IsOfReading};
 
@@ -76,8 +76,8 @@ fn put_document<W: Sink, E: Sink>(
     errors: &mut E,
 ) -> u8
     ensures printed { IsPrinted (IsOfOutput (W.failures output.old) (W.failures output.new)) (written document.now stamp)
-        (W.contents output.old) (W.contents output.new) (told_to E.contents E.failures errors.old errors.new) result }
-    ensures spells { Spells (written document.now stamp) document.now }
+        (W.contents output.old) (W.contents output.new) (error_output E.contents E.failures errors.old errors.new) result }
+    ensures is_text { IsTextOf (written document.now stamp) document.now }
 {
     match write(document, stamp, output) {
         Ok(()) => 0,
@@ -98,7 +98,7 @@ pub fn export<S: Alter, W: Sink, E: Sink>(
     errors: &mut E,
 ) -> u8
     ensures { IsExported (IsOfOutput (W.failures output.old) (W.failures output.new)) registry.old registry.new stamp
-        (W.contents output.old) (W.contents output.new) (told_to E.contents E.failures errors.old errors.new) result }
+        (W.contents output.old) (W.contents output.new) (error_output E.contents E.failures errors.old errors.new) result }
 {
     match document_of(alloc, registry) {
         Ok(document) => put_document(&document, stamp, output, errors),

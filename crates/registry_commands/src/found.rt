@@ -3,7 +3,7 @@
 ghost use Rattle.std.specs.Prelude.{◌≡◌, ◌⊎◌, ℕ, List};
 ghost use Rattle.byte_streams.specs.Streams.{MayGive};
 ghost use Rattle.registry_wire.specs.Founding.{founding_listed};
-ghost use Rattle.registry_commands.specs.Failures.{IsOfInput, IsOfMemory, IsTooLong, Tells, TellsFailure, told_to};
+ghost use Rattle.registry_commands.specs.Failures.{IsOfInput, IsOfMemory, IsTooLong, Prints, PrintsFailure, error_output};
 ghost use Rattle.registry_commands.specs.Messages.{refusal_line};
 ghost use Rattle.registry_commands.specs.Found.{IsFoundBy, IsTriedOn};
 
@@ -18,8 +18,8 @@ use std::alloc::Global;
 
 /// Says why bytes are not a founding file or not a list, and returns the exit status.
 pub(crate) fn reject<E: Sink>(alloc: Global, errors: &mut E, refusal: WireRefusal) -> u8
-    ensures { ((result ≡ 2) × Tells (told_to E.contents E.failures errors.old errors.new) (refusal_line refusal))
-        ⊎ ((result ≡ 1) × TellsFailure IsOfMemory (told_to E.contents E.failures errors.old errors.new)) }
+    ensures { ((result ≡ 2) × Prints (error_output E.contents E.failures errors.old errors.new) (refusal_line refusal))
+        ⊎ ((result ≡ 1) × PrintsFailure IsOfMemory (error_output E.contents E.failures errors.old errors.new)) }
 {
     let Ok(text) = refusal_line(alloc, refusal) else {
         return fail(errors, Failure::Memory);
@@ -35,7 +35,7 @@ fn found_with<S: Alter, E: Sink>(
     founding: &Founding,
     errors: &mut E,
 ) -> (u8, Connection<S>)
-    ensures { IsTriedOn S.Store conn result.1 founding.now (told_to E.contents E.failures errors.old errors.new) result.0 }
+    ensures { IsTriedOn S.Store conn result.1 founding.now (error_output E.contents E.failures errors.old errors.new) result.0 }
 {
     match Registry::found(alloc, conn, founding) {
         Ok(registry) => (0, registry.close()),
@@ -50,7 +50,7 @@ fn found_by<S: Alter, E: Sink>(
     bytes: &[u8],
     errors: &mut E,
 ) -> (u8, Connection<S>)
-    ensures { IsFoundBy S.Store IsOfMemory conn result.1 (founding_listed bytes.now) (told_to E.contents E.failures errors.old errors.new) result.0 }
+    ensures { IsFoundBy S.Store IsOfMemory conn result.1 (founding_listed bytes.now) (error_output E.contents E.failures errors.old errors.new) result.0 }
 {
     match founding_from_toml(alloc, bytes) {
         Ok(Ok(founding)) => found_with(alloc, conn, &founding, errors),
@@ -74,8 +74,8 @@ pub fn found_registry<R: Source, S: Alter, E: Sink>(
 ) -> (u8, Connection<S>)
     ensures { (bytes : List ℕ) × MayGive (R.remaining source.old) bytes
         × IsFoundBy S.Store (IsOfInput (R.failures source.old) (R.failures source.new) bytes)
-        conn result.1 (founding_listed bytes) (told_to E.contents E.failures errors.old errors.new) result.0
-        × (IsTooLong bytes → (result.0 ≡ 1) × (result.1 ≡ conn) × TellsFailure (IsOfInput (R.failures source.old) (R.failures source.new) bytes) (told_to E.contents E.failures errors.old errors.new)) }
+        conn result.1 (founding_listed bytes) (error_output E.contents E.failures errors.old errors.new) result.0
+        × (IsTooLong bytes → (result.0 ≡ 1) × (result.1 ≡ conn) × PrintsFailure (IsOfInput (R.failures source.old) (R.failures source.new) bytes) (error_output E.contents E.failures errors.old errors.new)) }
 {
     match read_all(alloc, source) {
         Ok(bytes) => found_by(alloc, conn, bytes.as_slice(), errors),

@@ -2,7 +2,7 @@
 
 ghost use Rattle.std.specs.Prelude.{◌≡◌, ◌⊎◌, ℕ, List, IfOk, MatchResult, Ok, option_copied};
 ghost use Rattle.byte_streams.specs.Streams.{MayGive};
-ghost use Rattle.registry_commands.specs.Failures.{IsOfInput, IsOfOutput, told_to};
+ghost use Rattle.registry_commands.specs.Failures.{IsOfInput, IsOfOutput, error_output};
 ghost use Rattle.registry_commands.specs.Imports.{AreOfImport, IsActedOn, IsFirstBad, IsImportOf, IsImported, IsReplied, status_of};
 
 use crate::arguments::BadArgument;
@@ -79,7 +79,7 @@ fn status_of(reply: &Reply) -> u8
 /// Writes a reply as a line, and returns the status.
 fn put_status<W: Sink, E: Sink>(alloc: Global, reply: &Reply, output: &mut W, errors: &mut E) -> u8
     ensures { IsReplied (λ failure. ((failure ≡ Failure.Memory) ⊎ (failure ≡ Failure.File)) × IsOfOutput (W.failures output.old) (W.failures output.new) failure) reply.now
-        (W.contents output.old) (W.contents output.new) (told_to E.contents E.failures errors.old errors.new) result }
+        (W.contents output.old) (W.contents output.new) (error_output E.contents E.failures errors.old errors.new) result }
 {
     match put_reply(alloc, output, reply) {
         Ok(()) => status_of(reply),
@@ -96,7 +96,7 @@ fn act_on<S: Alter, W: Sink, E: Sink>(
     errors: &mut E,
 ) -> u8
     ensures { IsActedOn (IsOfOutput (W.failures output.old) (W.failures output.new)) registry.old registry.new request.now
-        (W.contents output.old) (W.contents output.new) (told_to E.contents E.failures errors.old errors.new) result }
+        (W.contents output.old) (W.contents output.new) (error_output E.contents E.failures errors.old errors.new) result }
 {
     match registry.act(request) {
         Ok(reply) => put_status(alloc, &reply, output, errors),
@@ -114,7 +114,7 @@ fn import_document<S: Alter, W: Sink, E: Sink>(
     errors: &mut E,
 ) -> u8
     ensures { IsImportOf (IsOfOutput (W.failures output.old) (W.failures output.new)) registry.old registry.new import (Ok list.now)
-        (W.contents output.old) (W.contents output.new) (told_to E.contents E.failures errors.old errors.new) result }
+        (W.contents output.old) (W.contents output.new) (error_output E.contents E.failures errors.old errors.new) result }
 {
     let Import {
         caller,
@@ -139,7 +139,7 @@ fn import_read<S: Alter, W: Sink, E: Sink>(
     errors: &mut E,
 ) -> u8
     ensures { IsImportOf (IsOfOutput (W.failures output.old) (W.failures output.new)) registry.old registry.new import read
-        (W.contents output.old) (W.contents output.new) (told_to E.contents E.failures errors.old errors.new) result }
+        (W.contents output.old) (W.contents output.new) (error_output E.contents E.failures errors.old errors.new) result }
 {
     match read {
         Ok(list) => import_document(alloc, import, &list, registry, output, errors),
@@ -165,7 +165,7 @@ pub fn import_list<R: Source, S: Alter, W: Sink, E: Sink>(
 ) -> u8
     ensures { (bytes : List ℕ) × MayGive (R.remaining source.old) bytes
         × IsImported (IsOfInput (R.failures source.old) (R.failures source.new) bytes) (IsOfOutput (W.failures output.old) (W.failures output.new))
-        registry.old registry.new import bytes (W.contents output.old) (W.contents output.new) (told_to E.contents E.failures errors.old errors.new) result }
+        registry.old registry.new import bytes (W.contents output.old) (W.contents output.new) (error_output E.contents E.failures errors.old errors.new) result }
 {
     match read_list(alloc, source) {
         Ok(read) => import_read(alloc, import, read, registry, output, errors),

@@ -2,7 +2,7 @@
 
 ghost use Rattle.std.specs.Prelude.{◌≡◌, ◌++◌, ◌∷◌, [], ℕ, List, IfOk};
 ghost use Rattle.byte_streams.specs.Streams.{MayGive};
-ghost use Rattle.registry_commands.specs.Failures.{IsOfInput, IsOfOutput, told_to};
+ghost use Rattle.registry_commands.specs.Failures.{IsOfInput, IsOfOutput, error_output};
 ghost use Rattle.registry_commands.specs.LookUp.{IsAnswered, IsLookedUp, IsMatched, IsNamed, IsRefused};
 
 use crate::found::reject;
@@ -25,7 +25,7 @@ fn name_line(alloc: Global, name: &Name) -> Result<Vec<u8>, NoMemory>
 /// Writes the name as a line, and returns the exit status.
 fn put_name<W: Sink, E: Sink>(alloc: Global, name: &Name, output: &mut W, errors: &mut E) -> u8
     ensures { IsNamed (IsOfOutput (W.failures output.old) (W.failures output.new)) name.now
-        (W.contents output.old) (W.contents output.new) (told_to E.contents E.failures errors.old errors.new) result }
+        (W.contents output.old) (W.contents output.new) (error_output E.contents E.failures errors.old errors.new) result }
 {
     match name_line(alloc, name) {
         Ok(line) => print(output, errors, line.as_slice()),
@@ -33,9 +33,9 @@ fn put_name<W: Sink, E: Sink>(alloc: Global, name: &Name, output: &mut W, errors
     }
 }
 
-/// Tells why the bytes are no list, and returns the status.
+/// Prints why the bytes are no list, and returns the status.
 pub(crate) fn put_fault<E: Sink>(alloc: Global, fault: ReadFault, errors: &mut E) -> u8
-    ensures { IsRefused fault (told_to E.contents E.failures errors.old errors.new) result }
+    ensures { IsRefused fault (error_output E.contents E.failures errors.old errors.new) result }
 {
     match fault {
         ReadFault::Line(fault) => reject(alloc, errors, WireRefusal::BadList(fault)),
@@ -51,7 +51,7 @@ fn put_found<W: Sink, E: Sink>(
     errors: &mut E,
 ) -> u8
     ensures { IsMatched (IsOfOutput (W.failures output.old) (W.failures output.new)) found
-        (W.contents output.old) (W.contents output.new) (told_to E.contents E.failures errors.old errors.new) result }
+        (W.contents output.old) (W.contents output.new) (error_output E.contents E.failures errors.old errors.new) result }
 {
     match found {
         Some(name) => put_name(alloc, &name, output, errors),
@@ -70,7 +70,7 @@ fn put_answer<W: Sink, E: Sink>(
     errors: &mut E,
 ) -> u8
     ensures { IsAnswered (IsOfOutput (W.failures output.old) (W.failures output.new)) found
-        (W.contents output.old) (W.contents output.new) (told_to E.contents E.failures errors.old errors.new) result }
+        (W.contents output.old) (W.contents output.new) (error_output E.contents E.failures errors.old errors.new) result }
 {
     match found {
         Ok(found) => put_found(alloc, found, output, errors),
@@ -94,7 +94,7 @@ pub fn look_up<R: Source, W: Sink, E: Sink>(
 ) -> u8
     ensures { (bytes : List ℕ) × MayGive (R.remaining source.old) bytes
         × IsLookedUp (IsOfInput (R.failures source.old) (R.failures source.new) bytes) (IsOfOutput (W.failures output.old) (W.failures output.new))
-        (record { vendor = vendor; code = code }) bytes (W.contents output.old) (W.contents output.new) (told_to E.contents E.failures errors.old errors.new) result }
+        (record { vendor = vendor; code = code }) bytes (W.contents output.old) (W.contents output.new) (error_output E.contents E.failures errors.old errors.new) result }
 {
     let mut scan = Scan::new(alloc, vendor, code);
     let mut room = [0u8; 32768];

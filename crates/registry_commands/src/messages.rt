@@ -4,7 +4,7 @@ ghost use Rattle.std.specs.Prelude.{◌≡◌, ◌≢◌, ◌⊎◌, ℕ, IfErr,
 ghost use Rattle.std.specs.String.{string_bytes};
 ghost use Rattle.std.specs.Io.KnownBytes.{Appends};
 ghost use Rattle.byte_streams.specs.Streams.{AppendsPrefix};
-ghost use Rattle.registry_commands.specs.Failures.{IsOfOutput, Tells, told_to};
+ghost use Rattle.registry_commands.specs.Failures.{IsOfOutput, Prints, error_output};
 ghost use Rattle.registry_commands.specs.Messages.{bad_line_text, failure_line, failure_of, input_failure, refusal_line, reply_line};
 
 use crate::input::InputFault;
@@ -119,7 +119,7 @@ pub(crate) fn bad_line_text(alloc: Global, bad: BadLine) -> Result<String, NoMem
 
 /// Writes to the errors: all of the text, or a prefix of it where they fail.
 pub(crate) fn tell<E: Sink>(errors: &mut E, text: &str)
-    ensures told { Tells (told_to E.contents E.failures errors.old errors.new) text.now }
+    ensures told { Prints (error_output E.contents E.failures errors.old errors.new) text.now }
 {
     match put_all(errors, text.as_bytes()) {
         Ok(()) => {}
@@ -131,7 +131,7 @@ pub(crate) fn tell<E: Sink>(errors: &mut E, text: &str)
 /// beginning of it where they fail.
 pub fn fail<E: Sink>(errors: &mut E, failure: Failure) -> u8
     ensures status { result ≡ 1 }
-    ensures told { Tells (told_to E.contents E.failures errors.old errors.new) (failure_line failure) }
+    ensures told { Prints (error_output E.contents E.failures errors.old errors.new) (failure_line failure) }
 {
     tell(errors, failure.line());
     1

@@ -9,7 +9,7 @@ ghost use Rattle.registry_rules.specs.Number.{number};
 ghost use Rattle.registry_rules.specs.Query.{is_reserved};
 ghost use Rattle.registry_tables.specs.Lists.{IsNumberList, IsPetitionList, IsVendorList};
 ghost use Rattle.registry_store.specs.Promise.{Represents, state_of};
-ghost use Rattle.registry_commands.specs.Failures.{IsOfOutput, told_to};
+ghost use Rattle.registry_commands.specs.Failures.{IsOfOutput, error_output};
 ghost use Rattle.registry_commands.specs.Reports.{AreReserved, IsCensus, IsHoldersReport, IsPetitionsReport, IsReport, IsReported, report_named};
 ghost use Rattle.registry_commands.specs.Shown.{IsLeft, IsOfReading};
 
@@ -243,7 +243,7 @@ pub fn report<S: Alter, W: Sink, E: Sink>(
     errors: &mut E,
 ) -> u8
     ensures { IsReported (IsOfOutput (W.failures output.old) (W.failures output.new)) registry.old registry.new name
-        (W.contents output.old) (W.contents output.new) (told_to E.contents E.failures errors.old errors.new) result }
+        (W.contents output.old) (W.contents output.new) (error_output E.contents E.failures errors.old errors.new) result }
 {
     match report_of(alloc, registry, name) {
         Ok(text) => print(output, errors, text.as_bytes()),

@@ -8,7 +8,7 @@ ghost use Rattle.registry_rules.specs.Texts.{AreInOrder};
 ghost use Rattle.registry_rules.specs.declared.founding.Founding.{Founding};
 ghost use Rattle.registry_rules.specs.History.{founded};
 ghost use Rattle.registry_store.specs.Promise.{Represents};
-ghost use Rattle.registry_commands.specs.Failures.{IsOfInput, IsOfOutput, IsTooLong, TellsFailure, told_to};
+ghost use Rattle.registry_commands.specs.Failures.{IsOfInput, IsOfOutput, IsTooLong, PrintsFailure, error_output};
 ghost use Rattle.registry_commands.specs.Lines.{requests_in};
 ghost use Rattle.registry_commands.specs.Trial.{IsOfStart, IsTrial, IsTrialOf};
 
@@ -111,8 +111,8 @@ pub fn trial<R: Source, W: Sink, E: Sink>(
 ) -> u8
     ensures { (bytes : List ℕ) × MayGive (R.remaining source.old) bytes
         × IsTrialOf (IsOfInput (R.failures source.old) (R.failures source.new) bytes) (IsOfOutput (W.failures output.old) (W.failures output.new))
-        (requests_in bytes) (W.contents output.old) (W.contents output.new) (told_to E.contents E.failures errors.old errors.new) result
-        × (IsTooLong bytes → (result ≡ 1) × Keeps (W.contents output.old) (W.contents output.new) × TellsFailure (IsOfStart (IsOfInput (R.failures source.old) (R.failures source.new) bytes)) (told_to E.contents E.failures errors.old errors.new)) }
+        (requests_in bytes) (W.contents output.old) (W.contents output.new) (error_output E.contents E.failures errors.old errors.new) result
+        × (IsTooLong bytes → (result ≡ 1) × Keeps (W.contents output.old) (W.contents output.new) × PrintsFailure (IsOfStart (IsOfInput (R.failures source.old) (R.failures source.new) bytes)) (error_output E.contents E.failures errors.old errors.new)) }
 {
     let mut registry = match found_trial(alloc) {
         Ok(registry) => registry,

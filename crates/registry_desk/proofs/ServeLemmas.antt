@@ -17,7 +17,7 @@ use Rattle.registry_desk.specs.declared.fault.DeskFault.{DeskFault}
 use Rattle.registry_desk.specs.declared.fault.DeskFault.TheVariants.{NoMemory, Registry}
 use Rattle.registry_desk.specs.declared.serve.Served.{Served}
 use Rattle.registry_desk.specs.Faults.{unavailable_of}
-use Rattle.registry_desk.specs.Acting.{IsResponse, after_message, IsOfStanding, IsLeftAt}
+use Rattle.registry_desk.specs.Acting.{IsResponse, after_message, IsOfSoundRegistry, IsLeftAt}
 use Rattle.registry_desk.specs.Serving.{IsTold, IsServed, answered, given_up}
 use Rattle.registry_desk.proofs.AskLemmas.{left_first, left_second}
 
@@ -68,7 +68,7 @@ module _ {S : Type 0} {g : Ghosts S} where
   pub served_then : (new : TheRegistry S g) (h : History) (bytes text : List ℕ) (served : Served) (said : Result Message HttpRefusal) (done : Result Response DeskFault)
       → Says h.founding.vendor bytes said → HasCleanDisk (state_of new)
       → IfOk done (λ response. IsResponse h said response × Represents new (after_message h said))
-      → IfErr done (λ fault. IsOfStanding fault × IsLeftAt fault new h (after_message h said))
+      → IfErr done (λ fault. IsOfSoundRegistry fault × IsLeftAt fault new h (after_message h said))
       → IfErr done (λ fault. fault ≢ NoMemory → IsOk said)
       → IsTold done text served → IsServed new h bytes text served
   served_then new h bytes text served said (Ok response) says clean ok err asked told = sent_then new h bytes text served said response told.0 says clean ok told.1 told.2 told.3

@@ -14,7 +14,7 @@ use Rattle.registry_desk.specs.declared.fault.DeskFault.TheVariants.{NoMemory, R
 use Rattle.registry_desk.specs.declared.serve.Served.{Served}
 use Rattle.registry_desk.specs.declared.serve.Exchange.{Exchange}
 use Rattle.registry_desk.specs.Faults.{fault_of, unavailable_of}
-use Rattle.registry_desk.specs.Acting.{after_message, IsOfStanding, IsLeftAt}
+use Rattle.registry_desk.specs.Acting.{after_message, IsOfSoundRegistry, IsLeftAt}
 use Rattle.registry_desk.specs.Serving.{IsNext, IsServed}
 use Rattle.registry_desk.specs.declared.server.ServerStop.{ServerStop}
 use Rattle.registry_desk.specs.declared.server.ServerStop.TheVariants as stops
@@ -43,7 +43,7 @@ module _ {S : Type 0} {g : Ghosts S} where
   short_turn new h bytes text exchange next text_is next_is (inr stands) = (next, inr (text_is, next_is), stands)
 
   given_up_visit : (new : TheRegistry S g) (h : History) (bytes text : List ℕ) (exchange : Exchange) (fault : DeskFault) (next : History)
-      → IsOfStanding fault → text ≡ response_bytes (unavailable_response (unavailable_of fault)) → IsNext h bytes fault next → IsLeftAt fault new h next
+      → IsOfSoundRegistry fault → text ≡ response_bytes (unavailable_response (unavailable_of fault)) → IsNext h bytes fault next → IsLeftAt fault new h next
       → EndsVisit new h (record { bytes = bytes; text = text; end = Ok exchange }) (fault_of fault)
   given_up_visit new h bytes text exchange NoMemory next kind text_is next_is left = short_turn new h bytes text exchange next text_is next_is left.ends
   given_up_visit new h bytes text exchange (Registry fault) next kind text_is next_is left =

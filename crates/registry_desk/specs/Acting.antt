@@ -6,7 +6,7 @@ use Rattle.usbids_text.specs.Writing.{written}
 use Rattle.registry_rules.specs.History.{History}
 use Rattle.registry_rules.specs.Number.{number}
 use Rattle.registry_rules.specs.Query.{is_reserved, has_vendor, org_of, petition_of}
-use Rattle.registry_rules.specs.Rows.{entry_of}
+use Rattle.registry_rules.specs.Records.{entry_of}
 use Rattle.registry_rules.specs.Run.{after_one, answer_one}
 use Rattle.registry_rules.specs.declared.refusal.Refusal.TheVariants.{NoVendor}
 use Rattle.registry_rules.specs.declared.verdict.Reply.TheVariants.{Refused}
@@ -71,13 +71,13 @@ after_message h (Ok (messages.Query query)) = h
 after_message h (Ok (messages.Request request)) = after_one h request
 
 -- which faults a registry that stands may have, over a clean disk
-abbrev pub IsOfStanding : DeskFault → Type 0
-IsOfStanding NoMemory = ⊤
-IsOfStanding (Registry faults.Store) = ⊤
-IsOfStanding (Registry faults.NoMemory) = ⊤
-IsOfStanding (Registry faults.Foreign) = ⊥
-IsOfStanding (Registry faults.Taken) = ⊥
-IsOfStanding (Registry faults.Poisoned) = ⊥
+abbrev pub IsOfSoundRegistry : DeskFault → Type 0
+IsOfSoundRegistry NoMemory = ⊤
+IsOfSoundRegistry (Registry faults.Store) = ⊤
+IsOfSoundRegistry (Registry faults.NoMemory) = ⊤
+IsOfSoundRegistry (Registry faults.Foreign) = ⊥
+IsOfSoundRegistry (Registry faults.Taken) = ⊥
+IsOfSoundRegistry (Registry faults.Poisoned) = ⊥
 
 -- one of the two histories
 abbrev pub IsEither : History → History → History → Type 0

@@ -21,7 +21,7 @@ use Rattle.registry_desk.specs.declared.serve.Exchange.{Exchange}
 use Rattle.registry_desk.specs.declared.server.ServerStop.{ServerStop}
 use Rattle.registry_desk.specs.declared.server.ServerStop.TheVariants as stops
 use Rattle.registry_desk.specs.Faults.{unavailable_of}
-use Rattle.registry_desk.specs.Acting.{IsResponse, after_message, IsOfStanding, IsEither, IsLeftAt}
+use Rattle.registry_desk.specs.Acting.{IsResponse, after_message, IsOfSoundRegistry, IsEither, IsLeftAt}
 use Rattle.registry_desk.specs.Serving.{IsNext}
 
 -- ---- connections
@@ -103,7 +103,7 @@ module _ {S : Type 0} {g : Ghosts S} where
 
   -- The registry had a fault at this connection. A crash leaves the history with or without its message.
   pub record IsHaltedAt (it : TheRegistry S g) (h : History) (visit : Visit) (fault : Fault) : Type 0 where
-    pub kind : IsOfStanding (Registry fault)
+    pub kind : IsOfSoundRegistry (Registry fault)
     pub text_is : visit.text ≡ response_bytes (unavailable_response (unavailable_of (Registry fault)))
     pub next : History
     pub next_is : IsNext h visit.bytes (Registry fault) next

@@ -14,7 +14,7 @@ use Rattle.registry_desk.specs.declared.fault.DeskFault.TheVariants.{NoMemory}
 use Rattle.registry_desk.specs.declared.serve.Served.{Served}
 use Rattle.registry_desk.specs.declared.serve.Exchange.{Exchange}
 use Rattle.registry_desk.specs.Faults.{unavailable_of, fault_of}
-use Rattle.registry_desk.specs.Acting.{IsResponse, after_message, IsOfStanding, IsLeftAt}
+use Rattle.registry_desk.specs.Acting.{IsResponse, after_message, IsOfSoundRegistry, IsLeftAt}
 
 -- a response was sent
 abbrev pub answered : Response → Served
@@ -58,7 +58,7 @@ module _ {S : Type 0} {g : Ghosts S} where
   -- the text is 30 or 31, and what is left is of h or of the history after the message
   pub record IsGivenUp (new : TheRegistry S g) (h : History) (bytes text : List ℕ) (served : Served) : Type 0 where
     pub fault : DeskFault
-    pub kind : IsOfStanding fault
+    pub kind : IsOfSoundRegistry fault
     pub text_is : text ≡ response_bytes (unavailable_response (unavailable_of fault))
     pub served_is : served ≡ given_up fault
     pub next : History

@@ -8,7 +8,7 @@ ghost use Rattle.registry_store.specs.Promise.{Represents, Endures, is_poisoned,
 ghost use Rattle.registry_store.specs.declared.fault.Fault.TheVariants as faults;
 ghost use Rattle.registry_desk.specs.declared.fault.DeskFault.TheVariants as desk_faults;
 ghost use Rattle.registry_http.specs.Responses.{refusal_response, reply_response};
-ghost use Rattle.registry_desk.specs.Acting.{IsResponse, after_message, IsOfStanding, IsLeftAt};
+ghost use Rattle.registry_desk.specs.Acting.{IsResponse, after_message, IsOfSoundRegistry, IsLeftAt};
 
 use crate::fault::DeskFault;
 use crate::queries::ask;
@@ -27,7 +27,7 @@ fn act_on<S: Alter>(
     ensures answered { (h : History) → Represents registry.old h → HasCleanDisk (state_of registry.new)
         → IfOk result (λ response. (response ≡ reply_response (answer_one h request.now)) × Represents registry.new (after_one h request.now)) }
     ensures left { (h : History) → Represents registry.old h → HasCleanDisk (state_of registry.new)
-        → IfErr result (λ fault. IsOfStanding fault × IsLeftAt fault registry.new h (after_one h request.now)) }
+        → IfErr result (λ fault. IsOfSoundRegistry fault × IsLeftAt fault registry.new h (after_one h request.now)) }
     ensures only_poisoned { result ≡ Err (desk_faults.Registry faults.Poisoned) → is_poisoned registry.old ≡ true }
     ensures endures { Endures (state_of registry.old) (state_of registry.new) }
 {
@@ -52,7 +52,7 @@ pub(crate) fn response_to<S: Alter>(
     ensures answered { (h : History) → Represents registry.old h → HasCleanDisk (state_of registry.new)
         → IfOk result (λ response. IsResponse h said response × Represents registry.new (after_message h said)) }
     ensures left { (h : History) → Represents registry.old h → HasCleanDisk (state_of registry.new)
-        → IfErr result (λ fault. IsOfStanding fault × IsLeftAt fault registry.new h (after_message h said)) }
+        → IfErr result (λ fault. IsOfSoundRegistry fault × IsLeftAt fault registry.new h (after_message h said)) }
     ensures asked { IfErr result (λ fault. fault ≢ desk_faults.NoMemory → IsOk said) }
     ensures only_poisoned { result ≡ Err (desk_faults.Registry faults.Poisoned) → is_poisoned registry.old ≡ true }
     ensures endures { Endures (state_of registry.old) (state_of registry.new) }

@@ -12,7 +12,7 @@
 use Rattle.std.specs.Prelude.{◌≡◌, ◌⊎◌, ℕ, List, Option, Result, Ok, Err}
 use Rattle.httparse.specs.Grammar.{RequestHead}
 use Rattle.usbids_text.specs.Entries.{TopEntry}
-use Rattle.usbids_text.specs.Documents.{Spells, FaultAt}
+use Rattle.usbids_text.specs.Documents.{IsTextOf, FaultAt}
 use Rattle.usbids_text.specs.declared.line.Why.{Why}
 use Rattle.registry_rules.specs.declared.order.Request.{Request}
 use Rattle.registry_wire.specs.Reading.{body_reading}
@@ -34,7 +34,7 @@ use Rattle.registry_http.specs.declared.message.Message.TheVariants as messages
 -- a list that is spelled is imported; the first fault of another is told
 abbrev pub ListSays : ℕ → List ℕ → List ℕ → List ℕ → Option ℕ → List ℕ → Result Request WireRefusal → Type 0
 ListSays founding caller key org vendor body said =
-    ((list : List TopEntry) × Spells body list × (said ≡ Ok (import_of caller key org founding vendor list)))
+    ((list : List TopEntry) × IsTextOf body list × (said ≡ Ok (import_of caller key org founding vendor list)))
     ⊎ ((n : ℕ) × (why : Why) × FaultAt body n why × (said ≡ Err (BadList (record { line = n; why = why }))))
 
 -- the request that a body is, which was sent to an endpoint, or why it is not one

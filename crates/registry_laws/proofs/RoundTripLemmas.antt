@@ -15,7 +15,7 @@ use Rattle.registry_rules.specs.Changes.{entry_imported}
 use Rattle.registry_rules.specs.History.{History, with_deed}
 use Rattle.registry_rules.specs.Number.{number}
 use Rattle.registry_rules.specs.Query.{vendor_of, has_vendor, vendor_meant}
-use Rattle.registry_rules.specs.Rows.{entry_of}
+use Rattle.registry_rules.specs.Records.{entry_of}
 use Rattle.registry_rules.specs.Run.{after_verdict, after_one}
 use Rattle.registry_rules.specs.declared.order.Request.{Request}
 use Rattle.registry_rules.specs.declared.record.Entry.{Entry}

@@ -16,12 +16,12 @@ use Rattle.usbids_text.specs.declared.kind.Kind.TheVariants.{Vendor as OfVendor}
 use Rattle.usbids_text.specs.declared.kind.Depth.TheVariants.{Zero, One}
 use Rattle.usbids_text.proofs.EntryLemmas.{make_row, and_both}
 use Rattle.usbids_text.proofs.UniqueLemmas.{one_spelt, not_both_at_once}
-use Rattle.usbids_text.proofs.WrittenLemmas.{written_text_spells}
+use Rattle.usbids_text.proofs.WrittenLemmas.{written_text_is_text}
 use Rattle.registry_rules.specs.declared.record.Entry.{Entry}
 use Rattle.registry_rules.specs.declared.record.Vendor.{Vendor}
 use Rattle.registry_reports.specs.Listing.{device_of, devices_of, is_listed, top_of, list_of}
 use Rattle.registry_reports.proofs.TitleLemmas.{title_name}
-use Rattle.registry_laws.specs.Exports.{IsVendor, IsEntry, IsSpelled, IsReadBack}
+use Rattle.registry_laws.specs.Exports.{IsVendor, IsEntry, ReadsAsItself, IsReadBack}
 
 four : (n : ℕ) → IsNumber n → is_code n 4 ≡ true
 four n is = let w = is.within in grind arith
@@ -64,8 +64,8 @@ list_fours (vendor ∷ vendors) numbers = and_both (is_sound_top (top_of numbers
 pub list_sound : (vendors : List Vendor) (numbers : List (Number × Entry)) → All IsVendor vendors → All IsEntry numbers → IsSound (list_of vendors numbers)
 list_sound vendors numbers all each = record { fours = list_fours vendors numbers; each = list_rows vendors numbers all each }
 
-pub spelled : IsSpelled
-spelled vendors numbers stamp all each = written_text_spells (list_of vendors numbers) stamp (list_sound vendors numbers all each)
+pub spelled : ReadsAsItself
+spelled vendors numbers stamp all each = written_text_is_text (list_of vendors numbers) stamp (list_sound vendors numbers all each)
 
 pub read_back : IsReadBack
 read_back vendors numbers stamp (Ok doc) all each answers = inl (ap (λ (d : List TopEntry). Ok d) (one_spelt (lines (written (list_of vendors numbers) stamp)) doc (list_of vendors numbers) answers (spelled vendors numbers stamp all each)))

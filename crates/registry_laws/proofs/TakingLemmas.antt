@@ -20,7 +20,7 @@ use Rattle.registry_rules.specs.Import.{classes_from, fresh_of, tally_of}
 use Rattle.registry_rules.specs.Number.{number}
 use Rattle.registry_rules.specs.Query.{item_of as item_at, owner_of, card_of, org_of, has_vendor, vendor_meant, is_reserved, kept, holds}
 use Rattle.registry_rules.specs.History.{last_of}
-use Rattle.registry_rules.specs.Rows.{entry_of}
+use Rattle.registry_rules.specs.Records.{entry_of}
 use Rattle.registry_rules.specs.Verdict.{standing_at, outcome, verdict, verdict_by, kept_of, deed_for}
 use Rattle.registry_rules.specs.declared.deed.Act.{Act}
 use Rattle.registry_rules.specs.declared.deed.Act.TheVariants.{Imported}

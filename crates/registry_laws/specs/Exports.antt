@@ -3,7 +3,7 @@ use Rattle.std.specs.Prelude.{◌≡◌, ◌⊎◌, List, Option, Result, Ok, Er
 use Rattle.usbnum_core.specs.Number.{IsNumber}
 use Rattle.usbnum_core.specs.Text.{IsTitle}
 use Rattle.usbnum_core.specs.declared.number.Number.{Number}
-use Rattle.usbids_text.specs.Documents.{Spells}
+use Rattle.usbids_text.specs.Documents.{IsTextOf}
 use Rattle.usbids_text.specs.Entries.{TopEntry}
 use Rattle.usbids_text.specs.Moments.{Moment}
 use Rattle.usbids_text.specs.Reading.{Answers}
@@ -25,9 +25,9 @@ pub record IsEntry (pair : Number × Entry) : Type 0 where
   pub title : IsTitle pair.1.card.title
 
 -- the text of the list spells the list
-abbrev pub IsSpelled : Type 0
-IsSpelled = (vendors : List Vendor) (numbers : List (Number × Entry)) (stamp : Option Moment) → All IsVendor vendors → All IsEntry numbers
-    → Spells (written (list_of vendors numbers) stamp) (list_of vendors numbers)
+abbrev pub ReadsAsItself : Type 0
+ReadsAsItself = (vendors : List Vendor) (numbers : List (Number × Entry)) (stamp : Option Moment) → All IsVendor vendors → All IsEntry numbers
+    → IsTextOf (written (list_of vendors numbers) stamp) (list_of vendors numbers)
 
 -- and a reader of the text returns the list, or runs out of memory
 abbrev pub IsReadBack : Type 0

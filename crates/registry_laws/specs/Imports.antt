@@ -13,7 +13,7 @@ use Rattle.registry_rules.specs.Changes.{entry_imported}
 use Rattle.registry_rules.specs.History.{History, with_deed}
 use Rattle.registry_rules.specs.Number.{number}
 use Rattle.registry_rules.specs.Query.{org_of, vendor_of, has_vendor, vendor_meant, is_free, kept}
-use Rattle.registry_rules.specs.Rows.{entry_of}
+use Rattle.registry_rules.specs.Records.{entry_of}
 use Rattle.registry_rules.specs.Run.{after_one}
 use Rattle.registry_rules.specs.Verdict.{verdict}
 use Rattle.registry_rules.specs.declared.deed.Deed.{Deed}

@@ -1,12 +1,12 @@
 //! Laws of lists that are exported, and read and imported again.
 #![tactic(auto)]
 
-ghost use Rattle.registry_laws.specs.Exports.{IsSpelled, IsReadBack};
+ghost use Rattle.registry_laws.specs.Exports.{ReadsAsItself, IsReadBack};
 ghost use Rattle.registry_laws.specs.Imports.{TakesOver, CompletesList, GivesSameList};
 
 /// The law that the text of an exported list spells that list.
-pub fn is_spelled()
-    ensures { IsSpelled }
+pub fn reads_as_itself()
+    ensures { ReadsAsItself }
 {}
 
 /// The law that whoever reads the text of an exported list has that list, or wants memory.

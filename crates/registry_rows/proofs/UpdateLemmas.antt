@@ -7,7 +7,7 @@ use Rattle.sqlite_sql.specs.declared.ops.CompareOp.TheVariants.{Eq}
 use Rattle.sqlite_typed.proofs.TestLemmas.{at_ints, then_term, last_term}
 use Rattle.usbnum_core.specs.Text.{IsTitle}
 use Rattle.usbnum_core.specs.declared.number.Number.{Number}
-use Rattle.registry_rules.specs.Rows.{with_held, with_card}
+use Rattle.registry_rules.specs.Records.{with_held, with_card}
 use Rattle.registry_rules.specs.declared.record.Card.{Card}
 use Rattle.registry_rules.specs.declared.record.Entry.{Entry}
 use Rattle.table_laws.proofs.StatementLemmas.{changes_unnumbered}

@@ -6,7 +6,7 @@ ghost use Rattle.usbnum_core.specs.Text.{IsTitle, IsLink};
 ghost use Rattle.sqlite.specs.State.{HasCleanDisk, Survives};
 ghost use Rattle.sqlite.specs.Held.{state};
 ghost use Rattle.sqlite_keyed.specs.Lists.{update_where, delete_where, sort_by};
-ghost use Rattle.registry_rules.specs.Rows.{with_held, with_card};
+ghost use Rattle.registry_rules.specs.Records.{with_held, with_card};
 ghost use Rattle.registry_rows.specs.Rows.{IsEntry, entry_row, is_of, is_between, by_number};
 ghost use Rattle.registry_rows.specs.Steps.{Answers, Changes, Decodes};
 

@@ -8,7 +8,7 @@ use Rattle.usbnum_core.specs.declared.number.Number.{Number}
 use Rattle.registry_rules.specs.Number.{number, is_number}
 use Rattle.registry_rules.specs.History.{History, sooner, first_of, last_of}
 use Rattle.registry_rules.specs.Query.{given, item_of, receiver, card_given, card_asked, card_of_item, owner_of, card_of}
-use Rattle.registry_rules.specs.Rows.{entry_changed, with_held, with_card, after_all}
+use Rattle.registry_rules.specs.Records.{entry_changed, with_held, with_card, after_all}
 use Rattle.registry_rules.specs.Changes.{entry_granted, entry_imported, item_change}
 use Rattle.registry_rules.specs.Import.{Standing}
 use Rattle.registry_rules.specs.Run.{Legal}

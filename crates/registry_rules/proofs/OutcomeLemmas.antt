@@ -14,7 +14,7 @@ use Rattle.registry_rules.specs.Import.{Standing, class_of, classes_from}
 use Rattle.registry_rules.specs.Query.{owner_of, is_held, is_reserved, holds, receiver, item_of, given, petition_of, least, org_of, open_count, asked, has_vendor, vendor_meant, is_licence}
 use Rattle.registry_rules.specs.Checks.{ask_checks, grant_checks, amend_checks, return_checks, reserve_checks, release_checks, import_checks}
 use Rattle.registry_rules.specs.Verdict.{outcome, deed_for, verdict, verdict_by, standing_of, standing_at, org_owning, number_chosen, pid_chosen, least_for, least_owned, meets_fixed, new_petition, new_card, kept_under}
-use Rattle.registry_rules.specs.FactsOf.{AreFactsOf, slug_concerned, petition_named, vendor_concerned, open_concerned, org_concerned, concerns, is_the, holding_of, holding_in}
+use Rattle.registry_rules.specs.FactsOf.{AreFactsOf, slug_concerned, petition_named, vendor_concerned, open_concerned, org_concerned, concerns, is_wanted, holding_of, holding_in}
 use Rattle.registry_rules.specs.OnFacts.{outcome_on, standing_in, standing_in_at, least_owned_in}
 use Rattle.registry_rules.specs.declared.deed.Deed.{Deed}
 use Rattle.registry_rules.specs.declared.deed.Act.{Act}
@@ -129,7 +129,7 @@ same_for h caller key (orders.Ask it) facts are =
     (new_petition (vendor_meant h it.vendor) it.org it.want it.title it.terms))
     (same_wanted h facts (vendor_meant h it.vendor) it.want are.reserved
     (λ pid is. are.holdings (number (vendor_meant h it.vendor) pid)
-    (and_from (nat_eq (vendor_meant h it.vendor) (vendor_meant h it.vendor)) _ (eq-eqb (vendor_meant h it.vendor) (vendor_meant h it.vendor) refl) (ap (λ w. is_the w pid) is ∙ eq-eqb pid pid refl)))))
+    (and_from (nat_eq (vendor_meant h it.vendor) (vendor_meant h it.vendor)) _ (eq-eqb (vendor_meant h it.vendor) (vendor_meant h it.vendor) refl) (ap (λ w. is_wanted w pid) is ∙ eq-eqb pid pid refl)))))
 same_for h caller key (orders.Grant it) facts are =
     rw (are.founding.curators, are.founding.vendor, are.petition, are.least)
     (ap (λ chosen. grant_checks h.founding.curators h.founding.vendor (petition_of h it.petition) chosen caller it.petition) (same_chosen h facts h.founding.vendor it.number (petition_of h it.petition) are.reserved are.holdings))

@@ -11,7 +11,7 @@ use Rattle.registry_rules.specs.Number.{is_number}
 use Rattle.std.specs.Option.{option_or}
 use Rattle.registry_rules.specs.History.{History, with_deed, last_of, all_of}
 use Rattle.registry_rules.specs.Query.{enrolled, asked, open_count, owner_of, is_reserved, is_fixed, is_licence, licences, vendors, item_of, adds_licence, adds_vendor, reserves}
-use Rattle.registry_rules.specs.Rows.{LeadsTo}
+use Rattle.registry_rules.specs.Records.{LeadsTo}
 use Rattle.registry_rules.specs.Changes.{act_changes}
 use Rattle.registry_rules.specs.Run.{Legal}
 use Rattle.registry_rules.specs.Sets.{count_at, numbers_at}

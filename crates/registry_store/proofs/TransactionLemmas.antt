@@ -17,7 +17,7 @@ use Rattle.registry_rules.specs.declared.change.Change.{Change}
 use Rattle.registry_rules.specs.History.{History, with_deed}
 use Rattle.registry_rules.specs.Run.{Legal, after_verdict, reply_of, after_one, answer_one}
 use Rattle.registry_rules.specs.TotalsOf.{AreTotalsOf}
-use Rattle.registry_rules.specs.Rows.{LeadsTo}
+use Rattle.registry_rules.specs.Records.{LeadsTo}
 use Rattle.registry_rules.specs.Verdict.{verdict}
 use Rattle.registry_rules.specs.Reply.{act_text}
 use Rattle.registry_rules.proofs.RunLemmas.{legal_new, legal_after_one, new_is_of}

@@ -11,7 +11,7 @@ use Rattle.registry_rules.specs.Number.{is_number}
 use Rattle.registry_rules.specs.FactsOf.{holding_of}
 use Rattle.registry_rules.specs.History.{History}
 use Rattle.registry_rules.specs.Query.{owner_of, is_held, card_of}
-use Rattle.registry_rules.specs.Rows.{entry_of}
+use Rattle.registry_rules.specs.Records.{entry_of}
 use Rattle.registry_rules.specs.Run.{Legal}
 use Rattle.registry_rules.specs.declared.concern.VendorSpan.{VendorSpan}
 use Rattle.registry_rules.specs.declared.record.Card.{Card}

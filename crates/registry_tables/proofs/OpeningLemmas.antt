@@ -18,7 +18,7 @@ use Rattle.sqlite_keyed.specs.Lists.{sort_by}
 use Rattle.sqlite_keyed.proofs.ListLemmas.{any_from_none, all_weaker}
 use Rattle.registry_rules.specs.FactsOf.{AreVendorsOf}
 use Rattle.registry_rules.specs.History.{History, all_of, with_answer}
-use Rattle.registry_rules.specs.Query.{licences, adds_licence, is_ordered}
+use Rattle.registry_rules.specs.Query.{licences, adds_licence, is_reserved_by_order}
 use Rattle.registry_rules.specs.Run.{Legal}
 use Rattle.registry_rules.specs.Texts.{IsAscending, AreInOrder}
 use Rattle.registry_rules.specs.declared.deed.Act.{Act}
@@ -139,5 +139,5 @@ fixed_tells old new all (Err e) same kind read = short old new (λ (h : History)
 -- ---- the reserved numbers
 
 pub spans_told : (h : History) (t : Tables) → AreRecords h t → (all : List (ℕ × Span)) → all ≡ sort_by by_beginning t.spans
-    → (n : Number) → list_any (vendor_span_has n) all ≡ is_ordered h n
+    → (n : Number) → list_any (vendor_span_has n) all ≡ is_reserved_by_order h n
 spans_told h t had all is n = ap (list_any (vendor_span_has n)) is ∙ any_sorted by_beginning (vendor_span_has n) t.spans ∙ had.spans.each n

@@ -12,7 +12,7 @@ use Rattle.usbnum_core.specs.declared.number.Span.{Span}
 use Rattle.table_laws.proofs.FoundLemmas.{apart_put}
 use Rattle.registry_schema.specs.declared.fault.TableFault.{TableFault}
 use Rattle.registry_rules.specs.History.{History}
-use Rattle.registry_rules.specs.Rows.{with_held, with_card, org_changed, petition_changed, entry_changed, ordered_changed, vendor_changed, licence_changed, after_all, LeadsTo}
+use Rattle.registry_rules.specs.Records.{with_held, with_card, org_changed, petition_changed, entry_changed, reserved_changed, vendor_changed, licence_changed, after_all, LeadsTo}
 use Rattle.registry_rules.specs.declared.change.Change.{Change}
 use Rattle.registry_rules.specs.declared.change.Change.TheVariants.{PutOrg, PutPetition, PutEntry, SetHeld, SetCard, ReserveSpan, ReleaseSpan, PutVendor, PutLicence}
 use Rattle.registry_rules.specs.declared.founding.Founding.{Founding}
@@ -177,9 +177,9 @@ applied_more : (cs : List Change) (c : Change) (t : Tables) → applied_all (cs 
 applied_more [] c t = refl
 applied_more (x ∷ cs) c t = applied_more cs c (applied x t)
 
-ordered_more : (cs : List Change) (c : Change) (n : Number) (b : Bool) → after_all (ordered_changed n) (cs ++ c ∷ []) b ≡ ordered_changed n c (after_all (ordered_changed n) cs b)
-ordered_more [] c n b = refl
-ordered_more (x ∷ cs) c n b = ordered_more cs c n (ordered_changed n x b)
+reserved_more : (cs : List Change) (c : Change) (n : Number) (b : Bool) → after_all (reserved_changed n) (cs ++ c ∷ []) b ≡ reserved_changed n c (after_all (reserved_changed n) cs b)
+reserved_more [] c n b = refl
+reserved_more (x ∷ cs) c n b = reserved_more cs c n (reserved_changed n x b)
 
 spans_over : (c : Change) (a b : List (ℕ × Span)) (t : Tables) → with_spans b (applied c (with_spans a t)) ≡ with_spans b (applied c t)
 spans_over (PutOrg org) a b t = refl
@@ -194,7 +194,7 @@ spans_over (PutLicence name) a b t = refl
 
 -- a change that leaves the spans as they are
 pub record_made : {A : Type 0} (old new : State) (change made : Change) → change ≡ made → (result : Result A TableFault) → ((t : Tables) → with_spans t.spans (applied made t) ≡ applied made t)
-    → ((n : Number) (b : Bool) → ordered_changed n made b ≡ b) → Changes old new result (applied made) → OnOk result (Makes change old new)
+    → ((n : Number) (b : Bool) → reserved_changed n made b ≡ b) → Changes old new result (applied made) → OnOk result (Makes change old new)
 record_made old new change made is (Err e) same unordered h = tt
 record_made old new change made is (Ok a) same unordered h =
     subst (λ x. Makes x old new) (sym is) (
@@ -206,7 +206,7 @@ record_made old new change made is (Ok a) same unordered h =
 pub record AreMade (cs : List Change) (t : Tables) (db : Database) : Type 0 where
   spans : List (ℕ × Span)
   holds : Holds db (with_spans spans (applied_all cs t))
-  each : (n : Number) → list_any (vendor_span_has n) spans ≡ after_all (ordered_changed n) cs (list_any (vendor_span_has n) t.spans)
+  each : (n : Number) → list_any (vendor_span_has n) spans ≡ after_all (reserved_changed n) cs (list_any (vendor_span_has n) t.spans)
   apart : IsAscending AreApart spans
 
 pub none_made : (t : Tables) (db : Database) → Holds db t → IsAscending AreApart t.spans → AreMade [] t db
@@ -218,7 +218,7 @@ made_more cs c b d t before makes =
     record {
       spans = now.0;
       holds = subst (Holds d.now) (spans_over c before.spans now.0 (applied_all cs t) ∙ ap (with_spans now.0) (sym (applied_more cs c t))) now.1;
-      each = λ n. now.2.each n ∙ ap (ordered_changed n c) (before.each n) ∙ sym (ordered_more cs c n (list_any (vendor_span_has n) t.spans));
+      each = λ n. now.2.each n ∙ ap (reserved_changed n c) (before.each n) ∙ sym (reserved_more cs c n (list_any (vendor_span_has n) t.spans));
       apart = now.2.apart;
     }
 
@@ -240,7 +240,7 @@ module _ (cs : List Change) (h after : History) (founding : after.founding ≡ h
         fixed = rest.fixed ∙ had.fixed ∙ ap (λ (f : Founding). f.fixed) (sym founding);
         orgs = record { each = λ slug. view.orgs slug ∙ leads.orgs slug; once = view.orgs_once };
         vendors = λ vid. view.vendors vid ∙ leads.vendors vid;
-        spans = record { each = λ n. made.each n ∙ ap (after_all (ordered_changed n) cs) (had.spans.each n) ∙ leads.ordered n; apart = made.apart };
+        spans = record { each = λ n. made.each n ∙ ap (after_all (reserved_changed n) cs) (had.spans.each n) ∙ leads.ordered n; apart = made.apart };
         entries = record { each = λ n. view.entries n ∙ ap (option_map (λ entry. (n, entry))) (leads.entries n); once = view.entries_once };
         petitions = λ i. view.petitions i ∙ ap (option_map (λ petition. (i, petition))) (leads.petitions i);
       }

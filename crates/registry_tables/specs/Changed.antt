@@ -10,7 +10,7 @@ use Rattle.usbnum_core.specs.declared.number.Span.{Span}
 use Rattle.table_laws.specs.Inside.{GoesOn}
 use Rattle.registry_rules.specs.declared.change.Change.{Change}
 use Rattle.registry_rules.specs.declared.change.Change.TheVariants.{PutOrg, PutPetition, PutEntry, SetHeld, SetCard, PutVendor, PutLicence}
-use Rattle.registry_rules.specs.Rows.{with_held, with_card, ordered_changed}
+use Rattle.registry_rules.specs.Records.{with_held, with_card, reserved_changed}
 use Rattle.registry_rows.specs.Rows.{petition_key, vendor_key, fixed_key, is_named, is_called, is_of}
 use Rattle.registry_rows.specs.Tables.{Tables, Holds}
 use Rattle.registry_tables.specs.Rows.{vendor_span_has, AreApart}
@@ -37,7 +37,7 @@ with_spans spans t = record t { spans = spans }
 
 -- the spans after a change have the numbers that it leaves reserved, and are maximal again
 pub record AreSpansAfter (change : Change) (before spans : List (ℕ × Span)) : Type 0 where
-  pub each : (n : Number) → list_any (vendor_span_has n) spans ≡ ordered_changed n change (list_any (vendor_span_has n) before)
+  pub each : (n : Number) → list_any (vendor_span_has n) spans ≡ reserved_changed n change (list_any (vendor_span_has n) before)
   pub apart : IsAscending AreApart spans
 
 -- the transaction goes on, and the change is made to the tables and to their spans

@@ -11,8 +11,8 @@ use Rattle.usbnum_core.specs.declared.number.Span.{Span}
 use Rattle.registry_rules.specs.History.{History}
 use Rattle.registry_rules.specs.Texts.{IsCurators}
 use Rattle.registry_rules.specs.declared.founding.Founding.{Founding}
-use Rattle.registry_rules.specs.Query.{org_of, petition_of, vendor_of, is_ordered, is_licence}
-use Rattle.registry_rules.specs.Rows.{entry_of}
+use Rattle.registry_rules.specs.Query.{org_of, petition_of, vendor_of, is_reserved_by_order, is_licence}
+use Rattle.registry_rules.specs.Records.{entry_of}
 use Rattle.registry_rules.specs.Verdict.{kept_under}
 use Rattle.registry_rules.specs.declared.record.Org.{Org}
 use Rattle.registry_rules.specs.declared.record.Entry.{Entry}
@@ -63,7 +63,7 @@ module _ (h : History) where
 
   -- the spans are maximal ones of the numbers that an order reserved
   pub record AreSpans (spans : List (ℕ × Span)) : Type 0 where
-    pub each : (n : Number) → list_any (vendor_span_has n) spans ≡ is_ordered h n
+    pub each : (n : Number) → list_any (vendor_span_has n) spans ≡ is_reserved_by_order h n
     pub apart : IsAscending AreApart spans
 
   pub record AreEntries (entries : List (Number × Entry)) : Type 0 where

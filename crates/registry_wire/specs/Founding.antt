@@ -44,12 +44,12 @@ span_after first [] = span_of first first
 span_after first (byte ∷ last) = if byte == 45 then option_and_then (span_of first) (number_of last) else None
 
 -- the span that a text spells: the four digits of its first number, and then those of its last one after a hyphen, or nothing
-unfoldable pub span_spelled : List ℕ → Option Span
-span_spelled (a ∷ b ∷ c ∷ d ∷ rest) = option_and_then (λ first. span_after first rest) (number_of (a ∷ b ∷ c ∷ d ∷ []))
-span_spelled _ = None
+unfoldable pub span_written : List ℕ → Option Span
+span_written (a ∷ b ∷ c ∷ d ∷ rest) = option_and_then (λ first. span_after first rest) (number_of (a ∷ b ∷ c ∷ d ∷ []))
+span_written _ = None
 
 abbrev pub span_from : Data → Option Span
-span_from found = option_and_then span_spelled (as_str found)
+span_from found = option_and_then span_written (as_str found)
 
 -- ---- the values of the file
 

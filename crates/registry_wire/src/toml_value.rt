@@ -2,7 +2,7 @@
 
 ghost use Rattle.std.specs.Prelude.{◌≡◌, IfOk, option_map};
 ghost use Rattle.toml.specs.View.{view, items_view};
-ghost use Rattle.registry_wire.specs.Founding.{number_from, slug_from, title_from, span_from, span_after, span_spelled, all_of};
+ghost use Rattle.registry_wire.specs.Founding.{number_from, slug_from, title_from, span_from, span_after, span_written, all_of};
 
 use crate::span::span_of;
 use crate::text::{slug_of, title_of};
@@ -66,9 +66,9 @@ fn span_after(first: Pid, rest: &[u8]) -> Option<Span>
 }
 
 // The span that a text spells: one number, or the first and the last with a hyphen between them.
-#[tactic(auto, unfolding(crate::specs::Founding::span_spelled))]
-fn span_spelled(text: &[u8]) -> Option<Span>
-    ensures { result ≡ span_spelled text.now }
+#[tactic(auto, unfolding(crate::specs::Founding::span_written))]
+fn span_written(text: &[u8]) -> Option<Span>
+    ensures { result ≡ span_written text.now }
 {
     let [a, b, c, d, rest @ ..] = text else {
         return None;
@@ -81,7 +81,7 @@ impl FromToml for Span {
 
     fn read(_alloc: Global, value: &Value) -> Result<Option<Span>, NoMemory> {
         match value.as_str() {
-            Some(text) => Ok(span_spelled(text.as_bytes())),
+            Some(text) => Ok(span_written(text.as_bytes())),
             None => Ok(None),
         }
     }

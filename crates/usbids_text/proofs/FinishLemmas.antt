@@ -6,7 +6,7 @@ use Rattle.usbids_text.specs.declared.line.Why.TheVariants.{LineTooLong}
 use Rattle.usbids_text.specs.declared.fault.LineFault.{LineFault}
 use Rattle.usbids_text.specs.declared.fault.ReadFault.{ReadFault}
 use Rattle.usbids_text.specs.declared.fault.ReadFault.TheVariants.{Line, NoMemory}
-use Rattle.usbids_text.specs.Documents.{Spell, FaultAt}
+use Rattle.usbids_text.specs.Documents.{AreLinesOf, FaultAt}
 use Rattle.usbids_text.specs.Entries.{TopEntry}
 use Rattle.usbids_text.specs.Opens.{Open, none_open, whole}
 use Rattle.usbids_text.specs.Building.{open_of}
@@ -98,7 +98,7 @@ ended_at t h e = subst (λ (k : Held). Good k (lines t) ⊎ Bad k (lines t)) (sy
 
 pub answers_ok : (t : List ℕ) (h : Held) (doc : List TopEntry) → h ≡ finished (fed start t) → h.fault ≡ None → doc ≡ whole h.built → Answers t (Ok doc)
 answers_ok t h doc e clear is = elim (ended_at t h e) [
-  | inl g ↦ subst (λ (d : List TopEntry). Spell (lines t) d) (sym is) g.spells
+  | inl g ↦ subst (λ (d : List TopEntry). AreLinesOf (lines t) d) (sym is) g.lines_of
   | inr b ↦ absurd (let w = b.is in cc)
 ]
 
@@ -113,13 +113,13 @@ pub fed_start : (p : List ℕ) (o : Open) → p ≡ [] → o ≡ none_open [] �
 unfolding fed
 fed_start p o e f = ap (λ (l : List ℕ). record { pending = l; held = record { line = 1; built = o; fault = None } }) e ∙ ap (λ (x : Open). record { pending = []; held = record { line = 1; built = x; fault = None } }) f
 
-pub stands_more : (old new : Reader) (t piece : List ℕ) → WasFed old t → (new.taken.fault ≡ Some NoMemory) ⊎ (state_of new ≡ fed (state_of old) piece) → WasFed new (t ++ piece)
-stands_more old new t piece s (inl m) = inl m
-stands_more old new t piece (inl m) (inr e) = inl (ap (λ (x : Fed). x.held.fault) (e ∙ fed_faulty (state_of old) piece (ap is_some m)) ∙ m)
-stands_more old new t piece (inr s) (inr e) = inr (e ∙ (ap (λ (x : Fed). fed x piece) s ∙ sym (fed_append start t piece)))
+pub fed_more : (old new : Reader) (t piece : List ℕ) → WasFed old t → (new.taken.fault ≡ Some NoMemory) ⊎ (state_of new ≡ fed (state_of old) piece) → WasFed new (t ++ piece)
+fed_more old new t piece s (inl m) = inl m
+fed_more old new t piece (inl m) (inr e) = inl (ap (λ (x : Fed). x.held.fault) (e ∙ fed_faulty (state_of old) piece (ap is_some m)) ∙ m)
+fed_more old new t piece (inr s) (inr e) = inr (e ∙ (ap (λ (x : Fed). fed x piece) s ∙ sym (fed_append start t piece)))
 
-pub stands_stuck : (old : Reader) (t piece : List ℕ) (f : ReadFault) → old.taken.fault ≡ Some f → WasFed old t → WasFed old (t ++ piece)
-stands_stuck old t piece f e s = stands_more old old t piece s (inr (sym (fed_faulty (state_of old) piece (ap is_some e))))
+pub fed_stuck : (old : Reader) (t piece : List ℕ) (f : ReadFault) → old.taken.fault ≡ Some f → WasFed old t → WasFed old (t ++ piece)
+fed_stuck old t piece f e s = fed_more old old t piece s (inr (sym (fed_faulty (state_of old) piece (ap is_some e))))
 
 finished_faulty : (r : Reader) → is_some r.taken.fault ≡ true → finished (state_of r) ≡ held_of r.taken
 unfolding finished

@@ -9,7 +9,7 @@ use Rattle.std.specs.List.{list_all}
 use Rattle.usbids_text.specs.Words.{is_inner}
 use Rattle.usbids_text.specs.Entries.{Row, preorder, tops_rows}
 use Rattle.usbids_text.specs.Lines.{class_of}
-use Rattle.usbids_text.specs.Documents.{entries, with_line, Spell, FaultIn, fault_of, next}
+use Rattle.usbids_text.specs.Documents.{entries, with_line, AreLinesOf, FaultIn, fault_of, next}
 use Rattle.usbids_text.specs.Opens.{whole, misplaced_in}
 use Rattle.usbids_text.specs.Feeding.{Held, line_done, with_class, with_fault, refused, start}
 use Rattle.usbids_text.specs.Outcome.{done}
@@ -46,7 +46,7 @@ entries_push ls l rows e = entries_append ls (l ∷ []) ∙ ap (λ (r : Option (
 -- no line was faulty
 pub record Good (h : Held) (ls : List (List ℕ)) : Type 0 where
   pub opens : IsOpen h.built
-  pub spells : Spell ls (whole h.built)
+  pub lines_of : AreLinesOf ls (whole h.built)
   pub number : h.line ≡ next (length ls)
   pub clear : h.fault ≡ None
 
@@ -62,7 +62,7 @@ step_faulty : (h : Held) (ls : List (List ℕ)) (l : List ℕ) (why : Why) → G
 step_faulty h ls l why good e = record {
   fault = record { line = h.line; why = why };
   is = refl;
-  faulty = record { before = ls; line = l; after = []; doc = whole h.built; cut = refl; number = good.number; spells = good.spells; faulty = e };
+  faulty = record { before = ls; line = l; after = []; doc = whole h.built; cut = refl; number = good.number; lines_of = good.lines_of; faulty = e };
 }
 
 step_row : (h : Held) (ls : List (List ℕ)) (l : List ℕ) (row : Row) (o : Option Why) → Good h ls → list_all is_inner l ≡ true → class_of l ≡ Ok (Some row) → misplaced_in h.built row ≡ o → Good (with_fault h row o) (ls ++ l ∷ []) ⊎ Bad (with_fault h row o) (ls ++ l ∷ [])
@@ -70,9 +70,9 @@ step_row h ls l row None good inner is place =
     let p = puts h.built row place in
     inl (record {
       opens = p.opens;
-      spells = record {
-        sound = puts_sound h.built row place (class_row l row inner is) good.spells.sound;
-        rows = entries_push ls l (preorder (whole h.built)) good.spells.rows ∙ (ap (λ (c : Result (Option Row) Why). joined (Some (preorder (whole h.built))) (with_line c (Some []))) is ∙ ap (λ (r : List Row). Some r) (sym p.rows));
+      lines_of = record {
+        sound = puts_sound h.built row place (class_row l row inner is) good.lines_of.sound;
+        rows = entries_push ls l (preorder (whole h.built)) good.lines_of.rows ∙ (ap (λ (c : Result (Option Row) Why). joined (Some (preorder (whole h.built))) (with_line c (Some []))) is ∙ ap (λ (r : List Row). Some r) (sym p.rows));
       };
       number = number_push h.line ls l good.number;
       clear = good.clear;
@@ -84,9 +84,9 @@ step_class : (h : Held) (ls : List (List ℕ)) (l : List ℕ) (c : Result (Optio
 step_class h ls l (Err why) good inner is = inr (step_faulty h ls l why good (ap (fault_of (whole h.built)) is))
 step_class h ls l (Ok None) good inner is = inl (record {
   opens = good.opens;
-  spells = record {
-    sound = good.spells.sound;
-    rows = entries_push ls l (preorder (whole h.built)) good.spells.rows ∙ (ap (λ (c : Result (Option Row) Why). joined (Some (preorder (whole h.built))) (with_line c (Some []))) is ∙ ap (λ (r : List Row). Some r) (append-nil (preorder (whole h.built))));
+  lines_of = record {
+    sound = good.lines_of.sound;
+    rows = entries_push ls l (preorder (whole h.built)) good.lines_of.rows ∙ (ap (λ (c : Result (Option Row) Why). joined (Some (preorder (whole h.built))) (with_line c (Some []))) is ∙ ap (λ (r : List Row). Some r) (append-nil (preorder (whole h.built))));
   };
   number = number_push h.line ls l good.number;
   clear = good.clear;
@@ -105,7 +105,7 @@ more-lines ls more n why f = record {
   doc = f.doc;
   cut = ap (λ (x : List (List ℕ)). x ++ more) f.cut ∙ append_assoc f.before (f.line ∷ f.after) more;
   number = f.number;
-  spells = f.spells;
+  lines_of = f.lines_of;
   faulty = f.faulty;
 }
 
@@ -129,7 +129,7 @@ verdict h before (l ∷ ls) good inner =
 
 start_good : Good start.held []
 unfolding entries tops_rows
-start_good = record { opens = refl; spells = record { sound = record { fours = refl; each = refl }; rows = refl }; number = refl; clear = refl }
+start_good = record { opens = refl; lines_of = record { sound = record { fours = refl; each = refl }; rows = refl }; number = refl; clear = refl }
 
 pub verdict_of : (ls : List (List ℕ)) → AreInner ls → Good (done start.held ls) ls ⊎ Bad (done start.held ls) ls
 verdict_of ls inner = verdict start.held [] ls start_good inner

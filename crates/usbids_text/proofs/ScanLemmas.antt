@@ -188,7 +188,7 @@ scan_rest w s state new rest none is step = step ∙ (ap (λ (x : Scanned). scan
 
 pub found_ok : (w : Wanted) (t : List ℕ) (q : Seen) (h : Held) → h ≡ finished (fed start t) → q ≡ seen_of w h → q.fault ≡ None → Finds w t (Ok q.found)
 found_ok w t q h e is clear = elim (ended_at t h e) [
-  | inl g ↦ (whole h.built, g.spells, ap (λ (x : Seen). x.found) is)
+  | inl g ↦ (whole h.built, g.lines_of, ap (λ (x : Seen). x.found) is)
   | inr b ↦ absurd (let none : h.fault ≡ None = sym (ap (λ (x : Seen). x.fault) is) ∙ clear in let w = b.is in cc)
 ]
 

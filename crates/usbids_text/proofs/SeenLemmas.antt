@@ -41,7 +41,7 @@ class_long l long = rw long refl
 
 seen_rest : (h : Held) (ls : List (List ℕ)) (rest : List ℕ) → Good h ls → nat_lt 65536 (length rest) ≡ true → Seen ls rest h.line LineTooLong
 seen_rest h ls [] g long = absurd (let f = ltb-true 65536 0 long in omega arith)
-seen_rest h ls (b ∷ t) g long = (record { before = ls; line = b ∷ t; after = []; doc = whole h.built; cut = refl; number = g.number; spells = g.spells; faulty = ap (fault_of (whole h.built)) (class_long (b ∷ t) long) }, inr (ltb-true 65536 (length (b ∷ t)) long))
+seen_rest h ls (b ∷ t) g long = (record { before = ls; line = b ∷ t; after = []; doc = whole h.built; cut = refl; number = g.number; lines_of = g.lines_of; faulty = ap (fault_of (whole h.built)) (class_long (b ∷ t) long) }, inr (ltb-true 65536 (length (b ∷ t)) long))
 
 abbrev at_line : ℕ → Why → LineFault
 at_line n why = record { line = n; why = why }
@@ -97,7 +97,7 @@ in_whole : (ls : Texts) (rest : List ℕ) (n : ℕ) (why : Why) (f : FaultIn (wi
 in_whole ls [] n why f h = f
 in_whole ls (b ∷ t) n why f h =
     let cut = earlier f.before f.after f.line ls (b ∷ t) (sym f.cut) h in
-    record { before = f.before; line = f.line; after = cut.0; doc = f.doc; cut = cut.1; number = f.number; spells = f.spells; faulty = f.faulty }
+    record { before = f.before; line = f.line; after = cut.0; doc = f.doc; cut = cut.1; number = f.number; lines_of = f.lines_of; faulty = f.faulty }
 
 the_rest : (ls : Texts) (rest : List ℕ) (n : ℕ) (why : Why) (f : FaultIn (with_rest ls rest) n why) → length ls ≤ length f.before → f.line ≡ rest
 the_rest ls [] n why f h = absurd (let s = before_shorter ls n why f in omega arith)

@@ -8,7 +8,7 @@ use Rattle.usbids_text.specs.declared.kind.Kind.{Kind}
 use Rattle.usbids_text.specs.declared.kind.Kind.TheVariants.{Vendor, Tagged}
 use Rattle.usbids_text.specs.Entries.{Row, LeafEntry, MidEntry, TopEntry, leaf_row, mid_row, top_row, leaves_rows, mids_rows, tops_rows, preorder, is_vendor, has_four, is_sound_top, IsSound}
 use Rattle.usbids_text.specs.Lines.{class_of}
-use Rattle.usbids_text.specs.Documents.{misplaced, Spell, FaultIn, fault_of, entries, with_line}
+use Rattle.usbids_text.specs.Documents.{misplaced, AreLinesOf, FaultIn, fault_of, entries, with_line}
 use Rattle.usbids_text.specs.declared.fault.LineFault.{LineFault}
 use Rattle.usbids_text.specs.declared.fault.ReadFault.TheVariants.{Line}
 use Rattle.usbids_text.specs.Feeding.{Held, line_done, with_class, with_fault, refused, start}
@@ -138,7 +138,7 @@ document_is_one a b sa sb e =
     let same : ra.ends ≡ rb.ends = cc in
     sym ra.tops_are ∙ (ap whole same ∙ rb.tops_are)
 
-pub one_spelt : (ls : List (List ℕ)) (a b : List TopEntry) → Spell ls a → Spell ls b → a ≡ b
+pub one_spelt : (ls : List (List ℕ)) (a b : List TopEntry) → AreLinesOf ls a → AreLinesOf ls b → a ≡ b
 one_spelt ls a b sa sb = let e : Some (preorder a) ≡ Some (preorder b) = sym sa.rows ∙ sb.rows in document_is_one a b sa.sound sb.sound (cc)
 
 tried_misplaced : (o : Open) (row : Row) (why : Why) → misplaced_in o row ≡ Some why → tried (Some o) row ≡ None
@@ -163,11 +163,11 @@ faulty_row d before (Ok (Some row)) None why sd sb bad e = absurd cc
 faulty_row d before (Ok (Some row)) (Some more) why sd sb bad e = no_place d before row more why sd sb bad (cc)
 
 -- lines that spell a document have no fault
-pub not_both_at_once : (ls : List (List ℕ)) (d : List TopEntry) (n : ℕ) (why : Why) → Spell ls d → FaultIn ls n why → ⊥
+pub not_both_at_once : (ls : List (List ℕ)) (d : List TopEntry) (n : ℕ) (why : Why) → AreLinesOf ls d → FaultIn ls n why → ⊥
 unfolding entries
 not_both_at_once ls d n why s f =
-    faulty_row d f.doc (class_of f.line) (entries f.after) why s.sound f.spells.sound f.faulty
-    (ap (λ (r : Option (List Row)). joined r (with_line (class_of f.line) (entries f.after))) (sym f.spells.rows) ∙ (sym (entries_append f.before (f.line ∷ f.after)) ∙ (ap entries (sym f.cut) ∙ s.rows)))
+    faulty_row d f.doc (class_of f.line) (entries f.after) why s.sound f.lines_of.sound f.faulty
+    (ap (λ (r : Option (List Row)). joined r (with_line (class_of f.line) (entries f.after))) (sym f.lines_of.rows) ∙ (sym (entries_append f.before (f.line ∷ f.after)) ∙ (ap entries (sym f.cut) ∙ s.rows)))
 
 with_class_faulty : (h : Held) (c : Result (Option Row) Why) (why : Why) → IsOpen h.built → fault_of (whole h.built) c ≡ Some why → with_class h c ≡ refused h why
 with_class_faulty h (Err w) why opens e = ap (refused h) (cc)
@@ -187,10 +187,10 @@ faulty_line h l after why clear opens e =
 -- lines with a fault give that fault
 pub fault_found : (ls : List (List ℕ)) (n : ℕ) (why : Why) → AreInner ls → FaultIn ls n why → (done start.held ls).fault ≡ Some (Line (record { line = n; why = why }))
 fault_found ls n why inner f = elim (verdict_of f.before (are_inner_before ls f.before (f.line ∷ f.after) f.cut inner)) [
-  | inr b ↦ absurd (not_both_at_once f.before f.doc b.fault.line b.fault.why f.spells b.faulty)
+  | inr b ↦ absurd (not_both_at_once f.before f.doc b.fault.line b.fault.why f.lines_of b.faulty)
   | inl g ↦
       let h : Held = done start.held f.before in
-      let same : f.doc ≡ whole h.built = one_spelt f.before f.doc (whole h.built) f.spells g.spells in
+      let same : f.doc ≡ whole h.built = one_spelt f.before f.doc (whole h.built) f.lines_of g.lines_of in
       let stop : done h (f.line ∷ f.after) ≡ refused h why = faulty_line h f.line f.after why g.clear g.opens (ap (λ (d : List TopEntry). fault_of d (class_of f.line)) (sym same) ∙ f.faulty) in
       let number : h.line ≡ n = g.number ∙ sym f.number in
       ap (λ (x : List (List ℕ)). (done start.held x).fault) f.cut ∙ (ap (λ (k : Held). k.fault) (done_append start.held f.before (f.line ∷ f.after) ∙ stop)

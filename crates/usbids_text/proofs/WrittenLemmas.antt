@@ -8,7 +8,7 @@ use Rattle.usbids_text.specs.Words.{is_inner, trimmed, before, past_separators}
 use Rattle.usbids_text.specs.Entries.{Row, TopEntry, preorder, is_row, IsSound}
 use Rattle.usbids_text.specs.Lines.{class_of, is_comment}
 use Rattle.usbids_text.specs.Cut.{cut, lines, with_rest}
-use Rattle.usbids_text.specs.Documents.{entries, with_line, Spells}
+use Rattle.usbids_text.specs.Documents.{entries, with_line, IsTextOf}
 use Rattle.usbids_text.specs.Moments.{Moment}
 use Rattle.usbids_text.specs.Writing.{front, line_text, row_text, rows_text, date_text, time_text, stamp_text, title, head_text, written}
 use Rattle.usbids_text.proofs.EntryLemmas.{both}
@@ -124,5 +124,5 @@ head_read stamp rest rows e =
     ap (λ (l : List ℕ). entries (lines l)) same ∙ entries_none title (tail ++ rest) rows title_inner title_class (stamp_read stamp rest rows e)
 
 -- the written text spells the document
-pub written_text_spells : (doc : List TopEntry) (stamp : Option Moment) → IsSound doc → Spells (written doc stamp) doc
-written_text_spells doc stamp s = record { sound = s; rows = head_read stamp (rows_text (preorder doc)) (preorder doc) (rows_read (preorder doc) s.each) }
+pub written_text_is_text : (doc : List TopEntry) (stamp : Option Moment) → IsSound doc → IsTextOf (written doc stamp) doc
+written_text_is_text doc stamp s = record { sound = s; rows = head_read stamp (rows_text (preorder doc)) (preorder doc) (rows_read (preorder doc) s.each) }

@@ -19,13 +19,13 @@ entries [] = Some []
 entries (l ∷ ls) = with_line (class_of l) (entries ls)
 
 -- no line is faulty, and the entry lines are the preorder of this document
-pub record Spell (ls : List (List ℕ)) (doc : List TopEntry) : Type 0 where
+pub record AreLinesOf (ls : List (List ℕ)) (doc : List TopEntry) : Type 0 where
   pub sound : IsSound doc
   pub rows : entries ls ≡ Some (preorder doc)
 
 -- the text spells the document
-abbrev pub Spells : List ℕ → List TopEntry → Type 0
-Spells text doc = Spell (lines text) doc
+abbrev pub IsTextOf : List ℕ → List TopEntry → Type 0
+IsTextOf text doc = AreLinesOf (lines text) doc
 
 unfoldable pub last : {A : Type 0} → List A → Option A
 last [] = None
@@ -71,7 +71,7 @@ pub record FaultIn (ls : List (List ℕ)) (n : ℕ) (why : Why) : Type 0 where
   pub doc : List TopEntry
   pub cut : ls ≡ before ++ line ∷ after
   pub number : n ≡ next (length before)
-  pub spells : Spell before doc
+  pub lines_of : AreLinesOf before doc
   pub faulty : fault_of doc (class_of line) ≡ Some why
 
 -- line n of the text is its first faulty line, and why

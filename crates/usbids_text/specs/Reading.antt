@@ -5,11 +5,11 @@ use Rattle.usbids_text.specs.declared.fault.ReadFault.TheVariants.{Line, NoMemor
 use Rattle.usbids_text.specs.declared.line.Why.{Why}
 use Rattle.usbids_text.specs.Entries.{TopEntry}
 use Rattle.usbids_text.specs.Cut.{cut}
-use Rattle.usbids_text.specs.Documents.{Spells, FaultAt}
+use Rattle.usbids_text.specs.Documents.{IsTextOf, FaultAt}
 
 -- to a whole text: the document that it spells, its first fault, or out of memory
 abbrev pub Answers : List ℕ → Result (List TopEntry) ReadFault → Type 0
-Answers text (Ok doc) = Spells text doc
+Answers text (Ok doc) = IsTextOf text doc
 Answers text (Err NoMemory) = Unit {0}
 Answers text (Err (Line f)) = FaultAt text f.line f.why
 

@@ -5,7 +5,7 @@ use Rattle.usbids_text.specs.declared.fault.ReadFault.TheVariants.{Line, NoMemor
 use Rattle.usbids_text.specs.declared.scan.Scan.{Scan}
 use Rattle.usbids_text.specs.declared.seen.Wanted.{Wanted}
 use Rattle.usbids_text.specs.Entries.{TopEntry}
-use Rattle.usbids_text.specs.Documents.{Spells, FaultAt}
+use Rattle.usbids_text.specs.Documents.{IsTextOf, FaultAt}
 use Rattle.usbids_text.specs.Finding.{find_mid}
 use Rattle.usbids_text.specs.Feeding.{fed, start}
 use Rattle.usbids_text.specs.Scanning.{Scanned, scanned_of}
@@ -19,6 +19,6 @@ Seeks r wanted text = (r.wanted ≡ wanted) × ((r.seen.fault ≡ Some NoMemory)
 
 -- The text spells a document, and this is the name of the first match in it; or its first fault, or out of memory.
 abbrev pub Finds : Wanted → List ℕ → Result (Option (List ℕ)) ReadFault → Type 0
-Finds wanted text (Ok found) = (doc : List TopEntry) × Spells text doc × (found ≡ find_mid wanted.vendor wanted.code doc)
+Finds wanted text (Ok found) = (doc : List TopEntry) × IsTextOf text doc × (found ≡ find_mid wanted.vendor wanted.code doc)
 Finds wanted text (Err NoMemory) = Unit {0}
 Finds wanted text (Err (Line f)) = FaultAt text f.line f.why

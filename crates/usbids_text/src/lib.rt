@@ -24,7 +24,7 @@ pub use document::{Document, Leaf, Mid, Name, Top};
 pub use fault::{LineFault, ReadFault};
 pub use intake::{Intake, feed_all};
 pub use kind::Kind;
-pub use laws::{never_both, one_document, one_fault, one_or_the_other, written_spells};
+pub use laws::{never_both, one_document, one_fault, one_or_the_other, written_is_text};
 pub use line::Why;
 pub use look_up::find;
 pub use reader::{Reader, read_all};

@@ -119,7 +119,7 @@ impl Reader {
 
     /// A reader that was fed nothing yet.
     pub fn new(alloc: Global) -> Reader
-        ensures stands { WasFed result [] }
+        ensures was_fed { WasFed result [] }
         ensures clear { fault_of result ≡ None }
     {
         Reader {
@@ -139,7 +139,7 @@ impl Reader {
     /// The first faulty line of all bytes so far, once its line feed has come or it has passed
     /// 65,536 bytes, or out of memory. The reader returns that fault from then on, from `finish` too.
     pub fn feed(&mut self, piece: &[u8]) -> Result<(), ReadFault>
-        ensures stands { (t : List ℕ) → WasFed self.old t → WasFed self.new (t ++ piece.now) }
+        ensures was_fed { (t : List ℕ) → WasFed self.old t → WasFed self.new (t ++ piece.now) }
         ensures answer { result ≡ answer_of (fault_of self.new) }
         ensures faulty { (t : List ℕ) → WasFed self.old t → AnswersSoFar (t ++ piece.now) (fault_of self.new) }
         ensures seen { (t : List ℕ) (n : ℕ) (why : Why) → WasFed self.old t → SeenFault (t ++ piece.now) n why → HasFault (fault_of self.new) n why }

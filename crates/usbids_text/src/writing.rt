@@ -5,7 +5,7 @@ ghost use Rattle.byte_streams.specs.Streams.{Writes};
 ghost use Rattle.usbids_text.specs.Gathering.{Gathers};
 ghost use Rattle.usbids_text.specs.Entries.{leaf_row, mid_row, top_row, leaves_rows, mids_rows, tops_rows};
 ghost use Rattle.usbids_text.specs.Writing.{code_text, gap, line_text, row_text, rows_text, stamp_text, title, head_text, written};
-ghost use Rattle.usbids_text.specs.Documents.{Spells};
+ghost use Rattle.usbids_text.specs.Documents.{IsTextOf};
 
 use crate::document::{Document, Leaf, Mid, Top};
 use crate::gather::{Waiting, gather, gather_three, pour};
@@ -279,12 +279,12 @@ pub fn write<W: Sink>(
     sink: &mut W,
 ) -> Result<(), WriteFault>
     ensures writes { Writes (W.contents sink.old) (W.contents sink.new) (W.failures sink.old) (W.failures sink.new) result (written document.now stamp) }
-    ensures spells { Spells (written document.now stamp) document.now }
+    ensures is_text { IsTextOf (written document.now stamp) document.now }
 {
     let mut waiting = Waiting {
         bytes: ArrayVec::new(),
     };
-    // Its clause says that the document is sound, which `spells` rests on.
+    // Its clause says that the document is sound, which `is_text` rests on.
     let _tops = document.tops();
     match put_all_lines(sink, &mut waiting, document, stamp) {
         Ok(()) => match pour(sink, &mut waiting) {

@@ -5,7 +5,7 @@ use Rattle.registry_commands.proofs.exporting.export.Goals as goal
 pub returns-in-Ok : goal.returns-in-Ok
 returns-in-Ok g c = record {
   left = c.in-Ok.ensures.left;
-  shown = inl (c.in-Ok.document, c.in-Ok.ensures.answered, c.put_document.ensures.spells, c.put_document.ensures.printed);
+  shown = inl (c.in-Ok.document, c.in-Ok.ensures.answered, c.put_document.ensures.is_text, c.put_document.ensures.printed);
 }
 
 pub returns-in-Err : goal.returns-in-Err

@@ -1,5 +1,5 @@
 use Rattle.std.proofs.Common.{◌≡◌, rules, subst}
-use Rattle.registry_rules.specs.Rows.{LeadsTo}
+use Rattle.registry_rules.specs.Records.{LeadsTo}
 use Rattle.registry_rules.specs.History.{with_deed}
 use Rattle.registry_store.proofs.OpeningLemmas.{earlier}
 use Rattle.registry_store.proofs.TransactionLemmas.{wrote}

@@ -7,15 +7,15 @@ use Rattle.registry_store.specs.Promise.{state_of}
 use Rattle.registry_store.proofs.MigrationLemmas.{leaves_then, quiet_after, commits_then, foreign_after, open_then}
 use Rattle.registry_store.proofs.registry.Registry.open.Goals as goal
 
-pub returns-in-Ok-clause-stands : goal.returns-in-Ok-clause-stands
-returns-in-Ok-clause-stands g c version h legal at =
+pub returns-in-Ok-clause-represents : goal.returns-in-Ok-clause-represents
+returns-in-Ok-clause-represents g c version h legal at =
     let a = state g.S.Store c.args.conn in
-    c.open_newest.ensures.stands h legal (λ clean. (let early : HasCleanDisk a = omega (arith, clean, c.migrate.ensures.survives.clean) in (c.in-Ok.ensures.raised clean).1 h version (at.shown early)))
+    c.open_newest.ensures.represents h legal (λ clean. (let early : HasCleanDisk a = omega (arith, clean, c.migrate.ensures.survives.clean) in (c.in-Ok.ensures.raised clean).1 h version (at.shown early)))
 
 pub returns-in-Ok-clause-fresh : goal.returns-in-Ok-clause-fresh
 returns-in-Ok-clause-fresh g c version h legal fresh =
     let a = state g.S.Store c.args.conn in
-    c.open_newest.ensures.stands h legal (λ clean. (let early : HasCleanDisk a = omega (arith, clean, c.migrate.ensures.survives.clean) in let shown = fresh early in (c.in-Ok.ensures.raised clean).1 h version (λ _. (shown.1, shown.2))))
+    c.open_newest.ensures.represents h legal (λ clean. (let early : HasCleanDisk a = omega (arith, clean, c.migrate.ensures.survives.clean) in let shown = fresh early in (c.in-Ok.ensures.raised clean).1 h version (λ _. (shown.1, shown.2))))
 
 pub returns-in-Ok-clause-open : goal.returns-in-Ok-clause-open
 returns-in-Ok-clause-open g c =

@@ -4,8 +4,8 @@ use Rattle.sqlite.specs.Held.{state}
 use Rattle.registry_store.proofs.OpeningLemmas.{still_at, at_rest, rows_now}
 use Rattle.registry_store.proofs.registry.Registry.open_newest.Goals as goal
 
-pub returns-in-Ok-clause-stands : goal.returns-in-Ok-clause-stands
-returns-in-Ok-clause-stands g c h legal rest clean =
+pub returns-in-Ok-clause-represents : goal.returns-in-Ok-clause-represents
+returns-in-Ok-clause-represents g c h legal rest clean =
     let old = state g.S.Store c.args.conn in
     let early : HasCleanDisk old = omega (arith, c.totals.ensures.survives.clean) in
     let it = c.in-Ok.ensures.answer clean in
