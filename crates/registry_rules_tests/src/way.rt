@@ -3,7 +3,7 @@
 use crate::fields::{enrol, founding, number, slug, span, title};
 use registry_rules::{
     Card, Change, Deed, Entry, Holdings, PetitionCounts, Totals, Vendor, Vendors, Verdict, changes,
-    judge, numbers_concerned, org_concerned, reply_text, request_bytes,
+    judge, numbers_concerned, reply_text, request_bytes, slug_concerned,
 };
 use std::process::Abort;
 
@@ -13,7 +13,7 @@ fn accepted(rt: &(impl AllocGlobal + Abort), totals: &Totals) -> Option<Deed> {
     let holdings = Holdings::new(Vec::new(rt.alloc()));
     let vendor = totals.founding().vendor;
     assert!(rt; numbers_concerned(&request.order, vendor, None, None).is_none());
-    assert!(rt; org_concerned(&request.order, vendor, None, &holdings) == Some(&slug(rt, "acme")));
+    assert!(rt; slug_concerned(&request.order, vendor, None, &holdings) == Some(&slug(rt, "acme")));
     let order = request_bytes(rt.alloc(), &request).expect(rt, "memory");
     assert_eq!(rt;
         order.as_bytes(),
