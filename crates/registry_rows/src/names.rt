@@ -40,7 +40,7 @@ impl FromRow for Title {
     }
 }
 
-/// Inserts the curator, unless it already has a row.
+/// Inserts the curator, or replaces its row.
 pub fn put_curator<S: Alter>(tx: &mut Transaction<'_, S>, name: &Slug) -> Result<(), TableFault>
     ensures same_reference { tx.new.conn.ghost_name ≡ tx.old.conn.ghost_name }
     ensures put { HasCleanDisk (state S.Store tx.new.conn.now) → IsTrue (state S.Store tx.old.conn.now).in_transaction
@@ -86,7 +86,7 @@ pub fn list_curators<S: Alter>(
     all_from(alloc, &rows)
 }
 
-/// Inserts the licence, unless it already has a row.
+/// Inserts the licence, or replaces its row.
 pub fn put_licence<S: Alter>(tx: &mut Transaction<'_, S>, name: &Title) -> Result<(), TableFault>
     ensures same_reference { tx.new.conn.ghost_name ≡ tx.old.conn.ghost_name }
     ensures put { HasCleanDisk (state S.Store tx.new.conn.now) → IsTrue (state S.Store tx.old.conn.now).in_transaction
