@@ -88,7 +88,7 @@ fn is_short(answer: Answer) -> bool {
     matches!(answer, Answer::Fault(Fault::NoMemory | Fault::Store))
 }
 
-// Checks that each answer is right, and that a poisoned registry follows a fault.
+// Checks that each answer is right, and that a fault leaves the registry poisoned.
 fn is_right(told: Told) -> bool {
     let Told { first, again, orgs } = told;
     match (first, again) {

@@ -63,7 +63,7 @@ module _ (old new : State) where
   answers_tell (Ok a) Says Is means read = passes Is (λ t. Says t a) a (λ h t legal has had says. means h t legal has had a says) read
   answers_tell (Err e) Says Is means read = fails Is e read
 
-  -- ---- from one answer to another
+  -- ---- from one result to another
 
   -- a result computed from another
   pub finds_ok : {A B : Type 0} (Is : History → A → Type 0) (Also : History → B → Type 0) (a : A) (b : B) → ((h : History) → Legal h → Is h a → Also h b) → Finds old new (Ok a) Is → Finds old new (Ok b) Also
@@ -82,7 +82,7 @@ module _ (old new : State) where
 pub finds_at_once : (s : State) → IsTrue s.is_open → IsTrue s.in_transaction → {A : Type 0} (Is : History → A → Type 0) (a : A) → ((h : History) → Legal h → Is h a) → Finds s s (Ok a) Is
 finds_at_once s is_open inside Is a is = let same = unchanged s is_open in (unchanged_goes s s inside same, λ h legal had. (same, is h legal))
 
--- ---- one look-up after another
+-- ---- one lookup after another
 
 module _ (old mid new : State) (First : History → Type 0) (before : Told old mid First) where
   held_on : (h : History) → Legal h → HoldsRows newest old.now h → HoldsRows newest mid.now h
