@@ -1,4 +1,4 @@
--- What the statements on the tables of the second schema show of the values and do to them.
+-- What the statements on the tables of the second schema do to the values, and what they show.
 use Rattle.std.proofs.Common.{◌≡◌, ◌≢◌, inl, Vec, Some, ℕ, true, List, [], ◌∷◌, map, Ok, Err, Result, MatchResult, refl, ap, subst, ◌∙◌}
 use Rattle.std.specs.List.{AllByRecursion}
 use Rattle.sqlite.specs.Order.{Row}

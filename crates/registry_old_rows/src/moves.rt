@@ -1,4 +1,4 @@
-//! From the tables of the second schema to those of the third.
+//! Moves rows from the tables of the second schema to those of the third.
 
 ghost use Rattle.std.specs.Prelude.{◌≡◌, ◌≢◌, [], ◌++◌, ℕ, List, IsTrue, OnOk, Err};
 ghost use Rattle.sqlite.specs.State.{HasCleanDisk, Survives};
@@ -12,7 +12,7 @@ use registry_schema::{TableFault, fault_of};
 use sqlite::{Alter, Transaction, params};
 use usbnum_core::Vid;
 
-/// Copies the spans of the second schema into the third one's table, with this vendor.
+/// Copies the spans of the second schema's table into that of the third, with this vendor.
 pub fn copy_spans<S: Alter>(tx: &mut Transaction<'_, S>, vid: Vid) -> Result<(), TableFault>
     ensures same_reference { tx.new.conn.ghost_name ≡ tx.old.conn.ghost_name }
     ensures copied { HasCleanDisk (state S.Store tx.new.conn.now) → IsTrue (state S.Store tx.old.conn.now).in_transaction
@@ -30,7 +30,7 @@ pub fn copy_spans<S: Alter>(tx: &mut Transaction<'_, S>, vid: Vid) -> Result<(),
     }
 }
 
-/// Copies the entries of the second schema into the third one's table, with this vendor.
+/// Copies the entries of the second schema's table into that of the third, with this vendor.
 pub fn copy_entries<S: Alter>(tx: &mut Transaction<'_, S>, vid: Vid) -> Result<(), TableFault>
     ensures same_reference { tx.new.conn.ghost_name ≡ tx.old.conn.ghost_name }
     ensures copied { HasCleanDisk (state S.Store tx.new.conn.now) → IsTrue (state S.Store tx.old.conn.now).in_transaction
@@ -48,7 +48,7 @@ pub fn copy_entries<S: Alter>(tx: &mut Transaction<'_, S>, vid: Vid) -> Result<(
     }
 }
 
-/// Copies the petitions of the second schema into the third one's table, with this vendor.
+/// Copies the petitions of the second schema's table into that of the third, with this vendor.
 pub fn copy_petitions<S: Alter>(tx: &mut Transaction<'_, S>, vid: Vid) -> Result<(), TableFault>
     ensures same_reference { tx.new.conn.ghost_name ≡ tx.old.conn.ghost_name }
     ensures copied { HasCleanDisk (state S.Store tx.new.conn.now) → IsTrue (state S.Store tx.old.conn.now).in_transaction → OnOk result (GoesOn (state S.Store tx.old.conn.now) (state S.Store tx.new.conn.now)
@@ -66,7 +66,7 @@ pub fn copy_petitions<S: Alter>(tx: &mut Transaction<'_, S>, vid: Vid) -> Result
     }
 }
 
-/// Empties the table of the second schema.
+/// Empties the second schema's table of spans.
 pub fn empty_spans<S: Alter>(tx: &mut Transaction<'_, S>) -> Result<(), TableFault>
     ensures same_reference { tx.new.conn.ghost_name ≡ tx.old.conn.ghost_name }
     ensures emptied { (vid : ℕ) → HasCleanDisk (state S.Store tx.new.conn.now) → IsTrue (state S.Store tx.old.conn.now).in_transaction
@@ -81,7 +81,7 @@ pub fn empty_spans<S: Alter>(tx: &mut Transaction<'_, S>) -> Result<(), TableFau
     }
 }
 
-/// Empties the table of the second schema.
+/// Empties the second schema's table of entries.
 pub fn empty_entries<S: Alter>(tx: &mut Transaction<'_, S>) -> Result<(), TableFault>
     ensures same_reference { tx.new.conn.ghost_name ≡ tx.old.conn.ghost_name }
     ensures emptied { (vid : ℕ) → HasCleanDisk (state S.Store tx.new.conn.now) → IsTrue (state S.Store tx.old.conn.now).in_transaction
@@ -96,7 +96,7 @@ pub fn empty_entries<S: Alter>(tx: &mut Transaction<'_, S>) -> Result<(), TableF
     }
 }
 
-/// Empties the table of the second schema.
+/// Empties the second schema's table of petitions.
 pub fn empty_petitions<S: Alter>(tx: &mut Transaction<'_, S>) -> Result<(), TableFault>
     ensures same_reference { tx.new.conn.ghost_name ≡ tx.old.conn.ghost_name }
     ensures emptied { (vid : ℕ) → HasCleanDisk (state S.Store tx.new.conn.now) → IsTrue (state S.Store tx.old.conn.now).in_transaction

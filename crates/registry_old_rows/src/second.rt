@@ -1,4 +1,5 @@
-//! The tables of the second schema, in which a store that comes from the first one still has its reserved numbers.
+//! The tables of the second schema, in which a store from the first still has its rows of
+//! `reserved`.
 
 ghost use Rattle.std.specs.Prelude.{◌≡◌, ◌≢◌, [], ℕ, List, map, IsTrue, OnOk, Err};
 ghost use Rattle.sqlite.specs.State.{HasCleanDisk, Survives};
@@ -31,7 +32,7 @@ fn meta_rows<S: Alter>(tx: &mut Transaction<'_, S>) -> Result<Vec<Row>, TableFau
     }
 }
 
-/// The rows that say what the store is.
+/// Returns the rows of `meta`. A sound store has one.
 pub fn list_old_metas<S: Alter>(
     alloc: Global,
     tx: &mut Transaction<'_, S>,
@@ -45,7 +46,7 @@ pub fn list_old_metas<S: Alter>(
     all_from(alloc, &rows)
 }
 
-/// Says what the store is.
+/// Writes the row of `meta`, in place of the one before.
 pub fn put_old_meta<S: Alter>(
     tx: &mut Transaction<'_, S>,
     version: u32,
@@ -68,10 +69,10 @@ pub fn put_old_meta<S: Alter>(
     }
 }
 
-/// A number of the table `reserved`.
+/// A row of the table `reserved`.
 #[derive(Clone, Copy, Debug, Drop)]
 pub struct Reserved {
-    /// The number.
+    /// The product ID.
     pub pid: Pid,
 }
 
@@ -104,7 +105,7 @@ fn reserved_rows<S: Alter>(tx: &mut Transaction<'_, S>) -> Result<Vec<Row>, Tabl
     }
 }
 
-/// The reserved numbers, one a row.
+/// Returns the reserved numbers, one for each row.
 pub fn list_reserved<S: Alter>(
     alloc: Global,
     tx: &mut Transaction<'_, S>,
@@ -118,7 +119,7 @@ pub fn list_reserved<S: Alter>(
     all_from(alloc, &rows)
 }
 
-/// Empties the table of reserved numbers.
+/// Empties the table `reserved`.
 pub fn empty_reserved<S: Alter>(tx: &mut Transaction<'_, S>) -> Result<(), TableFault>
     ensures same_reference { tx.new.conn.ghost_name ≡ tx.old.conn.ghost_name }
     ensures emptied { (vid : ℕ) → HasCleanDisk (state S.Store tx.new.conn.now) → IsTrue (state S.Store tx.old.conn.now).in_transaction → OnOk result (Turns vid (λ t. t) (λ numbers. []) (state S.Store tx.old.conn.now) (state S.Store tx.new.conn.now)) }
@@ -132,7 +133,7 @@ pub fn empty_reserved<S: Alter>(tx: &mut Transaction<'_, S>) -> Result<(), Table
     }
 }
 
-/// Puts a span of reserved numbers in.
+/// Inserts a span of reserved numbers.
 pub fn put_old_span<S: Alter>(tx: &mut Transaction<'_, S>, span: Span) -> Result<(), TableFault>
     ensures same_reference { tx.new.conn.ghost_name ≡ tx.old.conn.ghost_name }
     ensures put { (vid : ℕ) → IsNumber vid → HasCleanDisk (state S.Store tx.new.conn.now) → IsTrue (state S.Store tx.old.conn.now).in_transaction

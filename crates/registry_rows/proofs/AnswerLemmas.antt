@@ -1,4 +1,4 @@
--- From the rows that a call read to the values that they stand for.
+-- From the rows that a call read to the values that they store.
 use Rattle.std.proofs.Common.{◌≡◌, ◌≢◌, Bool, true, false, cond, List, [], ◌∷◌, map, filter, slice_get, Option, Result, Ok, Err, inl, MatchResult, OnOk, Ordering, is_gt}
 use Rattle.sqlite_keyed.specs.Lists.{insert_sorted, sort_by}
 use Rattle.sqlite_keyed.proofs.ListLemmas.{all-filter}
@@ -27,12 +27,12 @@ module _ {X : Type 0} (IsValid : X → Type 0) (show : X → Row) (pick : Tables
   answers_all items (Ok all) decodes = (read.0, λ t has. (let h = read.1 t has in (h.0, decodes (pick t) (valid t has) h.1)))
   answers_all items (Err fault) decodes = (λ foreign. (read.0, λ t has. decodes (pick t) (valid t has) (read.1 t has).1 foreign), inl read.0)
 
--- an answer may be told in other words
+-- a result that satisfies one relation satisfies a weaker one
 pub answers_as : {A : Type 0} (old new : State) (result : Result A TableFault) (Is Also : Tables → A → Type 0) → ((t : Tables) (a : A) → Is t a → Also t a) → Answers old new result Is → Answers old new result Also
 answers_as old new (Ok a) Is Also means h = (h.0, λ t has. (let it = h.1 t has in (it.0, means t a it.1)))
 answers_as old new (Err e) Is Also means h = h
 
--- ---- what is picked of valid values is valid
+-- ---- values picked from valid ones are valid
 
 module _ {X : Type 0} (IsValid : X → Type 0) where
   pub valid_filtered : (test : X → Bool) (values : List X) → AllByRecursion IsValid values → AllByRecursion IsValid (filter test values)

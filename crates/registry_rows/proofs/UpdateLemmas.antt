@@ -19,7 +19,7 @@ use Rattle.registry_rows.proofs.KeyLemmas.{cast_entry_numbered, turned}
 use Rattle.registry_rows.proofs.NumberLemmas.{same_numbers}
 use Rattle.registry_rows.proofs.UpdateTexts.{set_held_text, set_held_terms, set_held_news, set_held_is, set_card_text, set_card_terms, set_card_news, set_card_is}
 
--- the entry's row, held or returned, or with another card
+-- the entry with this held flag, and the entry with this card
 abbrev pub held_as : Bool → Number × Entry → Number × Entry
 held_as held e = (e.0, with_held held e.1)
 

@@ -1,4 +1,5 @@
-//! The columns of a row as values.
+//! Readers of the columns of a row. Each returns `TableFault::Foreign` if the column holds no such
+//! value, and `TableFault::NoMemory` if out of memory.
 
 ghost use Rattle.std.specs.Prelude.{◌≡◌, ◌≢◌, ◌+◌, ◌<◌, ◌^◌, ℕ, length, IfOk, IsUtf8, MatchOption};
 ghost use Rattle.sqlite.specs.declared.types.Value.TheVariants.{Text as TextValue, Null, Blob};
@@ -15,7 +16,7 @@ use sqlite::types::ValueRef;
 use std::alloc::Global;
 use usbnum_core::{Key, Link, Pid, Slug, Span, Title, Vid};
 
-/// The slug in the column.
+/// Reads the slug in the column.
 pub fn slug_at(alloc: Global, row: &Row, at: usize) -> Result<Slug, TableFault>
     ensures ok { IfOk result (λ text. column row.now at ≡ TextValue text) }
     ensures foreign { result ≡ Err TableFault.Foreign → (text : _) → IsSlug text → column row.now at ≢ TextValue text }
@@ -30,7 +31,7 @@ pub fn slug_at(alloc: Global, row: &Row, at: usize) -> Result<Slug, TableFault>
     }
 }
 
-/// The key in the column.
+/// Reads the key in the column.
 pub fn key_at(alloc: Global, row: &Row, at: usize) -> Result<Key, TableFault>
     ensures ok { IfOk result (λ text. column row.now at ≡ TextValue text) }
     ensures foreign { result ≡ Err TableFault.Foreign → (text : _) → IsKey text → column row.now at ≢ TextValue text }
@@ -45,7 +46,7 @@ pub fn key_at(alloc: Global, row: &Row, at: usize) -> Result<Key, TableFault>
     }
 }
 
-/// The title in the column.
+/// Reads the title in the column.
 pub fn title_at(alloc: Global, row: &Row, at: usize) -> Result<Title, TableFault>
     ensures ok { IfOk result (λ text. column row.now at ≡ TextValue text) }
     ensures foreign { result ≡ Err TableFault.Foreign → (text : _) → IsTitle text → column row.now at ≢ TextValue text }
@@ -60,7 +61,7 @@ pub fn title_at(alloc: Global, row: &Row, at: usize) -> Result<Title, TableFault
     }
 }
 
-/// The link in the column.
+/// Reads the link in the column.
 pub fn link_at(alloc: Global, row: &Row, at: usize) -> Result<Link, TableFault>
     ensures ok { IfOk result (λ text. column row.now at ≡ TextValue text) }
     ensures foreign { result ≡ Err TableFault.Foreign → (text : _) → IsLink text → column row.now at ≢ TextValue text }
@@ -75,7 +76,7 @@ pub fn link_at(alloc: Global, row: &Row, at: usize) -> Result<Link, TableFault>
     }
 }
 
-/// The title in the column, or none for NULL.
+/// Reads the title in the column, or `None` for NULL.
 pub fn title_or_null_at(alloc: Global, row: &Row, at: usize) -> Result<Option<Title>, TableFault>
     ensures ok { IfOk result (λ text. MatchOption text (column row.now at ≡ Null) (λ text. column row.now at ≡ TextValue text)) }
     ensures foreign { result ≡ Err TableFault.Foreign → at < length row.now → (column row.now at ≢ Null) × ((text : _) → IsTitle text → column row.now at ≢ TextValue text) }
@@ -87,7 +88,7 @@ pub fn title_or_null_at(alloc: Global, row: &Row, at: usize) -> Result<Option<Ti
     }
 }
 
-/// The link in the column, or none for NULL.
+/// Reads the link in the column, or `None` for NULL.
 pub fn link_or_null_at(alloc: Global, row: &Row, at: usize) -> Result<Option<Link>, TableFault>
     ensures ok { IfOk result (λ text. MatchOption text (column row.now at ≡ Null) (λ text. column row.now at ≡ TextValue text)) }
     ensures foreign { result ≡ Err TableFault.Foreign → at < length row.now → (column row.now at ≢ Null) × ((text : _) → IsLink text → column row.now at ≢ TextValue text) }
@@ -99,7 +100,7 @@ pub fn link_or_null_at(alloc: Global, row: &Row, at: usize) -> Result<Option<Lin
     }
 }
 
-/// The reply in the column.
+/// Reads the reply in the column.
 pub fn reply_at(alloc: Global, row: &Row, at: usize) -> Result<ReplyText, TableFault>
     ensures ok { IfOk result (λ text. column row.now at ≡ TextValue text) }
     ensures foreign { result ≡ Err TableFault.Foreign → (text : _) → IsUtf8 text → column row.now at ≢ TextValue text }
@@ -116,7 +117,7 @@ pub fn reply_at(alloc: Global, row: &Row, at: usize) -> Result<ReplyText, TableF
     }
 }
 
-/// The canonical form in the column.
+/// Reads the canonical form in the column.
 pub fn canonical_form_at(alloc: Global, row: &Row, at: usize) -> Result<CanonicalForm, TableFault>
     ensures ok { IfOk result (λ bytes. column row.now at ≡ Blob bytes) }
     ensures foreign { result ≡ Err TableFault.Foreign → (bytes : _) → column row.now at ≢ Blob bytes }
@@ -130,7 +131,7 @@ pub fn canonical_form_at(alloc: Global, row: &Row, at: usize) -> Result<Canonica
     }
 }
 
-/// The flag in the column.
+/// Reads the flag in the column.
 pub fn flag_at(row: &Row, at: usize) -> Result<bool, TableFault>
     ensures ok { IfOk result (λ b. column row.now at ≡ flag b) }
     ensures foreign { result ≡ Err TableFault.Foreign → (b : _) → column row.now at ≢ flag b }
@@ -142,7 +143,7 @@ pub fn flag_at(row: &Row, at: usize) -> Result<bool, TableFault>
     }
 }
 
-/// The whole number in the column.
+/// Reads the unsigned integer in the column.
 pub fn number_at(row: &Row, at: usize) -> Result<u32, TableFault>
     ensures ok { IfOk result (λ n. column row.now at ≡ whole n) }
     ensures foreign { result ≡ Err TableFault.Foreign → (n : ℕ) → n < 2 ^ 32 → column row.now at ≢ whole n }
@@ -156,7 +157,7 @@ pub fn number_at(row: &Row, at: usize) -> Result<u32, TableFault>
     }
 }
 
-/// The vendor number in the column.
+/// Reads the vendor ID in the column.
 pub fn vid_at(row: &Row, at: usize) -> Result<Vid, TableFault>
     ensures ok { IfOk result (λ n. column row.now at ≡ whole n) }
     ensures foreign { result ≡ Err TableFault.Foreign → (n : ℕ) → IsNumber n → column row.now at ≢ whole n }
@@ -171,7 +172,7 @@ pub fn vid_at(row: &Row, at: usize) -> Result<Vid, TableFault>
     }
 }
 
-/// The product number in the column.
+/// Reads the product ID in the column.
 pub fn pid_at(row: &Row, at: usize) -> Result<Pid, TableFault>
     ensures ok { IfOk result (λ n. column row.now at ≡ whole n) }
     ensures foreign { result ≡ Err TableFault.Foreign → (n : ℕ) → IsNumber n → column row.now at ≢ whole n }
@@ -186,7 +187,7 @@ pub fn pid_at(row: &Row, at: usize) -> Result<Pid, TableFault>
     }
 }
 
-/// The product number in the column, or none for NULL.
+/// Reads the product ID in the column, or `None` for NULL.
 pub fn pid_or_null_at(row: &Row, at: usize) -> Result<Option<Pid>, TableFault>
     ensures ok { IfOk result (λ pid. MatchOption pid (column row.now at ≡ Null) (λ n. column row.now at ≡ whole n)) }
     ensures foreign { result ≡ Err TableFault.Foreign → at < length row.now → (column row.now at ≢ Null) × ((n : ℕ) → IsNumber n → column row.now at ≢ whole n) }
@@ -198,7 +199,7 @@ pub fn pid_or_null_at(row: &Row, at: usize) -> Result<Option<Pid>, TableFault>
     }
 }
 
-/// The span from the number in the column to the number in the next one.
+/// Reads the span whose first number is in the column and whose last is in the next one.
 pub fn span_at(row: &Row, at: usize) -> Result<Span, TableFault>
     requires { at < 1000 }
     ensures ok { IfOk result (λ span. (column row.now at ≡ whole span.first) × (column row.now (at + 1) ≡ whole span.last)) }

@@ -107,7 +107,7 @@ fn source_of(card: &Card) -> Option<&str>
     }
 }
 
-/// Puts the entry in, in the place of the one of its number, if there is one.
+/// Inserts the entry, or replaces the one of its number.
 pub fn put_entry<S: Alter>(
     tx: &mut Transaction<'_, S>,
     number: Number,
@@ -164,7 +164,7 @@ pub fn set_held<S: Alter>(
     }
 }
 
-/// Gives the number another card, if it has an entry.
+/// Sets the card of the number, if it has an entry.
 pub fn set_card<S: Alter>(
     tx: &mut Transaction<'_, S>,
     number: Number,
@@ -210,7 +210,7 @@ fn entry_rows<S: Alter>(tx: &mut Transaction<'_, S>, number: Number) -> Result<V
     }
 }
 
-/// The number, with its entry, if it has one.
+/// Returns the number with its entry, if it has one.
 pub fn find_entry<S: Alter>(
     alloc: Global,
     tx: &mut Transaction<'_, S>,
@@ -251,7 +251,7 @@ fn rows_between<S: Alter>(
     }
 }
 
-/// The entries of the vendor from the low number to the high one, ascending.
+/// Returns the vendor's entries from the low number to the high one, ascending.
 pub fn find_entries<S: Alter>(
     alloc: Global,
     tx: &mut Transaction<'_, S>,
@@ -285,7 +285,7 @@ fn all_rows<S: Alter>(tx: &mut Transaction<'_, S>) -> Result<Vec<Row>, TableFaul
     }
 }
 
-/// All of them, by vendor and then by product.
+/// Returns all entries, in order of vendor and then product.
 pub fn list_entries<S: Alter>(
     alloc: Global,
     tx: &mut Transaction<'_, S>,

@@ -1,4 +1,4 @@
-//! The numbers of the founding vendor that are reserved for good.
+//! The fixed numbers of the founding vendor, which are reserved for good.
 
 ghost use Rattle.std.specs.Prelude.{◌≡◌, ◌≢◌, map, IsTrue, Err};
 ghost use Rattle.sqlite.specs.State.{HasCleanDisk, Survives};
@@ -26,7 +26,7 @@ impl FromRow for Span {
     }
 }
 
-/// Puts the span in.
+/// Inserts the span.
 pub fn put_fixed<S: Alter>(tx: &mut Transaction<'_, S>, span: Span) -> Result<(), TableFault>
     ensures same_reference { tx.new.conn.ghost_name ≡ tx.old.conn.ghost_name }
     ensures put { HasCleanDisk (state S.Store tx.new.conn.now) → IsTrue (state S.Store tx.old.conn.now).in_transaction
@@ -58,7 +58,7 @@ fn all_rows<S: Alter>(tx: &mut Transaction<'_, S>) -> Result<Vec<Row>, TableFaul
     }
 }
 
-/// All of them, as maximal spans, ascending.
+/// Returns all fixed numbers as maximal spans, ascending.
 pub fn list_fixed<S: Alter>(
     alloc: Global,
     tx: &mut Transaction<'_, S>,

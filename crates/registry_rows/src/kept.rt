@@ -1,4 +1,4 @@
-//! The replies that are kept.
+//! The kept replies.
 
 ghost use Rattle.std.specs.Prelude.{◌≡◌, ◌≢◌, [], ◌∷◌, ◌++◌, map, filter, find, IsTrue, Err};
 ghost use Rattle.sqlite.specs.State.{HasCleanDisk, Survives};
@@ -15,14 +15,14 @@ use sqlite::{Alter, Row, Transaction, params};
 use std::alloc::Global;
 use usbnum_core::{Key, Slug};
 
-/// What is kept of an accepted request, under its caller and key.
+/// The kept reply of an accepted request, under its caller and key.
 #[derive(Debug, Drop)]
 pub struct KeptRow {
-    /// Who asked.
+    /// The caller of the request.
     pub caller: Slug,
     /// The key of the request.
     pub key: Key,
-    /// What is kept of it.
+    /// The canonical form of the order, and the reply.
     pub kept: Kept,
 }
 
@@ -95,7 +95,7 @@ fn kept_rows<S: Alter>(
     }
 }
 
-/// What is kept under the caller and key, if there is anything.
+/// Returns what is kept under the caller and key, if anything.
 pub fn find_kept<S: Alter>(
     alloc: Global,
     tx: &mut Transaction<'_, S>,

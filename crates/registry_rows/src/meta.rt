@@ -1,4 +1,4 @@
-//! What a store is.
+//! The row of the table `meta`.
 
 ghost use Rattle.std.specs.Prelude.{◌≡◌, ◌≢◌, map, IsTrue, Err};
 ghost use Rattle.sqlite.specs.State.{HasCleanDisk, Survives};
@@ -14,12 +14,12 @@ use sqlite::{Alter, Row, Transaction, params};
 use std::alloc::Global;
 use usbnum_core::{Title, Vid};
 
-/// What a store is: the number of its schema, and the vendor that it was founded for.
+/// The row of the table `meta`: the schema version, and the vendor that the store was founded for.
 #[derive(Debug, Drop)]
 pub struct Meta {
-    /// The number of its schema.
+    /// The schema version.
     pub version: u32,
-    /// The vendor that it was founded for.
+    /// The vendor that the store was founded for.
     pub vendor: Vid,
     /// The vendor's name.
     pub name: Title,
@@ -41,7 +41,7 @@ impl FromRow for Meta {
     }
 }
 
-/// Says what the store is.
+/// Writes the row of `meta`, in place of the one before.
 pub fn put_meta<S: Alter>(
     tx: &mut Transaction<'_, S>,
     version: u32,
@@ -78,7 +78,7 @@ fn all_rows<S: Alter>(tx: &mut Transaction<'_, S>) -> Result<Vec<Row>, TableFaul
     }
 }
 
-/// The rows that say what the store is, of which there is one.
+/// Returns the rows of `meta`. A sound store has one.
 pub fn list_metas<S: Alter>(
     alloc: Global,
     tx: &mut Transaction<'_, S>,

@@ -40,7 +40,7 @@ impl FromRow for Title {
     }
 }
 
-/// Puts the curator in, if it is not there yet.
+/// Inserts the curator, or replaces its row.
 pub fn put_curator<S: Alter>(tx: &mut Transaction<'_, S>, name: &Slug) -> Result<(), TableFault>
     ensures same_reference { tx.new.conn.ghost_name ≡ tx.old.conn.ghost_name }
     ensures put { HasCleanDisk (state S.Store tx.new.conn.now) → IsTrue (state S.Store tx.old.conn.now).in_transaction
@@ -72,7 +72,7 @@ fn curator_rows<S: Alter>(tx: &mut Transaction<'_, S>) -> Result<Vec<Row>, Table
     }
 }
 
-/// All curators, by their bytes.
+/// Returns all curators, in order of their bytes.
 pub fn list_curators<S: Alter>(
     alloc: Global,
     tx: &mut Transaction<'_, S>,
@@ -86,7 +86,7 @@ pub fn list_curators<S: Alter>(
     all_from(alloc, &rows)
 }
 
-/// Puts the licence in, if it is not there yet.
+/// Inserts the licence, or replaces its row.
 pub fn put_licence<S: Alter>(tx: &mut Transaction<'_, S>, name: &Title) -> Result<(), TableFault>
     ensures same_reference { tx.new.conn.ghost_name ≡ tx.old.conn.ghost_name }
     ensures put { HasCleanDisk (state S.Store tx.new.conn.now) → IsTrue (state S.Store tx.old.conn.now).in_transaction
@@ -118,7 +118,7 @@ fn licence_rows<S: Alter>(tx: &mut Transaction<'_, S>) -> Result<Vec<Row>, Table
     }
 }
 
-/// All licences, by their bytes.
+/// Returns all allowed licences, in order of their bytes.
 pub fn list_licences<S: Alter>(
     alloc: Global,
     tx: &mut Transaction<'_, S>,

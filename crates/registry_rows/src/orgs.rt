@@ -32,7 +32,7 @@ impl FromRow for Org {
     }
 }
 
-/// Puts the organisation in, in the place of the one with its slug, if there is one.
+/// Inserts the organisation, or replaces the one with its slug.
 pub fn put_org<S: Alter>(tx: &mut Transaction<'_, S>, org: &Org) -> Result<(), TableFault>
     ensures same_reference { tx.new.conn.ghost_name ≡ tx.old.conn.ghost_name }
     ensures put { HasCleanDisk (state S.Store tx.new.conn.now) → IsTrue (state S.Store tx.old.conn.now).in_transaction
@@ -72,7 +72,7 @@ fn org_rows<S: Alter>(tx: &mut Transaction<'_, S>, slug: &Slug) -> Result<Vec<Ro
     }
 }
 
-/// The organisation of the slug, if there is one.
+/// Returns the organisation with this slug, if any.
 pub fn find_org<S: Alter>(
     alloc: Global,
     tx: &mut Transaction<'_, S>,
@@ -104,7 +104,7 @@ fn all_rows<S: Alter>(tx: &mut Transaction<'_, S>) -> Result<Vec<Row>, TableFaul
     }
 }
 
-/// All organisations, by slug.
+/// Returns all organisations, in order of slug.
 pub fn list_orgs<S: Alter>(
     alloc: Global,
     tx: &mut Transaction<'_, S>,

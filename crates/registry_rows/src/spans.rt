@@ -1,4 +1,4 @@
-//! The numbers that an order reserved.
+//! The numbers that orders reserved, as spans.
 
 ghost use Rattle.std.specs.Prelude.{◌≡◌, ◌≢◌, [], ◌∷◌, ◌++◌, map, filter, IsTrue, Err};
 ghost use Rattle.sqlite.specs.State.{HasCleanDisk, Survives};
@@ -32,7 +32,7 @@ impl FromRow for (Vid, Span) {
     }
 }
 
-/// Puts the span in, in the place of the vendor's one that begins with the same number, if there is one.
+/// Inserts the span, or replaces the vendor's span with the same first number.
 pub fn put_span<S: Alter>(
     tx: &mut Transaction<'_, S>,
     vid: Vid,
@@ -58,7 +58,7 @@ pub fn put_span<S: Alter>(
     }
 }
 
-/// Takes out the vendor's spans that have any of the numbers from the low to the high one.
+/// Deletes the vendor's spans that have any of the numbers from the low to the high one.
 pub fn cut_spans<S: Alter>(
     tx: &mut Transaction<'_, S>,
     vid: Vid,
@@ -103,7 +103,7 @@ fn meeting_rows<S: Alter>(
     }
 }
 
-/// The vendor's spans that have any of the numbers from the low to the high one, ascending.
+/// Returns the vendor's spans that have any of the numbers from the low to the high one, ascending.
 pub fn find_spans<S: Alter>(
     alloc: Global,
     tx: &mut Transaction<'_, S>,
@@ -137,7 +137,7 @@ fn all_rows<S: Alter>(tx: &mut Transaction<'_, S>) -> Result<Vec<Row>, TableFaul
     }
 }
 
-/// All of them, as maximal spans, by vendor and then ascending.
+/// Returns all spans, which are maximal, in order of vendor and then first number.
 pub fn list_spans<S: Alter>(
     alloc: Global,
     tx: &mut Transaction<'_, S>,

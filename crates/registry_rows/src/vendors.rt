@@ -30,7 +30,7 @@ impl FromRow for Vendor {
     }
 }
 
-/// Puts the vendor in, in the place of the one with its number, if there is one.
+/// Inserts the vendor, or replaces the one with its vendor ID.
 pub fn put_vendor<S: Alter>(
     tx: &mut Transaction<'_, S>,
     vid: Vid,
@@ -66,7 +66,7 @@ fn all_rows<S: Alter>(tx: &mut Transaction<'_, S>) -> Result<Vec<Row>, TableFaul
     }
 }
 
-/// All vendors, by number.
+/// Returns all vendors, in order of vendor ID.
 pub fn list_vendors<S: Alter>(
     alloc: Global,
     tx: &mut Transaction<'_, S>,

@@ -11,8 +11,8 @@ use crate::first::create_first;
 use crate::later::{add_second, add_third};
 use sqlite::{Alter, Transaction};
 
-/// Makes all tables, where there are none: those of the first schema, then what the second and the third add, so that
-/// a store that is founded and one that went up from an older schema are alike.
+/// Creates all tables in a database that has none: those of the first schema, then those that the
+/// second and the third add, so that a new store and a migrated one are alike.
 pub fn create_tables<S: Alter>(tx: &mut Transaction<'_, S>) -> Result<(), TableFault>
     ensures same_reference { tx.new.conn.ghost_name ≡ tx.old.conn.ghost_name }
     ensures made { HasCleanDisk (state S.Store tx.new.conn.now) → IsTrue (state S.Store tx.old.conn.now).in_transaction

@@ -9,14 +9,13 @@ use sqlite::{Error, ErrorCode};
 pub enum TableFault {
     /// The store refused or failed.
     Store,
-    /// Memory is short.
+    /// Out of memory.
     NoMemory,
-    /// The tables are those of no history.
+    /// The tables hold the rows of no history.
     Foreign,
 }
 
-/// What an error of the store means for a call on the tables: out of memory where it says so, and else a
-/// failure of the store.
+/// Maps an error of the store to a fault: `NoMemory` if it is out of memory, otherwise `Store`.
 pub fn fault_of(error: Error) -> TableFault
     ensures memory { (result ≡ TableFault.NoMemory) ↔ (error ≡ Error.SqliteFailure ErrorCode.OutOfMemory) }
     ensures known { result ≢ TableFault.Foreign }

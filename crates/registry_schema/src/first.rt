@@ -163,7 +163,7 @@ fn create_kept<S: Alter>(tx: &mut Transaction<'_, S>) -> Result<(), TableFault>
     }
 }
 
-/// The tables of the first schema, where there are none.
+/// Creates the tables of the first schema in a database that has none.
 pub fn create_first<S: Alter>(tx: &mut Transaction<'_, S>) -> Result<(), TableFault>
     ensures same_reference { tx.new.conn.ghost_name ≡ tx.old.conn.ghost_name }
     ensures made { HasCleanDisk (state S.Store tx.new.conn.now) → IsTrue (state S.Store tx.old.conn.now).in_transaction

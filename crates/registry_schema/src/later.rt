@@ -10,7 +10,7 @@ use crate::TableFault;
 use crate::fault::fault_of;
 use sqlite::{Alter, Transaction};
 
-/// The table that the second schema adds.
+/// Creates the table that the second schema adds.
 pub fn add_second<S: Alter>(tx: &mut Transaction<'_, S>) -> Result<(), TableFault>
     ensures same_reference { tx.new.conn.ghost_name ≡ tx.old.conn.ghost_name }
     ensures made { HasCleanDisk (state S.Store tx.new.conn.now) → IsTrue (state S.Store tx.old.conn.now).in_transaction
@@ -96,7 +96,7 @@ fn create_petitions3<S: Alter>(tx: &mut Transaction<'_, S>) -> Result<(), TableF
     }
 }
 
-/// The tables that the third schema adds.
+/// Creates the tables that the third schema adds.
 pub fn add_third<S: Alter>(tx: &mut Transaction<'_, S>) -> Result<(), TableFault>
     ensures same_reference { tx.new.conn.ghost_name ≡ tx.old.conn.ghost_name }
     ensures made { HasCleanDisk (state S.Store tx.new.conn.now) → IsTrue (state S.Store tx.old.conn.now).in_transaction

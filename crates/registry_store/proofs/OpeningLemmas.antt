@@ -1,4 +1,4 @@
--- What a connection shows after a registry was opened or founded on it.
+-- What a connection shows after a registry is opened or founded on it.
 use Rattle.std.proofs.Common.{◌≡◌, inl, inr, IsTrue, false, refl, sym, subst, ◌∙◌, arith}
 use Rattle.sqlite.specs.Tree.{Trees}
 use Rattle.sqlite.specs.Store.{Ghosts}
@@ -13,7 +13,7 @@ use Rattle.registry_store.specs.declared.registry.Registry.{Registry}
 use Rattle.registry_store.specs.Promise.{IsAt, IsFreshAt, Represents, is_poisoned, state_of}
 use Rattle.registry_store.specs.Reopen.{IsEither}
 
--- whatever was read in a transaction that was rolled back, the connection is where it was
+-- a transaction that was rolled back leaves the connection at the same history, whatever it read
 pub still_at : (old new : State) (h : History) → IsAt newest old h → (HasCleanDisk new → KeepsAll old new) → Survives old new (λ _. ⊥) → IsAt newest new h
 still_at old new h at back survives = record {
   shown = λ clean is_open.
@@ -26,7 +26,7 @@ still_at old new h at back survives = record {
       at.left early db (elim (survives.crash clean db may) [ inl before ↦ before | inr none ↦ absurd none ]);
 }
 
--- what an open connection shows at rest is what a crash leaves
+-- a crash leaves what an open connection at rest shows
 pub at_rest : {S : Type 0} (g : Ghosts S) (it : Held S) (h : History)
     → ((s : S) (db : Trees) → IsTrue (g.view s).is_open → g.recovers s db → db ≡ (g.view s).committed)
     → IsFreshAt newest (state g it) h → IsAt newest (state g it) h
@@ -35,7 +35,7 @@ at_rest g it h settled fresh = record {
   left = λ clean db may. let found = fresh clean in (h, refl, subst (λ x. Rows newest x h) (sym (settled it.store db found.0 may)) found.2);
 }
 
--- the rows that it shows now
+-- the rows that the connection shows now
 pub rows_now : (s : State) (h : History) → IsAt newest s h → HasCleanDisk s → IsTrue s.is_open → Rows newest s.now.trees h
 rows_now s h at clean is_open = let shown = at.shown clean is_open in subst (λ db. Rows newest db.trees h) (sym shown.0) shown.1
 
@@ -47,7 +47,7 @@ either_legal h next x legal legal_next (inr e) = subst Legal (sym e) legal_next
 pub earlier : (old new : State) (P : Trees → Type 0) → Survives old new P → HasCleanDisk new → HasCleanDisk old
 earlier old new P survives clean = omega (arith, survives.clean)
 
--- a registry over a connection that shows the rows at rest
+-- a registry over a connection that shows the rows at rest represents the history
 pub stands_fresh : {S : Type 0} (g : Ghosts S) (it : Registry S g) (h : History)
     → ((s : S) (db : Trees) → IsTrue (g.view s).is_open → g.recovers s db → db ≡ (g.view s).committed)
     → is_poisoned it ≡ false → Legal h → AreTotalsOf h it.totals → IsFreshAt newest (state_of it) h → Represents it h

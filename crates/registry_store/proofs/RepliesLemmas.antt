@@ -1,4 +1,4 @@
--- A run whose replies a list takes.
+-- A run whose replies go to a list.
 use Rattle.std.proofs.Common.{◌≡◌, ℕ, ◌+◌, ◌-◌, ◌<◌, ◌≤◌, List, [], ◌∷◌, ◌++◌, length, take, drop, true, inl, sym, ap, subst, ◌∙◌, arith, append_assoc, length-drop, vec_capacity}
 use Rattle.std.specs.Prelude.{Vec}
 use Rattle.std.specs.declared.alloc.Global.{Global}
@@ -19,7 +19,7 @@ use Rattle.registry_store.specs.Listed.{HasNoRoom, TakesReply}
 use Rattle.registry_store.proofs.RunLemmas.{take_answers}
 use Rattle.registry_store.proofs.RunToLemmas.{answered_of}
 
--- the replies stand at the end, and no room was lost
+-- the replies are appended, and the capacity does not shrink
 pub listed : (old new : Vec Reply Global) (replies : List Reply) → HaveTaken TakesReply old new replies → (new.items ≡ old.items ++ replies) × (vec_capacity old ≤ vec_capacity new)
 listed old new [] same = (ap (λ (v : Vec Reply Global). v.items) same ∙ sym (append-nil old.items), subst (λ (v : Vec Reply Global). vec_capacity old ≤ vec_capacity v) (sym same) (omega arith))
 listed old new (reply ∷ replies) taken =
@@ -30,7 +30,7 @@ module _ (h : History) (rs : List Request) (a n : ℕ) (from : a ≤ n) (within 
   between_count : length (replies_between h rs a n) ≡ n - a
   between_count = omega (arith, length-drop a (answers h (take n rs)), answered_of h rs n (omega arith))
 
-  -- the replies from one place up to another are the first of those from there on
+  -- the replies between two places are a prefix of those from the first place on
   between_front : replies_between h rs a n ≡ take (n - a) (drop a (answers h rs))
   between_front =
       let far : n ≡ a + (n - a) = omega arith in
@@ -40,7 +40,7 @@ module _ {S : Type 0} {g : Ghosts S} (it : Registry S g) (h : History) (rs : Lis
   in_list : (middle : Vec Reply Global) → HaveTaken TakesReply old middle (replies_between h rs a n) → middle.items ≡ replies_between h rs a n
   in_list middle taken = (listed old middle (replies_between h rs a n) taken).0 ∙ ap (λ (xs : List Reply). xs ++ replies_between h rs a n) none
 
-  -- at a fault the list has the replies so far
+  -- after a fault the list has the replies so far
   pub stopped_list : (fault : Fault) → is_poisoned it ≡ true → IsHalted TakesReply HasNoRoom it h rs a n old new (stop.Fault fault) → IsStopped it h rs a new.items fault
   stopped_list fault poisoned halted =
       let last = halted.reply.2 in

@@ -25,7 +25,7 @@ module _ (v : ℕ) (s : State) where
   pub leaves_weaker : (A B : History → Type 0) → ((x : History) → A x → B x) → Leaves v s A → Leaves v s B
   leaves_weaker A B give left db may = let it = left db may in (it.0, give it.0 it.1, it.2)
 
--- the same at the element that a loop reads
+-- the same for the element that a loop reads
 pub after_item : (h : History) (xs : List Request) (i : ℕ) (x : Request) → i < length xs → x ≡ get_or xs i x → after h (take (i + 1) xs) ≡ after_one (after h (take i xs)) x
 after_item h xs i x low is = after_more h xs i x low ∙ ap (after_one (after h (take i xs))) (sym is)
 

@@ -1,4 +1,4 @@
--- How a transaction's calls go on from one another.
+-- How the calls of a transaction compose.
 use Rattle.std.proofs.Common.{◌≡◌, inl, inr, ℕ, IsTrue, true, false, refl, sym, ap, subst, ◌∙◌, arith, List, Result, Ok, Err, OnOk}
 use Rattle.sqlite.specs.Tree.{Trees}
 use Rattle.sqlite.specs.Store.{Ghosts}
@@ -59,14 +59,14 @@ module _ (old mid new : State) (before after : Totals) (r : Request) (d : Deed) 
 pub quiet_then : (a b c : State) → Survives a b (λ _. ⊥) → Survives b c (λ _. ⊥) → Survives a c (λ _. ⊥)
 quiet_then a b c p q = survives_then a b c _ _ (λ _. ⊥) (λ _ db none. none) (λ _ db none. none) p q
 
--- the calls so far committed nothing, and the last one commits what P says
+-- if the calls so far committed nothing, the whole commits what P allows to the last one
 pub quiet_to : (a b c : State) (P R : Trees → Type 0) → (HasCleanDisk c → (db : Trees) → P db → R db) → Survives a b (λ _. ⊥) → Survives b c P → Survives a c R
 quiet_to a b c P R give p q = survives_then a b c _ _ R (λ _ db none. absurd none) give p q
 
 pub quiet : (a c : State) (R : Trees → Type 0) → Survives a c (λ _. ⊥) → Survives a c R
 quiet a c R p = survives_weaker a c _ R (λ _ db none. absurd none) p
 
--- the tables of a history are read
+-- a read of the tables of a history is never foreign
 pub never_foreign : {S : Type 0} (g : Ghosts S) (old begun mid end : Held S) → begun ≡ record old { in_transaction = true } → IsLive (state g old) → (before : Totals)
     → (HasCleanDisk (state g mid) → IsTrue (state g begun).in_transaction → IsTrue (state g begun).is_open × ((h : History) → Legal h → ¬ HoldsRows newest (state g begun).now h))
     → Survives (state g begun) (state g mid) (λ _. ⊥) → Survives (state g mid) (state g end) (λ _. ⊥)
@@ -85,7 +85,7 @@ module _ {S : Type 0} (g : Ghosts S) (old begun mid : Held S) (is : begun ≡ re
   inside : IsTrue (state g begun).in_transaction
   inside = subst (λ b. IsTrue (state g b).in_transaction) (sym is) refl
 
-  -- as the transaction began the connection showed what it did before
+  -- at the start of the transaction the connection shows what it showed before
   from_old : (P : State → Type 0) → P (state g (record old { in_transaction = true })) → P (state g begun)
   from_old P = subst (λ b. P (state g b)) (sym is)
 
@@ -127,7 +127,7 @@ module _ {S : Type 0} (g : Ghosts S) (old begun mid : Held S) (is : begun ≡ re
           quiet_to (state g old) (state g last) (state g end) _ (CommitsOne (state g old) before r)
           (λ clean db it. let early : HasCleanDisk (state g last) = omega (arith, third.clean) in subst (CommitsOne (state g old) before r) (sym it) (commits_one early)) outer third
 
-      -- the commit went well
+      -- after a successful commit
       pub answered : (settled : (s : S) (db : Trees) → IsTrue (g.view s).is_open → g.recovers s db → db ≡ (g.view s).committed)
           → (HasCleanDisk (state g end) → Shows (state g last) (state g end) (state g last).now (state g last).now false)
           → (reply : List ℕ) → reply ≡ act_text d.act

@@ -23,7 +23,7 @@ use sqlite::{Alter, Connection, Error, ErrorCode, Transaction};
 use std::alloc::Global;
 use usbnum_core::NoMemory;
 
-/// The verdict on a request, by the rows that it concerns.
+/// Returns the verdict on a request, from the rows that it concerns.
 fn judged<S: Alter>(
     alloc: Global,
     tx: &mut Transaction<'_, S>,
@@ -42,7 +42,8 @@ fn judged<S: Alter>(
     }
 }
 
-/// The rows of a deed and its reply, in the transaction, and the totals with it. What wants memory of its own comes before the first write.
+/// Writes the rows of a deed and its reply in the transaction, and updates the totals. Allocates
+/// its own memory before the first write.
 fn write<S: Alter>(
     alloc: Global,
     tx: &mut Transaction<'_, S>,
@@ -82,7 +83,8 @@ fn finish<S: Alter>(tx: Transaction<'_, S>) -> Result<(), TableFault>
     }
 }
 
-/// One request in one transaction, with one commit where it is accepted and new, and no write where it isn't.
+/// Acts on one request in one transaction: one commit if the request is accepted and new, otherwise
+/// no write.
 pub(crate) fn attempt<S: Alter>(
     alloc: Global,
     conn: &mut Connection<S>,
@@ -98,7 +100,7 @@ pub(crate) fn attempt<S: Alter>(
     ensures foreign { HasCleanDisk (state S.Store conn.new) → result ≡ Err TableFault.Foreign → (h : History) → Counts totals.old h → IsAt newest (state S.Store conn.old) h → ⊥ }
     ensures survives { Survives (state S.Store conn.old) (state S.Store conn.new) (CommitsOne (state S.Store conn.old) totals.old request.now) }
 {
-    // For the proof alone: what the connection says of its schema.
+    // For the proof only: the schema that the connection shows.
     let _schema = conn.schema();
     let mut tx = conn.transaction();
     let verdict = judged(alloc, &mut tx, totals, request)?;

@@ -1,25 +1,25 @@
-//! Why a call of a registry gives up.
+//! Why a call of a registry fails.
 
 ghost use Rattle.std.specs.Prelude.{◌≡◌, ◌≢◌, ◌↔◌};
 
 use registry_tables::TableFault;
 
-/// Why a call of a registry gives up.
+/// Why a call of a registry fails.
 #[derive(Clone, Copy, Debug, Drop, PartialEq, Eq)]
 pub enum Fault {
     /// The store refused or failed.
     Store,
-    /// Memory was wanted and not there.
+    /// Out of memory.
     NoMemory,
-    /// The tables are those of no history.
+    /// The tables hold the rows of no history.
     Foreign,
-    /// There is a registry already, where one was to be founded.
+    /// The database already has a table `meta`, so no registry is founded in it.
     Taken,
-    /// An earlier call of this registry had a fault. It is closed and opened again.
+    /// An earlier call of this registry had a fault. Close the registry and open it again.
     Poisoned,
 }
 
-/// The registry's name for a fault of its tables.
+/// Maps a fault of the tables to a fault of the registry.
 pub(crate) fn fault_of(fault: TableFault) -> Fault
     ensures not_poisoned { result ≢ Fault.Poisoned }
     ensures found { result ≢ Fault.Taken }

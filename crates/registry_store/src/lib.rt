@@ -1,4 +1,4 @@
-//! The registry over a store: what it acknowledged is never lost, doubled or torn.
+//! The registry over a store: what it acknowledges is never lost, doubled or torn.
 #![tactic(auto)]
 
 mod attempt;

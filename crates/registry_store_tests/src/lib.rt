@@ -1,5 +1,5 @@
-//! A registry by example: over disks that stop at each call in turn, closed and opened in each way, brought up from older
-//! schemas, and what it returns.
+//! Tests of a registry: over disks that stop at each call in turn, closed and opened in each way,
+//! migrated from older schemas, and its queries.
 #![tactic(auto)]
 
 #[cfg(test)]

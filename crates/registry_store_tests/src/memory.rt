@@ -1,5 +1,5 @@
-//! A registry that finds no memory while it acts is poisoned, and right again once it is opened. That shows where an allocation is
-//! refused (`rt try --test --fail-alloc N`); else nothing here runs short.
+//! A registry that runs out of memory while it acts is poisoned, and sound again once it is opened.
+//! This tests something only when an allocation is refused (`rt try --test --fail-alloc N`).
 
 use crate::disks::{PLAIN, connected};
 use crate::steps::ENROL;
@@ -40,7 +40,7 @@ fn act_on<S: Alter>(registry: &mut Registry<S>, request: &Request) -> Answer {
     }
 }
 
-// The answers to a request that comes twice, and how many organisations there are then.
+// The answers to a request that comes twice, and the number of organisations then.
 #[derive(Clone, Copy, Debug)]
 struct Told {
     first: Answer,
@@ -74,7 +74,7 @@ fn act_around_a_crash<D: Crash + Drop>(
     Some((before, close_after(registry, request)))
 }
 
-// The same of a new registry in files in memory.
+// Acts over a new registry in files in memory.
 fn tell(alloc: Global, founding: &Founding, request: &Request) -> Option<(Told, Told)> {
     let log = Memory::new(alloc);
     let db = Memory::new(alloc);
@@ -83,12 +83,12 @@ fn tell(alloc: Global, founding: &Founding, request: &Request) -> Option<(Told, 
     act_around_a_crash(alloc, registry, request)
 }
 
-// A disk that is kept in memory fails where it finds none.
+// A disk in memory fails if out of memory.
 fn is_short(answer: Answer) -> bool {
     matches!(answer, Answer::Fault(Fault::NoMemory | Fault::Store))
 }
 
-// Each answer is the right one, and after a fault there is none.
+// Checks that each answer is right, and that a fault leaves the registry poisoned.
 fn is_right(told: Told) -> bool {
     let Told { first, again, orgs } = told;
     match (first, again) {

@@ -1,4 +1,4 @@
-//! A run over files that may stop, what goes on from there, and the same run without stops.
+//! A run over files that may stop, how it goes on, and the same run without stops.
 
 use crate::disks::{COPYING, Image, are_same, closed, opened, whole};
 use crate::told::{rows_of, tell_lists, told};
@@ -10,10 +10,10 @@ use sqlite_disk::Disk;
 use std::alloc::Global;
 use std::test::Fail;
 
-/// What a run gave, and what the registry answered after its stop.
+/// The results of a run, and those of the registry after its stop.
 #[derive(Drop)]
 pub struct First {
-    /// The fault of the run. There is none where it came to its end, or did not start.
+    /// The fault of the run; `None` if it came to its end or did not start.
     pub fault: Option<Fault>,
     /// Whether the registry was opened.
     pub is_open: bool,
@@ -21,7 +21,7 @@ pub struct First {
     pub poisoned: Option<String>,
 }
 
-/// What a poisoned registry returns for a request, for a run and for what it is asked.
+/// The results of a poisoned registry for a request, a run and each list.
 pub const SPENT: &str =
     "Some(Poisoned)\nSome(Poisoned), 0 replies\nErr(Poisoned)\nErr(Poisoned)\nErr(Poisoned)\nErr(Poisoned)\n";
 
@@ -41,7 +41,7 @@ fn tell_run<S: Alter>(registry: &mut Registry<S>, requests: &[Request], text: &m
     writeln!(text, "{fault:?}, {count} replies").is_ok()
 }
 
-// What a registry says after a stop.
+// Returns the results of a registry after a stop.
 fn answers<S: Alter>(
     alloc: Global,
     registry: &mut Registry<S>,
@@ -81,7 +81,8 @@ fn not_run(alloc: Global, fault: Option<Fault>) -> First {
     }
 }
 
-/// Opens the registry in the files, acts on the requests up to the first fault, and lets go of the files.
+/// Opens the registry in the files, acts on the requests up to the first fault, and abandons the
+/// files.
 pub fn first_in<D: Disk + Drop>(
     alloc: Global,
     files: Files<D>,
@@ -97,7 +98,8 @@ pub fn first_in<D: Disk + Drop>(
     }
 }
 
-/// What stands after a stop, the replies from the first unanswered request on, and the rows of all tables then.
+/// The lists of a registry after a stop, its replies from the first unanswered request on, and the
+/// rows of all tables then.
 #[derive(Drop)]
 pub struct Second {
     pub stands: String,
@@ -106,7 +108,7 @@ pub struct Second {
     pub rows: String,
 }
 
-/// What a registry tells, and then replies and holds when it has gone on.
+/// Returns the lists of a registry, and then its replies and rows when it goes on.
 pub fn go_on<S: Alter + Drop>(
     alloc: Global,
     mut registry: Registry<S>,
@@ -126,7 +128,7 @@ pub fn go_on<S: Alter + Drop>(
     })
 }
 
-/// The same of the registry in the files.
+/// The same for the registry in the files.
 pub fn second_in<D: Disk + Drop>(
     alloc: Global,
     files: Files<D>,
@@ -140,7 +142,7 @@ pub fn second_in<D: Disk + Drop>(
     go_on(alloc, registry, requests, answered)
 }
 
-/// What came of the files that a stop left.
+/// The results for the files that a stop left.
 #[derive(Drop)]
 pub struct Seen {
     image: Image,
@@ -148,7 +150,8 @@ pub struct Seen {
     pub second: Second,
 }
 
-/// What comes of the files that a stop left: the same as of those before, where they hold the same.
+/// Returns the results for the files that a stop left, which are those of before if the contents
+/// are the same.
 pub fn seen_after(
     alloc: Global,
     before: Option<Seen>,
@@ -173,12 +176,12 @@ pub fn seen_after(
 /// A run without stops.
 #[derive(Drop)]
 pub struct Plain {
-    /// What the registry tells before the first request, and after each.
+    /// The lists of the registry before the first request, and after each.
     pub stands: Vec<String>,
     /// The replies as lines.
     pub replies: String,
     pub rows: String,
-    /// What the files hold then.
+    /// The contents of the files after the run.
     pub image: Image,
 }
 
@@ -189,7 +192,7 @@ fn add_told<S: Alter>(alloc: Global, registry: &mut Registry<S>, stands: &mut Ve
     }
 }
 
-// Acts on one request after the other, and tells after each.
+// Acts on one request after another, and adds the lists after each.
 fn act_on_each<S: Alter>(
     alloc: Global,
     registry: &mut Registry<S>,
@@ -226,7 +229,7 @@ fn plain_in<D: Disk + Drop>(
     if went { Some((rows?, files)) } else { None }
 }
 
-/// What a run over files with this gives, which do not stop.
+/// Returns the results of a run over files with these contents, which do not stop.
 pub fn plain_over(alloc: Global, image: &Image, requests: &[Request]) -> Result<Plain, Fail> {
     let files = whole(alloc, image)?;
     let mut stands = Vec::new(alloc);

@@ -1,4 +1,4 @@
-//! Runs that go through stops, in memory, and whose replies are refused.
+//! Runs that go on through stops, in memory, and runs whose replies are refused.
 
 use crate::disks::{COPYING, MANY, PLAIN, Stops, calls_to_open, files_of, founded, opened, whole};
 use crate::runs::{Plain, Second, go_on, plain_over};
@@ -13,7 +13,8 @@ use std::alloc::Global;
 use std::process::Abort;
 use std::test::Fail;
 
-// What a run through stops gives, and holds in the end.
+// The replies of a run through stops, and the lists at its end; `None` if it does not come to the
+// end.
 #[derive(Drop)]
 struct Through {
     replies: Vec<Reply>,
@@ -48,7 +49,8 @@ fn through_in<D: Crash + Drop>(
     }
 }
 
-// Two rounds come through the stop of a file. One comes to the end only without a stop, and gives a prefix of the replies.
+// Checks that two runs come through the stop of a file, and that one comes to its end only without
+// a stop, with a prefix of the replies otherwise.
 fn goes_through(
     rt: &impl Abort,
     alloc: Global,
@@ -126,7 +128,7 @@ fn a_run_in_memory_is_the_run_without_stops(rt: HostRuntime) -> Result<(), Fail>
     Ok(())
 }
 
-// Takes so many replies, and refuses the next one.
+// Takes this many replies, and refuses the next one.
 #[derive(Drop)]
 struct Few {
     room: usize,
@@ -149,7 +151,7 @@ impl Replies for Few {
     }
 }
 
-// How a run ends whose replies find so much room, and how it goes on when there is more.
+// How a run ends whose receiver has room for this many replies, and how it goes on with more.
 #[derive(Drop)]
 struct Refused {
     outcome: Result<(), RunStop>,

@@ -1,4 +1,4 @@
-//! What a registry says of itself, and what its tables hold, as texts.
+//! The founding, lists and rows of a registry as texts.
 
 use registry_rules::Vendor;
 use registry_store::Registry;
@@ -30,7 +30,7 @@ fn tell_spans<S: Alter>(registry: &Registry<S>, vendors: &[Vendor], text: &mut S
     true
 }
 
-// The reserved numbers of each vendor.
+// Adds the reserved numbers of each vendor.
 fn tell_reserved<S: Alter>(registry: &mut Registry<S>, text: &mut String) -> bool {
     match registry.vendors() {
         Ok(vendors) => tell_spans(registry, vendors.as_slice(), text),
@@ -38,7 +38,7 @@ fn tell_reserved<S: Alter>(registry: &mut Registry<S>, text: &mut String) -> boo
     }
 }
 
-/// The founding of a registry, all its lists, and the reserved numbers of each vendor.
+/// Returns the founding of a registry, all its lists, and the reserved numbers of each vendor.
 pub fn told<S: Alter>(alloc: Global, registry: &mut Registry<S>) -> Option<String> {
     let mut text = String::new(alloc);
     if tell_founding(registry, &mut text)
@@ -106,7 +106,7 @@ pub fn add_answer<S: Alter>(conn: &mut Connection<S>, query: &str, text: &mut St
     }
 }
 
-/// The rows of all tables, each as a line, with a line before each table.
+/// Returns the rows of all tables, each as a line, with a line before each table.
 pub fn rows_of<S: Alter>(alloc: Global, conn: &mut Connection<S>) -> Option<String> {
     let mut text = String::new(alloc);
     for query in QUERIES {

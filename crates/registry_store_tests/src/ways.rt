@@ -1,4 +1,4 @@
-//! The ways in which a registry is closed and opened again.
+//! The ways to close and reopen a registry.
 
 use crate::disks::{PLAIN, Stops, calls_to_open, files_of, founded, opened, whole};
 use crate::runs::{Second, go_on, plain_over};
@@ -63,7 +63,7 @@ fn close_store_and_open<D: Disk + Drop>(
     }
 }
 
-// The connection is taken up as it is.
+// Ends the registry in this way and opens it again.
 fn go_through<D: Crash + Drop>(
     alloc: Global,
     registry: Registry<FileStore<D>>,
@@ -80,7 +80,7 @@ fn go_through<D: Crash + Drop>(
     }
 }
 
-// Acts on the first requests, is closed and opened in this way, and goes on.
+// Acts on the first requests, closes and opens the registry in this way, and goes on.
 fn go_on_after<D: Crash + Drop>(
     alloc: Global,
     mut registry: Registry<FileStore<D>>,
@@ -128,7 +128,7 @@ fn each_way_of_closing_keeps_all(rt: HostRuntime) -> Result<(), Fail> {
     Ok(())
 }
 
-// Whether a registry whose file stopped within a run is opened in this way.
+// Returns whether a registry whose file stopped during a run opens in this way.
 fn opens_after_stop<D: Crash + Drop>(
     alloc: Global,
     files: Files<D>,

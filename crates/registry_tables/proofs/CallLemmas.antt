@@ -1,4 +1,4 @@
--- A transaction that reads, and is undone.
+-- A transaction that reads and is rolled back.
 use Rattle.std.proofs.Common.{◌≡◌, IsTrue, true, refl, sym, ap, subst, ◌∙◌, arith, Result, Ok, Err, IfOk}
 use Rattle.sqlite.specs.Store.{Ghosts}
 use Rattle.sqlite.specs.State.{HasCleanDisk, Survives, IsLive, IsRolledBack, KeepsCommit}

@@ -29,7 +29,7 @@ never_new : (b : Bool) (text : List ℕ) (refusal : Refusal) (deed : Deed) → c
 never_new true text refusal deed e = absurd cc
 never_new false text refusal deed e = absurd cc
 
--- what is new was not kept before
+-- a new request has no kept reply yet
 new_unkept : (k : Option Kept) (request : Request) (result : Result Act Refusal) (deed : Deed) → verdict_by k request result ≡ New deed → k ≡ None
 new_unkept None request result deed is = refl
 new_unkept (Some other) request result deed is = absurd (never_new (bytes_eq other.order (canonical_form request.order)) other.reply KeyReused deed is)

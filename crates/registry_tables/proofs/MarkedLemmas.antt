@@ -1,4 +1,4 @@
--- A store that is read says of which schema it is.
+-- A read of `meta` returns the schema version of the store.
 use Rattle.std.proofs.Common.{◌≡◌, ◌≢◌, ◌<◌, ℕ, inl, List, [], ◌∷◌, ◌++◌, length, Result, Ok, Err, MatchResult, sym, ap, subst, ◌∙◌, arith}
 use Rattle.sqlite.specs.State.{State, IsUnchanged}
 use Rattle.table_laws.specs.Inside.{GoesOn, StaysInside}
@@ -39,7 +39,7 @@ module _ (version : ℕ) (old new : State) (all : List Meta) (read : GoesOn old 
   pub none_marked : (0 < length all → ⊥) → TellsOf old new (IsMarked version old.now) (Err Foreign) (λ x (m : Meta). x.tables.metas ≡ m ∷ [])
   none_marked none = (λ _. (read.0, λ x marked. (let it = read.1 x marked.held in absurd (none (subst (λ l. 0 < length l) (sym (it.1 ∙ marked.only)) (omega arith))))), inl read.0)
 
--- of a store that is marked the same is told as of one that is held
+-- a fault that refutes each held store refutes each marked one
 pub fails_marked : {A : Type 0} (version : ℕ) (old new : State) (e : TableFault) (Also : Second → A → Type 0) → (e ≡ Foreign → GoesOn old new × ((x : Second) → ¬ IsHeld old.now x)) × StaysInside old new
     → TellsOf old new (IsMarked version old.now) (Err e) Also
 fails_marked version old new e Also read = (λ foreign. (let none = read.0 foreign in (none.0, λ x marked. none.1 x marked.held)), read.1)

@@ -1,4 +1,4 @@
--- What is read of a store whose tables have the rows of a history.
+-- What is read from tables that hold the rows of a history.
 use Rattle.std.proofs.Common.{◌≡◌, ℕ, ◌<◌, ◌≤◌, pos, ◌<ℤ◌, false, nat_eq, List, [], ◌∷◌, ◌++◌, length, append-nil, append_assoc, length-append, find, Option, Some, None, Result, Ok, Err, IfOk, ◌≢◌, refl, sym, ap, subst, ◌∙◌, arith}
 use Rattle.std.specs.List.{list_any}
 use Rattle.std.specs.Cmp.Lexicographic.{slice_cmp}
@@ -43,7 +43,7 @@ use Rattle.registry_tables.proofs.AscendLemmas.{one_order}
 use Rattle.registry_tables.proofs.SortLemmas.{sorted_up, any_sorted}
 use Rattle.registry_tables.proofs.ViewLemmas.{same_bytes}
 
--- ---- what the store is
+-- ---- meta
 
 alone : {X : Type 0} (xs : List X) (x y : X) → y ∷ [] ≡ xs ++ x ∷ [] → x ≡ y
 alone [] x y is = cc
@@ -88,7 +88,7 @@ module _ (h : History) (names given : List (List ℕ)) (is : given ≡ sort_by b
   given_counted : Legal h → AreLicences h names → length given ≡ length (licences h)
   given_counted legal had = licences_counted h legal given (λ name. any_given name ∙ had.each name) (ascending_distinct given (given_up had.once))
 
--- ---- no more licences than there may be
+-- ---- the number of licences stays within the limit
 
 below_more : (h : History) (caller : List ℕ) (act : Act) (licence : List ℕ) → Follows h caller act → adds_licence act ≡ Some licence → length (licences h) < MOST_LICENCES
 below_more h caller (LicenceAdded added) licence can e = grind (arith, nat_tests, can.below)

@@ -1,4 +1,4 @@
--- A step in a transaction, and its commit.
+-- A migration step in a transaction, and its commit.
 use Rattle.std.proofs.Common.{◌≡◌, ◌+◌, ℕ, IsTrue, true, false, Result, Ok, Err, OnOk, refl, sym, subst, ◌∙◌, arith}
 use Rattle.sqlite.specs.Tree.{Trees}
 use Rattle.sqlite.specs.Store.{Ghosts}
@@ -27,7 +27,7 @@ module _ {S : Type 0} (g : Ghosts S) (version : ℕ) (old begun mid : Held S) (i
   held : (h : History) → IsTrue (state g old).is_open → Rows version (state g old).now.trees h → HoldsOf version (state g begun).now h
   held h is_open rows = subst (λ b. HoldsOf version (state g b).now h) (sym is) (enters version (state g old) h live is_open rows)
 
-  -- what the transaction shows at its end may be committed
+  -- the commit commits what the transaction shows at its end
   module _ (raised : HasCleanDisk (state g mid) → IsTrue (state g begun).in_transaction → GoesOn (state g begun) (state g mid) × ((h : History) → HoldsOf version (state g begun).now h → HoldsOf (version + 1) (state g mid).now h))
       (first : Survives (state g begun) (state g mid) (λ _. ⊥)) where
     shown : HasCleanDisk (state g mid) → Commits (state g mid).now.trees
@@ -49,7 +49,7 @@ module _ {S : Type 0} (g : Ghosts S) (version : ℕ) (old begun mid : Held S) (i
           let done = ok clean in
           (done.is_open, done.now_is ∙ sym done.committed_is, subst (λ d. Commits d.trees) (sym done.committed_is) (shown (omega (arith, last.clean))))
 
-  -- Foreign comes of the rows of no history
+  -- Foreign comes only from the rows of no history
   pub step_foreign : (HasCleanDisk (state g mid) → IsTrue (state g begun).in_transaction → Raises version (state g begun) (state g mid) {A = Unit {0}} (Err Foreign)) → HasCleanDisk (state g mid)
       → IsTrue (state g old).is_open × ((h : History) → ¬ Rows version (state g old).now.trees h)
   step_foreign refused clean =

@@ -1,4 +1,4 @@
--- Changes of records take the rows of one history to those of another.
+-- Changes take the rows of one history to those of another.
 use Rattle.std.proofs.Common.{◌≡◌, ℕ, Bool, true, false, cond, not, ◌||◌, if◌then◌else◌, List, [], ◌∷◌, ◌++◌, find, nat_eq, Option, Some, Result, Ok, Err, OnOk, refl, sym, ap, subst, ◌∙◌}
 use Rattle.std.specs.List.{list_any}
 use Rattle.std.specs.Option.{option_map}
@@ -28,7 +28,7 @@ use Rattle.registry_tables.specs.Rows.{newest, NoTwo, IsFounding, vendor_span_ha
 use Rattle.registry_tables.proofs.EntryLemmas.{entry_set, entries_once}
 use Rattle.registry_tables.proofs.ViewLemmas.{same_bytes, org_put, entry_put, petition_put, vendor_put}
 
--- ---- a name that is put in
+-- ---- inserting a name
 
 any_kept : (b c : Bool) (rest : List (List ℕ)) (name other : List ℕ) → bytes_eq name other ≡ c → (b ≡ true → c ≡ false) → list_any (bytes_eq name) (cond (not b) (other ∷ rest) rest) ≡ (c || list_any (bytes_eq name) rest)
 any_kept true c rest name other is gone = rw (gone refl) refl
@@ -53,7 +53,7 @@ name_put name last (other ∷ names) = go (bytes_eq other last) (bytes_eq name o
     go false true false x y z more = rw (y, z) refl
     go false false c x y z more = rw y more
 
--- ---- what stands under each key
+-- ---- the value under each key
 
 record IsView (t : Tables) (o : List ℕ → Option Org) (p : ℕ → Option Petition) (e : Number → Option Entry) (v : ℕ → Option Vendor) (l : List ℕ → Bool) : Type 0 where
   orgs : (slug : List ℕ) → find (is_called slug) t.orgs ≡ o slug
@@ -145,7 +145,7 @@ view_all : (cs : List Change) (t : Tables) (o : List ℕ → Option Org) (p : �
 view_all [] t o p e v l was = was
 view_all (c ∷ cs) t o p e v l was = view_all cs (applied c t) _ _ _ _ _ (view_one c t o p e v l was)
 
--- ---- what stays
+-- ---- what is unchanged
 
 record IsRest (a b : Tables) : Type 0 where
   metas : b.metas ≡ a.metas
@@ -171,7 +171,7 @@ rest_all (c ∷ cs) t =
     let later = rest_all cs (applied c t) in
     record { metas = later.metas ∙ first.metas; curators = later.curators ∙ first.curators; fixed = later.fixed ∙ first.fixed; kept = later.kept ∙ first.kept }
 
--- ---- one change more
+-- ---- one more change
 
 applied_more : (cs : List Change) (c : Change) (t : Tables) → applied_all (cs ++ c ∷ []) t ≡ applied c (applied_all cs t)
 applied_more [] c t = refl
@@ -192,7 +192,7 @@ spans_over (ReleaseSpan vid span) a b t = refl
 spans_over (PutVendor vid name) a b t = refl
 spans_over (PutLicence name) a b t = refl
 
--- a change that leaves the spans as they are
+-- a change that does not touch the spans
 pub record_made : {A : Type 0} (old new : State) (change made : Change) → change ≡ made → (result : Result A TableFault) → ((t : Tables) → with_spans t.spans (applied made t) ≡ applied made t)
     → ((n : Number) (b : Bool) → reserved_changed n made b ≡ b) → Changes old new result (applied made) → OnOk result (Makes change old new)
 record_made old new change made is (Err e) same unordered h = tt
@@ -202,7 +202,7 @@ record_made old new change made is (Ok a) same unordered h =
       λ t has up. (t.spans, subst (Holds new.now) (sym (same t)) (h.1 t has), record { each = λ n. sym (unordered n (list_any (vendor_span_has n) t.spans)); apart = up }),
     )
 
--- changes are made to the tables and to their spans
+-- the changes are made to the tables and to their spans
 pub record AreMade (cs : List Change) (t : Tables) (db : Database) : Type 0 where
   spans : List (ℕ × Span)
   holds : Holds db (with_spans spans (applied_all cs t))

@@ -1,4 +1,4 @@
-//! What a deed changes.
+//! The changes of a deed.
 
 ghost use Rattle.std.specs.Prelude.{◌≡◌, ◌≢◌, IsTrue, OnOk, Err};
 ghost use Rattle.sqlite.specs.State.{HasCleanDisk, Survives};
@@ -44,11 +44,12 @@ fn make<S: Alter>(
     }
 }
 
-/// Makes the changes of a deed, in turn. The reply that is kept with the deed is for `keep_reply`.
+/// Makes the changes of a deed in order, all but its kept reply, which `keep_reply` writes.
 ///
-/// The fault is that of the first change that is not made: `TableFault::NoMemory` where it finds no room, or
-/// `TableFault::Store` where the store refuses or fails. Some of the changes may be made then, so the transaction is to be
-/// rolled back. It is never `TableFault::Foreign`.
+/// # Errors
+///
+/// `TableFault::NoMemory` if out of memory, `TableFault::Store` if the store refuses or fails;
+/// never `TableFault::Foreign`. Some of the changes may be made then, so roll the transaction back.
 pub fn store<S: Alter>(
     alloc: Global,
     tx: &mut Transaction<'_, S>,

@@ -61,7 +61,7 @@ fn add_fixed<S: Alter>(tx: &mut Transaction<'_, S>, spans: &[Span]) -> Result<()
     Ok(())
 }
 
-/// Writes the founding's rows.
+/// Writes the rows of a founding.
 pub fn write_founding<S: Alter>(
     tx: &mut Transaction<'_, S>,
     founding: &Founding,

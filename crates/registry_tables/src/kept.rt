@@ -1,4 +1,4 @@
-//! The reply that is kept of an accepted request.
+//! The kept reply of an accepted request.
 
 ghost use Rattle.std.specs.Prelude.{◌≡◌, ◌≢◌, IsTrue, OnOk, Err};
 ghost use Rattle.sqlite.specs.State.{HasCleanDisk, Survives};
@@ -16,11 +16,13 @@ use registry_rules::{ReplyText, Request, request_bytes};
 use sqlite::{Alter, Transaction};
 use std::alloc::Global;
 
-/// Keeps the order's canonical form and the reply under the request's caller and key. With what `store` did before,
-/// the rows are then those of the history with the deed.
+/// Keeps the canonical form of the order and the reply under the request's caller and key. After
+/// `store` the rows are then those of the history with the deed.
 ///
-/// `TableFault::NoMemory` comes where the canonical form or the row finds no room, `TableFault::Store` where the store
-/// refuses or fails. After either the transaction is to be rolled back. It is never `TableFault::Foreign`.
+/// # Errors
+///
+/// `TableFault::NoMemory` if out of memory for the canonical form or the row, `TableFault::Store`
+/// if the store refuses or fails; never `TableFault::Foreign`. Roll the transaction back then.
 pub fn keep_reply<S: Alter>(
     alloc: Global,
     tx: &mut Transaction<'_, S>,

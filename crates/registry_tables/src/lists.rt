@@ -1,4 +1,4 @@
-//! The lists of all that is kept of a history.
+//! Lists of all organisations, petitions, numbers and vendors.
 
 ghost use Rattle.std.specs.Prelude.{◌≡◌, false, IfOk};
 ghost use Rattle.sqlite.specs.State.{HasCleanDisk, Survives};
@@ -12,10 +12,12 @@ use sqlite::{Alter, Connection};
 use std::alloc::Global;
 use usbnum_core::Number;
 
-/// All organisations, by slug. Nothing is written.
+/// Returns all organisations, in order of slug. Writes nothing.
 ///
-/// `TableFault::Foreign` comes only where the tables are those of no history, `TableFault::NoMemory` where the rows or
-/// the list find no room, `TableFault::Store` where the store refuses or fails.
+/// # Errors
+///
+/// `TableFault::Foreign` only if the tables hold the rows of no history, `TableFault::NoMemory` if
+/// out of memory for the rows or the list, `TableFault::Store` if the store refuses or fails.
 pub fn list_orgs<S: Alter>(alloc: Global, conn: &mut Connection<S>) -> Result<Vec<Org>, TableFault>
     requires { conn.old.in_transaction ≡ false }
     ensures idle { conn.new.in_transaction ≡ false }
@@ -24,7 +26,7 @@ pub fn list_orgs<S: Alter>(alloc: Global, conn: &mut Connection<S>) -> Result<Ve
     ensures foreign { HasCleanDisk (state S.Store conn.new) → IsForeign (state S.Store conn.old) (state S.Store conn.new) result }
     ensures survives { Survives (state S.Store conn.old) (state S.Store conn.new) (λ _. ⊥) }
 {
-    // For the proof alone: what the connection says of its schema.
+    // For the proof only: the schema that the connection shows.
     let _schema = conn.schema();
     let mut tx = conn.transaction();
     let orgs = registry_rows::list_orgs(alloc, &mut tx);
@@ -32,10 +34,12 @@ pub fn list_orgs<S: Alter>(alloc: Global, conn: &mut Connection<S>) -> Result<Ve
     orgs
 }
 
-/// All petitions, by number. Nothing is written.
+/// Returns all petitions, in order of number. Writes nothing.
 ///
-/// `TableFault::Foreign` comes only where the tables are those of no history, `TableFault::NoMemory` where the rows or
-/// the list find no room, `TableFault::Store` where the store refuses or fails.
+/// # Errors
+///
+/// `TableFault::Foreign` only if the tables hold the rows of no history, `TableFault::NoMemory` if
+/// out of memory for the rows or the list, `TableFault::Store` if the store refuses or fails.
 pub fn list_petitions<S: Alter>(
     alloc: Global,
     conn: &mut Connection<S>,
@@ -47,7 +51,7 @@ pub fn list_petitions<S: Alter>(
     ensures foreign { HasCleanDisk (state S.Store conn.new) → IsForeign (state S.Store conn.old) (state S.Store conn.new) result }
     ensures survives { Survives (state S.Store conn.old) (state S.Store conn.new) (λ _. ⊥) }
 {
-    // For the proof alone: what the connection says of its schema.
+    // For the proof only: the schema that the connection shows.
     let _schema = conn.schema();
     let mut tx = conn.transaction();
     let petitions = registry_rows::list_petitions(alloc, &mut tx);
@@ -55,10 +59,12 @@ pub fn list_petitions<S: Alter>(
     petitions
 }
 
-/// All numbers that have an owner, by vendor and then by product. Nothing is written.
+/// Returns all numbers that have an owner, in order of vendor and then product. Writes nothing.
 ///
-/// `TableFault::Foreign` comes only where the tables are those of no history, `TableFault::NoMemory` where the rows or
-/// the list find no room, `TableFault::Store` where the store refuses or fails.
+/// # Errors
+///
+/// `TableFault::Foreign` only if the tables hold the rows of no history, `TableFault::NoMemory` if
+/// out of memory for the rows or the list, `TableFault::Store` if the store refuses or fails.
 pub fn list_numbers<S: Alter>(
     alloc: Global,
     conn: &mut Connection<S>,
@@ -70,7 +76,7 @@ pub fn list_numbers<S: Alter>(
     ensures foreign { HasCleanDisk (state S.Store conn.new) → IsForeign (state S.Store conn.old) (state S.Store conn.new) result }
     ensures survives { Survives (state S.Store conn.old) (state S.Store conn.new) (λ _. ⊥) }
 {
-    // For the proof alone: what the connection says of its schema.
+    // For the proof only: the schema that the connection shows.
     let _schema = conn.schema();
     let mut tx = conn.transaction();
     let numbers = registry_rows::list_entries(alloc, &mut tx);
@@ -78,10 +84,12 @@ pub fn list_numbers<S: Alter>(
     numbers
 }
 
-/// All vendors, the founding one included, by number. Nothing is written.
+/// Returns all vendors, the founding one included, in order of vendor ID. Writes nothing.
 ///
-/// `TableFault::Foreign` comes only where the tables are those of no history, `TableFault::NoMemory` where the rows or
-/// the list find no room, `TableFault::Store` where the store refuses or fails.
+/// # Errors
+///
+/// `TableFault::Foreign` only if the tables hold the rows of no history, `TableFault::NoMemory` if
+/// out of memory for the rows or the list, `TableFault::Store` if the store refuses or fails.
 pub fn list_vendors<S: Alter>(
     alloc: Global,
     conn: &mut Connection<S>,
@@ -93,7 +101,7 @@ pub fn list_vendors<S: Alter>(
     ensures foreign { HasCleanDisk (state S.Store conn.new) → IsForeign (state S.Store conn.old) (state S.Store conn.new) result }
     ensures survives { Survives (state S.Store conn.old) (state S.Store conn.new) (λ _. ⊥) }
 {
-    // For the proof alone: what the connection says of its schema.
+    // For the proof only: the schema that the connection shows.
     let _schema = conn.schema();
     let mut tx = conn.transaction();
     let vendors = registry_rows::list_vendors(alloc, &mut tx);

@@ -1,4 +1,4 @@
-//! Of which schema a store says that it is.
+//! The schema version that the table `meta` names.
 
 ghost use Rattle.std.specs.Prelude.{◌≡◌, ◌≢◌, [], ◌∷◌, IsTrue, MatchResult, Err};
 ghost use Rattle.sqlite.specs.State.{HasCleanDisk, Survives};
@@ -22,7 +22,7 @@ fn of_version(meta: Meta, version: u32) -> Result<Meta, TableFault>
     }
 }
 
-/// What the store is, where it says that it is of this schema.
+/// Returns the row of `meta`, if it names this version.
 pub(crate) fn old_meta<S: Alter>(
     alloc: Global,
     tx: &mut Transaction<'_, S>,

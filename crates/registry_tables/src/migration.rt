@@ -1,4 +1,4 @@
-//! From an older schema to the newest, one version at a time.
+//! Migration from an older schema to the newest, one version at a time.
 
 ghost use Rattle.std.specs.Prelude.{◌≡◌, ◌≢◌, ◌⊎◌, ℕ, Ok, false, IsTrue, OnOk, Err};
 ghost use Rattle.sqlite.specs.State.{HasCleanDisk, Survives};
@@ -16,7 +16,7 @@ use registry_schema::{TableFault, fault_of, version_of};
 use sqlite::{Alter, Connection, Transaction};
 use std::alloc::Global;
 
-// Two steps, each in its transaction.
+// Takes two steps, each in its own transaction.
 fn first_to_third<S: Alter>(alloc: Global, conn: &mut Connection<S>) -> Result<(), TableFault>
     requires { conn.old.in_transaction ≡ false }
     ensures idle { conn.new.in_transaction ≡ false }
@@ -28,7 +28,7 @@ fn first_to_third<S: Alter>(alloc: Global, conn: &mut Connection<S>) -> Result<(
     second_to_third(alloc, conn)
 }
 
-// Whether the store works, by a statement that reads no table.
+// Checks that the store works, with a statement that reads no table.
 fn try_store<S: Alter>(tx: &mut Transaction<'_, S>) -> Result<(), TableFault>
     ensures same_reference { tx.new.conn.ghost_name ≡ tx.old.conn.ghost_name }
     ensures answered { HasCleanDisk (state S.Store tx.new.conn.now) → IsTrue (state S.Store tx.old.conn.now).in_transaction → OnOk result (GoesOn (state S.Store tx.old.conn.now) (state S.Store tx.new.conn.now)) }
@@ -42,7 +42,7 @@ fn try_store<S: Alter>(tx: &mut Transaction<'_, S>) -> Result<(), TableFault>
     }
 }
 
-// The fault of tables that no schema has: Foreign, where the store still works. Nothing is written.
+// Returns the fault for tables of no schema: Foreign if the store still works. Writes nothing.
 fn unknown<S: Alter>(conn: &mut Connection<S>) -> TableFault
     requires { conn.old.in_transaction ≡ false }
     ensures idle { conn.new.in_transaction ≡ false }
@@ -58,11 +58,11 @@ fn unknown<S: Alter>(conn: &mut Connection<S>) -> TableFault
     }
 }
 
-/// Brings the tables of an older schema to the newest, one version at a time, each in a transaction of its own.
+/// Brings the tables of an older schema to the newest, one version at a time, each step in its own
+/// transaction. Commits nothing if the names of the tables are not those of an older schema.
 ///
-/// `TableFault::Foreign` comes only where the tables are those of no history in any schema. After a fault a crash leaves
-/// the rows of the same history, in the schema that they had or in a later one. Nothing is committed where the names of the
-/// tables are not those of an older schema.
+/// `TableFault::Foreign` comes only if the tables hold the rows of no history in any schema. After
+/// a fault a crash leaves the rows of the same history, in the schema that they had or a later one.
 pub fn migrate<S: Alter>(alloc: Global, conn: &mut Connection<S>) -> Result<(), TableFault>
     requires { conn.old.in_transaction ≡ false }
     ensures idle { conn.new.in_transaction ≡ false }

@@ -1,4 +1,4 @@
-//! From the first schema to the second.
+//! The step from the first schema to the second.
 
 ghost use Rattle.std.specs.Prelude.{◌≡◌, ◌≢◌, ℕ, [], map, fold, nat_eq, false, IsTrue, OnOk, IfOk, Err};
 ghost use Rattle.std.specs.List.{list_any};
@@ -21,7 +21,7 @@ use sqlite::{Alter, Connection, Transaction};
 use std::alloc::Global;
 use usbnum_core::{Span, Spans};
 
-// The numbers as a set.
+// Returns the numbers as a set.
 fn spans_of(alloc: Global, numbers: &[Reserved]) -> Result<Spans, TableFault>
     ensures same { IfOk result (λ set. (n : ℕ) → spans_have set n ≡ list_any (nat_eq n) (map (λ one. one.pid) numbers.now)) }
     ensures kind { result ≢ Err TableFault.Foreign }
@@ -38,7 +38,7 @@ fn spans_of(alloc: Global, numbers: &[Reserved]) -> Result<Spans, TableFault>
     Ok(set)
 }
 
-// The spans, as the founding vendor's.
+// Writes the spans as those of the founding vendor.
 fn put_spans<S: Alter>(tx: &mut Transaction<'_, S>, parts: &[Span]) -> Result<(), TableFault>
     ensures same_reference { tx.new.conn.ghost_name ≡ tx.old.conn.ghost_name }
     ensures put { (vid : ℕ) → IsNumber vid → HasCleanDisk (state S.Store tx.new.conn.now) → IsTrue (state S.Store tx.old.conn.now).in_transaction → IsTrue (state S.Store tx.old.conn.now).is_open
@@ -55,7 +55,7 @@ fn put_spans<S: Alter>(tx: &mut Transaction<'_, S>, parts: &[Span]) -> Result<()
     Ok(())
 }
 
-// The spans of the numbers that have a row, in place of the rows.
+// Replaces the rows of reserved numbers with rows of spans.
 fn raise_second<S: Alter>(alloc: Global, tx: &mut Transaction<'_, S>) -> Result<(), TableFault>
     ensures same_reference { tx.new.conn.ghost_name ≡ tx.old.conn.ghost_name }
     ensures raised { HasCleanDisk (state S.Store tx.new.conn.now) → IsTrue (state S.Store tx.old.conn.now).in_transaction → Raises 1 (state S.Store tx.old.conn.now) (state S.Store tx.new.conn.now) result }
@@ -71,7 +71,7 @@ fn raise_second<S: Alter>(alloc: Global, tx: &mut Transaction<'_, S>) -> Result<
     Ok(())
 }
 
-/// One step, in one transaction with one commit.
+/// Takes the step in one transaction with one commit.
 pub(crate) fn first_to_second<S: Alter>(
     alloc: Global,
     conn: &mut Connection<S>,
@@ -82,7 +82,7 @@ pub(crate) fn first_to_second<S: Alter>(
     ensures foreign { HasCleanDisk (state S.Store conn.new) → result ≡ Err TableFault.Foreign → IsTrue (state S.Store conn.old).is_open × ((h : History) → ¬ Rows 1 (state S.Store conn.old).now.trees h) }
     ensures survives { Survives (state S.Store conn.old) (state S.Store conn.new) (CommitsStep 1 (state S.Store conn.old)) }
 {
-    // For the proof alone: what the connection says of its schema.
+    // For the proof only: the schema that the connection shows.
     let _schema = conn.schema();
     let mut tx = conn.transaction();
     raise_second(alloc, &mut tx)?;

@@ -1,4 +1,4 @@
-//! The numbers that an order reserved, kept as maximal spans.
+//! The numbers that orders reserved, stored as maximal spans.
 
 ghost use Rattle.std.specs.Prelude.{◌≡◌, ◌≢◌, ◌+◌, ◌≤◌, ◌++◌, IsTrue, IfOk, OnOk, MatchOption, Err, filter};
 ghost use Rattle.sqlite.specs.State.{HasCleanDisk, Survives, IsUnchanged};
@@ -17,8 +17,8 @@ use sqlite::{Alter, Transaction};
 use std::alloc::Global;
 use usbnum_core::{Pid, Span, Vid};
 
-// The vendor's spans that have any of the numbers from the low to the high one. Rows that are no spans are a fault of the
-// store: the rows were read when it was opened.
+// Returns the vendor's spans that have any of the numbers from the low to the high one. Rows that
+// are not spans are a fault of the store: they were sound when it was opened.
 fn spans_meeting<S: Alter>(
     alloc: Global,
     tx: &mut Transaction<'_, S>,
@@ -41,7 +41,7 @@ fn spans_meeting<S: Alter>(
     }
 }
 
-// The least and the greatest number of the span and of those that were found.
+// Returns the least and the greatest number of the span and of the spans found.
 fn reach(found: &[(Vid, Span)], span: &Span) -> (Pid, Pid)
     ensures { Reaches span.now found.now result.0 result.1 }
 {
@@ -54,7 +54,7 @@ fn reach(found: &[(Vid, Span)], span: &Span) -> (Pid, Pid)
     (least, greatest)
 }
 
-// The numbers from the least one on that are before the first, if there are any.
+// Returns the numbers from the least one on that are before the first, if any.
 fn before(least: Pid, first: Pid) -> Option<Span>
     ensures { MatchOption result (first ≤ least) (λ part. (part.first ≡ least) × (part.last + 1 ≡ first)) }
 {
@@ -62,7 +62,7 @@ fn before(least: Pid, first: Pid) -> Option<Span>
     Span::new(least, end)
 }
 
-// The numbers after the last, up to the greatest, if there are any.
+// Returns the numbers after the last one, up to the greatest, if any.
 fn after(last: Pid, greatest: Pid) -> Option<Span>
     ensures { MatchOption result (greatest ≤ last) (λ part. (part.first ≡ last + 1) × (part.last ≡ greatest)) }
 {
@@ -70,7 +70,7 @@ fn after(last: Pid, greatest: Pid) -> Option<Span>
     Span::new(start, greatest)
 }
 
-// Puts the part in, if there is one, beside the spans that it is apart from.
+// Inserts the part, if any, which is apart from all spans.
 fn put_part<S: Alter>(
     tx: &mut Transaction<'_, S>,
     vid: Vid,
@@ -90,7 +90,7 @@ fn put_part<S: Alter>(
     }
 }
 
-/// Puts in the numbers of the span: it joins the vendor's spans that overlap it or touch it.
+/// Reserves the numbers of the span: merges it with the vendor's spans that overlap or touch it.
 pub(crate) fn reserve_span<S: Alter>(
     alloc: Global,
     tx: &mut Transaction<'_, S>,
@@ -111,7 +111,7 @@ pub(crate) fn reserve_span<S: Alter>(
     put_part(tx, vid, Span::new(least, greatest))
 }
 
-/// Takes out the numbers of the span: of the vendor's spans that overlap it what is on either side stays.
+/// Releases the numbers of the span: cuts it out of the vendor's spans that overlap it.
 pub(crate) fn release_span<S: Alter>(
     alloc: Global,
     tx: &mut Transaction<'_, S>,

@@ -1,4 +1,4 @@
-//! Each change, and what the rows and the lists are then.
+//! Each kind of change, and the rows and lists after it.
 
 use crate::stores::{Calls, add_answer, check, create_in, make};
 use crate::values::{
@@ -67,7 +67,7 @@ fn add_entries(
     Ok(())
 }
 
-// Each kind of change, and records that are put in the place of others.
+// Returns each kind of change, and records that replace others.
 fn changes(alloc: Global, number: Number, other: Number) -> Result<Vec<Change>, Fail> {
     let mut all = Vec::new(alloc);
     add_vendors_and_licences(alloc, other, &mut all)?;
@@ -96,7 +96,7 @@ const QUERIES: [&str; 14] = [
     "SELECT * FROM petitions3 ORDER BY id",
 ];
 
-// The rows of all tables, then the lists, and then the totals.
+// The rows of all tables, then the lists, then the totals.
 const ANSWERS: &str = r#"1|3|4617|InterBiometrics|
 cora|
 BSD|

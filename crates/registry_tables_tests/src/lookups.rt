@@ -1,4 +1,4 @@
-//! What is looked up for a request, and the reply that is kept of one.
+//! The facts that are looked up for a request, and its kept reply.
 
 use crate::stores::{Calls, add_answer, check, create_in, make};
 use crate::values::{a_number, founding, put_entry, put_org, put_petition, slug};
@@ -12,7 +12,8 @@ use std::process::Abort;
 use std::test::Fail;
 use usbnum_core::{Key, Pid};
 
-// A founding and changes, a reply, the request that it is kept of and the others that facts are looked up for.
+// A founding and changes, a reply, the request that it is kept for and the others whose facts are
+// looked up.
 #[derive(Clone, Copy)]
 struct Lookups<'a> {
     founding: &'a Founding,
@@ -38,7 +39,7 @@ fn keep<S: Alter>(
     }
 }
 
-// What was found under keys.
+// Adds what was found by keys.
 fn describe(facts: &Facts<'_>, text: &mut String) -> bool {
     let kept = facts.kept.as_ref().map(|kept| kept.reply.as_str());
     let org = facts.org.as_ref().map(|org| org.title.as_str());
@@ -117,7 +118,7 @@ fn withdrawal(alloc: Global, caller: &str) -> Result<Request, Fail> {
     request(alloc, caller, Order::Withdraw(Withdraw { petition: 1 }))
 }
 
-// The same of another caller, and one on a number.
+// Returns the same request of another caller, and one about a number.
 fn others(alloc: Global) -> Result<Vec<Request>, Fail> {
     let number = Pid::new(0x11).ok_or("no number")?;
     let returned = Order::Return(Return {

@@ -1,4 +1,4 @@
-//! The reserved numbers by the rows that stand.
+//! The rows of reserved numbers.
 
 use crate::stores::{Calls, add_answer, check, create_in, make};
 use crate::values::{founding, span};

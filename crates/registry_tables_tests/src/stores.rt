@@ -1,4 +1,4 @@
-//! The two stores that calls are made over, and their rows as lines.
+//! The two stores that each test uses, and their rows as lines.
 
 use registry_rules::{Change, Founding};
 use registry_tables::{TableFault, create, store};
@@ -8,9 +8,9 @@ use sqlite_disk::Memory;
 use std::alloc::Global;
 use std::process::Abort;
 
-/// Calls that are made over a store.
+/// Calls on a store.
 pub trait Calls {
-    /// Makes them, and adds what they tell; false where one fails.
+    /// Makes the calls and adds what they return. Returns false if one fails.
     fn tell<S: Alter>(&self, alloc: Global, conn: &mut Connection<S>, text: &mut String) -> bool;
 }
 
@@ -23,7 +23,7 @@ fn told<S: Alter, C: Calls>(alloc: Global, conn: &mut Connection<S>, calls: &C) 
     }
 }
 
-// What the calls tell over a new store in memory.
+// Returns the text of the calls over a new store in memory.
 fn over_memory<C: Calls>(alloc: Global, calls: &C) -> Option<String> {
     match Connection::open_in_memory(alloc) {
         Ok(mut conn) => told(alloc, &mut conn, calls),
@@ -31,7 +31,7 @@ fn over_memory<C: Calls>(alloc: Global, calls: &C) -> Option<String> {
     }
 }
 
-// The same over a new store of a file and its log.
+// Returns the text of the calls over a new store of a file and its log.
 fn over_files<C: Calls>(alloc: Global, calls: &C) -> Option<String> {
     let log = Memory::new(alloc);
     let db = Memory::new(alloc);
@@ -41,7 +41,7 @@ fn over_files<C: Calls>(alloc: Global, calls: &C) -> Option<String> {
     }
 }
 
-/// The calls tell this text over both stores.
+/// Checks that the calls give this text over both stores.
 pub fn check<C: Calls>(rt: &impl Abort, alloc: Global, calls: &C, wanted: &str) {
     let in_memory = over_memory(alloc, calls);
     assert_eq!(rt; in_memory.as_deref(), Some(wanted), "over memory");
@@ -79,7 +79,7 @@ fn add_text(bytes: &[u8], text: &mut String) -> bool {
     }
 }
 
-// In quotes, and a tab as \t.
+// Adds the bytes in quotes, with a tab as \t.
 fn add_quoted(bytes: &[u8], text: &mut String) -> bool {
     match std::str::from_utf8(bytes) {
         Ok(part) => write!(text, "{part:?}").is_ok(),

@@ -1,4 +1,4 @@
--- What a query shows in the falling order of the keys.
+-- What a query shows in descending order of the keys.
 use Rattle.std.proofs.Common.{◌≡◌, ℕ, ℤ, ◌<ℤ◌, Bool, false, List, [], ◌∷◌, ◌++◌, map, filter, reverse, refl, sym, ap, ◌∙◌, int_cmp, is_eq, Ordering, Less, Greater, None}
 use Rattle.std.specs.List.{AllByRecursion, list_all}
 use Rattle.std.specs.Ordering.{ordering_reverse}

@@ -5,7 +5,7 @@ use Rattle.registry_tables.specs.Changed.{names_put}
 use Rattle.registry_tables.specs.Calls.{PutsIn}
 use Rattle.registry_tables.proofs.founding.add_curators.Given as goal
 
--- the rows so far are in
+-- the rows so far are inserted
 abbrev pub invariant-loop-name : goal.invariant-loop-name
 invariant-loop-name g l = record {
   same : l.tx.conn.ghost_name ≡ l.initial.tx.conn.ghost_name;

@@ -5,7 +5,7 @@ use Rattle.registry_tables.specs.Changed.{spans_put}
 use Rattle.registry_tables.specs.Calls.{PutsIn}
 use Rattle.registry_tables.proofs.founding.add_fixed.Given as goal
 
--- the rows so far are in
+-- the rows so far are inserted
 abbrev pub invariant-loop-span : goal.invariant-loop-span
 invariant-loop-span g l = record {
   same : l.tx.conn.ghost_name ≡ l.initial.tx.conn.ghost_name;

@@ -7,7 +7,7 @@ use Rattle.registry_old_rows.specs.Old.{old_span_key}
 use Rattle.registry_old_rows.specs.Steps.{Turns}
 use Rattle.registry_tables.proofs.second.put_spans.Given as goal
 
--- the rows so far are in
+-- the rows so far are inserted
 abbrev pub invariant-loop-part : goal.invariant-loop-part
 invariant-loop-part g l = record {
   same : l.tx.conn.ghost_name ≡ l.initial.tx.conn.ghost_name;
