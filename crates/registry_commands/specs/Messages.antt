@@ -55,3 +55,8 @@ failure_of faults.Poisoned = Poisoned
 abbrev pub input_failure : InputFault → Failure
 input_failure inputs.File = File
 input_failure inputs.NoMemory = Memory
+
+-- why an input cannot be read
+abbrev pub input_fault_text : InputFault → List ℕ
+input_fault_text inputs.File = codes "the input failed or is too long"
+input_fault_text inputs.NoMemory = codes "out of memory"

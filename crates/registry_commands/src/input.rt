@@ -1,13 +1,15 @@
 //! All that comes from a source.
 
-ghost use Rattle.std.specs.Prelude.{Err, ◌≡◌, ◌≤◌, ◌++◌, ℕ, List, length, IfOk, IfErr, OnOk};
+ghost use Rattle.std.specs.Prelude.{Err, Some, ◌≡◌, ◌≤◌, ◌++◌, ℕ, List, length, IfOk, IfErr, OnOk};
 ghost use Rattle.std.specs.Io.KnownBytes.{Consumes, IsAtEnd};
 ghost use Rattle.byte_streams.specs.Streams.{HasFailed, MayGive};
 ghost use Rattle.registry_commands.specs.Failures.{IsOfInput};
-ghost use Rattle.registry_commands.specs.Messages.{input_failure};
+ghost use Rattle.registry_commands.specs.Messages.{input_failure, input_fault_text};
 
 use byte_streams::{Broken, Source};
 use std::alloc::Global;
+use std::error::Error;
+use std::fmt;
 
 /// How many bytes an input may have.
 const MOST: usize = 4_294_967_295;
@@ -20,6 +22,20 @@ pub enum InputFault {
     /// There is no memory for it.
     NoMemory,
 }
+
+/// The fault in a few words.
+impl fmt::Display for InputFault {
+    ghost output = { λ fault. Some (input_fault_text fault) };
+
+    fn fmt<W: fmt::Write>(&self, f: &mut fmt::Formatter<W>) -> fmt::Result {
+        f.write_str(match self {
+            InputFault::File => "the input failed or is too long",
+            InputFault::NoMemory => "out of memory",
+        })
+    }
+}
+
+impl Error for InputFault {}
 
 /// The next bytes of the source behind those that came before, and how many they are: none at the
 /// end alone.

@@ -8,7 +8,7 @@ ghost use Rattle.registry_store.specs.Promise.{Represents, Endures, is_poisoned,
 ghost use Rattle.registry_store.specs.declared.fault.Fault.TheVariants as faults;
 ghost use Rattle.registry_http.specs.Responses.{response_bytes, unavailable_response};
 ghost use Rattle.registry_desk.specs.declared.serve.Served.{Served};
-ghost use Rattle.registry_desk.specs.Faults.{unavailable_of};
+ghost use Rattle.registry_desk.specs.Faults.{unavailable_of, peer_fault_text};
 ghost use Rattle.registry_desk.specs.Serving.{IsOfServed, IsSent, IsTold, IsServed, given_up};
 
 use crate::acting::response_to;
@@ -18,6 +18,8 @@ use registry_http::{InputFault, Response, read_message, write_response, write_un
 use registry_store::{Fault, Registry};
 use sqlite::Alter;
 use std::alloc::Global;
+use std::error::Error;
+use std::fmt;
 
 /// What was sent.
 #[derive(Clone, Copy, Debug, Drop, PartialEq, Eq)]
@@ -36,6 +38,20 @@ pub enum PeerFault {
     /// The sink failed.
     Write,
 }
+
+/// The fault in a few words.
+impl fmt::Display for PeerFault {
+    ghost output = { λ fault. Some (peer_fault_text fault) };
+
+    fn fmt<W: fmt::Write>(&self, f: &mut fmt::Formatter<W>) -> fmt::Result {
+        f.write_str(match self {
+            PeerFault::Read => "the message could not be read",
+            PeerFault::Write => "the response could not be written",
+        })
+    }
+}
+
+impl Error for PeerFault {}
 
 /// The registry's fault behind what was to be sent, and the status where all of it was written.
 #[derive(Clone, Copy, Debug, Drop, PartialEq, Eq)]

@@ -1,11 +1,12 @@
 //! The server: one connection after another, over one registry.
 
-ghost use Rattle.std.specs.Prelude.{◌≡◌, ◌≤◌, ℕ, List, Option, length, IfOk, OnOk, Err};
+ghost use Rattle.std.specs.Prelude.{◌≡◌, ◌≤◌, ℕ, List, Option, Some, length, IfOk, OnOk, Err};
 ghost use Rattle.sqlite.specs.State.{HasCleanDisk};
 ghost use Rattle.byte_streams.specs.Streams.{MayGive};
 ghost use Rattle.registry_rules.specs.History.{History};
 ghost use Rattle.registry_tables.specs.Rows.{newest};
 ghost use Rattle.registry_store.specs.Promise.{Represents, Endures, Leaves, state_of};
+ghost use Rattle.registry_desk.specs.Faults.{server_stop_text};
 ghost use Rattle.registry_desk.specs.Server.{Visit, IsVisit, IsWritten, HaveVisited, EndsVisit, EndsServing, IsLeftAfter, IfVisited, fault_in, status_in, status_of};
 
 use crate::serve::serve_message;
@@ -13,6 +14,8 @@ use byte_streams::{Broken, Sink, Source};
 use registry_store::{Fault, Registry};
 use sqlite::Alter;
 use std::alloc::Global;
+use std::error::Error;
+use std::fmt;
 
 /// Where connections come from, one after another.
 pub trait Connections {
@@ -47,6 +50,20 @@ pub enum ServerStop {
     /// The registry had a fault at the last connection.
     Registry(Fault),
 }
+
+/// The reason in a few words.
+impl fmt::Display for ServerStop {
+    ghost output = { λ stop. Some (server_stop_text stop) };
+
+    fn fmt<W: fmt::Write>(&self, f: &mut fmt::Formatter<W>) -> fmt::Result {
+        match self {
+            ServerStop::Connections => f.write_str("no connection can come"),
+            ServerStop::Registry(fault) => write!(f, "{fault}"),
+        }
+    }
+}
+
+impl Error for ServerStop {}
 
 /// What the serving of one connection came to: the registry's fault, and the status where a response was written whole.
 #[derive(Clone, Copy, Debug, Drop, PartialEq, Eq)]

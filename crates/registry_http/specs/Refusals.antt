@@ -1,7 +1,9 @@
 -- Why a message is refused before the registry is asked.
-use Rattle.std.specs.Prelude.{◌≡◌, ⊤, Option, Some, None, Result, Ok, Err}
+use Rattle.std.specs.Prelude.{◌≡◌, ℕ, List, codes, ⊤, Option, Some, None, Result, Ok, Err}
 use Rattle.registry_wire.specs.declared.refusal.WireRefusal.{WireRefusal}
 use Rattle.registry_wire.specs.declared.refusal.WireRefusal.TheVariants as refusals
+use Rattle.registry_http.specs.declared.head.InputFault.{InputFault}
+use Rattle.registry_http.specs.declared.head.InputFault.TheVariants as inputs
 use Rattle.registry_http.specs.declared.refusal.Allow.{Allow}
 use Rattle.registry_http.specs.declared.refusal.HttpRefusal.{HttpRefusal}
 use Rattle.registry_http.specs.declared.refusal.HttpRefusal.TheVariants.{Wire, WrongMethod}
@@ -34,3 +36,8 @@ abbrev pub Gives : {A : Type 0} → Result A Rejection → Result A HttpRefusal 
 Gives (Ok x) reading = reading ≡ Ok x
 Gives (Err (Refused refusal)) reading = reading ≡ Err refusal
 Gives (Err OutOfMemory) reading = ⊤
+
+-- why a message cannot be read
+abbrev pub input_fault_text : InputFault → List ℕ
+input_fault_text inputs.Broken = codes "the source failed"
+input_fault_text inputs.NoMemory = codes "out of memory"

@@ -1,16 +1,19 @@
 //! The head of a message, among the bytes that come.
 
-ghost use Rattle.std.specs.Prelude.{Err, ◌≡◌, ◌≤◌, ◌<◌, ℕ, List, [], ◌++◌, length, drop, IfOk, OnOk};
+ghost use Rattle.std.specs.Prelude.{Err, Some, ◌≡◌, ◌≤◌, ◌<◌, ℕ, List, [], ◌++◌, length, drop, IfOk, OnOk};
 ghost use Rattle.std.specs.Io.KnownBytes.{Consumes, IsAtEnd};
 ghost use Rattle.httparse.specs.Spans.{IsRequestAt, IsRequestWithin};
 ghost use Rattle.httparse.specs.Grammar.{RequestHead};
 ghost use Rattle.byte_streams.specs.Streams.{MayGive, HasFailed};
 ghost use Rattle.registry_http.specs.Heads.{HasHead, HasNoHead};
 ghost use Rattle.registry_http.specs.HeadEnds.{IfWhole, OnMissing};
+ghost use Rattle.registry_http.specs.Refusals.{input_fault_text};
 
 use byte_streams::{Broken, Source};
 use httparse::Status;
 use httparse::spans::{HeaderSpan, RequestSpans, parse_request};
+use std::error::Error;
+use std::fmt;
 
 /// How reading a head ended.
 #[derive(Clone, Copy, Debug)]
@@ -29,6 +32,20 @@ pub enum InputFault {
     /// There is no memory for it.
     NoMemory,
 }
+
+/// The fault in a few words.
+impl fmt::Display for InputFault {
+    ghost output = { λ fault. Some (input_fault_text fault) };
+
+    fn fmt<W: fmt::Write>(&self, f: &mut fmt::Formatter<W>) -> fmt::Result {
+        f.write_str(match self {
+            InputFault::Broken => "the source failed",
+            InputFault::NoMemory => "out of memory",
+        })
+    }
+}
+
+impl Error for InputFault {}
 
 /// The next bytes of the source behind those that came before, at most so many, and how many they are: none at
 /// the end alone.

@@ -1,6 +1,12 @@
 //! Why a message is refused before the registry is asked.
 
+ghost use Rattle.std.specs.Prelude.{Some};
+ghost use Rattle.registry_wire.specs.Replies.{refusal_text};
+ghost use Rattle.registry_http.specs.Refusals.{wire_refusal};
+
 use registry_wire::WireRefusal;
+use std::error::Error;
+use std::fmt;
 
 /// The method that a path allows.
 #[derive(Clone, Copy, Debug, PartialEq, Eq)]
@@ -42,3 +48,14 @@ impl HttpRefusal {
         }
     }
 }
+
+/// The text of its `WireRefusal`.
+impl fmt::Display for HttpRefusal {
+    ghost output = { λ refusal. Some (refusal_text (wire_refusal refusal)) };
+
+    fn fmt<W: fmt::Write>(&self, f: &mut fmt::Formatter<W>) -> fmt::Result {
+        write!(f, "{}", self.wire())
+    }
+}
+
+impl Error for HttpRefusal {}

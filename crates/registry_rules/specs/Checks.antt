@@ -3,6 +3,7 @@ use Rattle.std.specs.Prelude.{ℕ, ◌+◌, List, Option, Some, None, Result, Ok
 use Rattle.std.specs.List.{list_any}
 use Rattle.std.specs.Str.{bytes_eq}
 use Rattle.usbnum_core.specs.declared.number.Span.{Span}
+use Rattle.registry_rules.specs.Values.{Slug, Title, Link, Licence, VendorId, ProductId, PetitionId}
 use Rattle.registry_rules.specs.Number.{name_of, span_name_of, number}
 use Rattle.registry_rules.specs.Query.{is_open}
 use Rattle.registry_rules.specs.Import.{Standing, fresh_of, tally_of}
@@ -43,15 +44,15 @@ present (Some x) refusal = Ok x
 present None refusal = Err refusal
 
 -- 2: the caller is a curator
-abbrev pub by_curator : List (List ℕ) → List ℕ → Result Passed Refusal
+abbrev pub by_curator : List Slug → Slug → Result Passed Refusal
 by_curator curators caller = check (list_any (bytes_eq caller) curators) NotCurator
 
 -- 3: the caller keeps the organisation
-abbrev pub by_keeper : Org → List ℕ → Result Passed Refusal
+abbrev pub by_keeper : Org → Slug → Result Passed Refusal
 by_keeper org caller = check (bytes_eq org.keeper caller) NotKeeper
 
 -- 3, of an organisation that is there wherever it is asked for
-abbrev pub by_known_keeper : Option Org → List ℕ → Result Passed Refusal
+abbrev pub by_known_keeper : Option Org → Slug → Result Passed Refusal
 by_known_keeper None caller = Err NotKeeper
 by_known_keeper (Some org) caller = by_keeper org caller
 
@@ -63,25 +64,25 @@ open_petition petition = do
   Ok petition
 
 -- 9, 10: the number has no owner, or the organisation owns it and doesn't hold it
-abbrev pub not_anothers : Option (List ℕ) → Bool → List ℕ → Result Passed Refusal
+abbrev pub not_anothers : Option Slug → Bool → Slug → Result Passed Refusal
 not_anothers None held org = Ok tt
 not_anothers (Some owner) held org = do
   check (bytes_eq owner org) (NumberOwned owner)
   check (not held) NumberHeld
 
 -- 8, 9, 10: the number can be given to the organisation
-abbrev pub can_be_given : Standing → List ℕ → Result Passed Refusal
+abbrev pub can_be_given : Standing → Slug → Result Passed Refusal
 can_be_given standing org = do
   check (not standing.reserved) NumberReserved
   not_anothers standing.owner standing.held org
 
 -- 8, 9, 10, which pass where no number is wanted
-abbrev pub wanted_can_be_given : Option Standing → List ℕ → Result Passed Refusal
+abbrev pub wanted_can_be_given : Option Standing → Slug → Result Passed Refusal
 wanted_can_be_given None org = Ok tt
 wanted_can_be_given (Some standing) org = can_be_given standing org
 
 -- 11, 3: the number is held, and the caller keeps its owner
-abbrev pub held_by_keeper : Standing → Option Org → List ℕ → Result Passed Refusal
+abbrev pub held_by_keeper : Standing → Option Org → Slug → Result Passed Refusal
 held_by_keeper standing known caller = do
   check standing.held NumberNotHeld
   by_known_keeper known caller
@@ -94,14 +95,14 @@ enrol_checks known orgs org = do
   Ok (Enrolled org)
 
 -- AmendOrg: 4, 3
-abbrev pub amend_org_checks : Option Org → List ℕ → List ℕ → List ℕ → Result Act Refusal
+abbrev pub amend_org_checks : Option Org → Slug → Title → Link → Result Act Refusal
 amend_org_checks known caller title site = do
   org ← present known NoOrg
   by_keeper org caller
   Ok (OrgAmended (record org { title = title; site = site }))
 
 -- Ask: 4, 3, 34, 13, 14, 18, 8, 9, 10
-abbrev pub ask_checks : Option Org → Bool → Bool → ℕ → ℕ → Option Standing → List ℕ → Petition → Result Act Refusal
+abbrev pub ask_checks : Option Org → Bool → Bool → ℕ → ℕ → Option Standing → Slug → Petition → Result Act Refusal
 ask_checks known vendor_there allowed still_open petitions wanted caller petition = do
   org ← present known NoOrg
   by_keeper org caller
@@ -113,7 +114,7 @@ ask_checks known vendor_there allowed still_open petitions wanted caller petitio
   Ok (Asked (petitions + 1) petition)
 
 -- Grant: 2, 6, 7, 12, 8, 9, 10
-abbrev pub grant_checks : List (List ℕ) → ℕ → Option Petition → Option Standing → List ℕ → ℕ → Result Act Refusal
+abbrev pub grant_checks : List Slug → VendorId → Option Petition → Option Standing → Slug → PetitionId → Result Act Refusal
 grant_checks curators founding petition chosen caller id = do
   by_curator curators caller
   petition ← open_petition petition
@@ -122,14 +123,14 @@ grant_checks curators founding petition chosen caller id = do
   Ok (Granted id petition (name_of founding standing.number))
 
 -- Decline: 2, 6, 7
-abbrev pub decline_checks : List (List ℕ) → Option Petition → List ℕ → ℕ → Result Act Refusal
+abbrev pub decline_checks : List Slug → Option Petition → Slug → PetitionId → Result Act Refusal
 decline_checks curators petition caller id = do
   by_curator curators caller
   petition ← open_petition petition
   Ok (Declined id petition)
 
 -- Withdraw: 6, 3, 7
-abbrev pub withdraw_checks : Option Petition → Option Org → List ℕ → ℕ → Result Act Refusal
+abbrev pub withdraw_checks : Option Petition → Option Org → Slug → PetitionId → Result Act Refusal
 withdraw_checks petition known caller id = do
   petition ← present petition NoPetition
   by_known_keeper known caller
@@ -137,25 +138,25 @@ withdraw_checks petition known caller id = do
   Ok (Withdrawn id petition)
 
 -- Amend: 11, 3, 13
-abbrev pub amend_checks : ℕ → Standing → Option Org → Bool → List ℕ → Card → Result Act Refusal
+abbrev pub amend_checks : VendorId → Standing → Option Org → Bool → Slug → Card → Result Act Refusal
 amend_checks founding standing known allowed caller card = do
   held_by_keeper standing known caller
   check allowed LicenceUnknown
   Ok (CardAmended (name_of founding standing.number) card)
 
 -- Return: 11, 3
-abbrev pub return_checks : ℕ → Standing → Option Org → List ℕ → Result Act Refusal
+abbrev pub return_checks : VendorId → Standing → Option Org → Slug → Result Act Refusal
 return_checks founding standing known caller = do
   held_by_keeper standing known caller
   Ok (Returned (name_of founding standing.number))
 
 -- 15: no number of the span has an owner; the least that has one is named
-abbrev pub none_owned : ℕ → ℕ → Option ℕ → Result Passed Refusal
+abbrev pub none_owned : VendorId → VendorId → Option ProductId → Result Passed Refusal
 none_owned founding vid None = Ok tt
 none_owned founding vid (Some pid) = Err (RangeOwned (name_of founding (number vid pid)))
 
 -- Reserve: 2, 34, 16, 15
-abbrev pub reserve_checks : List (List ℕ) → ℕ → Bool → Bool → Option ℕ → List ℕ → ℕ → Span → Result Act Refusal
+abbrev pub reserve_checks : List Slug → VendorId → Bool → Bool → Option ProductId → Slug → VendorId → Span → Result Act Refusal
 reserve_checks curators founding vendor_there meets_fixed least_owned caller vid span = do
   by_curator curators caller
   check vendor_there NoVendor
@@ -164,7 +165,7 @@ reserve_checks curators founding vendor_there meets_fixed least_owned caller vid
   Ok (Reserved (span_name_of founding vid span))
 
 -- Release: 2, 34, 16, 17
-abbrev pub release_checks : List (List ℕ) → ℕ → Bool → Bool → Bool → List ℕ → ℕ → Span → Result Act Refusal
+abbrev pub release_checks : List Slug → VendorId → Bool → Bool → Bool → Slug → VendorId → Span → Result Act Refusal
 release_checks curators founding vendor_there meets_fixed all_reserved caller vid span = do
   by_curator curators caller
   check vendor_there NoVendor
@@ -173,7 +174,7 @@ release_checks curators founding vendor_there meets_fixed all_reserved caller vi
   Ok (Released (span_name_of founding vid span))
 
 -- Import: 2, 4, 34, 19
-abbrev pub import_checks : List (List ℕ) → Option Org → Bool → List ItemClass → List ℕ → ℕ → List ℕ → List Item → Result Act Refusal
+abbrev pub import_checks : List Slug → Option Org → Bool → List ItemClass → Slug → VendorId → Slug → List Item → Result Act Refusal
 import_checks curators known vendor_there classes caller vid org items = do
   by_curator curators caller
   known ← present known NoOrg
@@ -182,7 +183,7 @@ import_checks curators known vendor_there classes caller vid org items = do
   Ok (Imported vid org (fresh_of classes items) (tally_of classes))
 
 -- AddVendor: 2, 33, 18
-abbrev pub add_vendor_checks : List (List ℕ) → Bool → ℕ → List ℕ → ℕ → List ℕ → Result Act Refusal
+abbrev pub add_vendor_checks : List Slug → Bool → ℕ → Slug → VendorId → Title → Result Act Refusal
 add_vendor_checks curators vendor_there vendors caller vid name = do
   by_curator curators caller
   check (not vendor_there) VendorTaken
@@ -190,7 +191,7 @@ add_vendor_checks curators vendor_there vendors caller vid name = do
   Ok (VendorAdded vid name)
 
 -- AddLicence: 2, 35, 18
-abbrev pub add_licence_checks : List (List ℕ) → Bool → ℕ → List ℕ → List ℕ → Result Act Refusal
+abbrev pub add_licence_checks : List Slug → Bool → ℕ → Slug → Licence → Result Act Refusal
 add_licence_checks curators allowed licences caller licence = do
   by_curator curators caller
   check (not allowed) LicenceTaken

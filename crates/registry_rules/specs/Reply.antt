@@ -2,6 +2,7 @@
 use Rattle.std.specs.Prelude.{ℕ, List, [], ◌++◌, codes, Option, Some, None, Bool, if◌then◌else◌}
 use Rattle.std.specs.Fmt.{decimal}
 use Rattle.usbnum_core.specs.Number.{digits_of}
+use Rattle.registry_rules.specs.Values.{VendorId}
 use Rattle.registry_rules.specs.declared.deed.Act.{Act}
 use Rattle.registry_rules.specs.declared.deed.Act.TheVariants.{Enrolled, OrgAmended, Asked, Granted, Declined, Withdrawn, CardAmended, Returned, Reserved, Released, Imported, VendorAdded, LicenceAdded}
 use Rattle.registry_rules.specs.declared.item.Tally.{Tally}
@@ -11,7 +12,7 @@ use Rattle.registry_rules.specs.declared.refusal.Refusal.{Refusal}
 use Rattle.registry_rules.specs.declared.refusal.Refusal.TheVariants.{KeyReused, NotCurator, NotKeeper, NoOrg, OrgTaken, NoPetition, PetitionClosed, NumberReserved, NumberOwned, NumberHeld, NumberNotHeld, NoneFree, LicenceUnknown, TooManyOpen, RangeOwned, RangeFixed, RangeNotReserved, Full, ImportTooLong, VendorTaken, NoVendor, LicenceTaken}
 
 -- what stands before the number: a foreign vendor's four digits and a colon, of the founding one nothing
-abbrev pub vendor_text : Bool → ℕ → List ℕ
+abbrev pub vendor_text : Bool → VendorId → List ℕ
 vendor_text foreign vid = if foreign then digits_of vid ++ codes ":" else []
 
 -- 0011, or cafe:0011
@@ -99,3 +100,11 @@ abbrev pub refusal_detail : Refusal → Option (List ℕ)
 refusal_detail (NumberOwned owner) = Some owner
 refusal_detail (RangeOwned name) = Some (number_text name)
 refusal_detail _ = None
+
+-- NumberReserved, or NumberOwned: acme
+abbrev pub name_and_detail : List ℕ → Option (List ℕ) → List ℕ
+name_and_detail name None = name
+name_and_detail name (Some detail) = name ++ codes ": " ++ detail
+
+abbrev pub refusal_text : Refusal → List ℕ
+refusal_text refusal = name_and_detail (refusal_name refusal) (refusal_detail refusal)

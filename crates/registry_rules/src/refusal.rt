@@ -1,10 +1,12 @@
 //! Refusals, with their numbers and names.
 
-ghost use Rattle.std.specs.Prelude.{◌≡◌, IfOk};
-ghost use Rattle.registry_rules.specs.Reply.{refusal_number, refusal_name, refusal_detail};
+ghost use Rattle.std.specs.Prelude.{◌≡◌, IfOk, Some};
+ghost use Rattle.registry_rules.specs.Reply.{refusal_number, refusal_name, refusal_detail, refusal_text};
 
 use crate::{NumberName, ReplyText};
 use std::alloc::Global;
+use std::error::Error;
+use std::fmt;
 use usbnum_core::{NoMemory, Slug};
 
 /// Why the rules refuse a request. Nothing is changed then.
@@ -128,3 +130,19 @@ impl Refusal {
         }
     }
 }
+
+/// The name, and after a colon the detail: `NumberOwned: acme`.
+impl fmt::Display for Refusal {
+    ghost output = { λ refusal. Some (refusal_text refusal) };
+
+    fn fmt<W: fmt::Write>(&self, f: &mut fmt::Formatter<W>) -> fmt::Result {
+        let name = self.name();
+        match self {
+            Refusal::NumberOwned(owner) => write!(f, "{name}: {owner}"),
+            Refusal::RangeOwned(number) => write!(f, "{name}: {number}"),
+            _ => f.write_str(name),
+        }
+    }
+}
+
+impl Error for Refusal {}

@@ -1,8 +1,11 @@
 //! Why a call of a registry fails.
 
-ghost use Rattle.std.specs.Prelude.{◌≡◌, ◌≢◌, ◌↔◌};
+ghost use Rattle.std.specs.Prelude.{◌≡◌, ◌≢◌, ◌↔◌, Some};
+ghost use Rattle.registry_store.specs.Faults.{fault_text};
 
 use registry_tables::TableFault;
+use std::error::Error;
+use std::fmt;
 
 /// Why a call of a registry fails.
 #[derive(Clone, Copy, Debug, Drop, PartialEq, Eq)]
@@ -18,6 +21,23 @@ pub enum Fault {
     /// An earlier call of this registry had a fault. Close the registry and open it again.
     Poisoned,
 }
+
+/// The fault in a few words.
+impl fmt::Display for Fault {
+    ghost output = { λ fault. Some (fault_text fault) };
+
+    fn fmt<W: fmt::Write>(&self, f: &mut fmt::Formatter<W>) -> fmt::Result {
+        f.write_str(match self {
+            Fault::Store => "the store failed",
+            Fault::NoMemory => "out of memory",
+            Fault::Foreign => "not the tables of a registry",
+            Fault::Taken => "the store holds a registry already",
+            Fault::Poisoned => "the registry had a fault before and is poisoned",
+        })
+    }
+}
+
+impl Error for Fault {}
 
 /// Maps a fault of the tables to a fault of the registry.
 pub(crate) fn fault_of(fault: TableFault) -> Fault

@@ -1,10 +1,14 @@
 //! Why a text is refused before the rules look at it.
 
-ghost use Rattle.std.specs.Prelude.{◌≡◌, IfOk};
+ghost use Rattle.std.specs.Prelude.{◌≡◌, IfOk, Some};
+ghost use Rattle.registry_wire.specs.Fields.{fault_name};
+ghost use Rattle.registry_wire.specs.Replies.{refusal_text};
 
 use crate::Field;
 use registry_rules::ReplyText;
 use std::alloc::Global;
+use std::error::Error;
+use std::fmt;
 use usbids_text::LineFault;
 use usbnum_core::NoMemory;
 
@@ -97,7 +101,7 @@ impl WireRefusal {
     ghost use Rattle.registry_wire.specs.Replies.{number_of, name_of, detail_of};
 
     /// The refusal's number.
-    pub fn number(self) -> u16
+    pub fn number(self) -> u8
         ensures { result ≡ number_of self }
     {
         match self {
@@ -152,6 +156,35 @@ impl WireRefusal {
         })
     }
 }
+
+/// The bad key, or `toml`.
+impl fmt::Display for FoundingFault {
+    ghost output = { λ fault. Some (fault_name fault) };
+
+    fn fmt<W: fmt::Write>(&self, f: &mut fmt::Formatter<W>) -> fmt::Result {
+        f.write_str(self.name())
+    }
+}
+
+impl Error for FoundingFault {}
+
+/// The name, and after a colon the detail: `BadField: title`.
+impl fmt::Display for WireRefusal {
+    ghost output = { λ refusal. Some (refusal_text refusal) };
+
+    fn fmt<W: fmt::Write>(&self, f: &mut fmt::Formatter<W>) -> fmt::Result {
+        let name = self.name();
+        match self {
+            WireRefusal::BadHeader(header) => write!(f, "{name}: {}", header.name()),
+            WireRefusal::BadField(field) => write!(f, "{name}: {}", field.name()),
+            WireRefusal::BadList(fault) => write!(f, "{name}: {fault}"),
+            WireRefusal::BadFounding(fault) => write!(f, "{name}: {fault}"),
+            _ => f.write_str(name),
+        }
+    }
+}
+
+impl Error for WireRefusal {}
 
 fn text_of(alloc: Global, text: &str) -> Result<ReplyText, NoMemory>
     ensures { IfOk result (λ copy. copy ≡ text.now) }

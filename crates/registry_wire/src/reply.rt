@@ -16,7 +16,7 @@ use usbnum_core::NoMemory;
 // What a refusal is as an object, with its members in the order of their keys' bytes.
 fn refused_value(
     alloc: Global,
-    number: u16,
+    number: u8,
     name: &str,
     detail: Option<&str>,
 ) -> Result<Value, AllocError>
@@ -33,7 +33,7 @@ fn rule_value(alloc: Global, refusal: &Refusal) -> Result<Value, NoMemory>
 {
     refused_for(
         alloc,
-        u16::from(refusal.number()),
+        refusal.number(),
         refusal.name(),
         refusal.detail(alloc)?,
     )
@@ -54,7 +54,7 @@ fn reply_value(alloc: Global, reply: &Reply) -> Result<Value, NoMemory>
 // A refusal whose detail is a text.
 fn refused_for(
     alloc: Global,
-    number: u16,
+    number: u8,
     name: &str,
     detail: Option<ReplyText>,
 ) -> Result<Value, NoMemory>
