@@ -14,7 +14,7 @@ use Rattle.usbids_text.specs.Documents.{last, misplaced, fault_at, below_top}
 use Rattle.usbids_text.specs.Opens.{Open, with_mid, whole, put, misplaced_in, with_leaf, open_mid, has_room_in}
 use Rattle.usbids_text.proofs.EntryLemmas.{leaves_rows_push, mids_rows_push, tops_rows_push, both, and_both, or_true_is}
 
--- tops are closed only behind an open top, and an open top has mids only behind an open mid
+-- without an open top there are no closed tops, and without an open mid the open top has no mids
 abbrev pub IsOpenAt : List TopEntry → Option TopEntry → Option MidEntry → Type 0
 IsOpenAt tops None mid = tops ≡ []
 IsOpenAt tops (Some t) None = t.mids ≡ []

@@ -3,7 +3,7 @@ use Rattle.std.specs.Prelude.{◌≡◌, ℕ, List, ◌++◌, Option, Result, Ok
 use Rattle.std.specs.Io.KnownBytes.{Appends}
 use Rattle.byte_streams.specs.Streams.{AppendsPrefix, HasFailed}
 
--- what the sink took, and then what waits now, are what waited before, and then these bytes
+-- the bytes that the sink took and those that wait now are, in order, those that waited before and these
 pub record Gains (old : Option (List ℕ)) (waited : List ℕ) (new : Option (List ℕ)) (waits : List ℕ) (bytes : List ℕ) : Type 0 where
   pub taken : List ℕ
   pub appended : Appends old new taken

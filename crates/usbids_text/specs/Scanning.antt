@@ -19,7 +19,7 @@ use Rattle.usbids_text.specs.Finding.{find_mid}
 use Rattle.usbids_text.specs.Opens.{whole, open_mid}
 use Rattle.usbids_text.specs.Feeding.{Held, Fed}
 
--- ---- the part of a reader's state that a search keeps
+-- ---- the state between lines
 
 abbrev pub over_kind : ℕ → Kind → ℕ → Over
 over_kind vendor Vendor code = if code == vendor then over.Wanted else over.Other
@@ -29,7 +29,7 @@ abbrev pub over_of : ℕ → Option TopEntry → Over
 over_of vendor None = over.Nothing
 over_of vendor (Some t) = over_kind vendor t.kind t.code
 
--- the state of the search where the reader has this state
+-- the part of this reader's state that a search keeps
 abbrev pub seen_of : Wanted → Held → Seen
 seen_of wanted h = record { line = h.line; over = over_of wanted.vendor h.built.top; has_mid = is_some (open_mid h.built.top h.built.mid); found = find_mid wanted.vendor wanted.code (whole h.built); fault = h.fault }
 
@@ -92,7 +92,7 @@ pub record Scanned : Type 0 where
   pub pending : List ℕ
   pub seen : Seen
 
--- the state of the search where the reader has this state
+-- the part of this reader's state that a search keeps
 abbrev pub scanned_of : Wanted → Fed → Scanned
 scanned_of wanted s = record { pending = s.pending; seen = seen_of wanted s.held }
 
