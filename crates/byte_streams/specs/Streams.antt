@@ -1,13 +1,13 @@
--- What a source would give, what a sink has taken, and how failures are counted.
+-- What a source gives, what a sink takes, and how failures are counted.
 use Rattle.std.specs.Prelude.{◌≡◌, ◌⊎◌, ℕ, ◌+◌, ◌-◌, ◌^◌, ◌<◌, ◌≤◌, min, List, ◌++◌, length, take, Option, Some, None, Result, Ok, Err, ⊤}
 use Rattle.std.specs.Io.KnownBytes.{Consumes, Appends, Keeps, IsAtEnd}
 
--- these may be all bytes that a source would give until its end: those that are known, where they are
+-- these may be all bytes that a source gives until its end: exactly the known ones, if they are known
 abbrev pub MayGive : Option (List ℕ) → List ℕ → Type 0
 MayGive None bytes = ⊤
 MayGive (Some known) bytes = bytes ≡ known
 
--- the count of failures after one more: it stays at its greatest value
+-- the count of failures after one more; it stays at 2^64 - 1
 abbrev pub one_more : ℕ → ℕ
 one_more n = min (n + 1) (2 ^ 64 - 1)
 
@@ -15,13 +15,13 @@ one_more n = min (n + 1) (2 ^ 64 - 1)
 abbrev pub HasFailed : ℕ → ℕ → Type 0
 HasFailed old new = (old < new) ⊎ (new ≡ 2 ^ 64 - 1)
 
--- the source gave these n bytes, none only at its end or for no room, or it failed once more and gave none
+-- the source gave these n bytes, 0 only at its end or if there was no room; or it failed and gave none
 abbrev pub Takes : {E : Type 0} → Option (List ℕ) → Option (List ℕ) → ℕ → ℕ → Result ℕ E → List ℕ → Type 0
 Takes old new failures failures_new (Ok n) room =
     (n ≤ length room) × Consumes old new (take n room) × (n ≡ 0 → 0 < length room → IsAtEnd new) × (failures_new ≡ failures)
 Takes old new failures failures_new (Err e) room = Keeps old new × (failures_new ≡ one_more failures)
 
--- the sink took the first n bytes, or it failed once more and took none: to take none of some bytes is to fail
+-- the sink took the first n bytes, or it failed and took none; to take none of some bytes is a failure too
 abbrev pub Puts : {E : Type 0} → Option (List ℕ) → Option (List ℕ) → ℕ → ℕ → Result ℕ E → List ℕ → Type 0
 Puts old new failures failures_new (Ok n) bytes =
     (n ≤ length bytes) × Appends old new (take n bytes) × (n ≡ 0 → 0 < length bytes → failures_new ≡ one_more failures)
@@ -35,7 +35,7 @@ pub record AppendsPrefix (old new : Option (List ℕ)) (bytes : List ℕ) : Type
   pub whole : bytes ≡ front ++ rest
   pub appended : Appends old new front
 
--- the sink took all of these bytes and did not fail, or it failed and took a prefix of them
+-- on success, the sink took all of these bytes; on a failure, it took a prefix of them
 abbrev pub Writes : {A E : Type 0} → Option (List ℕ) → Option (List ℕ) → ℕ → ℕ → Result A E → List ℕ → Type 0
 Writes old new failures failures_new (Ok done) bytes = Appends old new bytes × (failures_new ≡ failures)
 Writes old new failures failures_new (Err e) bytes = AppendsPrefix old new bytes × HasFailed failures failures_new

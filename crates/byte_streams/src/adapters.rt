@@ -1,4 +1,4 @@
-//! A source over a reader of std, and a sink over a writer.
+//! A source over a `std` reader, and a sink over a `std` writer.
 ghost use Rattle.std.specs.Prelude.{◌≡◌};
 
 use crate::streams::{Broken, Sink, Source};
@@ -14,7 +14,7 @@ pub struct Inlet<R: Read> {
 impl<R: Read> Inlet<R> {
     ghost use Rattle.byte_streams.specs.Adapters.{reader_of, inlet_failures};
 
-    /// A source that gives what the reader gives, and has not failed yet.
+    /// Makes a source over the reader, with no failures yet.
     pub fn new(reader: R) -> Inlet<R>
         ensures reader { reader_of result ≡ reader }
         ensures fresh { inlet_failures result ≡ 0 }
@@ -25,7 +25,7 @@ impl<R: Read> Inlet<R> {
         }
     }
 
-    /// The reader.
+    /// Returns the reader.
     pub fn into_inner(self) -> R
         ensures { result ≡ reader_of self }
     {
@@ -63,7 +63,7 @@ pub struct Outlet<W: Write> {
 impl<W: Write> Outlet<W> {
     ghost use Rattle.byte_streams.specs.Adapters.{writer_of, outlet_failures};
 
-    /// A sink that hands what it takes to the writer, and has not failed yet.
+    /// Makes a sink over the writer, with no failures yet.
     pub fn new(writer: W) -> Outlet<W>
         ensures writer { writer_of result ≡ writer }
         ensures fresh { outlet_failures result ≡ 0 }
@@ -74,7 +74,7 @@ impl<W: Write> Outlet<W> {
         }
     }
 
-    /// The writer.
+    /// Returns the writer.
     pub fn into_inner(self) -> W
         ensures { result ≡ writer_of self }
     {

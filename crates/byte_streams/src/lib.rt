@@ -1,5 +1,5 @@
-//! Streams of bytes whose contents and failures a contract can name, and the readers and writers of the standard library
-//! as such streams.
+//! Byte streams whose contents and failures a contract can name, and adapters for the readers and
+//! writers of the standard library.
 #![tactic(auto)]
 
 mod adapters;

@@ -1,4 +1,5 @@
--- A command whose arguments have no default value and no rule on one another takes the arguments where and only where no fault is known against them.
+-- A command whose arguments have no default values and no rules on one another accepts arguments if and only if they
+-- have no fault.
 use Rattle.std.proofs.Common.{◌≡◌, ◌∙◌, ◌≤◌, ◌<◌, ◌+◌, ◌&&◌, ◌||◌, ℕ, Bool, cond, true, false, not, zero, suc, refl, sym, ap, ap₂, arith, List, [], ◌∷◌, length, drop, Option, Some, None, is_some, true≢false}
 use Rattle.std.specs.Prelude.{codes, encode_utf8, min, nat_le, nat_lt, slice_get, ◌==◌}
 use Rattle.std.specs.Option.{option_map_or}
@@ -35,7 +36,7 @@ none_or : (a b : Kinds) → no_kind (or_else a b) ≡ (no_kind a && no_kind b)
 none_or [] b = refl
 none_or (k ∷ ks) b = refl
 
--- the first fails as x says, and the next as y says
+-- the first faults are empty if x is true, and the second if y is true
 both_same : (a b : Kinds) (x y : Bool) → no_kind a ≡ x → no_kind b ≡ y → no_kind (or_else a b) ≡ (x && y)
 both_same a b x y e f = none_or a b ∙ ap₂ (λ (p q : Bool). p && q) e f
 
@@ -76,7 +77,7 @@ all_found {X} p test (y ∷ xs) x all found = go (test y) found (all_found p tes
     go true is later = let same : x ≡ y = cc in ap p same ∙ (parts_of (p y) _ all).0
     go false is later = later is
 
--- ---- how many values
+-- ---- the number of values
 
 module _ (least most n : ℕ) where
   abbrev within : Bool

@@ -1,4 +1,4 @@
--- `clap` takes the arguments where and only where it has nothing to say against them.
+-- `clap` accepts the arguments if and only if it finds no fault in them.
 use Rattle.std.proofs.Common.{◌≡◌, ◌∙◌, List, [], true, ap, refl, sym}
 use Rattle.std.specs.Prelude.{◌↔◌}
 use Rattle.clap.specs.Walk.{nothing_held}

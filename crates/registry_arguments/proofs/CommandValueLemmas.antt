@@ -1,4 +1,4 @@
--- Arguments that no fault is known against ask for a command: the values that its subcommand needs are there.
+-- Arguments without a fault ask for a command: the subcommand has all of its required values.
 use Rattle.std.proofs.Common.{◌≡◌, ◌||◌, ℕ, Bool, cond, true, false, refl, sym, List, [], ◌∷◌, codes, Option, Some, None, inl, inr, is_some, subst, true≢false}
 use Rattle.std.specs.Prelude.{IsSome, option_map}
 use Rattle.std.specs.Str.{bytes_eq}
@@ -16,7 +16,7 @@ use Rattle.registry_arguments.proofs.EnteredLemmas.{Asks, asked}
 
 -- ---- values
 
--- what is there
+-- the value of an option that has one
 value_of : {A : Type 0} (o : Option A) → IsSome o → (x : A) × (o ≡ Some x)
 value_of None some = absurd (true≢false (sym some))
 value_of (Some x) some = (x, refl)
@@ -64,7 +64,7 @@ report_there rows store name = rw ((value_of _ store).1, (value_of _ name).1) re
 lookup_there : (rows : List Row) → Has rows (codes "list") → Has rows (codes "vid") → Has rows (codes "pid") → IsSome (lookup_in rows)
 lookup_there rows list vid pid = rw ((value_of _ list).1, (value_of _ vid).1, (value_of _ pid).1) refl
 
--- ---- the subcommands, each by what its rules ask
+-- ---- the subcommands, each from its rules
 
 trial_asks : Asks (built_leaf trial_app.top)
 unfolding trial_app
@@ -137,7 +137,7 @@ lookup_asks name words met free none =
     let given = λ (id : Text). first_given s rows id has.values in
     lookup_there rows (given (codes "list") (has.given.0 refl)) (given (codes "vid") (has.given.1.0 refl)) (given (codes "pid") (has.given.1.1.0 refl))
 
--- a name that is `help` and is not
+-- no name is `help` and not `help`
 not_help : (name : Text) → answers_to name (codes "help", []) ≡ true → bytes_eq name (codes "help") ≡ false → ⊥
 not_help name met free = go (bytes_eq (codes "help") name) refl met
   where
@@ -148,7 +148,7 @@ not_help name met free = go (bytes_eq (codes "help") name) refl met
 help_asks : Asks (built_leaf help_shape)
 help_asks name words met free none = absurd (not_help name met free)
 
--- no fault is known against the arguments, so they ask for a command
+-- arguments without a fault ask for a command
 pub asks_for_a_command : (words : List Text) → faults_of words ≡ [] → IsSome (command_of words)
 unfolding faults_of chosen bare_app trial_app found_app apply_app import_app serve_app export_app report_app lookup_app
 asks_for_a_command words none =

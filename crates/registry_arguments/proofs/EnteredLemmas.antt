@@ -13,7 +13,7 @@ use Rattle.clap.specs.declared.error.kind.ErrorKind.TheVariants as kind
 use Rattle.registry_arguments.specs.Commands.{asked_by, named}
 use Rattle.registry_arguments.proofs.LevelLemmas.{Every, every_found, or_else_none}
 
--- ---- a walk without a fault doesn't stop at `help`
+-- ---- a walk without a fault does not stop at `help`
 
 abbrev IsNoHelp : Option (Text × List Text) → Type 0
 IsNoHelp None = ⊤

@@ -1,4 +1,4 @@
--- What some words give, by the definition.
+-- The commands of some example arguments, by the definition.
 use Rattle.std.proofs.Common.{◌≡◌, List, [], ◌∷◌, codes, true, false, Some, None, refl}
 use Rattle.std.specs.Prelude.{⊤}
 use Rattle.clap.specs.Words.{Text}
@@ -6,7 +6,7 @@ use Rattle.clap.proofs.OnLiterals.{clap_on_literals}
 use Rattle.registry_arguments.specs.Commands.{accepts, apply_app, asked_by, bare_app, chosen, command_of, export_app, found_app, import_app, lookup_app, number_in, report_app, serve_app, trial_app}
 use Rattle.registry_arguments.specs.declared.command.Command.TheVariants as command
 
--- what a proof unfolds to compute the command of words that are written out
+-- unfolded by a proof to compute the command of literal arguments
 unfoldable on_literals : ⊤
 unfolding clap_on_literals bare_app trial_app found_app apply_app import_app serve_app export_app report_app lookup_app asked_by chosen number_in accepts
 on_literals = tt

@@ -1,4 +1,4 @@
--- What one level of a parse gives that no fault is known against: each row has a value that passed, and each required argument has a row.
+-- After one level of a parse without a fault, each row has a value that passed, and each required argument has a row.
 use Rattle.std.proofs.Common.{◌≡◌, ◌∙◌, ◌&&◌, ◌||◌, ◌⊎◌, ℕ, Bool, cond, true, false, not, zero, suc, refl, sym, ap, subst, List, [], ◌∷◌, ◌++◌, length, drop, Option, Some, None, inl, inr, is_some, true≢false, append-nil}
 use Rattle.std.specs.Prelude.{⊤, IsSome, encode_utf8, option_and_then, slice_get}
 use Rattle.std.specs.Option.{option_map_or}
@@ -87,7 +87,7 @@ each_there rows (a ∷ rules) none =
     (λ needed. is_there a.required (is_given a.id rows) needed parts.0, each_there rows rules parts.1)
 
 module _ (s : Shape) where
-  -- the row is an argument's of this level, and its first value passed
+  -- the row is of an argument of this level, and its first value passed
   abbrev pub HasValue : Row → Type 0
   HasValue r = (a : Rule) × (v : Text) × (arg_by_id s.rules r.id ≡ Some a) × (slice_get r.values 0 ≡ Some v) × (value_kinds a.ignore_case (parser_of_value a.parser) v ≡ [])
 
@@ -97,7 +97,7 @@ module _ (s : Shape) where
       × (((action_of a ≡ Set) × ((unwrap_or_range a.range).start_inclusive ≡ 1))
       ⊎ ((values : List Text) (rows : List Row) → action_fault (action_of a) s.args_override_self a values rows ≡ [] → ⊥))
 
-  -- what the rows of this level have
+  -- the properties of the rows of this level
   pub record HasValues (rows : List Row) : Type 0 where
     pub values : Every HasValue rows
     pub given : Every (λ (a : Rule). a.required ≡ true → is_given a.id rows ≡ true) s.rules
@@ -184,7 +184,7 @@ module _ (s : Shape) where
         let parts = or_else_none (settle_fault s.rules s.args_override_self h) _ none in
         value_used a values (settled s.rules h).rows one parts.1 (value_settled h parts.0 every)
 
-    -- ---- a word
+    -- ---- one word of the command line
 
     value_option : (a : Rule) (v : Option Text) (h : Held) → TakesOne a → option_fault s.rules s.args_override_self a v h ≡ [] → Stand h.rows → Stand (option_met s.rules a v h).0.rows
     value_option a (Some v) h one none every = value_reacted a (v ∷ []) h one none every
@@ -315,7 +315,7 @@ module _ (s : Shape) where
         let parts = or_else_none (turn_fault s names w word) _ none in
         value_walk names (walked s.rules names w word) words parts.1 (value_turn names w word parts.0 every)
 
-    -- what a level without a subcommand has at its end
+    -- the rows at the end of a level without a subcommand
     pub level_values : (words : List Text) → level_fault s [] nothing_held words false [] ≡ [] → HasValues (rows_after s.rules [] words)
     level_values words none =
         let end = (walk s.rules [] nothing_held words).held in

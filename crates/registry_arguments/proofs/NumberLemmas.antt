@@ -1,4 +1,4 @@
--- When a text is a number that lies between two others.
+-- When a text is a number from one bound to another.
 use Rattle.std.proofs.Common.{◌≡◌, ℕ, ◌≤◌, ◌<◌, ◌^◌, Bool, true, false, List, Some, None, refl, sym}
 use Rattle.std.specs.Prelude.{if◌then◌else◌}
 use Rattle.std.specs.Str.Parse.{IsNumeral, digits_value, without_leading_plus}
@@ -21,11 +21,11 @@ module _ (low high : ℕ) (text : List ℕ) where
       go true e = absurd (h (accepts-Accepts false (parser.Unsigned low high) text e))
       go false e = refl
 
-  -- the text is a numeral of 64 bits
+  -- the text is a 64-bit number
   abbrev IsWhole : Type 0
   IsWhole = IsNumeral 10 (without_leading_plus text) × (digits_value 10 (without_leading_plus text) < 2 ^ 64)
 
-  -- a text that is read as a number is found where the number lies between
+  -- a text that is read as a number is accepted if the number is within the bounds
   pub number_within : (n : ℕ) → IsWhole × (n ≡ digits_value 10 (without_leading_plus text)) → low ≤ n → n ≤ high → number_in low high text ≡ Some n
   number_within n h least most = found n (h.0.0, h.0.1, rw (← h.1) least, rw (← h.1) most) (sym h.1)
 

@@ -1,4 +1,4 @@
--- What an error of `clap` comes to.
+-- The usage error for an error of `clap`.
 use Rattle.std.proofs.Common.{◌≡◌, ◌⊎◌, refl, inl, inr, subst, sym}
 use Rattle.clap.specs.Words.{IsAmong, Kinds, kind_of}
 use Rattle.clap.specs.declared.error.Error.{Error}

@@ -1,4 +1,4 @@
-//! What the arguments of a command line ask of `usbreg`.
+//! Reads the command line of `usbreg` as a command.
 #![tactic(auto)]
 
 mod command;

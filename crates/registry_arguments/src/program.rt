@@ -1,4 +1,4 @@
-//! The program's command line, as `clap` gets it.
+//! The definition of the program's command line for `clap`.
 
 ghost use Rattle.std.specs.Prelude.{◌≡◌, ◌∷◌, [], IfOk, Some, false, codes, option_copied};
 ghost use Rattle.clap.specs.Words.{app_of, items_of, rule_of, new_app, with_rule, with_subcommand};
@@ -9,7 +9,7 @@ use clap::builder::ValueParser;
 use clap::{Arg, Command};
 use std::alloc::{AllocError, Global};
 
-/// An argument that has to be there, at its place.
+/// Returns a required positional argument.
 fn positional<'a>(alloc: Global, name: &'a str, shown: &'a str, help: &'a str) -> Arg<'a>
     ensures rule { rule_of result ≡ positional name.entry.now }
     ensures local { result.global ≡ false }
@@ -21,7 +21,7 @@ fn positional<'a>(alloc: Global, name: &'a str, shown: &'a str, help: &'a str) -
         .help(help)
 }
 
-/// `--name VALUE`, which may be left out.
+/// Returns an optional `--name VALUE`.
 fn option<'a>(alloc: Global, name: &'a str, shown: &'a str, help: &'a str) -> Arg<'a>
     ensures rule { rule_of result ≡ option name.entry.now }
     ensures local { result.global ≡ false }
@@ -33,7 +33,7 @@ fn option<'a>(alloc: Global, name: &'a str, shown: &'a str, help: &'a str) -> Ar
         .help(help)
 }
 
-/// `--name VALUE`, which has to be there.
+/// Returns a required `--name VALUE`.
 fn needed_option<'a>(alloc: Global, name: &'a str, shown: &'a str, help: &'a str) -> Arg<'a>
     ensures rule { rule_of result ≡ needed_option name.entry.now }
     ensures local { result.global ≡ false }
@@ -42,7 +42,7 @@ fn needed_option<'a>(alloc: Global, name: &'a str, shown: &'a str, help: &'a str
     option(alloc, name, shown, help).required(true)
 }
 
-/// The same argument, with a decimal number between the two as its value.
+/// Returns the same argument, with a decimal number from `low` to `high` as its value.
 fn numeric<'a>(arg: Arg<'a>, low: u64, high: u64) -> Arg<'a>
     ensures rule { rule_of result ≡ numeric low high (rule_of arg.entry) }
     ensures others { result ≡ record arg.entry { value_parser = result.value_parser } }
@@ -51,7 +51,7 @@ fn numeric<'a>(arg: Arg<'a>, low: u64, high: u64) -> Arg<'a>
     arg.value_parser(ValueParser::Unsigned(low, high))
 }
 
-/// A subcommand with what it does and an example of it.
+/// Returns a subcommand with a description and an example.
 fn subcommand<'a>(alloc: Global, name: &'a str, about: &'a str, example: &'a str) -> Command<'a>
     ensures app { app_of result ≡ new_app name.entry.now }
     ensures local { (out-Command result).has_globals ≡ false }
@@ -173,7 +173,7 @@ fn import<'a>(alloc: Global) -> Result<Command<'a>, AllocError>
     with_arg(command, vendor)
 }
 
-/// The command with who asks, under which key and for whom.
+/// Adds the options for the caller, the key and the organisation.
 fn with_sender<'a>(alloc: Global, command: Command<'a>) -> Result<Command<'a>, AllocError>
     ensures app { IfOk result (λ c. app_of c ≡ with_rule (with_rule (with_rule (app_of command.entry)
         (needed_option (codes "caller"))) (needed_option (codes "key"))) (needed_option (codes "org"))) }
@@ -272,7 +272,7 @@ fn lookup<'a>(alloc: Global) -> Result<Command<'a>, AllocError>
     )
 }
 
-/// The program without its version and its subcommands.
+/// Returns the program without its version and its subcommands.
 fn bare<'a>(alloc: Global) -> Command<'a>
     ensures { app_of result ≡ new_app (codes "usbreg") }
 {
@@ -285,7 +285,7 @@ fn bare<'a>(alloc: Global) -> Command<'a>
         )
 }
 
-/// The program with the commands that take requests.
+/// Adds `trial`, `found`, `apply` and `import`.
 fn with_requests<'a>(alloc: Global, program: Command<'a>) -> Result<Command<'a>, AllocError>
     ensures { IfOk result (λ c. app_of c ≡ with_subcommand (with_subcommand (with_subcommand (with_subcommand
         (app_of program.entry) trial_app.top) found_app.top) apply_app.top) import_app.top) }
@@ -296,7 +296,7 @@ fn with_requests<'a>(alloc: Global, program: Command<'a>) -> Result<Command<'a>,
     with_command(program, import(alloc)?)
 }
 
-/// The program with the commands that show something.
+/// Adds `serve`, `export`, `report` and `lookup`.
 fn with_views<'a>(alloc: Global, program: Command<'a>) -> Result<Command<'a>, AllocError>
     ensures { IfOk result (λ c. app_of c ≡ with_subcommand (with_subcommand (with_subcommand (with_subcommand
         (app_of program.entry) serve_app.top) export_app.top) report_app.top) lookup_app.top) }
@@ -307,7 +307,8 @@ fn with_views<'a>(alloc: Global, program: Command<'a>) -> Result<Command<'a>, Al
     with_command(program, lookup(alloc)?)
 }
 
-/// The program with its version, which comes last: `clap` says of no other call that it keeps it.
+/// Adds the version. This comes last, as the contracts of `clap`'s other calls do not say that they
+/// keep it.
 fn with_version<'a>(program: Command<'a>) -> Command<'a>
     ensures app { app_of result ≡ versioned (app_of program.entry) }
     ensures version { option_copied (out-Command result).version ≡ Some (codes "0.1.0") }
@@ -315,7 +316,7 @@ fn with_version<'a>(program: Command<'a>) -> Command<'a>
     program.version("0.1.0")
 }
 
-/// `usbreg` with all its subcommands.
+/// Returns `usbreg` with all its subcommands.
 #[tactic(auto, unfolding(crate::specs::Commands::bare_app))]
 pub fn usbreg<'a>(alloc: Global) -> Result<Command<'a>, AllocError>
     ensures app { IfOk result (λ c. app_of c ≡ usbreg_app) }

@@ -1,4 +1,4 @@
--- What the bytes read so far say of all bytes that the source gives.
+-- All bytes that the source gives, from the bytes read so far.
 use Rattle.std.proofs.Common.{◌≡◌, ℕ, ◌≤◌, List, [], ◌++◌, length, take, drop, Option, Some, None, refl, sym, ap, ◌∙◌, append_assoc, arith, length-append}
 use Rattle.std.specs.Io.KnownBytes.{Consumes, IsAtEnd}
 use Rattle.std.proofs.lemmas.List.{append-nil, take-append-le, take-append-drop, length-map, length-take}
@@ -20,13 +20,13 @@ consumes_then (Some xs) None c x y p q = absurd p
 consumes_then (Some xs) (Some ys) None x y p q = absurd q
 consumes_then (Some xs) (Some ys) (Some zs) x y p q = p ∙ ap (λ (t : List ℕ). x ++ t) q ∙ sym (append_assoc x y zs)
 
--- all that the source would give begins with what it gave
+-- the bytes of a source begin with those that it gave
 pub all_of : (a b : Option (List ℕ)) (x : List ℕ) → Consumes a b x → (more : List ℕ) × MayGive a (x ++ more)
 all_of None b x p = ([], tt)
 all_of (Some xs) None x p = absurd p
 all_of (Some xs) (Some ys) x p = (ys, sym p)
 
--- at its end it has given all
+-- at its end a source has given all of its bytes
 pub all_at_end : (a b : Option (List ℕ)) (x : List ℕ) → Consumes a b x → IsAtEnd b → MayGive a x
 all_at_end None b x p e = tt
 all_at_end (Some xs) None x p e = absurd p

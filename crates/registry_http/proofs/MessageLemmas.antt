@@ -1,4 +1,4 @@
--- What a message says is determined by its bytes.
+-- The bytes of a message determine its query, request or refusal.
 use Rattle.std.proofs.Common.{◌≡◌, ℕ, List, [], ◌++◌, Option, Some, None, inl, inr, refl, sym, ap, subst, ◌∙◌}
 use Rattle.std.specs.Prelude.{Result, Ok, Err, IfOk, map, take, drop}
 use Rattle.httparse.specs.declared.spans.HeaderSpan.{HeaderSpan}
@@ -34,7 +34,7 @@ pub gives_some : (o : Option (List ℕ)) → (rest : List ℕ) × MayGive o rest
 gives_some None = ([], tt)
 gives_some (Some known) = (known, refl)
 
--- what it gave, and what it may give from there on
+-- the bytes that a source gave, and those that it may give then
 pub gives_after : (a b : Option (List ℕ)) (x rest : List ℕ) → Consumes a b x → MayGive b rest → MayGive a (x ++ rest)
 gives_after None b x rest took may = tt
 gives_after (Some xs) None x rest took may = absurd took
@@ -83,7 +83,7 @@ head_at_spans : (buf : List ℕ) (spans : List HeaderSpan) (r : RequestSpans) (h
     → head_in (span_bytes buf r.method) (span_bytes buf r.path) (map (header_bytes buf) (take r.headers spans)) ≡ head_of h
 head_at_spans buf spans r h at = rw (at.method, at.path, at.fields) refl
 
--- the head was read, and what it calls for is known of all that follows it
+-- from the head and all bytes after it to the whole message
 pub says_after_head : {E : Type 0} (a b : Option (List ℕ)) (founding : ℕ) (buf : List ℕ) (spans : List HeaderSpan) (r : RequestSpans) (h : RequestHead) (result : Result (Result Message HttpRefusal) E)
     → HasHead buf h (drop r.len buf) → IsRequestAt buf spans r h → Consumes a b buf
     → IfOk result (λ said. (rest : List ℕ) × MayGive b rest × HeadSays founding (head_in (span_bytes buf r.method) (span_bytes buf r.path) (map (header_bytes buf) (take r.headers spans))) (drop r.len buf ++ rest) said)

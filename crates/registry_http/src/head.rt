@@ -1,4 +1,4 @@
-//! The head of a message, among the bytes that come.
+//! Reads the head of a message.
 
 ghost use Rattle.std.specs.Prelude.{Err, Some, ◌≡◌, ◌≤◌, ◌<◌, ℕ, List, [], ◌++◌, length, drop, IfOk, OnOk};
 ghost use Rattle.std.specs.Io.KnownBytes.{Consumes, IsAtEnd};
@@ -15,21 +15,21 @@ use httparse::spans::{HeaderSpan, RequestSpans, parse_request};
 use std::error::Error;
 use std::fmt;
 
-/// How reading a head ended.
+/// The result of reading a head.
 #[derive(Clone, Copy, Debug)]
 pub(crate) enum HeadEnd {
-    /// It lies at the front of what was read.
+    /// The bytes read begin with a head.
     Whole(RequestSpans),
-    /// Whatever follows, there is none.
+    /// The message has no valid head, whatever follows.
     Missing,
 }
 
-/// Why a message could not be read.
+/// The reason why a message could not be read.
 #[derive(Clone, Copy, Debug, PartialEq, Eq)]
 pub enum InputFault {
     /// The source failed.
     Broken,
-    /// There is no memory for it.
+    /// Out of memory.
     NoMemory,
 }
 
@@ -47,8 +47,8 @@ impl fmt::Display for InputFault {
 
 impl Error for InputFault {}
 
-/// The next bytes of the source behind those that came before, at most so many, and how many they are: none at
-/// the end alone.
+/// Appends at most `most` further bytes of the source to the buffer, and returns their number,
+/// which is 0 only at the end.
 pub(crate) fn take_more<R: Source>(
     source: &mut R,
     buffer: &mut Vec<u8>,
@@ -71,7 +71,8 @@ pub(crate) fn take_more<R: Source>(
     }
 }
 
-/// Reads until a whole head of at most 64 fields has come in at most 8,192 bytes, or none can come.
+/// Reads until the buffer has a complete head, of at most 64 fields and 8,192 bytes, or cannot have
+/// one.
 pub(crate) fn read_head<R: Source>(
     source: &mut R,
     buffer: &mut Vec<u8>,

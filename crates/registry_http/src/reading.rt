@@ -1,4 +1,4 @@
-//! What the head of a message asks for.
+//! Reads the head of a message as a query or an order.
 
 ghost use Rattle.std.specs.Prelude.{◌≡◌, All, IfOk, length, map, option_and_then, bytes_eq};
 ghost use Rattle.httparse.specs.Spans.{IsHeaderWithin, header_bytes};
@@ -19,20 +19,20 @@ use registry_wire::{Header, WireRefusal};
 use std::alloc::Global;
 use usbnum_core::{Key, NoMemory, Slug};
 
-/// The head of an order: where it is sent, how many bytes its body has, its caller and its key.
+/// The head of an order.
 #[derive(Drop)]
 pub(crate) struct OrderHead {
-    /// Where it is sent.
+    /// The endpoint to which it is sent.
     pub endpoint: Endpoint,
-    /// How many bytes its body has.
+    /// The length of its body, in bytes.
     pub length: u32,
-    /// Who sends it.
+    /// The caller of the request.
     pub caller: Slug,
     /// The key of the request.
     pub key: Key,
 }
 
-/// What a head asks for: a query, or that an order is read behind it.
+/// The meaning of a head: a query, or an order whose body follows.
 #[derive(Drop)]
 pub(crate) enum Head {
     Query(Query),
@@ -91,7 +91,7 @@ fn caller_at(alloc: Global, buffer: &[u8], spans: &[HeaderSpan]) -> Result<Slug,
     }
 }
 
-/// The key that a text is.
+/// Reads a text as a key.
 #[tactic(auto, unfolding(registry_wire::specs::Kinds::key_of))]
 fn key_of(alloc: Global, text: &[u8]) -> Result<Option<Key>, NoMemory>
     ensures { IfOk result (λ found. found ≡ key_of text.now) }
@@ -169,7 +169,7 @@ fn head_for(
     }
 }
 
-/// What a head with this method, target and fields asks for, or its first fault.
+/// Returns the query or order that this method, target and fields ask for, or the first fault.
 #[tactic(auto, unfolding(crate::specs::Reading::head_in))]
 pub(crate) fn head_in(
     alloc: Global,

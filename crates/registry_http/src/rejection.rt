@@ -1,4 +1,4 @@
-//! Why a message is not read to its end.
+//! The reasons why reading a message ends early: a refusal, or out of memory.
 
 use crate::refusal::HttpRefusal;
 use usbnum_core::NoMemory;

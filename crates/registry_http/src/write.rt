@@ -1,4 +1,4 @@
-//! Responses, written to a sink.
+//! Writes responses to a sink.
 
 ghost use Rattle.std.specs.Prelude.{◌≡◌, ◌++◌, IfOk};
 ghost use Rattle.byte_streams.specs.Streams.{Writes};
@@ -34,9 +34,11 @@ fn put_response<W: Sink>(sink: &mut W, head: &str, response: &Response) -> Resul
     }
 }
 
-/// Writes a response, and gives its status. Where there is no memory for its head, it is refusal 31 that is written.
+/// Writes a response and returns its status. If memory runs out for its head, writes refusal 31
+/// instead.
 ///
-/// `Broken` comes only where the sink failed in this call: a prefix of the response was written.
+/// Returns `Broken` only if the sink failed during this call, after it took a prefix of the
+/// response.
 pub fn write_response<W: Sink>(
     alloc: Global,
     sink: &mut W,
@@ -52,9 +54,10 @@ pub fn write_response<W: Sink>(
     }
 }
 
-/// Writes refusal 30 or 31, and gives its status. It takes no memory.
+/// Writes refusal 30 or 31 and returns its status. Allocates no memory.
 ///
-/// `Broken` comes only where the sink failed in this call: a prefix of the response was written.
+/// Returns `Broken` only if the sink failed during this call, after it took a prefix of the
+/// response.
 pub fn write_unavailable<W: Sink>(sink: &mut W, why: Unavailable) -> Result<u16, Broken>
     ensures writes { Writes (W.contents sink.old) (W.contents sink.new) (W.failures sink.old) (W.failures sink.new) result (response_bytes (unavailable_response why)) }
     ensures status { IfOk result (λ status. status ≡ 503) }

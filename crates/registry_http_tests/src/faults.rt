@@ -1,4 +1,4 @@
-//! Messages with a fault, and the response to the first one of each.
+//! Messages with a fault, and the response to the first fault of each.
 
 use crate::ends::{Drip, read};
 use byte_streams::Inlet;
@@ -7,7 +7,7 @@ use std::process::Abort;
 use std::test::Fail;
 use usbnum_core::NoMemory;
 
-// The first line and the body of each refusal.
+// The status and the body of each refusal.
 const BAD_HEAD: (&str, &str) = ("400 Bad Request", r#"{"name":"BadHead","refused":20}"#);
 
 const BAD_LENGTH: (&str, &str) = (
@@ -138,7 +138,7 @@ const FAULTS: [(&str, (&str, &str)); 38] = [
     ),
 ];
 
-/// The whole response of a refusal, but for a wrong method.
+/// Returns the whole response for a refusal, except for a wrong method.
 fn response_text(alloc: Global, refusal: (&str, &str)) -> Result<String, NoMemory> {
     let (status, body) = refusal;
     let count = body.len().saturating_add(1);
@@ -213,7 +213,7 @@ fn a_reader_that_fails_is_told(rt: HostRuntime) -> Result<(), Fail> {
     Ok(())
 }
 
-// A head of so many fields, each of two bytes and its line's end.
+// Returns a head of `count` fields, each of two bytes and its line end.
 fn fields(alloc: Global, count: u32) -> Result<String, NoMemory> {
     let mut text = String::from_str(alloc, "GET /nowhere HTTP/1.1\r\n")?;
     for _ in 0..count {
@@ -223,7 +223,7 @@ fn fields(alloc: Global, count: u32) -> Result<String, NoMemory> {
     Ok(text)
 }
 
-// A head of so many bytes, with a long field.
+// Returns a head of `count` bytes, with a long field.
 fn long_head(alloc: Global, count: u32) -> Result<String, NoMemory> {
     let mut text = String::from_str(alloc, "GET /nowhere HTTP/1.1\r\na:")?;
     for _ in 29..count {

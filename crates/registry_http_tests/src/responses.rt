@@ -1,4 +1,4 @@
-//! Values and the whole response that each one gets.
+//! Values, and the whole response for each.
 
 use crate::ends::{Brim, read, text};
 use byte_streams::{Broken, Inlet, Outlet};
@@ -12,7 +12,8 @@ use std::process::Abort;
 use std::test::Fail;
 use usbnum_core::{Link, NoMemory, Pid, Slug, Title, Vid, parse_pid, parse_vid};
 
-// The bytes that are written. The status that is given is the one in their first line.
+// Writes a response and returns its bytes. Checks that the returned status is the one in the first
+// line.
 fn written(rt: &impl Abort, alloc: Global, response: &Response) -> Result<String, NoMemory> {
     let mut sink = Outlet::new(Vec::new(alloc));
     match write_response(alloc, &mut sink, response) {
@@ -60,7 +61,7 @@ fn pid(rt: &impl Abort, text: &[u8]) -> Pid {
     parse_pid(text).expect(rt, "a product ID")
 }
 
-// What is written of a response that is JSON.
+// Returns the bytes of a JSON response.
 fn json(alloc: Global, status: &str, body: &str) -> Result<String, NoMemory> {
     let count = body.len().saturating_add(1);
     Ok(format!(in alloc;
@@ -368,7 +369,7 @@ fn tells_why_nothing_is_asked(rt: HostRuntime) -> Result<(), Fail> {
     Ok(())
 }
 
-// A writer that takes so many bytes of a response and then fails has a prefix of it.
+// Checks that a sink that takes some bytes of a response and then fails has a prefix of it.
 fn expect_beginnings(rt: &impl Abort, alloc: Global) -> Result<(), NoMemory> {
     let response = org_response(alloc, None)?;
     let whole = written(rt, alloc, &response)?;

@@ -1,4 +1,4 @@
--- What was exported and imported again is the same list.
+-- A list that is exported and imported again stays the same.
 use Rattle.std.proofs.Common.{◌≡◌, ℕ, Bool, true, false, List, [], ◌∷◌, Option, Some, None, nat_eq, refl, sym, ap, subst, ◌∙◌, inl, inr}
 use Rattle.std.specs.Prelude.{is_some, if◌then◌else◌, All}
 use Rattle.std.specs.Option.{option_map, option_or}
@@ -27,7 +27,7 @@ use Rattle.registry_laws.specs.Exports.{IsEntry}
 use Rattle.registry_laws.specs.Imports.{AreTitled, IsTakenOver, emptied, without, IsInOrder, CompletesList, GivesSameList}
 use Rattle.registry_laws.proofs.TakingLemmas.{takes}
 
--- ---- what a list of numbers has are numbers and titles
+-- ---- the codes and names of a list of numbers are product IDs and titles
 
 device_titled : (vid pid : ℕ) (name : List ℕ) (pairs : List (Number × Entry)) → All IsEntry pairs → first_mid pid (devices_of vid pairs) ≡ Some name → IsNumber pid × IsTitle name
 device_titled vid pid name [] all e = absurd cc

@@ -1,4 +1,4 @@
--- The list of vendors and numbers is a document, and is read back.
+-- The list of vendors and numbers is a sound document, and is read back.
 use Rattle.std.proofs.Common.{◌≡◌, ℕ, true, List, [], ◌∷◌, ◌++◌, Ok, Err, refl, ap, ◌∙◌, inl, inr, arith}
 use Rattle.std.specs.Prelude.{All}
 use Rattle.std.specs.List.{list_all}

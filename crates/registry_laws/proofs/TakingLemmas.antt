@@ -1,4 +1,4 @@
--- What the import of a list leaves.
+-- The registry after the import of a list.
 use Rattle.std.proofs.Common.{◌≡◌, ℕ, ◌≤◌, Bool, true, false, List, [], ◌∷◌, ◌++◌, length, Option, Some, None, Result, Ok, nat_eq, refl, sym, ap, subst, ◌∙◌, inl, inr, arith}
 use Rattle.std.specs.Prelude.{not, is_none, is_some, nat_le, if◌then◌else◌, map}
 use Rattle.std.specs.Option.{option_map, option_or}
@@ -84,7 +84,7 @@ of_list vid pid (t ∷ tops) =
     top_items vid t.kind t tops refl pid
     ∙ (ap (option_or (option_map (named pid) (find_in vid pid t))) (of_list vid pid tops) ∙ sym (mapped_or (named pid) (find_in vid pid t) (find_mid vid pid tops)))
 
--- ---- each item of the vendor that is found is good
+-- ---- each item of the vendor is good
 
 unowned : (owner : Option (List ℕ)) → is_none owner ≡ true → is_some owner ≡ false
 unowned None e = refl
@@ -115,7 +115,7 @@ good h vid doc titles free pid (Some name) is item e =
 abbrev taken : History → ℕ → List TopEntry → List Item
 taken h vid doc = fresh_of (classes_from (standing_at h vid) [] (items_of vid doc)) (items_of vid doc)
 
--- what the list has of a number, as an item
+-- a number in the list, as an item
 abbrev listed_item : ℕ → List TopEntry → Number → Option Item
 listed_item vid doc n = if nat_eq vid n.vid then option_map (named n.pid) (find_mid vid n.pid doc) else None
 
@@ -141,7 +141,7 @@ put_by org old pid false found names = refl
 put_by org old pid true None names = refl
 put_by org old pid true (Some name) names = ap (λ (t : Option (List ℕ)). option_or (option_map (entry_imported org) t) old) (titled name (names name refl))
 
--- whether the number is held, as the deeds so far say
+-- whether the number is held after the deeds so far
 abbrev held_by : History → Number → Option Bool
 held_by h n = last_of (λ deed. holds n deed.act) h.deeds
 

@@ -1,4 +1,4 @@
--- A census is made vendor by vendor.
+-- A census is written vendor by vendor.
 use Rattle.std.proofs.Common.{◌≡◌, ℕ, ◌+◌, ◌<◌, List, [], ◌∷◌, ◌++◌, length, take, get_or, refl, sym, ap, ◌∙◌}
 use Rattle.std.proofs.lemmas.List.{append-nil}
 use Rattle.usbnum_core.specs.declared.number.Number.{Number}

@@ -1,4 +1,4 @@
--- The report on the holders is made line by line.
+-- The report on the owners is written line by line.
 use Rattle.std.proofs.Common.{◌≡◌, ℕ, suc, ◌+◌, Bool, true, false, List, [], ◌∷◌, ◌++◌, length, Option, Some, None, refl, sym, ap, ◌∙◌, inl, inr, append_assoc}
 use Rattle.std.specs.Prelude.{map, is_some, slice_get, if◌then◌else◌}
 use Rattle.std.specs.List.{list_any}
@@ -46,7 +46,7 @@ are_holders numbers m text up all is = record {
   lines = is ∙ same_lines numbers m.entries (λ i e h. its_tally numbers e.0 e.1 (sym (all e.0) ∙ btree_map_get_place nat_list_cmp_total m i e.0 e.1 up h));
 }
 
--- one line further
+-- one more line
 pub line_next : (es rest : List (List ℕ × Tally)) (slug : List ℕ) (t : Tally) (now next left : List ℕ) → es ≡ (slug, t) ∷ rest → now ++ tally_lines es ≡ left → next ≡ now ++ holder_line slug t → next ++ tally_lines rest ≡ left
 line_next es rest slug t now next left is so_far step =
     ap (λ (l : List ℕ). l ++ tally_lines rest) step ∙ (append_assoc now (holder_line slug t) (tally_lines rest) ∙ (ap (λ (l : List (List ℕ × Tally)). now ++ tally_lines l) (sym is) ∙ so_far))

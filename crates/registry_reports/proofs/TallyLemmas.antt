@@ -22,7 +22,7 @@ zero = record { held = 0; returned = 0 }
 abbrev owns : List ℕ → List Pair → Bool
 owns slug xs = list_any (bytes_eq slug) (map org_of xs)
 
--- what owns nothing has no count
+-- an organisation that owns nothing has counts of 0
 nobody : (slug : List ℕ) (xs : List Pair) → owns slug xs ≡ false → (count_by (holds_for slug) xs ≡ 0) × (count_by (returned_by slug) xs ≡ 0)
 nobody slug [] none = (refl, refl)
 nobody slug (x ∷ xs) none = elim (cases_Bool (bytes_eq slug x.1.org)) [
@@ -43,7 +43,7 @@ unwrapped slug xs = elim (cases_Bool (owns slug xs)) [
   | inr e ↦ let none = nobody slug xs e in rw e (ap (λ (n : ℕ). tally n 0) (sym none.0) ∙ ap (tally (count_by (holds_for slug) xs)) (sym none.1))
 ]
 
--- ---- one number more
+-- ---- one more number
 
 either : (b : Bool) → (b || true) ≡ true
 either true = refl
@@ -73,7 +73,7 @@ reflexive slug = (bytes_eq-Decides slug slug).1 refl
 picked : (test : Pair → Bool) (b held : Bool) (xs : List Pair) (i : ℕ) (x : Pair) → i < length xs → x ≡ get_or xs i x → test x ≡ (b && held) → count_by test (take (i + 1) xs) ≡ count_by test (take i xs) + cond (b && held) 1 0
 picked test b held xs i x within is e = count_one_more test xs i x within is ∙ ap (λ (c : Bool). count_by test (take i xs) + cond c 1 0) e
 
--- of the number's own organisation
+-- for the number's own organisation
 next_own : (xs : List Pair) (i : ℕ) (x : Pair) → i < length xs → x ≡ get_or xs i x → Some (with_number (unwrap_or (tallied (take i xs) x.1.org) zero) x.1.held) ≡ tallied (take (i + 1) xs) x.1.org
 next_own xs i x within is =
     let own : bytes_eq x.1.org x.1.org ≡ true = reflexive x.1.org in
@@ -83,7 +83,7 @@ next_own xs i x within is =
     rw there (ap (λ (t : Tally). Some (with_number t x.1.held)) (unwrapped x.1.org (take i xs))
     ∙ (ap (λ (n : ℕ). Some (tally n (count_by (returned_by x.1.org) (take i xs) + cond (not x.1.held) 1 0))) (sym held) ∙ ap (λ (n : ℕ). Some (tally (count_by (holds_for x.1.org) (take (i + 1) xs)) n)) (sym returned)))
 
--- of another organisation
+-- for another organisation
 next_other : (xs : List Pair) (i : ℕ) (x : Pair) (slug : List ℕ) → i < length xs → x ≡ get_or xs i x → bytes_eq slug x.1.org ≡ false → tallied (take i xs) slug ≡ tallied (take (i + 1) xs) slug
 next_other xs i x slug within is other =
     let there : owns slug (take (i + 1) xs) ≡ owns slug (take i xs) = owns_next slug xs i x within is ∙ (rw other (neither (owns slug (take i xs)))) in
@@ -93,7 +93,7 @@ next_other xs i x slug within is other =
     let same_returned : count_by (returned_by slug) (take i xs) ≡ count_by (returned_by slug) (take (i + 1) xs) = omega (arith, returned) in
     rw there (ap (λ (t : Tally). if owns slug (take i xs) then Some t else None) (ap (λ (n : ℕ). tally n (count_by (returned_by slug) (take i xs))) same_held ∙ ap (λ (n : ℕ). tally (count_by (holds_for slug) (take (i + 1) xs)) n) same_returned))
 
--- what is found after one number more
+-- the tallies after one more number
 pub tallied_next : (old new : BTreeMap (List ℕ) Tally) (xs : List Pair) (i : ℕ) (x : Pair) → i < length xs → x ≡ get_or xs i x → ((slug : List ℕ) → get (slice_cmp nat_cmp) old slug ≡ tallied (take i xs) slug)
     → ((slug : List ℕ) → get (slice_cmp nat_cmp) new slug ≡ (if bytes_eq x.1.org slug then Some (with_number (unwrap_or (get (slice_cmp nat_cmp) old x.1.org) zero) x.1.held) else get (slice_cmp nat_cmp) old slug))
     → (slug : List ℕ) → get (slice_cmp nat_cmp) new slug ≡ tallied (take (i + 1) xs) slug

@@ -1,4 +1,4 @@
--- A history has one list.
+-- A history has only one list.
 use Rattle.std.proofs.Common.{◌≡◌, ℕ, ◌<◌, false, List, [], ◌∷◌, Option, Some, None, find, nat_eq, Less, refl, sym, ap, subst, ◌∙◌, inl, inr, arith}
 use Rattle.std.specs.Prelude.{map, All, option_and_then}
 use Rattle.std.specs.Option.{option_map, option_or}
@@ -15,7 +15,7 @@ use Rattle.registry_reports.specs.History.{vendor_name, IsDevice, IsVendorOfDevi
 
 -- ---- lists that ascend by a key
 
--- the first with the key
+-- the first element with the key
 abbrev at : {X : Type 0} → (X → ℕ) → ℕ → List X → Option X
 at key k xs = find (λ x. nat_eq (key x) k) xs
 
@@ -78,7 +78,7 @@ list_is_one {X} key (x ∷ xs) (y ∷ ys) up rise agree = elim (cases_eq (key x)
   ]
 ]
 
--- what is found has the key, and what holds of each
+-- the found element has the key, and what holds for all elements
 picked : {X : Type 0} (P : X → Type 0) (key : X → ℕ) (k : ℕ) (xs : List X) (x : X) → All P xs → at key k xs ≡ Some x → P x × (key x ≡ k)
 picked P key k [] x all e = absurd cc
 picked {X} P key k (y ∷ ys) x all e = elim (cases_Bool (nat_eq (key y) k)) [

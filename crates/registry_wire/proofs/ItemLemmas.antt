@@ -8,7 +8,7 @@ use Rattle.toml.specs.View.{view, items_view}
 use Rattle.toml.specs.declared.value.Value.{Value}
 use Rattle.registry_wire.specs.Founding.{all_of}
 
--- the items that were read before, and those after them
+-- puts the items that were read before in front of the later ones
 abbrev pub with_front : {A : Type 0} → List A → Option (List A) → Option (List A)
 with_front front found = option_map (λ others. front ++ others) found
 

@@ -1,4 +1,4 @@
--- What the bytes of a text are as a tree.
+-- The tree of the bytes of a text.
 use Rattle.std.proofs.Common.{◌≡◌, ℕ, List, Bool, true, false, cond, Option, Some, None, Ok, Err, refl}
 use Rattle.std.specs.Str.{IsUtf8, is_utf8}
 use Rattle.std.proofs.lemmas.Str.{IsUtf8-from_is_utf8, is_utf8-from_IsUtf8}
@@ -16,7 +16,7 @@ refused : (is_text : Bool) (found : Option Data) → (is_text ≡ true → found
 refused true found none = rw (none refl) refl
 refused false found none = refl
 
--- a text that is no JSON is refused, and so are bytes that are no text
+-- bytes that are not JSON, or not UTF-8, are refused
 pub object_of_refused : (bytes : List ℕ) → (IsUtf8 bytes → read bytes ≡ None) → object_of bytes ≡ Err BadJson
 unfolding object_of
 object_of_refused bytes none = refused (is_utf8 bytes) (read bytes) (λ e. none (IsUtf8-from_is_utf8 bytes e))
@@ -29,7 +29,7 @@ no_table : (is_text : Bool) (found : Option Members) → (is_text ≡ true → f
 no_table true found none = rw (none refl) refl
 no_table false found none = refl
 
--- the same of a text that is no TOML
+-- the same for bytes that are not TOML
 pub table_of_refused : (bytes : List ℕ) → (IsUtf8 bytes → parse_document bytes ≡ None) → table_of bytes ≡ Err (BadFounding Toml)
 unfolding table_of
 table_of_refused bytes none = no_table (is_utf8 bytes) (parse_document bytes) (λ e. none (IsUtf8-from_is_utf8 bytes e))

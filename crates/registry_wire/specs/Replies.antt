@@ -25,7 +25,7 @@ number_of StoreFault = 30
 number_of NoMemory = 31
 number_of (BadFounding fault) = 32
 
--- and its name
+-- the name of a refusal
 abbrev pub name_of : WireRefusal → List ℕ
 name_of BadHead = codes "BadHead"
 name_of BadLength = codes "BadLength"

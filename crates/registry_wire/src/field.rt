@@ -1,4 +1,4 @@
-//! The fields of an order in JSON, by name.
+//! The fields of a request in JSON, by name.
 
 /// A field of a request in JSON.
 #[derive(Clone, Copy, Debug, PartialEq, Eq)]
@@ -23,7 +23,7 @@ impl Field {
     ghost use Rattle.std.specs.Prelude.{◌≡◌};
     ghost use Rattle.registry_wire.specs.Fields.{name_of};
 
-    /// The field's name in JSON.
+    /// Returns the field's name in JSON.
     pub fn name(self) -> &'static str
         ensures { result.now ≡ name_of self }
     {

@@ -1,4 +1,4 @@
-//! One field of an order in JSON, read as a value of its kind.
+//! Reads one field of a request in JSON as a value of its kind.
 
 ghost use Rattle.std.specs.Prelude.{◌≡◌, option_copied, option_map, option_and_then};
 ghost use Rattle.usbnum_core.specs.Number.{number_of};
@@ -17,7 +17,7 @@ use serde_json::Value;
 use std::alloc::Global;
 use usbnum_core::{Key, Link, Pid, Slug, Span, Title, Vid, parse_pid, parse_vid};
 
-// The value of a field, or that the field is bad.
+// The value of a field, or the refusal that the field is bad.
 fn wanted<T>(field: Field, found: Option<T>) -> Result<T, Rejection>
     ensures { Gives result (wanted field found) }
 {
@@ -144,7 +144,7 @@ pub(crate) fn optional_vid_at(value: &Value, field: Field) -> Result<Option<Vid>
     }
 }
 
-// The number of a petition, which is at least 1 and has at most 32 bits.
+// The number of a petition: 1 to 4,294,967,295.
 fn petition_of(number: u64) -> Option<u32>
     ensures { result ≡ petition_of number }
 {

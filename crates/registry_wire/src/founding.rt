@@ -1,4 +1,4 @@
-//! The founding of a registry, read from a file in TOML.
+//! Reads the founding of a registry from a TOML file.
 
 ghost use Rattle.std.specs.Prelude.{◌≡◌, ◌≤◌, ℕ, length, IfOk, option_map};
 ghost use Rattle.std.specs.List.{list_any};
@@ -18,7 +18,7 @@ use std::alloc::Global;
 use toml::{Table, Value};
 use usbnum_core::{NoMemory, Slug, Span, Spans, Title, Vid};
 
-// What a founding file lists, as it stands there.
+// The values of a founding file, as listed in the file.
 #[derive(Debug, Drop)]
 struct Listing {
     vendor: Vid,
@@ -45,7 +45,7 @@ fn one_at<T: FromToml>(alloc: Global, table: &Table, key: FoundingFault) -> Resu
     present(WireRefusal::BadFounding(key), T::read(alloc, found)?)
 }
 
-// An array of at least one item and at most so many.
+// An array of one to `most` items.
 #[tactic(auto, unfolding(crate::specs::Founding::some_in))]
 fn some_at<T: FromToml>(
     alloc: Global,
@@ -167,11 +167,11 @@ fn founding_of(alloc: Global, listing: Listing) -> Result<Founding, NoMemory>
     })
 }
 
-/// What a registry is founded with by a founding file: TOML with `vendor` (four digits), `name`,
-/// `curators` (one to `MOST_CURATORS`), `licences` (one to `MOST_LICENCES`) and `fixed`, an array of
-/// texts `NNNN` or `NNNN-NNNN` that may be absent; other keys are ignored. Repeats are counted and
-/// kept once.
-/// Otherwise the first of these keys that is missing or bad, or that the bytes are no TOML.
+/// Reads the founding of a registry from a founding file. This is TOML with `vendor` (four digits),
+/// `name`, `curators` (one to `MOST_CURATORS`), `licences` (one to `MOST_LICENCES`) and optionally
+/// `fixed`, an array of texts `NNNN` or `NNNN-NNNN`; other keys are ignored. Repeats count towards
+/// the limits and are kept once. Returns a refusal if the bytes are not TOML, or for the first of
+/// these keys that is missing or bad.
 pub fn founding_from_toml(
     alloc: Global,
     bytes: &[u8],

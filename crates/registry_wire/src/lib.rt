@@ -1,4 +1,4 @@
-//! What comes from outside, read as requests or refused, and the texts of replies.
+//! Reads requests and files from outside, or refuses them, and writes replies as text.
 #![tactic(auto)]
 
 pub use field::Field;

@@ -1,4 +1,4 @@
-//! Why reading ends early: a refusal, or out of memory.
+//! The reasons why reading ends early: a refusal, or out of memory.
 
 ghost use Rattle.std.specs.Prelude.{◌≡◌};
 ghost use Rattle.registry_wire.specs.Gives.{Gives, present};
@@ -6,7 +6,7 @@ ghost use Rattle.registry_wire.specs.Gives.{Gives, present};
 use crate::WireRefusal;
 use usbnum_core::NoMemory;
 
-// Why nothing was read.
+// The reason why nothing was read.
 #[derive(Clone, Copy, Debug, PartialEq, Eq)]
 pub(crate) enum Rejection {
     Refused(WireRefusal),
@@ -24,7 +24,7 @@ impl From<NoMemory> for Rejection {
     }
 }
 
-// The value, or the refusal where there is none.
+// The value, or the refusal if there is no value.
 pub(crate) fn present<T>(refusal: WireRefusal, found: Option<T>) -> Result<T, Rejection>
     ensures { Gives result (present refusal found) }
 {

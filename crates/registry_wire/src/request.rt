@@ -1,4 +1,4 @@
-//! Requests, read from a line of JSON or from the body of a message.
+//! Reads requests from a line of JSON or from the body of a message.
 
 ghost use Rattle.std.specs.Prelude.{◌≡◌, IfOk};
 ghost use Rattle.serde_json.specs.View.{view};
@@ -14,7 +14,7 @@ use serde_json::Value;
 use std::alloc::Global;
 use usbnum_core::{Key, NoMemory, Slug};
 
-// The JSON object that the bytes are.
+// Reads the bytes as a JSON object.
 #[tactic(auto, unfolding(crate::specs::Reading::object_of))]
 fn object_of(alloc: Global, bytes: &[u8]) -> Result<Value, Rejection>
     ensures { GivesSeen view result (object_of bytes.now) }
@@ -57,7 +57,7 @@ fn read_body(alloc: Global, caller: Slug, key: Key, bytes: &[u8]) -> Result<Requ
     Ok(Request { caller, key, order })
 }
 
-/// The request that a line of JSON is, with its caller and key as fields, or why it is not one.
+/// Reads a request from a line of JSON, with its caller and key as fields, or returns a refusal.
 pub fn line_request(alloc: Global, line: &[u8]) -> Result<Result<Request, WireRefusal>, NoMemory>
     ensures { IfOk result (λ read. read ≡ line_reading line.now) }
 {
@@ -68,7 +68,7 @@ pub fn line_request(alloc: Global, line: &[u8]) -> Result<Result<Request, WireRe
     }
 }
 
-/// The request of a caller, under a key, whose order is a body of JSON, or why it is not one.
+/// Reads a request from a body of JSON, with this caller and key, or returns a refusal.
 pub fn request_from_json(
     alloc: Global,
     caller: Slug,

@@ -1,4 +1,4 @@
-//! Values of a founding file.
+//! Reads the values of a founding file.
 
 ghost use Rattle.std.specs.Prelude.{◌≡◌, IfOk, option_map};
 ghost use Rattle.toml.specs.View.{view, items_view};
@@ -10,7 +10,7 @@ use std::alloc::Global;
 use toml::Value;
 use usbnum_core::{NoMemory, Pid, Slug, Span, Title, Vid, parse_pid, parse_vid};
 
-// What is read from one value of TOML.
+// A type that is read from one TOML value.
 pub(crate) trait FromToml: Drop {
     ghost use Rattle.std.specs.Prelude.{Option};
     ghost use Rattle.toml.specs.Data.{Data};
@@ -54,7 +54,7 @@ impl FromToml for Title {
     }
 }
 
-// The span that begins with a number and goes on with nothing, or with a hyphen and its last number.
+// The span that begins with a number, alone or followed by a hyphen and its last number.
 fn span_after(first: Pid, rest: &[u8]) -> Option<Span>
     ensures { result ≡ span_after first rest.now }
 {
@@ -65,7 +65,7 @@ fn span_after(first: Pid, rest: &[u8]) -> Option<Span>
     }
 }
 
-// The span that a text spells: one number, or the first and the last with a hyphen between them.
+// The span of a text: one number, or the first and the last with a hyphen between them.
 #[tactic(auto, unfolding(crate::specs::Founding::span_written))]
 fn span_written(text: &[u8]) -> Option<Span>
     ensures { result ≡ span_written text.now }
@@ -87,7 +87,7 @@ impl FromToml for Span {
     }
 }
 
-// The values of an array, where all are of the kind.
+// The values of an array, if all are of the kind.
 pub(crate) fn all_of<T: FromToml>(
     alloc: Global,
     values: &[Value],

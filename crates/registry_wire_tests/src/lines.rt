@@ -1,4 +1,4 @@
-//! Request lines, and the request or the refusal that each one is read as.
+//! Request lines, and the request or the refusal that results.
 
 use registry_rules::{Request, request_bytes};
 use registry_wire::{line_request, refusal_json};
@@ -7,7 +7,7 @@ use std::process::Abort;
 use std::test::Fail;
 use usbnum_core::NoMemory;
 
-/// The caller, the key and the order's canonical form, with tabs between them.
+/// Returns the caller, the key and the order's canonical form, with tabs between them.
 pub(crate) fn spelled(alloc: Global, request: &Request) -> Result<Vec<u8>, NoMemory> {
     let (caller, key) = (request.caller.as_str(), request.key.as_str());
     let mut text = format!(in alloc; "{caller}\t{key}\t")?.into_bytes();
@@ -15,7 +15,7 @@ pub(crate) fn spelled(alloc: Global, request: &Request) -> Result<Vec<u8>, NoMem
     Ok(text)
 }
 
-// What a line is read as: a request, or the refusal.
+// Reads a line, and returns the request or the refusal.
 fn read(alloc: Global, line: &[u8]) -> Result<Vec<u8>, NoMemory> {
     match line_request(alloc, line)? {
         Ok(request) => spelled(alloc, &request),

@@ -1,4 +1,4 @@
-//! Replies and refusals, and the line that each one is written as.
+//! Replies and refusals, and the line that is written for each.
 
 use registry_rules::{NumberName, Refusal, Reply, ReplyText};
 use registry_wire::{Field, FoundingFault, Header, WireRefusal, refusal_json, reply_json};
@@ -178,7 +178,7 @@ fn refused_by_the_rules(rt: HostRuntime) -> Result<(), Fail> {
     Ok(())
 }
 
-// What is refused past the rules, and its text.
+// Refusals outside the rules, and their texts.
 const BY_THE_WIRE: [(WireRefusal, &str); 14] = [
     (WireRefusal::BadHead, r#"{"name":"BadHead","refused":20}"#),
     (

@@ -1,4 +1,4 @@
-//! Single fields at the edges of what they may be.
+//! Single fields at the limits of their values.
 
 use registry_rules::Order;
 use registry_wire::{line_request, refusal_json};
@@ -7,7 +7,7 @@ use std::process::Abort;
 use std::test::Fail;
 use usbnum_core::NoMemory;
 
-// The title, the site or the petition that an order has, or the refusal.
+// Reads a line, and returns the title, the site or the petition of its order, or the refusal.
 fn value(alloc: Global, line: &str) -> Result<String, NoMemory> {
     match line_request(alloc, line.as_bytes())? {
         Ok(request) => match &request.order {
@@ -44,7 +44,7 @@ fn petition(alloc: Global, text: &str) -> Result<String, NoMemory> {
     value(alloc, &line)
 }
 
-// So many times a text.
+// Repeats a text `count` times.
 fn times(alloc: Global, count: u32, text: &str) -> Result<String, NoMemory> {
     let mut all = String::new(alloc);
     for _ in 0..count {
@@ -106,7 +106,7 @@ fn links(rt: HostRuntime) -> Result<(), Fail> {
     assert_eq!(rt; site(alloc, &long)?.as_str(), long.as_str());
     let longer = format!(in alloc; "{long}a")?;
     assert_eq!(rt; site(alloc, &longer)?.as_str(), BAD_SITE);
-    // A slash and two dots take away what they follow, so that a long text has a short link.
+    // A slash and two dots remove the part before them, so a long text has a short link.
     let spelled = format!(in alloc; "{front}{}", times(alloc, 1359, "/..")?)?;
     let spelled = format!(in alloc; "{spelled}{}", times(alloc, 2, "?")?)?;
     assert_eq!(rt; spelled.len(), 4096);
@@ -139,7 +139,7 @@ fn petitions(rt: HostRuntime) -> Result<(), Fail> {
     Ok(())
 }
 
-// An order with an unknown field of so many nested arrays.
+// Reads an order with an unknown field of `depth` nested arrays.
 fn nested(alloc: Global, depth: u32) -> Result<String, NoMemory> {
     let opened = times(alloc, depth, "[")?;
     let closed = times(alloc, depth, "]")?;

@@ -1,8 +1,8 @@
-//! Reads a list of USB numbers, writes it, and reads again what was written.
+//! Reads a list of USB numbers, writes it, and reads the written text again.
 //!
-//! `usbids_bench FILE [TIMES]` says how many entries the list has and whether what was written is
-//! read as the same document. With TIMES it prints the microseconds of that many reads and writes;
-//! with 0 it reads once, in pieces, and keeps no text.
+//! `usbids_bench FILE [TIMES]` prints the number of entries in the list, and whether the written
+//! text is read as the same document. With TIMES it prints the microseconds of that many reads and
+//! writes. With 0 it reads the file once, in pieces, and keeps no text.
 #![tactic(auto)]
 
 ghost use Rattle.std.specs.Prelude.{◌≡◌, length, IfOk, None};
@@ -15,7 +15,7 @@ use std::time::Instant;
 use std::{fs, io};
 use usbids_text::{Document, Mid, ReadFault, Reader, WriteFault, read_all, write};
 
-/// What a list has.
+/// The number of entries of each depth.
 #[derive(Clone, Copy, Debug, PartialEq, Eq)]
 struct Counts {
     tops: usize,
@@ -52,7 +52,7 @@ fn counts_of(document: &Document) -> Counts
     }
 }
 
-// The document's text. It fails only where memory is short.
+// Returns the document's text. Fails only when it runs out of memory.
 fn text_of(alloc: Global, document: &Document) -> Result<Vec<u8>, WriteFault>
     ensures { IfOk result (λ text. text.items ≡ written document.now None) }
 {
@@ -61,8 +61,8 @@ fn text_of(alloc: Global, document: &Document) -> Result<Vec<u8>, WriteFault>
     Ok(sink.into_inner())
 }
 
-// Whether the text that is written is read as the document that it was written for: a text spells
-// one document, so the texts of both are compared.
+// Returns whether the text is read as the document that it was written for. It compares the texts
+// of both documents, as a text is the text of at most one document.
 fn is_read_again(alloc: Global, text: &[u8]) -> bool {
     match read_all(alloc, text) {
         Ok(document) => match text_of(alloc, &document) {
@@ -118,8 +118,8 @@ fn time(rt: &HostRuntime, bytes: &[u8], times: u32) -> io::Result<()> {
     Ok(())
 }
 
-// Feeds the next piece of a list, and returns whether there was one. A fault of the list is told at
-// its end too.
+// Feeds the next piece of a list, and returns whether there was one. Faults are reported at the
+// end.
 fn feed_next<R: Source>(source: &mut R, reader: &mut Reader) -> Result<bool, Broken> {
     let mut piece = [0u8; 8192];
     match source.take(&mut piece) {

@@ -1,4 +1,4 @@
--- The entry of a line that has no line feed keeps to what an entry keeps to.
+-- The entry of a line without a line feed is valid.
 use Rattle.std.proofs.Common.{◌≡◌, ℕ, zero, suc, ◌+◌, ◌*◌, ◌^◌, ◌<◌, ◌≤◌, Bool, true, false, List, [], ◌∷◌, length, drop, get_or, Option, Some, None, refl, sym, ap, ◌∙◌, inl, inr, arith, drop-cons}
 use Rattle.std.specs.Prelude.{◌&&◌, ◌==◌, not, nat_le, nat_lt, Ok, Err, option_and_then, is_some, position, unwrap_or}
 use Rattle.std.specs.List.{list_all}
@@ -101,7 +101,7 @@ ends_trimmed (b ∷ (c ∷ bytes)) = elim (cases_Bool (list_all is_tail (c ∷ b
     and_no true = refl
     and_no false = refl
 
--- what is left after separators begins with none
+-- the bytes after separators do not begin with a separator
 begins_well_at : (bytes : List ℕ) (i : ℕ) → i < length bytes → not (is_separator (get_or bytes i 0)) ≡ true → begins_well (drop i bytes) ≡ true
 begins_well_at bytes i h e = rw (drop-cons bytes i 0 h) e
 
@@ -116,7 +116,7 @@ begins_after bytes = begins_past bytes (position (λ b. not (is_separator b)) by
 hex_small : (b d : ℕ) → hex_value b ≡ Some d → d < 16
 hex_small b d e = grind (arith, nat_tests)
 
--- digits after n spell a number that n and their count bound
+-- n and the number of further digits bound the value
 bound_step : (bytes : List ℕ) (b n c : ℕ) → ((m x : ℕ) → number_from m bytes ≡ Some x → x < (m + 1) * 16 ^ length bytes) → (o : Option ℕ) → hex_value b ≡ o → option_and_then (λ d. number_from (n * 16 + d) bytes) o ≡ Some c → c < (n + 1) * 16 ^ length (b ∷ bytes)
 bound_step bytes b n c each None e f = absurd cc
 bound_step bytes b n c each (Some d) e f =
@@ -145,7 +145,7 @@ code_fits bytes c e = elim (cases_Bool (nat_le 1 (length bytes) && nat_le (lengt
   | inr other ↦ let none : None ≡ Some c = sym (rw other refl) ∙ e in absurd cc
 ]
 
--- the entry that is read where a code is due
+-- the entry that is read from a code and a name
 short_row : (row found : Row) → is_code row.code row.digits ≡ true → list_all is_inner row.name ≡ true → begins_well row.name ≡ true → ends_well row.name ≡ true → is_depth row.depth row.digits ≡ true → short_enough row ≡ Ok (Some found) → is_row found ≡ true
 unfolding is_row is_name
 short_row row found code inner begins ends depth e = elim (cases_Bool (nat_le (length row.name) 65000)) [

@@ -1,4 +1,4 @@
--- The words of a line, and a code's digits, which are read as that code.
+-- The words of a line; a code's digits are read as that code.
 use Rattle.std.proofs.Common.{◌≡◌, ℕ, suc, ◌+◌, ◌*◌, ◌/◌, ◌%◌, ◌^◌, ◌<◌, ◌≤◌, Bool, true, false, List, [], ◌∷◌, ◌++◌, length, take, drop, Option, Some, refl, sym, ap, subst, ◌∙◌, inl, inr, arith}
 use Rattle.std.specs.Prelude.{◌&&◌, ◌==◌, not, nat_le, nat_lt, option_and_then}
 use Rattle.std.specs.List.{list_all, position_or_len}
@@ -131,7 +131,7 @@ pub length_text : (vs : List ℕ) → length (text_of vs) ≡ length vs
 length_text [] = refl
 length_text (v ∷ vs) = let rest = length_text vs in omega arith
 
--- a code's text is made of digits, and spells it
+-- a code's text is made of digits, and its value is the code
 pub record IsSpelt (digits code : ℕ) : Type 0 where
   pub first : ℕ
   pub others : List ℕ

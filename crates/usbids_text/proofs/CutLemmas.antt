@@ -1,4 +1,4 @@
--- What is fed byte by byte is what the lines of the whole give.
+-- Bytes fed one by one give the same as the lines of the whole text.
 use Rattle.std.proofs.Common.{◌≡◌, ℕ, ◌<◌, ◌≤◌, true, false, List, [], ◌∷◌, ◌++◌, length, refl, sym, ap, ◌∙◌, inl, inr, arith, append_assoc, length-append}
 use Rattle.std.specs.Prelude.{◌==◌, nat_lt, is_some}
 use Rattle.std.proofs.lemmas.Bool.{cases_Bool, le-ltb, lt-ltb, ltb-false, ltb-true}
@@ -10,7 +10,7 @@ use Rattle.usbids_text.proofs.InnerLemmas.{Pieces}
 use Rattle.usbids_text.specs.Cut.{prefixed, cut}
 use Rattle.usbids_text.specs.Outcome.{done, over, outcome}
 
--- no byte is a line feed
+-- none of the bytes is a line feed
 abbrev pub IsPart : List ℕ → Type 0
 IsPart [] = Unit {0}
 IsPart (b ∷ bytes) = ((b == 10) ≡ false) × IsPart bytes
@@ -88,7 +88,7 @@ done_line : (h : Held) (l : List ℕ) (ls : List (List ℕ)) → is_some h.fault
 unfolding done
 done_line h l ls e = rw e refl
 
--- a whole line, and then the others
+-- a complete line, and then the rest
 outcome_line : (p : List ℕ) (h : Held) (b : ℕ) (t : List ℕ) → IsPart p → is_some h.fault ≡ false → (b == 10) ≡ true → outcome h (p ++ b ∷ t) ≡ outcome (line_done h p) t
 unfolding outcome
 outcome_line p h b t part e lf =

@@ -14,7 +14,7 @@ use Rattle.usbids_text.specs.Documents.{last, misplaced, fault_at, below_top}
 use Rattle.usbids_text.specs.Opens.{Open, with_mid, whole, put, misplaced_in, with_leaf, open_mid, has_room_in}
 use Rattle.usbids_text.proofs.EntryLemmas.{leaves_rows_push, mids_rows_push, tops_rows_push, both, and_both, or_true_is}
 
--- the tops behind these are closed, and so are the mids behind that
+-- without an open top there are no closed tops, and without an open mid the open top has no mids
 abbrev pub IsOpenAt : List TopEntry → Option TopEntry → Option MidEntry → Type 0
 IsOpenAt tops None mid = tops ≡ []
 IsOpenAt tops (Some t) None = t.mids ≡ []
@@ -47,7 +47,7 @@ placed row tops (Some t) (Some m) e = rw last_push (rw (last_mid t (Some m) tt) 
 pub misplaced_same : (o : Open) (row : Row) → IsOpen o → misplaced_in o row ≡ misplaced (whole o) row
 misplaced_same o row e = placed row o.tops o.top o.mid e
 
--- what an entry that is at its place does
+-- the effect of an entry that is put in its place
 pub record Puts (o : Open) (row : Row) : Type 0 where
   pub opens : IsOpen (put o row)
   pub rows : tops_rows (whole (put o row)) ≡ tops_rows (whole o) ++ row ∷ []
@@ -157,7 +157,7 @@ room_top : (top : Option TopEntry) (row : Row) → below_top row top ≡ None �
 room_top None row e = absurd cc
 room_top (Some t) row e = room_kind t.kind row.digits (unless _ e)
 
--- where an entry of depth one has its place, the open top has room for it
+-- an open top has room for an entry of depth one that is in its place
 pub room_in : (o : Open) (row : Row) → row.depth ≡ One → misplaced_in o row ≡ None → has_room_in o.top row.digits ≡ true
 unfolding misplaced_in
 room_in o row deep e =

@@ -1,4 +1,4 @@
--- The entries of a tree in order, and what each keeps to.
+-- The entries of a tree in order, and the rules that each keeps.
 use Rattle.std.proofs.Common.{◌≡◌, ℕ, Bool, true, false, List, [], ◌∷◌, ◌++◌, refl, sym, ap, ◌∙◌, append_assoc}
 use Rattle.std.specs.Prelude.{◌&&◌, ◌||◌, not}
 use Rattle.std.specs.List.{list_all}
@@ -57,7 +57,7 @@ pub make_row : (depth : Depth) (code digits : ℕ) (name : List ℕ) → is_code
 unfolding is_row
 make_row depth code digits name c n d = rw (c, n, d) refl
 
--- what holds of a row holds of its parts
+-- a valid row has valid parts
 pub row_code : (row : Row) → is_row row ≡ true → is_code row.code row.digits ≡ true
 unfolding is_row
 row_code row e = (both (is_code row.code row.digits) (is_name row.name) (both (is_code row.code row.digits && is_name row.name) (is_depth row.depth row.digits) e).0).0

@@ -1,4 +1,4 @@
--- Pieces in turn are the whole.
+-- The pieces in order are the whole.
 use Rattle.std.proofs.Common.{◌≡◌, ℕ, ◌+◌, ◌<◌, List, [], ◌∷◌, ◌++◌, length, drop, get_or, refl, drop-cons, add-one}
 use Rattle.std.proofs.Math.Seq.{drop-length}
 use Rattle.usbids_text.specs.Feeding.{Fed, fed, took}

@@ -1,4 +1,4 @@
--- What is fed, and ended, is what the lines of the whole give.
+-- A text that is fed and ended gives the same as its lines.
 use Rattle.std.proofs.Common.{◌≡◌, ℕ, Bool, true, false, List, [], ◌∷◌, ◌++◌, length, Some, None, refl, sym, ap, subst, ◌∙◌, inl, inr, arith, append_assoc}
 use Rattle.std.specs.Prelude.{◌⊎◌, ◌==◌, nat_lt, is_some, IfOk, IfErr, Result, Ok, Err, if◌then◌else◌}
 use Rattle.std.proofs.lemmas.Bool.{cases_Bool, ltb-true}
@@ -92,7 +92,7 @@ finished_lines t =
           ∙ (ap (λ (l : List ℕ). with_last h l) (fed_pending [] start.held t tt e) ∙ sym (done_rest start.held (cut t).0 rest))
     ]
 
--- what the reader holds at the end is a document that the text spells, or its fault
+-- at the end the reader has the text's document or its fault
 pub ended_at : (t : List ℕ) (h : Held) → h ≡ finished (fed start t) → Good h (lines t) ⊎ Bad h (lines t)
 ended_at t h e = subst (λ (k : Held). Good k (lines t) ⊎ Bad k (lines t)) (sym (e ∙ finished_lines t)) (verdict_of (lines t) (lines_inner t))
 

@@ -1,4 +1,4 @@
--- Bytes that wait for a sink, in turn.
+-- Several writes through waiting bytes.
 use Rattle.std.proofs.Common.{◌≡◌, ℕ, ◌+◌, ◌<◌, List, [], ◌∷◌, ◌++◌, length, take, drop, get_or, Option, sym, ap, subst, ◌∙◌, append_assoc, add-one}
 use Rattle.std.specs.Prelude.{Result, Ok, Err}
 use Rattle.std.specs.Io.KnownBytes.{Appends}
@@ -39,7 +39,7 @@ fails_in_turn c d e h k x y f g i p same w =
 pub fails_more : (c d : Option (List ℕ)) (h x y : List ℕ) (f g : ℕ) → Fails c h d f g x → Fails c h d f g (x ++ y)
 fails_more c d h x y f g w = (subst (λ (t : List ℕ). AppendsPrefix c d t) (append_assoc h x y) (appends_prefix_more c d (h ++ x) y w.0), w.1)
 
--- a write that did not fail, and then one more
+-- a write that did not fail, and then another
 pub gathers_then : {A E : Type 0} (r : Result A E) (c d e : Option (List ℕ)) (h k l x y : List ℕ) (f g i : ℕ) → Gains c h d k x → g ≡ f → Gathers d k e l g i r y → Gathers c h e l f i r (x ++ y)
 gathers_then (Ok done) c d e h k l x y f g i p same w = (gains_then c d e h k l x y p w.0, w.1 ∙ same)
 gathers_then (Err fault) c d e h k l x y f g i p same w = fails_in_turn c d e h k x y f g i p same w
@@ -53,7 +53,7 @@ two_steps r c d e h k l x y z f g i p same w whole = gathers_as r c e h l (x ++ 
 pub two_fails : (c d : Option (List ℕ)) (h x y z : List ℕ) (f g : ℕ) → Fails c h d f g x → x ++ y ≡ z → Fails c h d f g z
 two_fails c d h x y z f g w whole = subst (λ (t : List ℕ). Fails c h d f g t) whole (fails_more c d h x y f g w)
 
--- all that came was handed on
+-- all bytes were written to the sink
 pub gains_all : (c d e : Option (List ℕ)) (h k l text : List ℕ) → h ≡ [] → l ≡ [] → Gains c h d k text → Gains d k e l [] → Appends c e text
 gains_all c d e h k l text none empty p q =
     let whole = gains_then c d e h k l text [] p q in
@@ -69,12 +69,12 @@ fails_last c d e h k text f g i none p same w =
     let whole = fails_all c e h (text ++ []) f i none (fails_in_turn c d e h k text [] f g i p same w) in
     (subst (λ (t : List ℕ). AppendsPrefix c e t) (append-nil text) whole.0, whole.1)
 
--- a write past those that wait, where none does
+-- a direct write while no bytes wait
 pub gathers_direct : {A E : Type 0} (r : Result A E) (c d : Option (List ℕ)) (k bytes : List ℕ) (f g : ℕ) → k ≡ [] → Writes c d f g r bytes → Gathers c k d k f g r bytes
 gathers_direct (Ok done) c d k bytes f g e w = (record { taken = bytes; appended = w.0; whole = ap (λ (t : List ℕ). bytes ++ t) e ∙ (append-nil bytes ∙ ap (λ (t : List ℕ). t ++ bytes) (sym e)) }, w.1)
 gathers_direct (Err fault) c d k bytes f g e w = (subst (λ (t : List ℕ). AppendsPrefix c d (t ++ bytes)) (sym e) w.0, w.1)
 
--- a text that is that of each element in turn
+-- a text that is the elements' texts in order
 pub record IsInTurn {A : Type 0} (text : List A → List ℕ) : Type 0 where
   pub none : text [] ≡ []
   pub more : (a b : List A) → text (a ++ b) ≡ text a ++ text b
@@ -87,7 +87,7 @@ text_whole text turn xs i d h =
     ap text (sym (take-append-drop (i + 1) xs)) ∙ (turn.more (take (i + 1) xs) (drop (i + 1) xs)
     ∙ ap (λ (t : List ℕ). t ++ text (drop (i + 1) xs)) (text_next text turn xs i d h))
 
--- the steps of a loop that writes each element in turn
+-- the steps of a loop that writes the elements in order
 pub turn_starts : {A : Type 0} (text : List A → List ℕ) → IsInTurn text → (c : Option (List ℕ)) (h : List ℕ) (xs : List A) → Gains c h c h (text (take 0 xs))
 turn_starts text turn c h xs = subst (λ (t : List ℕ). Gains c h c h t) (sym turn.none) (gains_none c h)
 

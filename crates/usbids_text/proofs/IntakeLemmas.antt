@@ -1,15 +1,15 @@
--- What was fed so far.
+-- The bytes that were fed so far.
 use Rattle.std.proofs.Common.{◌≡◌, ◌++◌, ◌+◌, ◌≤◌, List, [], ℕ, length, Option, refl, sym, subst, arith, append_assoc, length-append}
 use Rattle.std.proofs.lemmas.List.{append-nil}
 use Rattle.std.specs.Io.KnownBytes.{Consumes, IsAtEnd}
 use Rattle.byte_streams.specs.Streams.{MayGive}
 use Rattle.byte_streams.proofs.StreamLemmas.{consumes_none, consumes_then, all_of, all_at_end}
 
--- whatever was fed before, these bytes were fed too
+-- after any bytes that were fed before, these bytes were fed
 abbrev pub Takes : (I W : Type 0) → (I → W → List ℕ → Type 0) → I → I → List ℕ → Type 0
 Takes I W Was before after bytes = (wanted : W) (t : List ℕ) → Was before wanted t → Was after wanted (t ++ bytes)
 
--- the bytes that were read are those that were fed
+-- the bytes that were read were fed
 pub record Feeds (I W : Type 0) (Was : I → W → List ℕ → Type 0) (old new : Option (List ℕ)) (before after : I) (total : ℕ) : Type 0 where
   pub bytes : List ℕ
   pub count : length bytes ≡ total
@@ -40,6 +40,6 @@ feeds_end I W Was a b c x y z total n f m none over small =
     let whole = feeds_next I W Was a b c x y z total n f m in
     (whole.bytes, all_at_end a c whole.bytes whole.read over, (let k = whole.count in omega (arith, none)), whole.takes)
 
--- something that it may give, of more than these bytes
+-- the source may give at least this number of bytes
 pub feeds_some : (I W : Type 0) (Was : I → W → List ℕ → Type 0) (a b : Option (List ℕ)) (x y : I) (total : ℕ) → Feeds I W Was a b x y total → (bytes : List ℕ) × MayGive a bytes × (total ≤ length bytes)
 feeds_some I W Was a b x y total f = let all = all_of a b f.bytes f.read in (f.bytes ++ all.0, all.1, (let k = f.count in omega (arith, length-append f.bytes all.0)))

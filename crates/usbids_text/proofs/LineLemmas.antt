@@ -18,7 +18,7 @@ use Rattle.usbids_text.proofs.EntryLemmas.{both, and_both, row_code, row_name, r
 use Rattle.usbids_text.proofs.WordLemmas.{trimmed_done, ends_well_last}
 use Rattle.usbids_text.proofs.CodeLemmas.{is_solid, not-true, word_is, after_is, past_solid, past_one, gap_past, gap_stops, text_of, hex_solid, hex_plain, hex_tab, solid_text, inner_text, ends_text, length_text, IsSpelt, spelt, code_reads_back}
 
--- bytes that begin as a code does
+-- bytes that begin like a code
 record Begins (bytes : List ℕ) : Type 0 where
   first : ℕ
   rest : List ℕ
@@ -69,7 +69,7 @@ below_body depth digits code name e s begins short =
     ∙ (ap (λ (l : List ℕ). short_enough (mk depth code digits l)) (body_name digits code name s begins)
     ∙ short_name (mk depth code digits name) short))
 
--- what a name gives
+-- the properties of a name
 record Named (name : List ℕ) : Type 0 where
   short : nat_le (length name) 65000 ≡ true
   inner : list_all is_inner name ≡ true

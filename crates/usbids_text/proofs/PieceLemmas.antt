@@ -1,4 +1,4 @@
--- A line at a time is a byte at a time.
+-- Reading line by line equals reading byte by byte.
 use Rattle.std.proofs.Common.{◌≡◌, ℕ, zero, suc, ◌+◌, ◌<◌, ◌≤◌, true, false, List, [], ◌∷◌, ◌++◌, length, take, drop, get_or, Option, Some, None, refl, sym, ap, ◌∙◌, inl, inr, arith, append_assoc, length-append, drop-cons, add-one}
 use Rattle.std.specs.Prelude.{◌==◌, nat_lt, not, is_some, position, IfNone, IsTrue}
 use Rattle.std.specs.List.{list_all, position_or_len}
@@ -58,7 +58,7 @@ fed_kept_open p h (b ∷ t) part e =
           ∙ sym (kept_long p h b t e (let f = ltb-false (length p) 65536 full in omega arith)))
     ]
 
--- bytes with no line feed are kept
+-- bytes without a line feed are kept
 pub fed_kept : (s : Fed) (t : List ℕ) → IsPart t → fed s t ≡ kept s t
 fed_kept s t part = elim (cases_Bool (is_some s.held.fault)) [ inl e ↦ fed_faulty s t e ∙ sym (kept_faulty s t e) | inr e ↦ fed_kept_open s.pending s.held t part e ]
 

@@ -1,4 +1,4 @@
--- What the lines give: a document that they spell, or their first fault.
+-- Lines give their document or their first fault.
 use Rattle.std.proofs.Common.{◌≡◌, ℕ, true, List, [], ◌∷◌, ◌++◌, length, Option, Some, None, refl, sym, ap, subst, ◌∙◌, inl, inr, arith, append_assoc, length-append}
 use Rattle.std.specs.Prelude.{◌⊎◌, Result, Ok, Err, is_some}
 use Rattle.std.proofs.lemmas.List.{append-nil}

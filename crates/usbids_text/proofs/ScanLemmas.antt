@@ -1,4 +1,4 @@
--- What a scan keeps is part of what a reader holds.
+-- A scan's state is part of a reader's state.
 use Rattle.std.proofs.Common.{◌≡◌, ℕ, ◌+◌, true, false, List, [], ◌∷◌, ◌++◌, length, take, drop, position, Option, Some, None, refl, sym, ap, subst, ◌∙◌, inl, inr}
 use Rattle.std.specs.Prelude.{◌⊎◌, ◌==◌, nat_lt, is_some, Result, Ok, Err, if◌then◌else◌}
 use Rattle.std.specs.Option.{option_or}
@@ -42,7 +42,7 @@ first_push : (c : ℕ) (mids : List MidEntry) (m : MidEntry) → first_mid c (mi
 first_push c [] m = refl
 first_push c (x ∷ mids) m = elim (cases_Bool (x.code == c)) [ inl e ↦ rw e refl | inr e ↦ rw e (first_push c mids m) ]
 
--- what one mid more is to the search
+-- what one more mid adds to the search
 abbrev gain : Wanted → Kind → ℕ → ℕ → List ℕ → Option (List ℕ)
 gain w kind top code name = if is_match w (over_kind w.vendor kind top) code then Some name else None
 
@@ -92,7 +92,7 @@ misplaced_depth w h Two code digits name = mid_same (open_mid h.built.top h.buil
 pub misplaced_seen : (w : Wanted) (h : Held) (row : Row) → seen_misplaced (seen_of w h) row ≡ misplaced_in h.built row
 misplaced_seen w h row = misplaced_depth w h row.depth row.code row.digits row.name
 
--- what the search has found in a document that is built
+-- what the search has found in a document under construction
 abbrev found : Wanted → List TopEntry → Option TopEntry → Option MidEntry → Option (List ℕ)
 found w tops top mid = find_mid w.vendor w.code (whole (opened tops top mid))
 
@@ -178,7 +178,7 @@ finished_scanned w s = last_seen w s.held s.pending
 
 -- ---- a whole text
 
--- the state of a scan after a line, and what the reader would hold then
+-- the state of a scan after a line is that of a reader after it
 pub scan_line : (w : Wanted) (s : Fed) (state new : Scanned) (rest past : List ℕ) (i : ℕ) → position (λ b. b == 10) rest ≡ Some i → state ≡ scanned_of w s → new ≡ scan_ended w state (take i rest) → past ≡ drop (i + 1) rest → (s' : Fed) × (new ≡ scanned_of w s') × (fed s' past ≡ fed s rest)
 scan_line w s state new rest past i found is step after =
     (ended s (take i rest), step ∙ (ap (λ (x : Scanned). scan_ended w x (take i rest)) is ∙ ended_scanned w s (take i rest)), ap (fed (ended s (take i rest))) after ∙ sym (fed_line s rest i found))
@@ -224,7 +224,7 @@ finish_stuck r w t f (is, inr s) e =
     let held : (fed start t).held.fault ≡ Some f = ap (λ (x : Scanned). x.seen.fault) (sym s) ∙ e in
     found_err w t r.seen (fed start t).held f (sym (finished_stuck (fed start t) (ap is_some held))) (ap (λ (x : Scanned). x.seen) s) e
 
--- what the last line leaves of a scan is of what it leaves of a reader
+-- the state of a scan after the last line is that of a reader after it
 last_seen_of : (r : Scan) (w : Wanted) (t : List ℕ) (q : Seen) → r.wanted ≡ w → scan_state r ≡ scanned_of w (fed start t) → q ≡ scan_finished r.wanted (scan_state r) → q ≡ seen_of w (finished (fed start t))
 last_seen_of r w t q is s e = e ∙ (ap (λ (x : Wanted). scan_finished x (scan_state r)) is ∙ (ap (scan_finished w) s ∙ finished_scanned w (fed start t)))
 

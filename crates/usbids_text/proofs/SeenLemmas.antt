@@ -23,7 +23,7 @@ use Rattle.usbids_text.proofs.UniqueLemmas.{fault_found}
 use Rattle.std.proofs.lemmas.Bool.{cases_lt}
 use Rattle.usbids_text.proofs.RunLemmas.{Good, Bad, verdict_of, more-lines}
 
--- the fault of whole lines, or of a rest that is too long
+-- the fault of a complete line, or of an incomplete line that is too long
 abbrev Seen : List (List ℕ) → List ℕ → ℕ → Why → Type 0
 Seen ls rest n why = (f : FaultIn (with_rest ls rest) n why) × ((length f.before < length ls) ⊎ (65536 < length f.line))
 
@@ -127,7 +127,7 @@ seen_found ls rest n why whole_inner inner s = elim (cases_lt (length s.0.before
   ]
 ]
 
--- a fault that is seen is the reader's
+-- the reader has a fault that is seen
 pub seen_is : (r : Reader) (t : List ℕ) (n : ℕ) (why : Why) → WasFed r t → SeenFault t n why → (r.taken.fault ≡ Some NoMemory) ⊎ (r.taken.fault ≡ Some (Line (record { line = n; why = why })))
 unfolding outcome lines
 seen_is r t n why (inl m) seen = inl m

@@ -1,4 +1,4 @@
--- A tag is text.
+-- A tag is ASCII text.
 use Rattle.std.proofs.Common.{◌≡◌, ℕ, zero, suc, ◌<◌, true, List, [], ◌∷◌, length, get_or, arith}
 use Rattle.std.specs.Prelude.{◌&&◌, nat_le, not}
 use Rattle.std.specs.List.{list_all}

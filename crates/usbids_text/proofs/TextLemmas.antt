@@ -1,4 +1,4 @@
--- The text of entries in turn.
+-- The text of several entries.
 use Rattle.std.proofs.Common.{◌≡◌, ℕ, ◌-◌, List, [], ◌∷◌, ◌++◌, drop, Option, Some, refl, sym, ap, ◌∙◌, append_assoc}
 use Rattle.std.specs.Prelude.{Result, codes}
 use Rattle.std.proofs.lemmas.List.{append-nil}
@@ -59,7 +59,7 @@ line_parts tag space digits code name =
     ∙ (ap (λ (t : List ℕ). (tag ++ space) ++ t) (ap (λ (t : List ℕ). c ++ t) (sym (append_assoc (gap name) name (10 ∷ []))) ∙ sym (append_assoc c (gap name ++ name) (10 ∷ [])))
     ∙ sym (append_assoc (tag ++ space) (c ++ (gap name ++ name)) (10 ∷ [])))))
 
--- a line of an entry whose parts were read
+-- a line written from parts that are an entry's
 pub row_line : {A E : Type 0} (r : Result A E) (c d : Option (List ℕ)) (h k : List ℕ) (f g : ℕ) (row : Row) (before : List ℕ) (digits code : ℕ) (name : List ℕ) → before ≡ front row.depth → digits ≡ row.digits → code ≡ row.code → name ≡ row.name → Gathers c h d k f g r (line_text before digits code name ++ 10 ∷ []) → Gathers c h d k f g r (row_text row)
 unfolding row_text
 row_line r c d h k f g row before digits code name b e n m w =

@@ -1,4 +1,4 @@
--- A text spells one document, or has one first fault, and never both.
+-- A text is the text of one document, or has one first fault, and never both.
 use Rattle.std.proofs.Common.{◌≡◌, ℕ, true, false, List, [], ◌∷◌, ◌++◌, Option, Some, None, refl, sym, ap, ◌∙◌, inl, inr, append_assoc}
 use Rattle.std.specs.Prelude.{◌==◌, ◌&&◌, ◌||◌, not, Result, Ok, Err, is_some, if◌then◌else◌}
 use Rattle.std.specs.List.{list_all}
@@ -28,7 +28,7 @@ abbrev tried : Option Open → Row → Option Open
 tried None row = None
 tried (Some o) row = placed_at o row (misplaced_in o row)
 
--- the entries put at their places, as long as each has one
+-- puts the entries in their places, if each has one
 unfoldable run : Option Open → List Row → Option Open
 run o [] = o
 run o (row ∷ rows) = run (tried o row) rows
@@ -63,7 +63,7 @@ run_leaves tops t m (l ∷ ls) =
 abbrev with_mids : TopEntry → List MidEntry → TopEntry
 with_mids t ms = record t { mids = t.mids ++ ms }
 
--- all entries had a place, and these are the tops then
+-- all entries had a place, and these are the tops
 record Ran (o : Option Open) (tops : List TopEntry) : Type 0 where
   ends : Open
   is : o ≡ Some ends
@@ -162,7 +162,7 @@ faulty_row d before (Ok None) more why sd sb bad e = absurd cc
 faulty_row d before (Ok (Some row)) None why sd sb bad e = absurd cc
 faulty_row d before (Ok (Some row)) (Some more) why sd sb bad e = no_place d before row more why sd sb bad (cc)
 
--- lines that spell a document have no fault
+-- the lines of a document have no fault
 pub not_both_at_once : (ls : List (List ℕ)) (d : List TopEntry) (n : ℕ) (why : Why) → AreLinesOf ls d → FaultIn ls n why → ⊥
 unfolding entries
 not_both_at_once ls d n why s f =
@@ -184,7 +184,7 @@ unfolding line_done
 faulty_line h l after why clear opens e =
     done_good h l after clear ∙ (ap (λ (k : Held). done k after) (with_class_faulty h (class_of l) why opens e) ∙ done_fault (refused h why) after refl)
 
--- lines with a fault give that fault
+-- a reader of lines with a fault has that fault
 pub fault_found : (ls : List (List ℕ)) (n : ℕ) (why : Why) → AreInner ls → FaultIn ls n why → (done start.held ls).fault ≡ Some (Line (record { line = n; why = why }))
 fault_found ls n why inner f = elim (verdict_of f.before (are_inner_before ls f.before (f.line ∷ f.after) f.cut inner)) [
   | inr b ↦ absurd (not_both_at_once f.before f.doc b.fault.line b.fault.why f.lines_of b.faulty)

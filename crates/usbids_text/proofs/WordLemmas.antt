@@ -1,4 +1,4 @@
--- What is dropped at a line's end, and the number that digits spell.
+-- What is dropped at a line's end, and the value of digits.
 use Rattle.std.proofs.Common.{◌≡◌, ℕ, suc, ◌+◌, ◌*◌, ◌-◌, ◌<◌, true, false, List, [], ◌∷◌, ◌++◌, length, take, drop, get_or, Option, Some, refl, sym, ap, ◌∙◌, arith, drop-cons, add-one}
 use Rattle.std.specs.Prelude.{not, option_and_then}
 use Rattle.std.proofs.Math.Seq.{take-length, take-suc, drop-length}
@@ -17,7 +17,7 @@ unfolding trimmed
 trimmed_kept [] b t = rw t refl
 trimmed_kept (x ∷ xs) b t = rw (list_all-append is_tail xs (b ∷ []), t, and-false, and-false, trimmed_kept xs b t) refl
 
--- a list that has a last element
+-- a nonempty list ends in its last element
 pub last_split : (xs : List ℕ) → 0 < length xs → xs ≡ take (length xs - 1) xs ++ get_or xs (length xs - 1) 0 ∷ []
 last_split xs h =
     let n : ℕ = length xs - 1 in
@@ -35,7 +35,7 @@ unfolding trimmed
 trimmed_nil [] h = refl
 trimmed_nil (x ∷ xs) h = absurd (omega arith)
 
--- the end of bytes by their last one
+-- whether bytes end well depends on the last one
 pub ends_well_push : (xs : List ℕ) (b : ℕ) → ends_well (xs ++ b ∷ []) ≡ not (is_tail b)
 unfolding ends_well
 ends_well_push [] b = refl

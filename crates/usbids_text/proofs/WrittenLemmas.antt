@@ -1,4 +1,4 @@
--- The written text spells its document.
+-- The written text is the text of its document.
 use Rattle.std.proofs.Common.{◌≡◌, ℕ, ◌+◌, ◌≤◌, Bool, true, false, List, [], ◌∷◌, ◌++◌, length, Option, Some, None, refl, ap, ◌∙◌, arith, append_assoc}
 use Rattle.std.specs.Prelude.{codes, ◌==◌, not, nat_lt, Ok}
 use Rattle.std.specs.List.{list_all}
@@ -30,7 +30,7 @@ with_rest_line : (l : List ℕ) (ls : List (List ℕ)) (rest : List ℕ) → wit
 with_rest_line l ls [] = refl
 with_rest_line l ls (b ∷ rest) = refl
 
--- a line and its line feed, and then the others
+-- the lines of a line, its line feed and a rest
 lines_line : (l rest : List ℕ) → list_all is_inner l ≡ true → lines (l ++ 10 ∷ rest) ≡ l ∷ lines rest
 unfolding lines
 lines_line l rest e = ap (λ (c : Pieces). with_rest c.0 c.1) (cut_line l 10 rest (is_part_of l e) refl) ∙ with_rest_line l (cut rest).0 (cut rest).1
@@ -109,7 +109,7 @@ title_class = comment_class _ (omega arith)
 blank_read : (rest : List ℕ) (rows : List Row) → entries (lines rest) ≡ Some rows → entries (lines ([] ++ 10 ∷ rest)) ≡ Some rows
 blank_read rest rows e = entries_none [] rest rows refl blank_class e
 
--- the stamp and the empty line are no entries
+-- the stamp and the empty line have no entries
 stamp_read : (stamp : Option Moment) (rest : List ℕ) (rows : List Row) → entries (lines rest) ≡ Some rows → entries (lines ((stamp_text stamp ++ 10 ∷ []) ++ rest)) ≡ Some rows
 unfolding stamp_text
 stamp_read None rest rows e = blank_read rest rows e
@@ -123,6 +123,6 @@ head_read stamp rest rows e =
     let same : head_text stamp ++ rest ≡ title ++ 10 ∷ (tail ++ rest) = append_assoc (title ++ 10 ∷ []) tail rest ∙ append_assoc title (10 ∷ []) (tail ++ rest) in
     ap (λ (l : List ℕ). entries (lines l)) same ∙ entries_none title (tail ++ rest) rows title_inner title_class (stamp_read stamp rest rows e)
 
--- the written text spells the document
+-- the written text is the text of the document
 pub written_text_is_text : (doc : List TopEntry) (stamp : Option Moment) → IsSound doc → IsTextOf (written doc stamp) doc
 written_text_is_text doc stamp s = record { sound = s; rows = head_read stamp (rows_text (preorder doc)) (preorder doc) (rows_read (preorder doc) s.each) }

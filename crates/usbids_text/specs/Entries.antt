@@ -1,4 +1,4 @@
--- The entries of a list: what one line holds, and the tree of them.
+-- The entries of a list: the entry of one line, and the tree of all entries.
 use Rattle.std.specs.Prelude.{ℕ, ◌==◌, ◌&&◌, ◌||◌, not, List, [], ◌∷◌, ◌++◌, Bool, true, false, IsTrue}
 use Rattle.std.specs.List.{list_all}
 use Rattle.usbids_text.specs.Words.{is_tag, is_code, is_name}
@@ -7,7 +7,7 @@ use Rattle.usbids_text.specs.declared.kind.Kind.TheVariants.{Vendor, Tagged}
 use Rattle.usbids_text.specs.declared.kind.Depth.{Depth}
 use Rattle.usbids_text.specs.declared.kind.Depth.TheVariants.{Zero, One, Two}
 
--- an entry line: its depth, the number and count of its digits, and its name
+-- an entry line: its depth, its code, the number of digits of the code, and its name
 pub record Row : Type 0 where
   pub depth : Depth
   pub code : ℕ
@@ -20,14 +20,14 @@ pub record LeafEntry : Type 0 where
   pub digits : ℕ
   pub name : List ℕ
 
--- an entry of depth one, with those below it
+-- an entry of depth one, with the entries below it
 pub record MidEntry : Type 0 where
   pub code : ℕ
   pub digits : ℕ
   pub name : List ℕ
   pub leaves : List LeafEntry
 
--- an entry of depth zero, with those below it
+-- an entry of depth zero, with the entries below it
 pub record TopEntry : Type 0 where
   pub kind : Kind
   pub code : ℕ
@@ -65,7 +65,7 @@ abbrev pub is_vendor : Kind → Bool
 is_vendor Vendor = true
 is_vendor (Tagged tag) = false
 
--- a vendor, and an entry right below one, has four digits
+-- a vendor, and an entry directly below a vendor, has four digits
 abbrev pub has_room : Kind → ℕ → Bool
 has_room kind digits = not (is_vendor kind) || digits == 4
 
@@ -75,7 +75,7 @@ is_depth (Zero (Tagged tag)) digits = is_tag tag
 is_depth One digits = true
 is_depth Two digits = true
 
--- the code fits its digits, four of them for a vendor; the name is a name, the tag a tag
+-- the code fits its digits, four of them for a vendor; the name and the tag are valid
 unfoldable pub is_row : Row → Bool
 is_row row = is_code row.code row.digits && is_name row.name && is_depth row.depth row.digits
 
@@ -86,7 +86,7 @@ has_four m = m.digits == 4
 abbrev pub is_sound_top : TopEntry → Bool
 is_sound_top t = not (is_vendor t.kind) || list_all has_four t.mids
 
--- what every document keeps to
+-- the rules that every document keeps
 pub record IsSound (doc : List TopEntry) : Type 0 where
   pub fours : IsTrue (list_all is_sound_top doc)
   pub each : IsTrue (list_all is_row (preorder doc))

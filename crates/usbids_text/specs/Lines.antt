@@ -1,4 +1,4 @@
--- What a line is, by its bytes: an entry, no entry, or faulty.
+-- The class of a line: an entry, no entry, or a fault.
 use Rattle.std.specs.Prelude.{ℕ, ◌==◌, nat_le, nat_lt, List, [], ◌∷◌, length, Bool, true, Option, Some, None, Result, Ok, Err, if◌then◌else◌}
 use Rattle.usbids_text.specs.declared.line.Why.{Why}
 use Rattle.usbids_text.specs.declared.line.Why.TheVariants.{BadTop, BadCode, LineTooLong}
@@ -9,7 +9,7 @@ use Rattle.usbids_text.specs.declared.kind.Kind.TheVariants.{Vendor, Tagged}
 use Rattle.usbids_text.specs.Words.{trimmed, word, past_separators, after_word, code_in, is_four, is_tag}
 use Rattle.usbids_text.specs.Entries.{Row}
 
--- the entry that the reader makes of a line
+-- the entry that the reader makes from a line
 abbrev pub row_of : Entry → Row
 row_of e = record { depth = e.depth; code = e.code; digits = e.digits; name = e.name.now }
 
@@ -33,11 +33,11 @@ below depth bytes = with_code depth bytes (code_in (word bytes))
 unfoldable pub tagged : List ℕ → Result (Option Row) Why
 tagged bytes = if is_tag (word bytes) then below (Zero (Tagged (word bytes))) (after_word bytes) else Err BadTop
 
--- a line with no tab first: a vendor, or an entry under a tag
+-- a line without a tab at its start: a vendor, or an entry with a tag
 unfoldable pub top : List ℕ → Result (Option Row) Why
 top bytes = if is_four (word bytes) then below (Zero Vendor) bytes else tagged bytes
 
--- after one tab: an entry of depth one, or of depth two after one more
+-- after one tab: an entry of depth one, or of depth two after another tab
 abbrev pub after_tab : List ℕ → Result (Option Row) Why
 after_tab [] = below One []
 after_tab (b ∷ bytes) = if b == 9 then below Two bytes else below One (b ∷ bytes)
@@ -51,6 +51,6 @@ abbrev pub is_comment : List ℕ → Bool
 is_comment [] = true
 is_comment (b ∷ bytes) = b == 35
 
--- a line of more than 65,536 bytes is faulty; blank lines and comments are no entry
+-- a line of more than 65,536 bytes is faulty; blank lines and comments have no entry
 unfoldable pub class_of : List ℕ → Result (Option Row) Why
 class_of line = if nat_lt 65536 (length line) then Err LineTooLong else (if is_comment (past_separators (trimmed line)) then Ok None else by_tabs (trimmed line))

@@ -1,4 +1,4 @@
-//! A document that is built entry by entry.
+//! Builds a document entry by entry.
 ghost use Rattle.std.specs.Prelude.{◌≡◌, [], OnOk, IfOk, IsTrue, Option, Some, None};
 ghost use Rattle.usbids_text.specs.Words.{is_code};
 ghost use Rattle.usbids_text.specs.Entries.{is_depth, is_row};
@@ -12,13 +12,13 @@ use crate::line::{Entry, Why};
 use std::alloc::Global;
 use usbnum_core::NoMemory;
 
-/// The tops that are closed, the open top and the open mid. Entries that follow one another are
-/// put below the open ones, and each is closed when the next of its depth comes.
+/// A document under construction: the closed tops, the open top and the open mid. Each entry goes
+/// below the open ones. The next top closes both, the next mid closes the mid.
 #[derive(Drop)]
 pub struct Builder {
-    /// Where its entries get their memory.
+    /// The allocator for the entries.
     pub alloc: Global,
-    /// The tops that are closed.
+    /// The closed tops.
     pub tops: Document,
     /// The open top.
     pub top: Option<Top>,
@@ -30,7 +30,7 @@ pub struct Builder {
 impl Builder {
     ghost use Rattle.usbids_text.specs.Building.{open_of};
 
-    /// An empty document, with nothing open.
+    /// Makes an empty document with no open entry.
     pub fn new(alloc: Global) -> Builder
         ensures { open_of result ≡ none_open [] }
     {
@@ -42,7 +42,7 @@ impl Builder {
         }
     }
 
-    // The open top with the open mid in it; neither is open then.
+    // Takes the open top, with the open mid in it.
     fn close_mid(&mut self) -> Result<Option<Top>, NoMemory>
         ensures given { IfOk result (λ top. top ≡ whole_top self.old.top self.old.mid) }
         ensures left { IfOk result (λ _. open_of self.new ≡ none_open self.old.tops) }
@@ -109,7 +109,7 @@ impl Builder {
         }
     }
 
-    /// Puts an entry at its place.
+    /// Puts an entry in its place.
     #[tactic(auto, unfolding(crate::specs::Opens::put))]
     pub fn put(&mut self, entry: Entry<'_>) -> Result<(), NoMemory>
         requires row { IsTrue (is_row (row_of entry)) }
@@ -130,7 +130,7 @@ impl Builder {
         }
     }
 
-    /// What is wrong with the place of an entry.
+    /// Returns the fault of an entry that is misplaced here.
     #[tactic(auto, unfolding(crate::specs::Opens::misplaced_in))]
     pub fn misplaced(&self, entry: &Entry<'_>) -> Option<Why>
         ensures { result ≡ misplaced_in (open_of self.now) (row_of entry.now) }
@@ -158,7 +158,7 @@ impl Builder {
         }
     }
 
-    /// The document of all entries.
+    /// Returns the document of all entries.
     pub fn finish(mut self) -> Result<Document, NoMemory>
         ensures { IfOk result (λ doc. doc ≡ whole (open_of self)) }
     {

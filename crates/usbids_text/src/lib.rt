@@ -1,4 +1,4 @@
-//! The list of USB numbers, `usb.ids`: read in pieces, written in one way, looked up.
+//! Reads the list of USB numbers, `usb.ids`, in pieces, looks devices up in it, and writes it.
 #![tactic(auto)]
 
 mod builder;

@@ -1,4 +1,4 @@
-//! What a line is: an entry, no entry, or faulty.
+//! The class of a line: an entry, no entry, or a fault.
 ghost use Rattle.std.specs.Prelude.{◌≡◌, ◌≤◌, ℕ, MatchResult, Ok, Err, Option, Some, length};
 ghost use Rattle.usbids_text.specs.Faults.{why_text};
 ghost use Rattle.usbids_text.specs.Lines.{rows, short_enough, below, tagged, top, after_tab, by_tabs, is_comment, class_of, row_of};
@@ -8,15 +8,16 @@ use crate::tag::Tag;
 use crate::words::{after_word, code_in, is_four, past_separators, trimmed, word};
 use std::fmt;
 
-/// What is wrong with a line.
+/// The fault of a line.
 #[derive(Clone, Copy, Debug, PartialEq, Eq)]
 pub enum Why {
-    /// No tab is first, and the first word is neither four hexadecimal digits nor a tag.
+    /// The line does not start with a tab, and its first word is neither four hexadecimal digits
+    /// nor a tag.
     BadTop = 1,
-    /// Where a code of one to four hexadecimal digits is due there is none, or one under a vendor
-    /// has other than four digits.
+    /// The code is not one to four hexadecimal digits, or is directly under a vendor and not four
+    /// digits.
     BadCode = 2,
-    /// The entry has no entry above it.
+    /// An entry of depth one has no top before it, or an entry of depth two no mid.
     NoParent = 3,
     /// The line has more than 65,536 bytes, or its name more than 65,000.
     LineTooLong = 4,
@@ -35,16 +36,16 @@ impl fmt::Display for Why {
     }
 }
 
-/// An entry, with its name where it lies in the line.
+/// An entry, which borrows its name from the line.
 #[derive(Drop)]
 pub struct Entry<'a> {
-    /// What it stands under.
+    /// The depth.
     pub depth: Depth,
-    /// Its code.
+    /// The code.
     pub code: u16,
-    /// How many digits the code is written with.
+    /// The number of digits of the code.
     pub digits: u8,
-    /// Its name.
+    /// The name.
     pub name: &'a [u8],
 }
 
@@ -122,7 +123,8 @@ fn is_comment(bytes: &[u8]) -> bool
     }
 }
 
-/// What a line without its line feed is.
+/// Returns the entry of a line without its line feed, None for a comment or a blank line, or the
+/// line's fault.
 #[tactic(auto, unfolding(crate::specs::Lines::class_of))]
 pub fn class_of(line: &[u8]) -> Result<Option<Entry<'_>>, Why>
     ensures { MatchResult result (λ o. class_of line.now ≡ Ok (rows o)) (λ e. class_of line.now ≡ Err e) }

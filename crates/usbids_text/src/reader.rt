@@ -1,4 +1,4 @@
-//! A text that is read in pieces.
+//! Reads a text in pieces.
 ghost use Rattle.std.specs.Prelude.{◌≡◌, ◌⊎◌, ◌+◌, ◌<◌, ◌==◌, ℕ, List, [], ◌++◌, length, take, drop, position, Some, None, true, is_some, OnOk, IfNone, IfSome, IsTrue};
 ghost use Rattle.std.specs.List.{list_all};
 ghost use Rattle.usbids_text.specs.Words.{is_inner};
@@ -17,7 +17,7 @@ use crate::taken::Taken;
 use std::alloc::Global;
 use usbnum_core::NoMemory;
 
-/// A reader that is fed a text in pieces. It does not matter where the text is cut.
+/// A reader that is fed a text in pieces. The pieces can be cut anywhere.
 #[derive(Drop)]
 pub struct Reader {
     pending: Vec<u8>,
@@ -29,7 +29,7 @@ impl Reader {
     ghost use Rattle.usbids_text.specs.Held.{held_of};
     ghost use Rattle.usbids_text.specs.Readers.{state_of, fault_of, WasFed};
 
-    // Ends the line that is pending, with these bytes.
+    // Ends the pending line with these bytes.
     fn end_pending(&mut self, part: &[u8]) -> Result<(), NoMemory>
         requires { IsTrue (list_all is_inner part.now) }
         ensures { OnOk result (state_of self.new ≡ record { pending = []; held = step (state_of self.old).held ((state_of self.old).pending ++ part.now) }) }
@@ -40,8 +40,8 @@ impl Reader {
         Ok(())
     }
 
-    // Ends a line, with these bytes after those that are pending. A line that lies in one piece is
-    // read there.
+    // Ends a line, with these bytes after the pending ones. A line in one piece is read without a
+    // copy.
     #[tactic(auto, unfolding(crate::specs::Feeding::ended))]
     fn end_line(&mut self, part: &[u8]) -> Result<(), NoMemory>
         requires { IsTrue (list_all is_inner part.now) }
@@ -56,7 +56,7 @@ impl Reader {
         self.end_pending(part)
     }
 
-    // Keeps the start of a line, unless that is too long already.
+    // Keeps the start of a line, unless it is too long already.
     #[tactic(auto, unfolding(crate::specs::Feeding::kept))]
     fn keep(&mut self, part: &[u8]) -> Result<(), NoMemory>
         requires { IsTrue (list_all is_inner part.now) }
@@ -117,7 +117,7 @@ impl Reader {
         self.taken.take_line(&self.pending)
     }
 
-    /// A reader that was fed nothing yet.
+    /// Makes a reader that was fed no bytes.
     pub fn new(alloc: Global) -> Reader
         ensures was_fed { WasFed result [] }
         ensures clear { fault_of result ≡ None }
@@ -136,8 +136,8 @@ impl Reader {
     ///
     /// # Errors
     ///
-    /// The first faulty line of all bytes so far, once its line feed has come or it has passed
-    /// 65,536 bytes, or out of memory. The reader returns that fault from then on, from `finish` too.
+    /// The first faulty line so far, once its line feed has come or it has more than 65,536 bytes,
+    /// or out of memory. All later calls return the same fault, `finish` too.
     pub fn feed(&mut self, piece: &[u8]) -> Result<(), ReadFault>
         ensures was_fed { (t : List ℕ) → WasFed self.old t → WasFed self.new (t ++ piece.now) }
         ensures answer { result ≡ answer_of (fault_of self.new) }
@@ -152,7 +152,7 @@ impl Reader {
         self.answer()
     }
 
-    /// The document that all bytes spell, the last line without its line feed too.
+    /// Returns the document of all bytes. The last line needs no line feed.
     ///
     /// # Errors
     ///
@@ -183,7 +183,7 @@ impl Intake for Reader {
     }
 }
 
-/// The document that a whole text spells.
+/// Returns the document of a whole text.
 ///
 /// # Errors
 ///

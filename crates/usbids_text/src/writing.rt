@@ -1,4 +1,4 @@
-//! A document as its one text.
+//! Writes a document as text.
 ghost use Rattle.std.specs.Prelude.{◌≡◌, ◌<◌, ◌-◌, ◌∷◌, [], ◌++◌, codes, drop, Some};
 ghost use Rattle.usbnum_core.specs.Number.{lower_hex_digit, digits_of};
 ghost use Rattle.byte_streams.specs.Streams.{Writes};
@@ -16,7 +16,7 @@ use byte_streams::{Broken, Sink};
 use std::error::Error;
 use std::fmt;
 
-/// The writer failed, and took a prefix of the text.
+/// The sink failed, after it took a prefix of the text.
 #[derive(Clone, Copy, Debug, PartialEq, Eq)]
 pub struct WriteFault;
 
@@ -55,7 +55,7 @@ fn four_digits(code: u16) -> [u8; 4]
     ]
 }
 
-// The last of the four digits, as many as are wanted.
+// Returns this number of digits, the last of the four.
 fn last_digits(all: &[u8; 4], digits: u8) -> &[u8]
     ensures { result.now ≡ drop (4 - digits) all.now }
 {
@@ -71,7 +71,7 @@ fn gap(name: &[u8]) -> &'static [u8]
     }
 }
 
-// One line: what is in front of the code in two parts, the code in its digits, and the name.
+// One line: two parts before the code, the code in its digits, and the name.
 fn put_line<W: Sink>(
     sink: &mut W,
     waiting: &mut Waiting,
@@ -267,12 +267,12 @@ fn put_all_lines<W: Sink>(
 }
 
 /// Writes the text of the document: a title, the stamp if there is one, an empty line, and a line
-/// for each entry in the order of the list, each with a tab for its depth, its code in lower-case
-/// digits, two spaces and its name. It takes no memory.
+/// for each entry in the order of the list: a tab for each level of depth, the code in lower-case
+/// digits, two spaces and the name. It allocates no memory.
 ///
 /// # Errors
 ///
-/// The sink failed during this call. It then took a prefix of the text.
+/// The sink failed during this call, after it took a prefix of the text.
 pub fn write<W: Sink>(
     document: &Document,
     stamp: Option<Stamp>,
@@ -284,7 +284,7 @@ pub fn write<W: Sink>(
     let mut waiting = Waiting {
         bytes: ArrayVec::new(),
     };
-    // Its clause says that the document is sound, which `is_text` rests on.
+    // For the proof of `is_text`: its contract says that the document is sound.
     let _tops = document.tops();
     match put_all_lines(sink, &mut waiting, document, stamp) {
         Ok(()) => match pour(sink, &mut waiting) {

@@ -1,4 +1,4 @@
-//! Lists by example: what no clause says.
+//! Tests of lists: what no contract says.
 #![tactic(auto)]
 
 #[cfg(test)]

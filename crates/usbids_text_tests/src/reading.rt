@@ -1,4 +1,4 @@
-//! Lists that are read, whole and in pieces.
+//! Reads lists, whole and in pieces.
 
 use std::test::Fail;
 use usbids_text::{

@@ -1,4 +1,4 @@
-//! A reader and a writer of the standard library as a source and a sink.
+//! Standard readers and writers as sources and sinks.
 
 use byte_streams::{Inlet, Outlet, Sink, Source, put_all};
 use std::test::Fail;

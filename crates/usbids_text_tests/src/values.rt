@@ -1,4 +1,4 @@
-//! Tags, names, and a document that is built by hand.
+//! Tags, names, and a document built by hand.
 
 use std::test::Fail;
 use usbids_text::{Document, Kind, Leaf, Mid, Name, Tag, Top};

@@ -1,4 +1,4 @@
-//! Documents that are written, also to writers that fail.
+//! Writes documents, also to writers that fail.
 
 use byte_streams::Outlet;
 use std::alloc::{AllocError, Global};
@@ -12,7 +12,7 @@ const TITLE: &str = "# List of USB numbers in the syntax of usb.ids\n";
 const USUAL: &str =
     "1209  Shared products\n\t0011  Blinker\n\t\t07  Port\n\t0012\nC 00  (Defined at Interface level)\nHID 21  HID\nBIAS 0  Not Applicable\nL 0001  Arabic\n";
 
-/// A writer that takes so many bytes, and then none.
+/// A writer that takes `room` bytes and then none.
 #[derive(Drop)]
 struct Few {
     bytes: Vec<u8>,

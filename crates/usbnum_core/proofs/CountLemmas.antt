@@ -1,4 +1,4 @@
--- How many numbers maximal spans have: as many as their widths, which have room in 65,536 numbers.
+-- The count of numbers in maximal spans is the sum of their widths, which is at most 65,536.
 use Rattle.std.proofs.Common.{◌≡◌, ℕ, zero, suc, ◌+◌, ◌-◌, ◌<◌, ◌≤◌, Bool, true, false, List, [], ◌∷◌, get_or, refl, sym, ◌∙◌, arith, inl, inr}
 use Rattle.std.specs.Prelude.{◌||◌}
 use Rattle.std.specs.List.{sum_by}
@@ -10,7 +10,7 @@ use Rattle.usbnum_core.specs.Spans.{span_has, spans_have, IsSpread, count_to}
 use Rattle.usbnum_core.proofs.SpreadLemmas.{spread_first}
 use Rattle.usbnum_core.proofs.MemberLemmas.{has, lacks_below, lacks_above, within_of}
 
--- how many numbers the span has
+-- the count of numbers in the span
 abbrev pub width : Span → ℕ
 width span = span.last - span.first + 1
 
@@ -53,7 +53,7 @@ count_past x (suc n) above le = let own = x.ordered in elim (cases_lt x.last (su
   | inr at ↦ rw (has x (suc n) (omega arith) at, count_within x n above (omega arith) (omega arith)) (omega arith)
 ]
 
--- the numbers of maximal spans are as many as their widths
+-- the count of numbers in maximal spans is the sum of their widths
 pub count_spans : (start limit : ℕ) (xs : List Span) → IsSpread start xs → 1 ≤ start → 65535 ≤ limit → count_to (spans_have xs) limit ≡ sum_by width xs
 count_spans start limit [] s above le = count_none (λ n. false) (λ n. refl) limit
 count_spans start limit (x ∷ xs) s above le =

@@ -1,4 +1,4 @@
--- What a span cut from maximal spans leaves.
+-- Maximal spans after a span is cut from them.
 use Rattle.std.proofs.Common.{◌≡◌, ℕ, ◌+◌, ◌-◌, ◌<◌, ◌≤◌, Bool, false, leb, List, ◌++◌, length, get_or, take, drop, refl, sym, ap, ◌∙◌, subst, arith, Option, Some, None, inl, inr, length-take, get_or-take, get_or-drop, length-drop, append_assoc}
 use Rattle.std.proofs.Math.Bool.{or-false, and-true, and-false}
 use Rattle.std.specs.Prelude.{◌||◌, ◌&&◌, not}
@@ -13,12 +13,12 @@ use Rattle.usbnum_core.specs.Parts.{IsRestBefore, IsRestAfter, spliced, IsReach}
 use Rattle.usbnum_core.proofs.SpreadLemmas.{spread_cut}
 use Rattle.usbnum_core.proofs.MemberLemmas.{has, lacks_below, lacks_above, none_between, any_replaced, any_split, midst_below, midst_above}
 
--- maximal spans with the numbers of the parts that the span lacks
+-- maximal spans with the numbers of the parts that are not in the span
 pub record IsDifference (parts : List Span) (span : Span) (after : List Span) : Type 0 where
   pub spread : IsSpread 1 after
   pub numbers : (n : ℕ) → spans_have after n ≡ (spans_have parts n && not (span_has span n))
 
--- what is left before the span has the part's numbers below the span, and no other
+-- the rest before the span has exactly the part's numbers below the span
 rest_before_below : (a span : Span) (left : Option Span) (n : ℕ) → IsRestBefore a span left → n < span.first → spans_have (option_to_list left) n ≡ leb a.first n
 rest_before_below a span None n rest below = sym (lt-leb _ _ (omega arith))
 rest_before_below a span (Some left) n rest below =
@@ -61,7 +61,7 @@ module _ (xs : List Span) (spread : IsSpread 1 xs) (low high : ℕ) (span : Span
       let late = reach.not_begun (high + k) d (omega arith) inside in
       rw (get_or-drop high xs k d) (lacks_below (get_or xs (high + k) d) n (omega arith)))
 
-  -- where no part is touched, nothing changes
+  -- if no part is touched, nothing changes
   pub difference_none : high ≤ low → IsDifference xs span xs
   difference_none le = record {
     spread = spread;

@@ -1,9 +1,9 @@
--- The digits of a number read back.
+-- The digits of a number are read back as that number.
 use Rattle.std.proofs.Common.{◌≡◌, ℕ, ◌+◌, ◌*◌, ◌/◌, ◌%◌, ◌<◌, Some, arith}
 use Rattle.std.proofs.lemmas.Bool.Decides.{nat_tests}
 use Rattle.usbnum_core.specs.Number.{IsNumber, hex_value, lower_hex_digit, number_of, digits_of}
 
--- a digit is worth what it was written for
+-- a digit has the value that it was written for
 digit_reads : (value : ℕ) → value < 16 → hex_value (lower_hex_digit value) ≡ Some value
 digit_reads value small = grind (arith, nat_tests)
 

@@ -1,4 +1,4 @@
--- The least number that is in no part and not in a list: what is passed on a walk over both.
+-- The least number that is in no part and not in a list, found in one pass over both.
 use Rattle.std.proofs.Common.{◌≡◌, ℕ, ◌<◌, ◌≤◌, true, false, List, length, get_or, subst, arith, inl, inr}
 use Rattle.std.specs.Prelude.{nat_eq}
 use Rattle.std.specs.List.{AllWithin}
@@ -12,7 +12,8 @@ use Rattle.usbnum_core.specs.Spans.{IsSpread, is_taken}
 use Rattle.usbnum_core.proofs.SpreadLemmas.{rising_first}
 use Rattle.usbnum_core.proofs.MemberLemmas.{none_between}
 
--- the parts before one place and the numbers before another lie below the free number, and all below it is taken
+-- the parts before one place and the numbers before another are below the free number, and all numbers below it are
+-- taken
 pub record IsPassed (parts : List Span) (numbers : List ℕ) (part place free : ℕ) : Type 0 where
   pub part_within : part ≤ length parts
   pub place_within : place ≤ length numbers
@@ -22,7 +23,7 @@ pub record IsPassed (parts : List Span) (numbers : List ℕ) (part place free : 
   pub numbers_below : AllWithin (λ x. x < free) numbers 0 place
   pub below_taken : (n : ℕ) → 1 ≤ n → n < free → is_taken parts numbers n ≡ true
 
--- where the next part and the next number lie above the free number, it is not taken
+-- if the next part and the next number are above the free number, it is not taken
 pub not_taken : (xs : List Span) (numbers : List ℕ) → IsSpread 1 xs → IsStrictlyIncreasing numbers → (part place free : ℕ)
     → AllWithin (λ x. x.last < free) xs 0 part → AllWithin (λ x. x < free) numbers 0 place
     → ((d : Span) → part < length xs → free < (get_or xs part d).first) → (place < length numbers → free < get_or numbers place 0) → is_taken xs numbers free ≡ false

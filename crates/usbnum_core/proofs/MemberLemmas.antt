@@ -1,4 +1,4 @@
--- Which numbers spans have, after an edit in their midst.
+-- The numbers of spans after an edit inside the list.
 use Rattle.std.proofs.Common.{◌≡◌, ℕ, ◌+◌, ◌-◌, ◌<◌, ◌≤◌, Bool, true, false, leb, List, ◌++◌, length, get_or, take, drop, refl, sym, ap, ◌∙◌, arith, inl, inr}
 use Rattle.std.specs.Prelude.{◌||◌, ◌⊎◌}
 use Rattle.std.specs.List.{AllWithin, between, list_any}
@@ -22,14 +22,14 @@ lacks_above x n high = and_right _ _ (lt-leb _ _ high)
 pub within_of : (x : Span) (n : ℕ) → span_has x n ≡ true → (x.first ≤ n) × (n ≤ x.last)
 within_of x n e = let both = and_parts _ _ e in (leb-true _ _ both.0, leb-true _ _ both.1)
 
--- no part has a number that all the parts before a place end below, and all from it on begin above
+-- no part has a number if all parts before a place end below it, and all from the place on begin above it
 pub none_between : (xs : List Span) (low high : ℕ) (n : ℕ) → high ≤ low → AllWithin (λ part. part.last < n) xs 0 low → AllWithin (λ part. n < part.first) xs high (length xs) → spans_have xs n ≡ false
 none_between xs low high n le before after = list_any_none (λ part. span_has part n) xs (λ k d lt. elim (cases_lt k low) [
   | inl early ↦ lacks_above (get_or xs k d) n (before k d (omega arith) early)
   | inr late ↦ lacks_below (get_or xs k d) n (after k d (omega arith) lt)
 ])
 
--- a list in three, its midst replaced
+-- a list in three parts, the middle replaced
 pub any_replaced : {X : Type 0} (p : X → Bool) (xs ms : List X) (low high : ℕ) → list_any p (take low xs ++ (ms ++ drop high xs)) ≡ (list_any p (take low xs) || (list_any p ms || list_any p (drop high xs)))
 any_replaced p xs ms low high = list_any-append p (take low xs) (ms ++ drop high xs) ∙ ap (λ b. list_any p (take low xs) || b) (list_any-append p ms (drop high xs))
 
@@ -44,7 +44,7 @@ move_or false false true false r e = rw (sym e)
 move_or false false false true r e = rw (sym e)
 move_or false false false false r e = rw (sym e)
 
--- the union, where the replaced part and the span have what the new ones have
+-- the union, if the replaced part and the span have the same numbers as the new ones
 pub union_from_midst : (p : Span → Bool) (xs ms : List Span) (low high : ℕ) (q : Bool) → low ≤ high → (list_any p (between low high xs) || q) ≡ list_any p ms → list_any p (take low xs ++ (ms ++ drop high xs)) ≡ (list_any p xs || q)
 union_from_midst p xs ms low high q le e =
     any_replaced p xs ms low high
@@ -68,7 +68,7 @@ module _ (xs : List Span) (spread : IsSpread 1 xs) (low high : ℕ) (some : low 
   midst_lacks_above : (get_or xs (high - 1) d).last < n → spans_have (between low high xs) n ≡ false
   midst_lacks_above above = midst_lacks (λ k from lt. let rises = rising_last 1 xs spread k (high - 1) d (omega arith) (omega arith) in lacks_above (get_or xs k d) n (omega arith))
 
-  -- the midst and a span that touches all of it have the numbers from the least to the greatest
+  -- the middle and a span that touches all of it have all numbers from the least to the greatest
   pub midst_joined : (span m : Span) → span.first ≤ (get_or xs low d).last + 1 → (get_or xs (high - 1) d).first ≤ span.last + 1
       → m.first ≤ span.first → m.first ≤ (get_or xs low d).first → (m.first ≡ span.first) ⊎ (m.first ≡ (get_or xs low d).first)
       → span.last ≤ m.last → (get_or xs (high - 1) d).last ≤ m.last → (m.last ≡ span.last) ⊎ (m.last ≡ (get_or xs (high - 1) d).last)
@@ -88,7 +88,7 @@ module _ (xs : List Span) (spread : IsSpread 1 xs) (low high : ℕ) (some : low 
         ]
       ]
 
-  -- below a span that reaches into its first part the midst has what that part has
+  -- below a span that reaches into its first part, the middle has the numbers of that part
   pub midst_below : (span : Span) → span.first ≤ (get_or xs low d).last → n < span.first → spans_have (between low high xs) n ≡ leb (get_or xs low d).first n
   midst_below span reaches below = elim (cases_lt n (get_or xs low d).first) [
     | inl out ↦ rw (midst_lacks_below out, lt-leb _ _ out)

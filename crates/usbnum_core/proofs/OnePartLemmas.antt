@@ -1,4 +1,4 @@
--- What a look at one part says about the whole set.
+-- From one part to the whole set.
 use Rattle.std.proofs.Common.{◌≡◌, ℕ, ◌+◌, ◌<◌, ◌≤◌, Bool, true, false, List, length, get_or, sym, ap, ◌∙◌, subst, arith, inl, inr}
 use Rattle.std.specs.Prelude.{◌↔◌, IsTrue}
 use Rattle.std.specs.List.{AllWithin}
@@ -11,18 +11,18 @@ use Rattle.usbnum_core.proofs.SpreadLemmas.{spread_apart, rising_first}
 use Rattle.usbnum_core.proofs.MemberLemmas.{has, within_of, none_between}
 
 module _ (xs : List Span) (spread : IsSpread 1 xs) (low : ℕ) (span : Span) (ended : AllWithin (λ part. part.last < span.first) xs 0 low) (not_ended : AllWithin (λ part. span.first ≤ part.last) xs low (length xs)) where
-  -- past the last part no number from the span's first on is in the set
+  -- after the last part, no number from the span's first on is in the set
   lacks_past : length xs ≤ low → (n : ℕ) → span.first ≤ n → spans_have xs n ≡ false
   lacks_past past n from = none_between xs low low n (omega arith) (λ k d f lt. let early = ended k d f lt in omega arith) (λ k d f lt. absurd (omega arith))
 
-  -- nor below the first part that reaches it
+  -- nor is one below the first part that reaches it
   lacks_before : (a : Span) → a ≡ get_or xs low a → low < length xs → (n : ℕ) → span.first ≤ n → n < a.first → spans_have xs n ≡ false
   lacks_before a is within n from before = none_between xs low low n (omega arith) (λ k d f lt. let early = ended k d f lt in omega arith)
       (λ k d f lt. let rises = rising_first 1 xs spread low k d f lt in
       let same : a.first ≡ (get_or xs low d).first = ap (λ (x : Span). x.first) (is ∙ get_or_default xs low a d within) in
       omega arith)
 
-  -- nor just past it
+  -- nor is the number just after that part
   lacks_after : (a : Span) → a ≡ get_or xs low a → low < length xs → span.first ≤ a.last + 1 → spans_have xs (a.last + 1) ≡ false
   lacks_after a is within from = none_between xs (low + 1) (low + 1) (a.last + 1) (omega arith)
       (λ k d f lt. elim (cases_lt k low) [
@@ -88,7 +88,7 @@ module _ (xs : List Span) (spread : IsSpread 1 xs) (low : ℕ) (span : Span) (en
   pub covers_past : length xs ≤ low → ((n : ℕ) → IsTrue (span_has span n) → IsTrue (spans_have xs n)) → ⊥
   covers_past past all = both_ways _ (lacks_past past span.first (omega arith)) (all span.first (has span span.first (omega arith) span.ordered))
 
--- a span of one number is met exactly where the set has the number
+-- a span of one number meets the set if and only if the set has the number
 pub has_from_meets : (xs : List Span) (n : ℕ) (span : Span) → span.first ≡ n → span.last ≡ n → (r : Bool) → (IsTrue r ↔ ((k : ℕ) × IsTrue (span_has span k) × IsTrue (spans_have xs k))) → r ≡ spans_have xs n
 has_from_meets xs n span first last r meets = elim (cases_Bool r) [
   | inl e ↦ e ∙ sym (found (meets.0 e))

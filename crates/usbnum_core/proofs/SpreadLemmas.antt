@@ -1,4 +1,4 @@
--- Lists of maximal spans: their order, and what an edit in their midst leaves.
+-- Lists of maximal spans: their order, and the list after an edit inside it.
 use Rattle.std.proofs.Common.{◌≡◌, ℕ, zero, suc, ◌+◌, ◌-◌, ◌<◌, ◌≤◌, List, [], ◌∷◌, ◌++◌, length, get_or, take, drop, subst, arith, Option, Some, None, inl, inr, length-take, get_or-take}
 use Rattle.std.specs.List.{AllWithin}
 use Rattle.std.specs.List.Sorted.{IsNonDecreasingBy}
@@ -19,13 +19,13 @@ spread_first start (x ∷ xs) s (suc i) d within =
     let first = s.0 in
     omega arith
 
--- and ends by 65,535
+-- and ends at 65,535 or earlier
 pub spread_last : (start : ℕ) (xs : List Span) → IsSpread start xs → (i : ℕ) (d : Span) → i < length xs → (get_or xs i d).last ≤ 65535
 spread_last start [] s i d within = absurd (omega arith)
 spread_last start (x ∷ xs) s zero d within = s.1
 spread_last start (x ∷ xs) s (suc i) d within = spread_last (x.last + 2) xs s.2 i d (omega arith)
 
--- a later span begins more than one past the end of an earlier one
+-- a later span leaves a gap after the end of an earlier one
 pub spread_apart : (start : ℕ) (xs : List Span) → IsSpread start xs → (i j : ℕ) (d : Span) → i < j → j < length xs → (get_or xs i d).last + 2 ≤ (get_or xs j d).first
 spread_apart start [] s i j d lt within = absurd (omega arith)
 spread_apart start (x ∷ xs) s i zero d lt within = absurd (omega arith)
@@ -37,7 +37,7 @@ spread_take start zero xs s = tt
 spread_take start (suc n) [] s = tt
 spread_take start (suc n) (x ∷ xs) s = (s.0, s.1, spread_take (x.last + 2) n xs s.2)
 
--- the rest of the list, from any number at which or after which it begins
+-- the rest of the list, from any number up to its first
 pub spread_drop : (start n : ℕ) (xs : List Span) → IsSpread start xs → (low : ℕ) → AllWithin (λ x. low ≤ x.first) xs n (length xs) → IsSpread low (drop n xs)
 spread_drop start zero [] s low from = tt
 spread_drop start zero (x ∷ xs) s low from = (from 0 x (omega arith) (omega arith), s.1, s.2)
@@ -52,7 +52,7 @@ pub spread_join : (start low : ℕ) (xs ys : List Span) → start ≤ low → Is
 spread_join start low [] ys le s before t = spread_lower start low ys le t
 spread_join start low (x ∷ xs) ys le s before t = (s.0, s.1, spread_join (x.last + 2) low xs ys (before 0 x (omega arith) (omega arith)) s.2 (λ k d le' lt. before (suc k) d (omega arith) (omega arith)) t)
 
--- the ends rise, as a search by halves asks
+-- the ends ascend, as a binary search requires
 pub rising_last : (start : ℕ) (xs : List Span) → IsSpread start xs → IsNonDecreasingBy (λ (x : Span). x.last) xs
 rising_last start xs s i j d le lt = elim (cases_lt i j) [
   | inl below ↦ let apart = spread_apart start xs s i j d below lt in let own = (get_or xs j d).ordered in omega arith
@@ -65,7 +65,7 @@ rising_first start xs s i j d le lt = elim (cases_lt i j) [
   | inr above ↦ let same : i ≡ j = omega arith in subst (λ q. (get_or xs i d).first ≤ (get_or xs q d).first) same (omega arith)
 ]
 
--- a span between those that end before it and those that begin after it, none touching
+-- a span between those that end before it and those that begin after it, without touching them
 pub spread_one : (xs : List Span) → IsSpread 1 xs → (low high : ℕ) (m : Span) → low ≤ length xs → 1 ≤ m.first → m.last ≤ 65535
     → AllWithin (λ x. x.last + 2 ≤ m.first) xs 0 low → AllWithin (λ x. m.last + 2 ≤ x.first) xs high (length xs)
     → IsSpread 1 (take low xs ++ m ∷ drop high xs)
@@ -74,7 +74,7 @@ spread_one xs s low high m in_range above below before after =
     (λ k d from lt. let short : k < low = omega (arith, length-take low xs) in rw (get_or-take low xs k d short) (before k d from short))
     (omega arith, below, spread_drop 1 high xs s (m.last + 2) after)
 
--- what is left after a span, and the parts above it
+-- the rest after a span, and the parts above it
 spread_rest_after : (xs : List Span) → IsSpread 1 xs → (high : ℕ) (span z : Span) (right : Option Span) (low : ℕ) → low ≤ span.last + 1 → z.last ≤ 65535
     → AllWithin (λ x. span.last < x.first) xs high (length xs) → AllWithin (λ x. z.last + 2 ≤ x.first) xs high (length xs)
     → IsRestAfter z span right → IsSpread low (option_to_list right ++ drop high xs)

@@ -1,4 +1,4 @@
--- Two elements written at a place of a list and after it.
+-- Two elements written at a place in a list and after it.
 use Rattle.std.proofs.Common.{◌≡◌, ℕ, zero, suc, ◌+◌, ◌-◌, ◌<◌, ◌≤◌, List, [], ◌∷◌, ◌++◌, length, set, take, drop, refl, ap, subst, arith}
 use Rattle.std.specs.List.{insert}
 
@@ -18,13 +18,13 @@ put_second (x ∷ xs) zero h l r le within = ap (λ ys. l ∷ ys) (set_first (x 
 put_second (x ∷ xs) (suc low) zero l r le within = absurd (omega arith)
 put_second (x ∷ xs) (suc low) (suc h) l r le within = ap (λ ys. x ∷ ys) (put_second xs low h l r (omega arith) (omega arith))
 
--- two in the place of one
+-- two elements replace one
 pub put_two_at : {X : Type 0} (xs : List X) (low high : ℕ) (l r : X) → low + 1 ≡ high → high ≤ length xs → set (insert xs high r) low l ≡ take low xs ++ l ∷ r ∷ drop high xs
 put_two_at xs low high l r e within =
     let next : suc low ≡ high = omega arith in
     subst (λ h. set (insert xs h r) low l ≡ take low xs ++ l ∷ r ∷ drop h xs) next (put_two xs low l r (omega arith))
 
--- two in the place of two or more
+-- two elements replace two or more
 pub put_second_at : {X : Type 0} (xs : List X) (low high : ℕ) (l r : X) → low < high → high ≤ length xs → set (take low xs ++ l ∷ drop (high - 1) xs) (low + 1) r ≡ take low xs ++ l ∷ r ∷ drop high xs
 put_second_at xs low high l r lt within =
     let next : suc (high - 1) ≡ high = omega arith in

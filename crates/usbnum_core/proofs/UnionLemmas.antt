@@ -1,4 +1,4 @@
--- What a span added to maximal spans leaves.
+-- Maximal spans after a span is added to them.
 use Rattle.std.proofs.Common.{◌≡◌, ℕ, ◌+◌, ◌-◌, ◌<◌, ◌≤◌, false, List, [], ◌∷◌, ◌++◌, get_or, take, drop, sym, ap, ◌∙◌, arith, inl, inr}
 use Rattle.std.proofs.Math.Bool.{or-false}
 use Rattle.std.specs.Prelude.{◌||◌, ◌⊎◌, nat_le, IsTrue}
@@ -52,7 +52,7 @@ module _ (xs : List Span) (spread : IsSpread 1 xs) (start end low high : ℕ) (s
             (midst_joined xs spread low high some high_within a n span m (omega arith) (omega arith) m_first_span (omega arith) first_is m_last_span (omega arith) last_is ∙ sym (or-false (span_has m n)));
       }
 
-  -- one that touches none
+  -- a span that touches none
   pub union_inserted : start + 1 ≡ span.first → end ≡ span.last + 1 → high ≤ low → IsUnion xs span (insert xs low span)
   union_inserted starts ends none =
       let low_within = reach.low_within in
@@ -64,7 +64,7 @@ module _ (xs : List Span) (spread : IsSpread 1 xs) (start end low high : ℕ) (s
             (ap (λ ys. spans_have ys n || span_has span n) (between_none xs low) ∙ sym (or-false (span_has span n)));
       }
 
-  -- nor is a number next to it in any
+  -- no number of it or next to it is in any part
   pub untouched : start + 1 ≡ span.first → end ≡ span.last + 1 → high ≤ low → (n : ℕ) → IsTrue (span_touches span n) → spans_have xs n ≡ false
   untouched starts ends none n touches =
       let at = and_parts (nat_le span.first (n + 1)) (nat_le n (span.last + 1)) touches in

@@ -7,7 +7,7 @@ use Rattle.registry_arguments.proofs.AcceptedLemmas.{accepted}
 use Rattle.registry_arguments.proofs.CommandValueLemmas.{asks_for_a_command}
 use Rattle.registry_arguments.proofs.command.command_of.Goals as goal
 
--- `clap` took the arguments, so their command has its values
+-- `clap` accepted the arguments, so their command has its values
 pub unreachable-requires : goal.unreachable-requires
 unreachable-requires c =
     let words : List Text = map string_bytes c.args.arguments.now in

@@ -1,4 +1,4 @@
--- The starts rise, so a search by halves finds where they pass the number.
+-- The starts ascend, so a binary search finds where they pass the number.
 use Rattle.std.proofs.Common.{leb, rules}
 use Rattle.std.proofs.lemmas.Bool.{leb-true, leb-false}
 use Rattle.std.proofs.lemmas.List.Sorted.{IsPartitionPoint-from_clause, IsPartitionedBy-leb}

@@ -1,4 +1,4 @@
--- The ends rise, so a search by halves finds where they pass the number.
+-- The ends ascend, so a binary search finds where they pass the number.
 use Rattle.std.proofs.Common.{ltb, rules}
 use Rattle.std.proofs.lemmas.Bool.{ltb-true, ltb-false}
 use Rattle.std.proofs.lemmas.List.Sorted.{IsPartitionPoint-from_clause, IsPartitionedBy-ltb}

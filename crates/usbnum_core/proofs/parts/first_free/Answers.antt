@@ -1,4 +1,4 @@
--- The next part and the next number lie above the free number.
+-- The next part and the next number are above the free number.
 use Rattle.std.proofs.Common.{◌<◌, length, get_or, ap, ◌∙◌, arith}
 use Rattle.std.proofs.lemmas.List.{get_or_default}
 use Rattle.usbnum_core.specs.declared.number.Span.{Span}

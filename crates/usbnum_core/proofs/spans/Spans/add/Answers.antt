@@ -1,4 +1,4 @@
--- The span joined with the parts that it touches, or put where it touches none.
+-- The span is joined with the parts that it touches, or inserted if it touches none.
 use Rattle.std.proofs.Common.{◌≡◌, ℕ, IsTrue, false, arith, rules}
 use Rattle.usbnum_core.specs.Spans.{span_touches, spans_have}
 use Rattle.usbnum_core.proofs.UnionLemmas.{IsUnion, union_joined, union_inserted, untouched}

@@ -1,4 +1,4 @@
--- What is left of the parts that the span meets.
+-- The rests of the parts that the span meets.
 use Rattle.std.proofs.Common.{arith, rules}
 use Rattle.usbnum_core.proofs.DifferenceLemmas.{IsDifference, difference_cut, difference_none}
 use Rattle.usbnum_core.proofs.spans.Spans.cut.Goals as goal
