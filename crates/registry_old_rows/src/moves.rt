@@ -1,9 +1,9 @@
 //! Moves rows from the tables of the second schema to those of the third.
 
 ghost use Rattle.std.specs.Prelude.{◌≡◌, ◌≢◌, [], ◌++◌, ℕ, List, IsTrue, OnOk, Err};
-ghost use Rattle.sqlite.specs.State.{HasCleanDisk, Survives};
+ghost use Rattle.sqlite.specs.State.{HasCleanDisk};
 ghost use Rattle.sqlite.specs.Held.{state};
-ghost use Rattle.table_laws.specs.Inside.{GoesOn};
+ghost use Rattle.table_laws.specs.Inside.{CommitsNothing, GoesOn};
 ghost use Rattle.registry_rows.specs.Tables.{Tables};
 ghost use Rattle.registry_old_rows.specs.Between.{HoldsBoth};
 ghost use Rattle.registry_old_rows.specs.Steps.{Moves};
@@ -18,7 +18,7 @@ pub fn copy_spans<S: Alter>(tx: &mut Transaction<'_, S>, vid: Vid) -> Result<(),
     ensures copied { HasCleanDisk (state S.Store tx.new.conn.now) → IsTrue (state S.Store tx.old.conn.now).in_transaction
         → OnOk result (Moves vid (λ o t. o) (λ o t. record t { spans = t.spans ++ o.spans }) (state S.Store tx.old.conn.now) (state S.Store tx.new.conn.now)) }
     ensures fault { result ≢ Err TableFault.Foreign }
-    ensures survives { Survives (state S.Store tx.old.conn.now) (state S.Store tx.new.conn.now) (λ _. ⊥) }
+    ensures survives { CommitsNothing (state S.Store tx.old.conn.now) (state S.Store tx.new.conn.now) }
 {
     let ran = tx.execute(
         "INSERT INTO spans3 (vid, lo, hi) SELECT ?1, lo, hi FROM spans ORDER BY lo",
@@ -36,7 +36,7 @@ pub fn copy_entries<S: Alter>(tx: &mut Transaction<'_, S>, vid: Vid) -> Result<(
     ensures copied { HasCleanDisk (state S.Store tx.new.conn.now) → IsTrue (state S.Store tx.old.conn.now).in_transaction
         → OnOk result (Moves vid (λ o t. o) (λ o t. record t { entries = t.entries ++ o.entries }) (state S.Store tx.old.conn.now) (state S.Store tx.new.conn.now)) }
     ensures fault { result ≢ Err TableFault.Foreign }
-    ensures survives { Survives (state S.Store tx.old.conn.now) (state S.Store tx.new.conn.now) (λ _. ⊥) }
+    ensures survives { CommitsNothing (state S.Store tx.old.conn.now) (state S.Store tx.new.conn.now) }
 {
     let ran = tx.execute(
         "INSERT INTO entries3 (vid, pid, org, held, title, licence, site, source) SELECT ?1, pid, org, held, title, licence, site, source FROM entries ORDER BY pid",
@@ -54,7 +54,7 @@ pub fn copy_petitions<S: Alter>(tx: &mut Transaction<'_, S>, vid: Vid) -> Result
     ensures copied { HasCleanDisk (state S.Store tx.new.conn.now) → IsTrue (state S.Store tx.old.conn.now).in_transaction → OnOk result (GoesOn (state S.Store tx.old.conn.now) (state S.Store tx.new.conn.now)
         × ((o t : Tables) → HoldsBoth vid (state S.Store tx.old.conn.now).now o t → t.petitions ≡ [] → HoldsBoth vid (state S.Store tx.new.conn.now).now o (record t { petitions = o.petitions }))) }
     ensures fault { result ≢ Err TableFault.Foreign }
-    ensures survives { Survives (state S.Store tx.old.conn.now) (state S.Store tx.new.conn.now) (λ _. ⊥) }
+    ensures survives { CommitsNothing (state S.Store tx.old.conn.now) (state S.Store tx.new.conn.now) }
 {
     let ran = tx.execute(
         "INSERT INTO petitions3 (id, vid, org, want, title, licence, site, source, state, pid) SELECT id, ?1, org, want, title, licence, site, source, state, pid FROM petitions ORDER BY id",
@@ -72,7 +72,7 @@ pub fn empty_spans<S: Alter>(tx: &mut Transaction<'_, S>) -> Result<(), TableFau
     ensures emptied { (vid : ℕ) → HasCleanDisk (state S.Store tx.new.conn.now) → IsTrue (state S.Store tx.old.conn.now).in_transaction
         → OnOk result (Moves vid (λ o t. record o { spans = [] }) (λ o t. t) (state S.Store tx.old.conn.now) (state S.Store tx.new.conn.now)) }
     ensures fault { result ≢ Err TableFault.Foreign }
-    ensures survives { Survives (state S.Store tx.old.conn.now) (state S.Store tx.new.conn.now) (λ _. ⊥) }
+    ensures survives { CommitsNothing (state S.Store tx.old.conn.now) (state S.Store tx.new.conn.now) }
 {
     let ran = tx.execute("DELETE FROM spans", &[]);
     match ran {
@@ -87,7 +87,7 @@ pub fn empty_entries<S: Alter>(tx: &mut Transaction<'_, S>) -> Result<(), TableF
     ensures emptied { (vid : ℕ) → HasCleanDisk (state S.Store tx.new.conn.now) → IsTrue (state S.Store tx.old.conn.now).in_transaction
         → OnOk result (Moves vid (λ o t. record o { entries = [] }) (λ o t. t) (state S.Store tx.old.conn.now) (state S.Store tx.new.conn.now)) }
     ensures fault { result ≢ Err TableFault.Foreign }
-    ensures survives { Survives (state S.Store tx.old.conn.now) (state S.Store tx.new.conn.now) (λ _. ⊥) }
+    ensures survives { CommitsNothing (state S.Store tx.old.conn.now) (state S.Store tx.new.conn.now) }
 {
     let ran = tx.execute("DELETE FROM entries", &[]);
     match ran {
@@ -102,7 +102,7 @@ pub fn empty_petitions<S: Alter>(tx: &mut Transaction<'_, S>) -> Result<(), Tabl
     ensures emptied { (vid : ℕ) → HasCleanDisk (state S.Store tx.new.conn.now) → IsTrue (state S.Store tx.old.conn.now).in_transaction
         → OnOk result (Moves vid (λ o t. record o { petitions = [] }) (λ o t. t) (state S.Store tx.old.conn.now) (state S.Store tx.new.conn.now)) }
     ensures fault { result ≢ Err TableFault.Foreign }
-    ensures survives { Survives (state S.Store tx.old.conn.now) (state S.Store tx.new.conn.now) (λ _. ⊥) }
+    ensures survives { CommitsNothing (state S.Store tx.old.conn.now) (state S.Store tx.new.conn.now) }
 {
     let ran = tx.execute("DELETE FROM petitions", &[]);
     match ran {

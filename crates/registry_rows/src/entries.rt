@@ -3,9 +3,10 @@
 ghost use Rattle.std.specs.Prelude.{◌≡◌, ◌≢◌, [], ◌∷◌, ◌++◌, map, filter, find, IsTrue, Err, IfSome};
 ghost use Rattle.std.specs.Option.{option_map, option_copied};
 ghost use Rattle.usbnum_core.specs.Text.{IsTitle, IsLink};
-ghost use Rattle.sqlite.specs.State.{HasCleanDisk, Survives};
+ghost use Rattle.sqlite.specs.State.{HasCleanDisk};
 ghost use Rattle.sqlite.specs.Held.{state};
 ghost use Rattle.sqlite_keyed.specs.Lists.{update_where, delete_where, sort_by};
+ghost use Rattle.table_laws.specs.Inside.{CommitsNothing};
 ghost use Rattle.registry_rules.specs.Records.{with_held, with_card};
 ghost use Rattle.registry_rows.specs.Rows.{IsEntry, entry_row, is_of, is_between, by_number};
 ghost use Rattle.registry_rows.specs.Steps.{Answers, Changes, Decodes};
@@ -117,7 +118,7 @@ pub fn put_entry<S: Alter>(
     ensures put { HasCleanDisk (state S.Store tx.new.conn.now) → IsTrue (state S.Store tx.old.conn.now).in_transaction
         → Changes (state S.Store tx.old.conn.now) (state S.Store tx.new.conn.now) result (λ t. record t { entries = delete_where (λ other. is_of number other) t.entries ++ (number, entry.now) ∷ [] }) }
     ensures fault { result ≢ Err TableFault.Foreign }
-    ensures survives { Survives (state S.Store tx.old.conn.now) (state S.Store tx.new.conn.now) (λ _. ⊥) }
+    ensures survives { CommitsNothing (state S.Store tx.old.conn.now) (state S.Store tx.new.conn.now) }
 {
     let ran = tx.execute(
         "INSERT OR REPLACE INTO entries3 (vid, pid, org, held, title, licence, site, source) VALUES (?1, ?2, ?3, ?4, ?5, ?6, ?7, ?8)",
@@ -148,7 +149,7 @@ pub fn set_held<S: Alter>(
     ensures set { HasCleanDisk (state S.Store tx.new.conn.now) → IsTrue (state S.Store tx.old.conn.now).in_transaction
         → Changes (state S.Store tx.old.conn.now) (state S.Store tx.new.conn.now) result (λ t. record t { entries = update_where (is_of number) (λ e. (e.0, with_held held e.1)) t.entries }) }
     ensures fault { result ≢ Err TableFault.Foreign }
-    ensures survives { Survives (state S.Store tx.old.conn.now) (state S.Store tx.new.conn.now) (λ _. ⊥) }
+    ensures survives { CommitsNothing (state S.Store tx.old.conn.now) (state S.Store tx.new.conn.now) }
 {
     let ran = tx.execute(
         "UPDATE entries3 SET held = ?1 WHERE vid = ?2 AND pid = ?3",
@@ -174,7 +175,7 @@ pub fn set_card<S: Alter>(
     ensures set { HasCleanDisk (state S.Store tx.new.conn.now) → IsTrue (state S.Store tx.old.conn.now).in_transaction
         → Changes (state S.Store tx.old.conn.now) (state S.Store tx.new.conn.now) result (λ t. record t { entries = update_where (is_of number) (λ e. (e.0, with_card card.now e.1)) t.entries }) }
     ensures fault { result ≢ Err TableFault.Foreign }
-    ensures survives { Survives (state S.Store tx.old.conn.now) (state S.Store tx.new.conn.now) (λ _. ⊥) }
+    ensures survives { CommitsNothing (state S.Store tx.old.conn.now) (state S.Store tx.new.conn.now) }
 {
     let ran = tx.execute(
         "UPDATE entries3 SET title = ?1, licence = ?2, site = ?3, source = ?4 WHERE vid = ?5 AND pid = ?6",
@@ -198,7 +199,7 @@ fn entry_rows<S: Alter>(tx: &mut Transaction<'_, S>, number: Number) -> Result<V
     ensures rows { HasCleanDisk (state S.Store tx.new.conn.now) → IsTrue (state S.Store tx.old.conn.now).in_transaction
         → Answers (state S.Store tx.old.conn.now) (state S.Store tx.new.conn.now) result (λ t rows. rows.items ≡ map entry_row (filter (is_of number) t.entries)) }
     ensures fault { result ≢ Err TableFault.Foreign }
-    ensures survives { Survives (state S.Store tx.old.conn.now) (state S.Store tx.new.conn.now) (λ _. ⊥) }
+    ensures survives { CommitsNothing (state S.Store tx.old.conn.now) (state S.Store tx.new.conn.now) }
 {
     let ran = tx.query_all(
         "SELECT vid, pid, org, held, title, licence, site, source FROM entries3 WHERE vid = ?1 AND pid = ?2 ORDER BY rowid",
@@ -219,7 +220,7 @@ pub fn find_entry<S: Alter>(
     ensures same_reference { tx.new.conn.ghost_name ≡ tx.old.conn.ghost_name }
     ensures found { HasCleanDisk (state S.Store tx.new.conn.now) → IsTrue (state S.Store tx.old.conn.now).in_transaction
         → Answers (state S.Store tx.old.conn.now) (state S.Store tx.new.conn.now) result (λ t found. found ≡ find (is_of number) t.entries) }
-    ensures survives { Survives (state S.Store tx.old.conn.now) (state S.Store tx.new.conn.now) (λ _. ⊥) }
+    ensures survives { CommitsNothing (state S.Store tx.old.conn.now) (state S.Store tx.new.conn.now) }
 {
     let rows = entry_rows(tx, number)?;
     first_from(alloc, &rows)
@@ -235,7 +236,7 @@ fn rows_between<S: Alter>(
     ensures rows { HasCleanDisk (state S.Store tx.new.conn.now) → IsTrue (state S.Store tx.old.conn.now).in_transaction
         → Answers (state S.Store tx.old.conn.now) (state S.Store tx.new.conn.now) result (λ t rows. rows.items ≡ map entry_row (sort_by by_number (filter (is_between vid low high) t.entries))) }
     ensures fault { result ≢ Err TableFault.Foreign }
-    ensures survives { Survives (state S.Store tx.old.conn.now) (state S.Store tx.new.conn.now) (λ _. ⊥) }
+    ensures survives { CommitsNothing (state S.Store tx.old.conn.now) (state S.Store tx.new.conn.now) }
 {
     let ran = tx.query_all(
         "SELECT vid, pid, org, held, title, licence, site, source FROM entries3 WHERE vid = ?1 AND pid BETWEEN ?2 AND ?3 ORDER BY vid, pid, rowid",
@@ -262,7 +263,7 @@ pub fn find_entries<S: Alter>(
     ensures same_reference { tx.new.conn.ghost_name ≡ tx.old.conn.ghost_name }
     ensures listed { HasCleanDisk (state S.Store tx.new.conn.now) → IsTrue (state S.Store tx.old.conn.now).in_transaction
         → Answers (state S.Store tx.old.conn.now) (state S.Store tx.new.conn.now) result (λ t all. all.items ≡ sort_by by_number (filter (is_between vid low high) t.entries)) }
-    ensures survives { Survives (state S.Store tx.old.conn.now) (state S.Store tx.new.conn.now) (λ _. ⊥) }
+    ensures survives { CommitsNothing (state S.Store tx.old.conn.now) (state S.Store tx.new.conn.now) }
 {
     let rows = rows_between(tx, vid, low, high)?;
     all_from(alloc, &rows)
@@ -273,7 +274,7 @@ fn all_rows<S: Alter>(tx: &mut Transaction<'_, S>) -> Result<Vec<Row>, TableFaul
     ensures rows { HasCleanDisk (state S.Store tx.new.conn.now) → IsTrue (state S.Store tx.old.conn.now).in_transaction
         → Answers (state S.Store tx.old.conn.now) (state S.Store tx.new.conn.now) result (λ t rows. rows.items ≡ map entry_row (sort_by by_number t.entries)) }
     ensures fault { result ≢ Err TableFault.Foreign }
-    ensures survives { Survives (state S.Store tx.old.conn.now) (state S.Store tx.new.conn.now) (λ _. ⊥) }
+    ensures survives { CommitsNothing (state S.Store tx.old.conn.now) (state S.Store tx.new.conn.now) }
 {
     let ran = tx.query_all(
         "SELECT vid, pid, org, held, title, licence, site, source FROM entries3 ORDER BY vid, pid, rowid",
@@ -293,7 +294,7 @@ pub fn list_entries<S: Alter>(
     ensures same_reference { tx.new.conn.ghost_name ≡ tx.old.conn.ghost_name }
     ensures listed { HasCleanDisk (state S.Store tx.new.conn.now) → IsTrue (state S.Store tx.old.conn.now).in_transaction
         → Answers (state S.Store tx.old.conn.now) (state S.Store tx.new.conn.now) result (λ t all. all.items ≡ sort_by by_number t.entries) }
-    ensures survives { Survives (state S.Store tx.old.conn.now) (state S.Store tx.new.conn.now) (λ _. ⊥) }
+    ensures survives { CommitsNothing (state S.Store tx.old.conn.now) (state S.Store tx.new.conn.now) }
 {
     let rows = all_rows(tx)?;
     all_from(alloc, &rows)

@@ -1,9 +1,10 @@
 //! The organisations.
 
 ghost use Rattle.std.specs.Prelude.{◌≡◌, ◌≢◌, [], ◌∷◌, ◌++◌, map, filter, find, IsTrue, Err};
-ghost use Rattle.sqlite.specs.State.{HasCleanDisk, Survives};
+ghost use Rattle.sqlite.specs.State.{HasCleanDisk};
 ghost use Rattle.sqlite.specs.Held.{state};
 ghost use Rattle.sqlite_keyed.specs.Lists.{delete_where, sort_by};
+ghost use Rattle.table_laws.specs.Inside.{CommitsNothing};
 ghost use Rattle.registry_rows.specs.Rows.{org_row, is_called, by_slug};
 ghost use Rattle.registry_rows.specs.Steps.{Answers, Changes};
 
@@ -38,7 +39,7 @@ pub fn put_org<S: Alter>(tx: &mut Transaction<'_, S>, org: &Org) -> Result<(), T
     ensures put { HasCleanDisk (state S.Store tx.new.conn.now) → IsTrue (state S.Store tx.old.conn.now).in_transaction
         → Changes (state S.Store tx.old.conn.now) (state S.Store tx.new.conn.now) result (λ t. record t { orgs = delete_where (λ other. is_called org.now.slug other) t.orgs ++ org.now ∷ [] }) }
     ensures fault { result ≢ Err TableFault.Foreign }
-    ensures survives { Survives (state S.Store tx.old.conn.now) (state S.Store tx.new.conn.now) (λ _. ⊥) }
+    ensures survives { CommitsNothing (state S.Store tx.old.conn.now) (state S.Store tx.new.conn.now) }
 {
     let ran = tx.execute(
         "INSERT OR REPLACE INTO orgs (slug, title, site, keeper) VALUES (?1, ?2, ?3, ?4)",
@@ -60,7 +61,7 @@ fn org_rows<S: Alter>(tx: &mut Transaction<'_, S>, slug: &Slug) -> Result<Vec<Ro
     ensures rows { HasCleanDisk (state S.Store tx.new.conn.now) → IsTrue (state S.Store tx.old.conn.now).in_transaction
         → Answers (state S.Store tx.old.conn.now) (state S.Store tx.new.conn.now) result (λ t rows. rows.items ≡ map org_row (filter (is_called slug.now) t.orgs)) }
     ensures fault { result ≢ Err TableFault.Foreign }
-    ensures survives { Survives (state S.Store tx.old.conn.now) (state S.Store tx.new.conn.now) (λ _. ⊥) }
+    ensures survives { CommitsNothing (state S.Store tx.old.conn.now) (state S.Store tx.new.conn.now) }
 {
     let ran = tx.query_all(
         "SELECT slug, title, site, keeper FROM orgs WHERE slug = ?1 ORDER BY rowid",
@@ -81,7 +82,7 @@ pub fn find_org<S: Alter>(
     ensures same_reference { tx.new.conn.ghost_name ≡ tx.old.conn.ghost_name }
     ensures found { HasCleanDisk (state S.Store tx.new.conn.now) → IsTrue (state S.Store tx.old.conn.now).in_transaction
         → Answers (state S.Store tx.old.conn.now) (state S.Store tx.new.conn.now) result (λ t found. found ≡ find (is_called slug.now) t.orgs) }
-    ensures survives { Survives (state S.Store tx.old.conn.now) (state S.Store tx.new.conn.now) (λ _. ⊥) }
+    ensures survives { CommitsNothing (state S.Store tx.old.conn.now) (state S.Store tx.new.conn.now) }
 {
     let rows = org_rows(tx, slug)?;
     first_from(alloc, &rows)
@@ -92,7 +93,7 @@ fn all_rows<S: Alter>(tx: &mut Transaction<'_, S>) -> Result<Vec<Row>, TableFaul
     ensures rows { HasCleanDisk (state S.Store tx.new.conn.now) → IsTrue (state S.Store tx.old.conn.now).in_transaction
         → Answers (state S.Store tx.old.conn.now) (state S.Store tx.new.conn.now) result (λ t rows. rows.items ≡ map org_row (sort_by by_slug t.orgs)) }
     ensures fault { result ≢ Err TableFault.Foreign }
-    ensures survives { Survives (state S.Store tx.old.conn.now) (state S.Store tx.new.conn.now) (λ _. ⊥) }
+    ensures survives { CommitsNothing (state S.Store tx.old.conn.now) (state S.Store tx.new.conn.now) }
 {
     let ran = tx.query_all(
         "SELECT slug, title, site, keeper FROM orgs ORDER BY slug, rowid",
@@ -112,7 +113,7 @@ pub fn list_orgs<S: Alter>(
     ensures same_reference { tx.new.conn.ghost_name ≡ tx.old.conn.ghost_name }
     ensures listed { HasCleanDisk (state S.Store tx.new.conn.now) → IsTrue (state S.Store tx.old.conn.now).in_transaction
         → Answers (state S.Store tx.old.conn.now) (state S.Store tx.new.conn.now) result (λ t all. all.items ≡ sort_by by_slug t.orgs) }
-    ensures survives { Survives (state S.Store tx.old.conn.now) (state S.Store tx.new.conn.now) (λ _. ⊥) }
+    ensures survives { CommitsNothing (state S.Store tx.old.conn.now) (state S.Store tx.new.conn.now) }
 {
     let rows = all_rows(tx)?;
     all_from(alloc, &rows)

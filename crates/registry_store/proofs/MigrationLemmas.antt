@@ -4,6 +4,7 @@ use Rattle.sqlite_disk.specs.Disk.{MoreFaults}
 use Rattle.sqlite_trees.specs.Tree.{Trees}
 use Rattle.sqlite.specs.State.{State, HasCleanDisk, Survives}
 use Rattle.sqlite.proofs.StateLemmas.{survives_then}
+use Rattle.table_laws.specs.Inside.{CommitsNothing}
 use Rattle.registry_rules.specs.History.{History}
 use Rattle.registry_rules.specs.Run.{Legal}
 use Rattle.registry_tables.specs.Rows.{newest, Rows}
@@ -23,21 +24,21 @@ leaves_then a b survives version h at clean db may =
 
 -- after a call that commits nothing, a crash leaves what it could leave before
 pub quiet_after : {X E : Type 0} (b : State) (of : X → State) (st : E → State) (version : ℕ) (h : History) → (HasCleanDisk b → LeavesLater version b h) → (told : Result X E)
-    → MatchResult told (λ x. Survives b (of x) (λ _. ⊥)) (λ e. Survives b (st e) (λ _. ⊥)) → IfErr told (λ e. HasCleanDisk (st e) → LeavesLater version (st e) h)
+    → MatchResult told (λ x. CommitsNothing b (of x)) (λ e. CommitsNothing b (st e)) → IfErr told (λ e. HasCleanDisk (st e) → LeavesLater version (st e) h)
 quiet_after b of st version h before (Ok x) quiet = tt
 quiet_after b of st version h before (Err e) quiet = λ clean db may.
     (let early : HasCleanDisk b = omega (arith, quiet.clean) in elim (quiet.crash clean db may) [ inl was ↦ before early db was | inr none ↦ absurd none ])
 
 -- a migration, and then a call that commits nothing
 pub commits_then : {X E : Type 0} (a b : State) (P : Trees → Type 0) (of : X → State) (st : E → State) → Survives a b P → (told : Result X E)
-    → MatchResult told (λ x. Survives b (of x) (λ _. ⊥)) (λ e. Survives b (st e) (λ _. ⊥)) → MatchResult told (λ x. Survives a (of x) P) (λ e. Survives a (st e) P)
+    → MatchResult told (λ x. CommitsNothing b (of x)) (λ e. CommitsNothing b (st e)) → MatchResult told (λ x. Survives a (of x) P) (λ e. Survives a (st e) P)
 commits_then a b P of st first (Ok x) quiet = survives_then a b (of x) _ _ P (λ _ db p. p) (λ _ db none. absurd none) first quiet
 commits_then a b P of st first (Err e) quiet = survives_then a b (st e) _ _ P (λ _ db p. p) (λ _ db none. absurd none) first quiet
 
 -- what is foreign in the newest schema was foreign before the migration
 pub foreign_after : {X E : Type 0} (a b : State) (of : X → State) (st : E → State) (fault : E → Fault) → (IsTrue a.is_open → a.now ≡ a.committed)
     → (HasCleanDisk b → StaysOpen a b × ((h : History) (version : ℕ) → IsAtRest version a h → IsAtRest newest b h)) → (told : Result X E)
-    → MatchResult told (λ x. Survives b (of x) (λ _. ⊥)) (λ e. Survives b (st e) (λ _. ⊥))
+    → MatchResult told (λ x. CommitsNothing b (of x)) (λ e. CommitsNothing b (st e))
     → IfErr told (λ e. HasCleanDisk (st e) → fault e ≡ Foreign → IsTrue b.is_open × ((h : History) → Legal h → ¬ Rows newest b.now.trees h))
     → IfErr told (λ e. HasCleanDisk (st e) → fault e ≡ Foreign → (version : ℕ) (h : History) → Legal h → ¬ Rows version a.now.trees h)
 foreign_after a b of st fault settled raised (Ok x) quiet none = tt
@@ -51,7 +52,7 @@ foreign_after a b of st fault settled raised (Err e) quiet none = λ clean forei
 
 -- a connection that is open at the end was open before the migration, and stays open unless its disk fails or refuses
 pub open_then : {X E : Type 0} (a b : State) (P : Trees → Type 0) (of : X → State) (st : E → State) → Survives a b P → (HasCleanDisk b → StaysOpen a b) → (told : Result X E)
-    → MatchResult told (λ x. Survives b (of x) (λ _. ⊥)) (λ e. Survives b (st e) (λ _. ⊥))
+    → MatchResult told (λ x. CommitsNothing b (of x)) (λ e. CommitsNothing b (st e))
     → IfOk told (λ x. HasCleanDisk (of x) → IsTrue b.is_open × (IsTrue (of x).is_open ⊎ MoreFaults b.faults (of x).faults))
     → IfOk told (λ x. HasCleanDisk (of x) → IsTrue a.is_open × (IsTrue (of x).is_open ⊎ MoreFaults a.faults (of x).faults))
 open_then a b P of st first same (Ok x) quiet was = λ clean.

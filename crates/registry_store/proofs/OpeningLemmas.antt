@@ -4,6 +4,7 @@ use Rattle.sqlite.specs.Tree.{Trees}
 use Rattle.sqlite.specs.Store.{Ghosts}
 use Rattle.sqlite.specs.State.{State, HasCleanDisk, Survives}
 use Rattle.sqlite.specs.Held.{Held, state}
+use Rattle.table_laws.specs.Inside.{CommitsNothing}
 use Rattle.registry_rules.specs.History.{History}
 use Rattle.registry_tables.specs.Rows.{Rows, newest}
 use Rattle.registry_tables.specs.Calls.{KeepsAll}
@@ -14,7 +15,7 @@ use Rattle.registry_store.specs.Promise.{IsAt, IsFreshAt, Represents, is_poisone
 use Rattle.registry_store.specs.Reopen.{IsEither}
 
 -- a transaction that was rolled back leaves the connection at the same history, whatever it read
-pub still_at : (old new : State) (h : History) → IsAt newest old h → (HasCleanDisk new → KeepsAll old new) → Survives old new (λ _. ⊥) → IsAt newest new h
+pub still_at : (old new : State) (h : History) → IsAt newest old h → (HasCleanDisk new → KeepsAll old new) → CommitsNothing old new → IsAt newest new h
 still_at old new h at back survives = record {
   shown = λ clean is_open.
       let early : HasCleanDisk old = omega (arith, survives.clean) in

@@ -6,6 +6,7 @@ use Rattle.sqlite.specs.State.{State, HasCleanDisk, Survives, Shows, IsLive, IsR
 use Rattle.sqlite.specs.Held.{Held, state}
 use Rattle.sqlite.proofs.StateLemmas.{survives_then, survives_weaker}
 use Rattle.sqlite.proofs.Callers.{survives_begin}
+use Rattle.table_laws.specs.Inside.{CommitsNothing}
 use Rattle.registry_rules.specs.declared.totals.Totals.{Totals}
 use Rattle.registry_rules.specs.declared.order.Request.{Request}
 use Rattle.registry_rules.specs.declared.deed.Deed.{Deed}
@@ -56,20 +57,20 @@ module _ (old mid new : State) (before after : Totals) (r : Request) (d : Deed) 
   wrote (Ok x) second kept = wrote_both second kept
   wrote (Err e) second kept = second
 
-pub quiet_then : (a b c : State) → Survives a b (λ _. ⊥) → Survives b c (λ _. ⊥) → Survives a c (λ _. ⊥)
+pub quiet_then : (a b c : State) → CommitsNothing a b → CommitsNothing b c → CommitsNothing a c
 quiet_then a b c p q = survives_then a b c _ _ (λ _. ⊥) (λ _ db none. none) (λ _ db none. none) p q
 
 -- if the calls so far committed nothing, the whole commits what P allows to the last one
-pub quiet_to : (a b c : State) (P R : Trees → Type 0) → (HasCleanDisk c → (db : Trees) → P db → R db) → Survives a b (λ _. ⊥) → Survives b c P → Survives a c R
+pub quiet_to : (a b c : State) (P R : Trees → Type 0) → (HasCleanDisk c → (db : Trees) → P db → R db) → CommitsNothing a b → Survives b c P → Survives a c R
 quiet_to a b c P R give p q = survives_then a b c _ _ R (λ _ db none. absurd none) give p q
 
-pub quiet : (a c : State) (R : Trees → Type 0) → Survives a c (λ _. ⊥) → Survives a c R
+pub quiet : (a c : State) (R : Trees → Type 0) → CommitsNothing a c → Survives a c R
 quiet a c R p = survives_weaker a c _ R (λ _ db none. absurd none) p
 
 -- a read of the tables of a history is never foreign
 pub never_foreign : {S : Type 0} (g : Ghosts S) (old begun mid end : Held S) → begun ≡ record old { in_transaction = true } → IsLive (state g old) → (before : Totals)
     → (HasCleanDisk (state g mid) → IsTrue (state g begun).in_transaction → IsTrue (state g begun).is_open × ((h : History) → Legal h → ¬ HoldsRows newest (state g begun).now h))
-    → Survives (state g begun) (state g mid) (λ _. ⊥) → Survives (state g mid) (state g end) (λ _. ⊥)
+    → CommitsNothing (state g begun) (state g mid) → CommitsNothing (state g mid) (state g end)
     → HasCleanDisk (state g end) → (h : History) → Counts before h → IsAt newest (state g old) h → ⊥
 never_foreign g old begun mid end is live before none first ends clean h counts at =
     let mids : HasCleanDisk (state g mid) = omega (arith, ends.clean) in
@@ -81,7 +82,7 @@ never_foreign g old begun mid end is live before none first ends clean h counts 
 
 module _ {S : Type 0} (g : Ghosts S) (old begun mid : Held S) (is : begun ≡ record old { in_transaction = true }) (live : IsLive (state g old)) (before : Totals) (r : Request) (v : Verdict)
     (judged : HasCleanDisk (state g mid) → IsTrue (state g begun).in_transaction → Finds (state g begun) (state g mid) (Ok v) (λ h found. AreTotalsOf h before → found ≡ verdict h r))
-    (first : Survives (state g begun) (state g mid) (λ _. ⊥)) where
+    (first : CommitsNothing (state g begun) (state g mid)) where
   inside : IsTrue (state g begun).in_transaction
   inside = subst (λ b. IsTrue (state g b).in_transaction) (sym is) refl
 
@@ -94,7 +95,7 @@ module _ {S : Type 0} (g : Ghosts S) (old begun mid : Held S) (is : begun ≡ re
 
   module _ (last : Held S) (after : Totals) (d : Deed) (new : v ≡ New d)
       (wrote : HasCleanDisk (state g last) → IsTrue (state g mid).in_transaction → IsTrue (state g mid).is_open → Wrote (state g mid) (state g last) before after r d)
-      (second : Survives (state g mid) (state g last) (λ _. ⊥)) where
+      (second : CommitsNothing (state g mid) (state g last)) where
     wrote_at : HasCleanDisk (state g last) → Wrote (state g mid) (state g last) before after r d
     wrote_at clean = let early : HasCleanDisk (state g mid) = omega (arith, second.clean) in wrote clean (judged early inside).0.mode (judged early inside).0.is_open
 
@@ -123,7 +124,7 @@ module _ {S : Type 0} (g : Ghosts S) (old begun mid : Held S) (is : begun ≡ re
       pub one_at_most : Survives (state g old) (state g end) (CommitsOne (state g old) before r)
       one_at_most =
           let inner = quiet_then (state g begun) (state g mid) (state g last) first second in
-          let outer = survives_begin g old (state g last) _ (subst (λ b. Survives (state g b) (state g last) (λ _. ⊥)) is inner) in
+          let outer = survives_begin g old (state g last) _ (subst (λ b. CommitsNothing (state g b) (state g last)) is inner) in
           quiet_to (state g old) (state g last) (state g end) _ (CommitsOne (state g old) before r)
           (λ clean db it. let early : HasCleanDisk (state g last) = omega (arith, third.clean) in subst (CommitsOne (state g old) before r) (sym it) (commits_one early)) outer third
 
@@ -156,7 +157,7 @@ module _ {S : Type 0} (g : Ghosts S) (old begun mid : Held S) (is : begun ≡ re
             },
           )
 
-  module _ (end : Held S) (ends : Survives (state g mid) (state g end) (λ _. ⊥)) where
+  module _ (end : Held S) (ends : CommitsNothing (state g mid) (state g end)) where
     -- the verdict is that of the history
     pub said_of : HasCleanDisk (state g end) → (h : History) → Counts before h → IsAt newest (state g old) h → v ≡ verdict h r
     said_of clean h counts at =
@@ -167,8 +168,8 @@ module _ {S : Type 0} (g : Ghosts S) (old begun mid : Held S) (is : begun ≡ re
         ((judged mids inside).1 h counts.legal (holds h open_before (rows_now (state g old) h at start_old open_before))).1 counts.totals_are
 
     -- nothing was committed
-    pub none_at_all : Survives (state g old) (state g end) (λ _. ⊥)
-    none_at_all = survives_begin g old (state g end) _ (subst (λ b. Survives (state g b) (state g end) (λ _. ⊥)) is (quiet_then (state g begun) (state g mid) (state g end) first ends))
+    pub none_at_all : CommitsNothing (state g old) (state g end)
+    none_at_all = survives_begin g old (state g end) _ (subst (λ b. CommitsNothing (state g b) (state g end)) is (quiet_then (state g begun) (state g mid) (state g end) first ends))
 
     -- the transaction was rolled back, after a verdict that changes nothing
     pub as_before : (HasCleanDisk (state g end) → IsRolledBack (state g mid) (state g end)) → (reply : Reply) → reply_of v ≡ reply → ((h : History) → after_verdict h v ≡ h)

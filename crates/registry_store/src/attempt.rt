@@ -3,6 +3,7 @@
 ghost use Rattle.std.specs.Prelude.{◌≡◌, ◌≢◌, true, false, IsTrue, IfOk, OnOk, OnErr, Err};
 ghost use Rattle.sqlite.specs.State.{HasCleanDisk, Survives, Shows};
 ghost use Rattle.sqlite.specs.Held.{state};
+ghost use Rattle.table_laws.specs.Inside.{CommitsNothing};
 ghost use Rattle.registry_rules.specs.History.{History};
 ghost use Rattle.registry_rules.specs.Verdict.{verdict};
 ghost use Rattle.registry_rules.specs.declared.deed.Deed.{Deed};
@@ -33,7 +34,7 @@ fn judged<S: Alter>(
     ensures same_reference { tx.new.conn.ghost_name ≡ tx.old.conn.ghost_name }
     ensures found { HasCleanDisk (state S.Store tx.new.conn.now) → IsTrue (state S.Store tx.old.conn.now).in_transaction
         → Finds (state S.Store tx.old.conn.now) (state S.Store tx.new.conn.now) result (λ h found. AreTotalsOf h totals.now → found ≡ verdict h request.now) }
-    ensures survives { Survives (state S.Store tx.old.conn.now) (state S.Store tx.new.conn.now) (λ _. ⊥) }
+    ensures survives { CommitsNothing (state S.Store tx.old.conn.now) (state S.Store tx.new.conn.now) }
 {
     let facts = facts_for(alloc, tx, totals, request)?;
     match judge(alloc, &facts, request) {
@@ -57,7 +58,7 @@ fn write<S: Alter>(
     ensures ok { HasCleanDisk (state S.Store tx.new.conn.now) → IsTrue (state S.Store tx.old.conn.now).in_transaction → IsTrue (state S.Store tx.old.conn.now).is_open
         → OnOk result (Wrote (state S.Store tx.old.conn.now) (state S.Store tx.new.conn.now) totals.old totals.new request.now deed.now) }
     ensures kind { result ≢ Err TableFault.Foreign }
-    ensures survives { Survives (state S.Store tx.old.conn.now) (state S.Store tx.new.conn.now) (λ _. ⊥) }
+    ensures survives { CommitsNothing (state S.Store tx.old.conn.now) (state S.Store tx.new.conn.now) }
 {
     let Ok(changes) = changes(alloc, deed) else {
         return Err(TableFault::NoMemory);

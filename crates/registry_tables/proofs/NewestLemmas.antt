@@ -4,8 +4,9 @@ use Rattle.std.specs.List.{list_any}
 use Rattle.std.proofs.lemmas.List.Folds.{list_any-append}
 use Rattle.std.proofs.lemmas.Bool.Decides.{nat_tests}
 use Rattle.sqlite.specs.Store.{Ghosts}
-use Rattle.sqlite.specs.State.{State, HasCleanDisk, Survives}
+use Rattle.sqlite.specs.State.{State, HasCleanDisk}
 use Rattle.sqlite.specs.Held.{Held, state}
+use Rattle.table_laws.specs.Inside.{CommitsNothing}
 use Rattle.registry_schema.specs.declared.fault.TableFault.{TableFault}
 use Rattle.registry_schema.specs.declared.fault.TableFault.TheVariants.{Foreign}
 use Rattle.registry_rows.specs.declared.meta.Meta.{Meta}
@@ -38,7 +39,7 @@ module _ (old new : State) (all rest : List Meta) (meta : Meta) (is : all ≡ re
 
 -- the same for a transaction that is rolled back
 pub newest_all : {S A : Type 0} (g : Ghosts S) (old begun mid end : Held S) → begun ≡ record old { in_transaction = true } → (result : Result A TableFault)
-    → (HasCleanDisk (state g mid) → IsTrue (state g begun).in_transaction → OnOk result (SaysNewest (state g begun).now)) → Survives (state g mid) (state g end) (λ _. ⊥)
+    → (HasCleanDisk (state g mid) → IsTrue (state g begun).in_transaction → OnOk result (SaysNewest (state g begun).now)) → CommitsNothing (state g mid) (state g end)
     → HasCleanDisk (state g end) → OnOk result (SaysNewest (state g old).now)
 newest_all g old begun mid end is result says last clean =
     let early : HasCleanDisk (state g mid) = omega (arith, last.clean) in

@@ -1,9 +1,9 @@
 //! The changes of a deed.
 
 ghost use Rattle.std.specs.Prelude.{◌≡◌, ◌≢◌, IsTrue, OnOk, Err};
-ghost use Rattle.sqlite.specs.State.{HasCleanDisk, Survives};
+ghost use Rattle.sqlite.specs.State.{HasCleanDisk};
 ghost use Rattle.sqlite.specs.Held.{state};
-ghost use Rattle.table_laws.specs.Inside.{GoesOn};
+ghost use Rattle.table_laws.specs.Inside.{CommitsNothing, GoesOn};
 ghost use Rattle.registry_rules.specs.History.{History};
 ghost use Rattle.registry_rules.specs.Records.{LeadsTo};
 ghost use Rattle.registry_rules.specs.Run.{Legal};
@@ -29,7 +29,7 @@ fn make<S: Alter>(
     ensures made { HasCleanDisk (state S.Store tx.new.conn.now) → IsTrue (state S.Store tx.old.conn.now).in_transaction
         → OnOk result (Makes change.now (state S.Store tx.old.conn.now) (state S.Store tx.new.conn.now)) }
     ensures kind { result ≢ Err TableFault.Foreign }
-    ensures survives { Survives (state S.Store tx.old.conn.now) (state S.Store tx.new.conn.now) (λ _. ⊥) }
+    ensures survives { CommitsNothing (state S.Store tx.old.conn.now) (state S.Store tx.new.conn.now) }
 {
     match change {
         Change::PutOrg(org) => put_org(tx, org),
@@ -62,7 +62,7 @@ pub fn store<S: Alter>(
         → OnOk result ((h after : History) → Legal h → Legal after → after.founding ≡ h.founding → HoldsRows newest (state S.Store tx.old.conn.now).now h
         → LeadsTo changes.now h after → HoldsUnkept (state S.Store tx.new.conn.now).now h after) }
     ensures kind { result ≢ Err TableFault.Foreign }
-    ensures survives { Survives (state S.Store tx.old.conn.now) (state S.Store tx.new.conn.now) (λ _. ⊥) }
+    ensures survives { CommitsNothing (state S.Store tx.old.conn.now) (state S.Store tx.new.conn.now) }
 {
     for change in changes {
         match make(alloc, tx, change) {

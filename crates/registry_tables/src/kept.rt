@@ -1,9 +1,9 @@
 //! The kept reply of an accepted request.
 
 ghost use Rattle.std.specs.Prelude.{◌≡◌, ◌≢◌, IsTrue, OnOk, Err};
-ghost use Rattle.sqlite.specs.State.{HasCleanDisk, Survives};
+ghost use Rattle.sqlite.specs.State.{HasCleanDisk};
 ghost use Rattle.sqlite.specs.Held.{state};
-ghost use Rattle.table_laws.specs.Inside.{GoesOn};
+ghost use Rattle.table_laws.specs.Inside.{CommitsNothing, GoesOn};
 ghost use Rattle.registry_rules.specs.History.{History, with_deed};
 ghost use Rattle.registry_rules.specs.Run.{Legal};
 ghost use Rattle.registry_rules.specs.declared.deed.Deed.{Deed};
@@ -36,7 +36,7 @@ pub fn keep_reply<S: Alter>(
         → OnOk result ((h : History) (deed : Deed) → Legal (with_deed h deed) → IsKeptAs deed request.now reply.now
         → HoldsUnkept (state S.Store tx.old.conn.now).now h (with_deed h deed) → HoldsRows newest (state S.Store tx.new.conn.now).now (with_deed h deed)) }
     ensures kind { result ≢ Err TableFault.Foreign }
-    ensures survives { Survives (state S.Store tx.old.conn.now) (state S.Store tx.new.conn.now) (λ _. ⊥) }
+    ensures survives { CommitsNothing (state S.Store tx.old.conn.now) (state S.Store tx.new.conn.now) }
 {
     match request_bytes(alloc, request) {
         Ok(order) => put_kept(tx, &request.caller, &request.key, &order, reply),

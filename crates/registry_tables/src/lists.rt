@@ -1,8 +1,9 @@
 //! Lists of all organisations, petitions, numbers and vendors.
 
 ghost use Rattle.std.specs.Prelude.{◌≡◌, false, IfOk};
-ghost use Rattle.sqlite.specs.State.{HasCleanDisk, Survives};
+ghost use Rattle.sqlite.specs.State.{HasCleanDisk};
 ghost use Rattle.sqlite.specs.Held.{state};
+ghost use Rattle.table_laws.specs.Inside.{CommitsNothing};
 ghost use Rattle.registry_tables.specs.Calls.{Lists, KeepsAll, IsForeign};
 ghost use Rattle.registry_tables.specs.Lists.{IsOrgList, IsPetitionList, IsNumberList, IsVendorList};
 
@@ -24,7 +25,7 @@ pub fn list_orgs<S: Alter>(alloc: Global, conn: &mut Connection<S>) -> Result<Ve
     ensures answer { HasCleanDisk (state S.Store conn.new) → IfOk result (λ list. Lists (state S.Store conn.old) (state S.Store conn.new) IsOrgList list.items) }
     ensures same { HasCleanDisk (state S.Store conn.new) → KeepsAll (state S.Store conn.old) (state S.Store conn.new) }
     ensures foreign { HasCleanDisk (state S.Store conn.new) → IsForeign (state S.Store conn.old) (state S.Store conn.new) result }
-    ensures survives { Survives (state S.Store conn.old) (state S.Store conn.new) (λ _. ⊥) }
+    ensures survives { CommitsNothing (state S.Store conn.old) (state S.Store conn.new) }
 {
     // For the proof only: the schema that the connection shows.
     let _schema = conn.schema();
@@ -49,7 +50,7 @@ pub fn list_petitions<S: Alter>(
     ensures answer { HasCleanDisk (state S.Store conn.new) → IfOk result (λ list. Lists (state S.Store conn.old) (state S.Store conn.new) IsPetitionList list.items) }
     ensures same { HasCleanDisk (state S.Store conn.new) → KeepsAll (state S.Store conn.old) (state S.Store conn.new) }
     ensures foreign { HasCleanDisk (state S.Store conn.new) → IsForeign (state S.Store conn.old) (state S.Store conn.new) result }
-    ensures survives { Survives (state S.Store conn.old) (state S.Store conn.new) (λ _. ⊥) }
+    ensures survives { CommitsNothing (state S.Store conn.old) (state S.Store conn.new) }
 {
     // For the proof only: the schema that the connection shows.
     let _schema = conn.schema();
@@ -74,7 +75,7 @@ pub fn list_numbers<S: Alter>(
     ensures answer { HasCleanDisk (state S.Store conn.new) → IfOk result (λ list. Lists (state S.Store conn.old) (state S.Store conn.new) IsNumberList list.items) }
     ensures same { HasCleanDisk (state S.Store conn.new) → KeepsAll (state S.Store conn.old) (state S.Store conn.new) }
     ensures foreign { HasCleanDisk (state S.Store conn.new) → IsForeign (state S.Store conn.old) (state S.Store conn.new) result }
-    ensures survives { Survives (state S.Store conn.old) (state S.Store conn.new) (λ _. ⊥) }
+    ensures survives { CommitsNothing (state S.Store conn.old) (state S.Store conn.new) }
 {
     // For the proof only: the schema that the connection shows.
     let _schema = conn.schema();
@@ -99,7 +100,7 @@ pub fn list_vendors<S: Alter>(
     ensures answer { HasCleanDisk (state S.Store conn.new) → IfOk result (λ list. Lists (state S.Store conn.old) (state S.Store conn.new) IsVendorList list.items) }
     ensures same { HasCleanDisk (state S.Store conn.new) → KeepsAll (state S.Store conn.old) (state S.Store conn.new) }
     ensures foreign { HasCleanDisk (state S.Store conn.new) → IsForeign (state S.Store conn.old) (state S.Store conn.new) result }
-    ensures survives { Survives (state S.Store conn.old) (state S.Store conn.new) (λ _. ⊥) }
+    ensures survives { CommitsNothing (state S.Store conn.old) (state S.Store conn.new) }
 {
     // For the proof only: the schema that the connection shows.
     let _schema = conn.schema();

@@ -1,10 +1,10 @@
 //! The numbers that orders reserved, stored as maximal spans.
 
 ghost use Rattle.std.specs.Prelude.{◌≡◌, ◌≢◌, ◌+◌, ◌≤◌, ◌++◌, IsTrue, IfOk, OnOk, MatchOption, Err, filter};
-ghost use Rattle.sqlite.specs.State.{HasCleanDisk, Survives, IsUnchanged};
+ghost use Rattle.sqlite.specs.State.{HasCleanDisk, IsUnchanged};
 ghost use Rattle.sqlite.specs.Held.{state};
 ghost use Rattle.sqlite_keyed.specs.Lists.{sort_by};
-ghost use Rattle.table_laws.specs.Inside.{GoesOn};
+ghost use Rattle.table_laws.specs.Inside.{CommitsNothing, GoesOn};
 ghost use Rattle.registry_rows.specs.Rows.{meets, by_beginning};
 ghost use Rattle.registry_rows.specs.Tables.{Tables, Holds};
 ghost use Rattle.registry_tables.specs.Changed.{with_spans, Makes};
@@ -32,7 +32,7 @@ fn spans_meeting<S: Alter>(
         × ((t : Tables) → Holds (state S.Store tx.old.conn.now).now t → IsUnchanged (state S.Store tx.old.conn.now) (state S.Store tx.new.conn.now)
         × (found.items ≡ sort_by by_beginning (filter (meets vid low high) t.spans)))) }
     ensures kind { result ≢ Err TableFault.Foreign }
-    ensures survives { Survives (state S.Store tx.old.conn.now) (state S.Store tx.new.conn.now) (λ _. ⊥) }
+    ensures survives { CommitsNothing (state S.Store tx.old.conn.now) (state S.Store tx.new.conn.now) }
 {
     match find_spans(alloc, tx, vid, low, high) {
         Ok(found) => Ok(found),
@@ -82,7 +82,7 @@ fn put_part<S: Alter>(
         × ((t : Tables) → Holds (state S.Store tx.old.conn.now).now t → AreApartFrom (part_of vid part) t.spans
         → Holds (state S.Store tx.new.conn.now).now (with_spans (t.spans ++ part_of vid part) t))) }
     ensures kind { result ≢ Err TableFault.Foreign }
-    ensures survives { Survives (state S.Store tx.old.conn.now) (state S.Store tx.new.conn.now) (λ _. ⊥) }
+    ensures survives { CommitsNothing (state S.Store tx.old.conn.now) (state S.Store tx.new.conn.now) }
 {
     match part {
         Some(span) => put_span(tx, vid, span),
@@ -101,7 +101,7 @@ pub(crate) fn reserve_span<S: Alter>(
     ensures made { HasCleanDisk (state S.Store tx.new.conn.now) → IsTrue (state S.Store tx.old.conn.now).in_transaction
         → OnOk result (Makes (Change.ReserveSpan vid span.now) (state S.Store tx.old.conn.now) (state S.Store tx.new.conn.now)) }
     ensures kind { result ≢ Err TableFault.Foreign }
-    ensures survives { Survives (state S.Store tx.old.conn.now) (state S.Store tx.new.conn.now) (λ _. ⊥) }
+    ensures survives { CommitsNothing (state S.Store tx.old.conn.now) (state S.Store tx.new.conn.now) }
 {
     let low = u32::from(span.first().get()) - 1;
     let high = u32::from(span.last().get()) + 1;
@@ -122,7 +122,7 @@ pub(crate) fn release_span<S: Alter>(
     ensures made { HasCleanDisk (state S.Store tx.new.conn.now) → IsTrue (state S.Store tx.old.conn.now).in_transaction
         → OnOk result (Makes (Change.ReleaseSpan vid span.now) (state S.Store tx.old.conn.now) (state S.Store tx.new.conn.now)) }
     ensures kind { result ≢ Err TableFault.Foreign }
-    ensures survives { Survives (state S.Store tx.old.conn.now) (state S.Store tx.new.conn.now) (λ _. ⊥) }
+    ensures survives { CommitsNothing (state S.Store tx.old.conn.now) (state S.Store tx.new.conn.now) }
 {
     let low = u32::from(span.first().get());
     let high = u32::from(span.last().get());

@@ -1,6 +1,7 @@
 use Rattle.std.proofs.Common.{◌≡◌, Err, IsTrue, rules, refl, ap, subst}
 use Rattle.sqlite.specs.State.{HasCleanDisk, Survives, IsRolledBack}
 use Rattle.sqlite.specs.Held.{state}
+use Rattle.table_laws.specs.Inside.{CommitsNothing}
 use Rattle.registry_rules.specs.Run.{after_one, after_verdict, reply_of}
 use Rattle.registry_rules.specs.TotalsOf.{AreTotalsOf}
 use Rattle.registry_rules.specs.Verdict.{verdict}
@@ -48,7 +49,7 @@ pub returns-in-Refused-clause-answered : goal.returns-in-Refused-clause-answered
 returns-in-Refused-clause-answered g c clean h counts at =
     let mid = c.judged.new.tx.conn.now in
     let end = c.conn-in-Refused-1.given.0 in
-    let ends : Survives (state g.S.Store mid) (state g.S.Store end) (λ _. ⊥) = search rules in
+    let ends : CommitsNothing (state g.S.Store mid) (state g.S.Store end) = search rules in
     let back : HasCleanDisk (state g.S.Store end) → IsRolledBack (state g.S.Store mid) (state g.S.Store end) = search rules in
     as_before g.S.Store c.args.conn.now c.transaction-tx.result.conn.now mid c.transaction-tx.ensures.begun c.schema-schema.ensures.live c.args.totals.now c.args.request.now c.in_ok-verdict.verdict
     c.in_ok-verdict.ensures.found c.judged.ensures.survives end ends back _ (ap reply_of c.in-Refused.is) (λ x. ap (after_verdict x) c.in-Refused.is) clean h counts at
@@ -57,7 +58,7 @@ pub returns-in-Kept-clause-answered : goal.returns-in-Kept-clause-answered
 returns-in-Kept-clause-answered g c clean h counts at =
     let mid = c.judged.new.tx.conn.now in
     let end = c.conn-in-Kept-1.given.0 in
-    let ends : Survives (state g.S.Store mid) (state g.S.Store end) (λ _. ⊥) = search rules in
+    let ends : CommitsNothing (state g.S.Store mid) (state g.S.Store end) = search rules in
     let back : HasCleanDisk (state g.S.Store end) → IsRolledBack (state g.S.Store mid) (state g.S.Store end) = search rules in
     as_before g.S.Store c.args.conn.now c.transaction-tx.result.conn.now mid c.transaction-tx.ensures.begun c.schema-schema.ensures.live c.args.totals.now c.args.request.now c.in_ok-verdict.verdict
     c.in_ok-verdict.ensures.found c.judged.ensures.survives end ends back _ (ap reply_of c.in-Kept.is) (λ x. ap (after_verdict x) c.in-Kept.is) clean h counts at
@@ -66,7 +67,7 @@ pub returns-in_err-verdict-clause-foreign : goal.returns-in_err-verdict-clause-f
 returns-in_err-verdict-clause-foreign g c clean foreign h counts at =
     let mid = c.judged.new.tx.conn.now in
     let end = c.conn-1.given.0 in
-    let ends : Survives (state g.S.Store mid) (state g.S.Store end) (λ _. ⊥) = search rules in
+    let ends : CommitsNothing (state g.S.Store mid) (state g.S.Store end) = search rules in
     let was : c.judged.result ≡ Err Foreign = search rules in
     never_foreign g.S.Store c.args.conn.now c.transaction-tx.result.conn.now mid end c.transaction-tx.ensures.begun c.schema-schema.ensures.live c.args.totals.now
     (λ mids inside. (subst (λ x. Finds (state g.S.Store c.transaction-tx.result.conn.now) (state g.S.Store mid) x (λ h found. AreTotalsOf h c.args.totals.now → found ≡ verdict h c.args.request.now)) was (c.judged.ensures.found mids inside)).0 refl) c.judged.ensures.survives ends clean h counts at
@@ -82,7 +83,7 @@ pub returns-in-Refused-clause-open : goal.returns-in-Refused-clause-open
 returns-in-Refused-clause-open g c clean h deed counts at new =
     let mid = c.judged.new.tx.conn.now in
     let end = c.conn-in-Refused-1.given.0 in
-    let ends : Survives (state g.S.Store mid) (state g.S.Store end) (λ _. ⊥) = search rules in
+    let ends : CommitsNothing (state g.S.Store mid) (state g.S.Store end) = search rules in
     let said = said_of g.S.Store c.args.conn.now c.transaction-tx.result.conn.now mid c.transaction-tx.ensures.begun c.schema-schema.ensures.live c.args.totals.now c.args.request.now c.in_ok-verdict.verdict
     c.in_ok-verdict.ensures.found c.judged.ensures.survives end ends clean h counts at in
     absurd (cc (said, new, c.in-Refused.is))
@@ -91,7 +92,7 @@ pub returns-in-Kept-clause-open : goal.returns-in-Kept-clause-open
 returns-in-Kept-clause-open g c clean h deed counts at new =
     let mid = c.judged.new.tx.conn.now in
     let end = c.conn-in-Kept-1.given.0 in
-    let ends : Survives (state g.S.Store mid) (state g.S.Store end) (λ _. ⊥) = search rules in
+    let ends : CommitsNothing (state g.S.Store mid) (state g.S.Store end) = search rules in
     let said = said_of g.S.Store c.args.conn.now c.transaction-tx.result.conn.now mid c.transaction-tx.ensures.begun c.schema-schema.ensures.live c.args.totals.now c.args.request.now c.in_ok-verdict.verdict
     c.in_ok-verdict.ensures.found c.judged.ensures.survives end ends clean h counts at in
     absurd (cc (said, new, c.in-Kept.is))

@@ -1,7 +1,8 @@
 use Rattle.std.proofs.Common.{◌≡◌, IsTrue, IfOk, subst, rules}
-use Rattle.sqlite.specs.State.{HasCleanDisk, Survives}
+use Rattle.sqlite.specs.State.{HasCleanDisk}
 use Rattle.sqlite.specs.Held.{state}
 use Rattle.sqlite_keyed.specs.Lists.{sort_by}
+use Rattle.table_laws.specs.Inside.{CommitsNothing}
 use Rattle.registry_rows.specs.Rows.{by_slug}
 use Rattle.registry_tables.specs.Calls.{Lists, KeepsAll, IsForeign}
 use Rattle.registry_tables.specs.Lists.{IsOrgList}
@@ -56,4 +57,4 @@ returns-clause-survives g c =
     let mid = c.list_orgs-orgs.new.tx.conn.now in
     let end = c.rollback.new.self.0 in
     let same : end ≡ c.conn-1.given.0 = search rules in
-    subst (λ e. Survives (state g.S.Store old) (state g.S.Store e) (λ _. ⊥)) same (quiet_all g.S.Store old begun mid end c.transaction-tx.ensures.begun c.list_orgs-orgs.ensures.survives c.rollback.ensures.survives)
+    subst (λ e. CommitsNothing (state g.S.Store old) (state g.S.Store e)) same (quiet_all g.S.Store old begun mid end c.transaction-tx.ensures.begun c.list_orgs-orgs.ensures.survives c.rollback.ensures.survives)

@@ -1,6 +1,7 @@
 use Rattle.std.proofs.Common.{◌≡◌, IsTrue, IfOk, subst, rules}
-use Rattle.sqlite.specs.State.{HasCleanDisk, Survives}
+use Rattle.sqlite.specs.State.{HasCleanDisk}
 use Rattle.sqlite.specs.Held.{state}
+use Rattle.table_laws.specs.Inside.{CommitsNothing}
 use Rattle.registry_tables.specs.Calls.{Lists, KeepsAll, IsForeign}
 use Rattle.registry_tables.specs.Lists.{IsVendorList}
 use Rattle.registry_tables.proofs.CallLemmas.{lists_all, keeps_all, is_foreign, quiet_all}
@@ -54,4 +55,4 @@ returns-clause-survives g c =
     let mid = c.list_vendors-vendors.new.tx.conn.now in
     let end = c.rollback.new.self.0 in
     let same : end ≡ c.conn-1.given.0 = search rules in
-    subst (λ e. Survives (state g.S.Store old) (state g.S.Store e) (λ _. ⊥)) same (quiet_all g.S.Store old begun mid end c.transaction-tx.ensures.begun c.list_vendors-vendors.ensures.survives c.rollback.ensures.survives)
+    subst (λ e. CommitsNothing (state g.S.Store old) (state g.S.Store e)) same (quiet_all g.S.Store old begun mid end c.transaction-tx.ensures.begun c.list_vendors-vendors.ensures.survives c.rollback.ensures.survives)

@@ -1,6 +1,7 @@
 use Rattle.std.proofs.Common.{◌≡◌, IfOk, OnOk, subst, rules}
-use Rattle.sqlite.specs.State.{HasCleanDisk, Survives}
+use Rattle.sqlite.specs.State.{HasCleanDisk}
 use Rattle.sqlite.specs.Held.{state}
+use Rattle.table_laws.specs.Inside.{CommitsNothing}
 use Rattle.registry_rules.specs.TotalsOf.{AreTotalsOf}
 use Rattle.registry_tables.specs.Calls.{Lists, KeepsAll, IsForeign}
 use Rattle.registry_tables.specs.Version.{SaysNewest}
@@ -45,7 +46,7 @@ returns-clause-survives g c =
     let mid = c.totals_in-totals.new.tx.conn.now in
     let end = c.rollback.new.self.0 in
     let same : end ≡ c.conn-1.given.0 = search rules in
-    subst (λ e. Survives (state g.S.Store old) (state g.S.Store e) (λ _. ⊥)) same (quiet_all g.S.Store old begun mid end c.transaction-tx.ensures.begun c.totals_in-totals.ensures.survives c.rollback.ensures.survives)
+    subst (λ e. CommitsNothing (state g.S.Store old) (state g.S.Store e)) same (quiet_all g.S.Store old begun mid end c.transaction-tx.ensures.begun c.totals_in-totals.ensures.survives c.rollback.ensures.survives)
 
 pub returns-clause-newest : goal.returns-clause-newest
 returns-clause-newest g c =

@@ -1,6 +1,7 @@
 use Rattle.std.proofs.Common.{◌≡◌, Err, OnOk, arith, rules, subst}
 use Rattle.sqlite.specs.State.{HasCleanDisk, Survives}
 use Rattle.sqlite.specs.Held.{state}
+use Rattle.table_laws.specs.Inside.{CommitsNothing}
 use Rattle.registry_schema.specs.declared.fault.TableFault.TheVariants.{Foreign}
 use Rattle.registry_tables.specs.Raising.{Raises, CommitsStep, IsMadeBy}
 use Rattle.registry_tables.proofs.StepLemmas.{step_survives, step_made, step_foreign}
@@ -27,7 +28,7 @@ returns-in_err-raise_third-clause-foreign g c clean foreign =
     let begun = c.transaction-tx.result.conn.now in
     let mid = c.raise_third.new.tx.conn.now in
     let end = c.conn-1.given.0 in
-    let ends : Survives (state g.S.Store mid) (state g.S.Store end) (λ _. ⊥) = search rules in
+    let ends : CommitsNothing (state g.S.Store mid) (state g.S.Store end) = search rules in
     let was : c.raise_third.result ≡ Err Foreign = search rules in
     let early : HasCleanDisk (state g.S.Store mid) = omega (arith, ends.clean) in
     step_foreign g.S.Store 2 c.args.conn.now begun mid c.transaction-tx.ensures.begun c.schema-schema.ensures.live

@@ -1,6 +1,7 @@
 use Rattle.std.proofs.Common.{◌≡◌, inl, inr, Err, IsTrue, MatchResult, subst, ap, ◌∙◌, arith, rules}
-use Rattle.sqlite.specs.State.{HasCleanDisk, Survives}
+use Rattle.sqlite.specs.State.{HasCleanDisk}
 use Rattle.sqlite.specs.Held.{state}
+use Rattle.table_laws.specs.Inside.{CommitsNothing}
 use Rattle.registry_schema.specs.declared.fault.TableFault.TheVariants.{Foreign}
 use Rattle.registry_tables.specs.Raising.{CommitsLater, StaysOpen}
 use Rattle.registry_store.specs.Promise.{state_of}
@@ -51,7 +52,7 @@ returns-in-Err-clause-foreign g c clean foreign version h legal =
 pub returns-in-Ok-clause-newest : goal.returns-in-Ok-clause-newest
 returns-in-Ok-clause-newest g c is_open has =
     let same = (c.in-Ok.ensures.newest is_open has).1 in
-    subst (λ x. MatchResult c.open_newest.result (λ it. Survives (state g.S.Store x) (state_of it) (λ _. ⊥)) (λ e. Survives (state g.S.Store x) (state g.S.Store e.1) (λ _. ⊥))) same c.open_newest.ensures.survives
+    subst (λ x. MatchResult c.open_newest.result (λ it. CommitsNothing (state g.S.Store x) (state_of it)) (λ e. CommitsNothing (state g.S.Store x) (state g.S.Store e.1))) same c.open_newest.ensures.survives
 
 pub returns-in-Err-clause-newest : goal.returns-in-Err-clause-newest
 returns-in-Err-clause-newest g c is_open has =
