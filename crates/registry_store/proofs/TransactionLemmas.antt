@@ -67,6 +67,13 @@ quiet_to a b c P R give p q = survives_then a b c _ _ R (λ _ db none. absurd no
 pub quiet : (a c : State) (R : Trees → Type 0) → CommitsNothing a c → Survives a c R
 quiet a c R p = survives_weaker a c _ R (λ _ db none. absurd none) p
 
+-- calls that commit nothing leave what a crash could leave before them
+pub none_at_all : {S : Type 0} (g : Ghosts S) (old begun mid end : Held S) → begun ≡ record old { in_transaction = true } → CommitsNothing (state g begun) (state g mid)
+    → CommitsNothing (state g mid) (state g end) → (R : Trees → Type 0) → Survives (state g old) (state g end) R
+none_at_all g old begun mid end is first ends R =
+    let inner = quiet_then (state g begun) (state g mid) (state g end) first ends in
+    quiet (state g old) (state g end) R (survives_begin g old (state g end) _ (subst (λ b. CommitsNothing (state g b) (state g end)) is inner))
+
 -- a read of the tables of a history is never foreign
 pub never_foreign : {S : Type 0} (g : Ghosts S) (old begun mid end : Held S) → begun ≡ record old { in_transaction = true } → IsLive (state g old) → (before : Totals)
     → (HasCleanDisk (state g mid) → IsTrue (state g begun).in_transaction → IsTrue (state g begun).is_open × ((h : History) → Legal h → ¬ HoldsRows newest (state g begun).now h))

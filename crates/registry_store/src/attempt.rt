@@ -1,7 +1,7 @@
 //! One request in one transaction.
 
 ghost use Rattle.std.specs.Prelude.{◌≡◌, ◌≢◌, true, false, IsTrue, IfOk, OnOk, OnErr, Err};
-ghost use Rattle.sqlite.specs.State.{HasCleanDisk, Survives, Shows};
+ghost use Rattle.sqlite.specs.State.{HasCleanDisk, Survives};
 ghost use Rattle.sqlite.specs.Held.{state};
 ghost use Rattle.table_laws.specs.Inside.{CommitsNothing};
 ghost use Rattle.registry_rules.specs.History.{History};
@@ -19,8 +19,8 @@ ghost use Rattle.registry_store.specs.Attempt.{CommitsOne, Wrote};
 use registry_rules::{
     Deed, Reply, ReplyText, Request, Totals, Verdict, changes, judge, reply_text,
 };
-use registry_tables::{TableFault, facts_for, keep_reply, store};
-use sqlite::{Alter, Connection, Error, ErrorCode, Transaction};
+use registry_tables::{TableFault, commit, facts_for, keep_reply, store};
+use sqlite::{Alter, Connection, Transaction};
 use std::alloc::Global;
 use usbnum_core::NoMemory;
 
@@ -70,20 +70,6 @@ fn write<S: Alter>(
     keep_reply(alloc, tx, request, reply)
 }
 
-/// Commits what the transaction wrote.
-fn finish<S: Alter>(tx: Transaction<'_, S>) -> Result<(), TableFault>
-    ensures ended { tx.exit.0.now.in_transaction ≡ false }
-    ensures ok { HasCleanDisk (state S.Store tx.exit.0.now) → OnOk result (Shows (state S.Store tx.entry.conn.now) (state S.Store tx.exit.0.now) (state S.Store tx.entry.conn.now).now (state S.Store tx.entry.conn.now).now false) }
-    ensures kind { result ≢ Err TableFault.Foreign }
-    ensures survives { Survives (state S.Store tx.entry.conn.now) (state S.Store tx.exit.0.now) (λ db. db ≡ (state S.Store tx.entry.conn.now).now.trees) }
-{
-    match tx.commit() {
-        Ok(()) => Ok(()),
-        Err(Error::SqliteFailure(ErrorCode::OutOfMemory)) => Err(TableFault::NoMemory),
-        Err(_) => Err(TableFault::Store),
-    }
-}
-
 /// Acts on one request in one transaction: one commit if the request is accepted and new, otherwise
 /// no write.
 pub(crate) fn attempt<S: Alter>(
@@ -113,7 +99,7 @@ pub(crate) fn attempt<S: Alter>(
                 return Err(TableFault::NoMemory);
             };
             write(alloc, &mut tx, totals, request, &deed, &reply)?;
-            finish(tx)?;
+            commit(tx)?;
             Ok(Reply::Done(reply))
         }
     }

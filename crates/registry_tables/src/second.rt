@@ -14,7 +14,7 @@ ghost use Rattle.registry_old_rows.specs.Steps.{Turns};
 ghost use Rattle.registry_tables.specs.Rows.{Rows};
 ghost use Rattle.registry_tables.specs.Raising.{Raises, CommitsStep, IsMadeBy};
 
-use crate::finish::finish;
+use crate::committing::commit;
 use crate::marked::old_meta;
 use registry_old_rows::{Reserved, empty_reserved, list_reserved, put_old_meta, put_old_span};
 use registry_schema::{TableFault, add_second};
@@ -87,5 +87,5 @@ pub(crate) fn first_to_second<S: Alter>(
     let _schema = conn.schema();
     let mut tx = conn.transaction();
     raise_second(alloc, &mut tx)?;
-    finish(tx)
+    commit(tx)
 }

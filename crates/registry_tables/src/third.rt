@@ -8,7 +8,7 @@ ghost use Rattle.registry_rules.specs.History.{History};
 ghost use Rattle.registry_tables.specs.Rows.{Rows};
 ghost use Rattle.registry_tables.specs.Raising.{MovesAll, Raises, CommitsStep, IsMadeBy};
 
-use crate::finish::finish;
+use crate::committing::commit;
 use crate::marked::old_meta;
 use registry_old_rows::{
     copy_entries, copy_petitions, copy_spans, empty_entries, empty_petitions, empty_spans,
@@ -64,5 +64,5 @@ pub(crate) fn second_to_third<S: Alter>(
     let _schema = conn.schema();
     let mut tx = conn.transaction();
     raise_third(alloc, &mut tx)?;
-    finish(tx)
+    commit(tx)
 }
