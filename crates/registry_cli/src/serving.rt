@@ -85,6 +85,8 @@ impl Connections for Accepted<'_> {
 
     ghost closes = { λ _ _ _ _ _. ⊤ };
 
+    ghost fails = { λ _ _. ⊤ };
+
     fn open(&mut self) -> Result<(Inlet<TcpStream>, Outlet<TcpStream>), Broken> {
         for accepted in self.listener.incoming() {
             match accepted {

@@ -18,7 +18,7 @@ use Rattle.registry_desk.specs.Acting.{after_message, IsOfSoundRegistry, IsLeftA
 use Rattle.registry_desk.specs.Serving.{IsNext, IsServed}
 use Rattle.registry_desk.specs.declared.server.ServerStop.{ServerStop}
 use Rattle.registry_desk.specs.declared.server.ServerStop.TheVariants as stops
-use Rattle.registry_desk.specs.Server.{Visit, IsVisit, HaveVisited, IsTurn, Turns, RepresentsAfter, IsHalted, EndsVisit, EndsServing, IsLeftAfter, IfVisited, fault_in}
+use Rattle.registry_desk.specs.Server.{Visit, IsVisit, HaveVisited, IsTurn, Turns, RepresentsAfter, IsHalted, EndsVisit, EndsServing, IsLeftAfter, EndsAt, IfVisited, fault_in}
 
 -- one connection more
 pub visited_more : {C R W : Type 0} (opens : C → C → R → W → Type 0) (closes : C → C → R → W → Option ℕ → Type 0) (remaining : R → Option (List ℕ)) (contents : W → Option (List ℕ)) (failures : W → ℕ)
@@ -106,11 +106,11 @@ module _ {S : Type 0} {g : Ghosts S} where
 pub length_more : (visits : List Visit) (visit : Visit) (n : ℕ) → length visits ≡ n → length (visits ++ visit ∷ []) ≡ n + 1
 length_more visits visit n is = length-append visits (visit ∷ []) ∙ ap (λ (k : ℕ). k + 1) is
 
-module _ {S C R W : Type 0} {g : Ghosts S} (opens : C → C → R → W → Type 0) (closes : C → C → R → W → Option ℕ → Type 0) (remaining : R → Option (List ℕ)) (contents : W → Option (List ℕ)) (failures : W → ℕ) where
+module _ {S C R W : Type 0} {g : Ghosts S} (opens : C → C → R → W → Type 0) (closes : C → C → R → W → Option ℕ → Type 0) (remaining : R → Option (List ℕ)) (contents : W → Option (List ℕ)) (failures : W → ℕ) (fails : C → C → Type 0) where
   abbrev Ends : C → C → TheRegistry S g → TheRegistry S g → ℕ → Result (Unit {0}) ServerStop → Type 0
   Ends old new first last count result = (visits : List Visit) × (middle : C)
       × HaveVisited opens closes remaining contents failures old middle visits
-      × IfVisited result (new ≡ middle)
+      × EndsAt fails middle new result
       × (length visits ≤ count) × OnOk result (length visits ≡ count)
       × ((h : History) → Represents first h → HasCleanDisk (state_of last) → EndsServing last h visits (fault_in result) × Leaves newest (state_of last) (IsLeftAfter h visits))
 
@@ -121,15 +121,15 @@ module _ {S C R W : Type 0} {g : Ghosts S} (opens : C → C → R → W → Type
       → ((h : History) → Represents first h → HasCleanDisk (state_of mid) → RepresentsAfter mid h visits)
       → IfVisited (Err stop) ((visit : Visit) × IsVisit opens closes remaining contents failures middle new visit
       × ((h : History) → Represents mid h → HasCleanDisk (state_of last) → EndsVisit last h visit (fault_in (Err stop))))
-      → (stop ≡ stops.Connections → last ≡ mid) → Ends old new first last count (Err stop)
+      → (stop ≡ stops.Connections → fails middle new × (last ≡ mid)) → Ends old new first last count (Err stop)
   stops_at old middle new first mid last count visits stops.Connections before less early so_far came none = (
     visits,
     middle,
     before,
-    tt,
+    (none refl).0,
     omega (arith, less),
     tt,
-    λ h stands clean. with_crash last h visits None (subst (λ it. RepresentsAfter it h visits) (sym (none refl)) (so_far h stands (early clean))) clean,
+    λ h stands clean. with_crash last h visits None (subst (λ it. RepresentsAfter it h visits) (sym (none refl).1) (so_far h stands (early clean))) clean,
   )
   stops_at old middle new first mid last count visits (stops.Registry fault) before less early so_far came none =
       let longer = length_more visits came.0 (length visits) refl in (
@@ -148,6 +148,6 @@ module _ {S C R W : Type 0} {g : Ghosts S} (opens : C → C → R → W → Type
       → ((h : History) → Represents first h → HasCleanDisk (state_of mid) → RepresentsAfter mid h visits)
       → IfVisited (Err stop) ((visit : Visit) × IsVisit opens closes remaining contents failures middle new visit
       × ((h : History) → Represents mid h → HasCleanDisk (state_of last) → EndsVisit last h visit (fault_in (Err stop))))
-      → (stop ≡ stops.Connections → last ≡ mid) → Ends old new first last count result
+      → (stop ≡ stops.Connections → fails middle new × (last ≡ mid)) → Ends old new first last count result
   stopped_at result stop is old middle new first mid last count visits before less early so_far came none =
       subst (λ (r : Result (Unit {0}) ServerStop). Ends old new first last count r) (sym is) (stops_at old middle new first mid last count visits stop before less early so_far came none)

@@ -135,6 +135,12 @@ IfVisited (Ok done) P = P
 IfVisited (Err stops.Connections) P = ⊤
 IfVisited (Err (stops.Registry fault)) P = P
 
+-- the connections are as the last one left them, or no further one could come
+abbrev pub EndsAt : {C : Type 0} → (C → C → Type 0) → C → C → Result (Unit {0}) ServerStop → Type 0
+EndsAt fails middle new (Ok done) = new ≡ middle
+EndsAt fails middle new (Err stops.Connections) = fails middle new
+EndsAt fails middle new (Err (stops.Registry fault)) = new ≡ middle
+
 -- ---- crashes
 
 -- The last of these connections got refusal 30 or 31 for a fault of the registry: the history after all messages before it, with or without its own.

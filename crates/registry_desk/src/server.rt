@@ -1,13 +1,13 @@
 //! The server: one connection after another, over one registry.
 
-ghost use Rattle.std.specs.Prelude.{◌≡◌, ◌≤◌, ℕ, List, Option, Some, length, IfOk, OnOk, Err};
+ghost use Rattle.std.specs.Prelude.{◌≡◌, ◌≤◌, ℕ, List, Option, Some, length, IfOk, IfErr, OnOk, Err};
 ghost use Rattle.sqlite.specs.State.{HasCleanDisk};
 ghost use Rattle.byte_streams.specs.Streams.{MayGive};
 ghost use Rattle.registry_rules.specs.History.{History};
 ghost use Rattle.registry_tables.specs.Rows.{newest};
 ghost use Rattle.registry_store.specs.Promise.{Represents, Endures, Leaves, state_of};
 ghost use Rattle.registry_desk.specs.Faults.{server_stop_text};
-ghost use Rattle.registry_desk.specs.Server.{Visit, IsVisit, IsWritten, HaveVisited, EndsVisit, EndsServing, IsLeftAfter, IfVisited, fault_in, status_in, status_of};
+ghost use Rattle.registry_desk.specs.Server.{Visit, IsVisit, IsWritten, HaveVisited, EndsVisit, EndsServing, IsLeftAfter, EndsAt, IfVisited, fault_in, status_in, status_of};
 
 use crate::serve::serve_message;
 use byte_streams::{Broken, Sink, Source};
@@ -31,9 +31,17 @@ pub trait Connections {
     /// The connection was closed, with its reader and its writer as serving left them, and this status.
     ghost closes: { Self → Self → Self.Reader → Self.Writer → Option ℕ → Type 0 };
 
-    /// Waits for the next connection. `Broken` says that none can come.
+    /// No further connection can come.
+    ghost fails: { Self → Self → Type 0 };
+
+    /// Waits for the next connection.
+    ///
+    /// # Errors
+    ///
+    /// `Broken` if no further connection can come.
     fn open(&mut self) -> Result<(Self::Reader, Self::Writer), Broken>
-        ensures { IfOk result (λ ends. opens self.old self.new ends.0 ends.1) };
+        ensures opened { IfOk result (λ ends. opens self.old self.new ends.0 ends.1) }
+        ensures failed { IfErr result (λ _. fails self.old self.new) };
 
     /// Closes a connection whose message is served, with the status of its response, or `None` where its peer failed.
     ///
@@ -118,7 +126,7 @@ pub fn serve_next<C: Connections, S: Alter>(
     ensures visited { IfVisited result ((visit : Visit)
         × IsVisit C.opens C.closes C.Reader.remaining C.Writer.contents C.Writer.failures connections.old connections.new visit
         × ((h : History) → Represents registry.old h → HasCleanDisk (state_of registry.new) → EndsVisit registry.new h visit (fault_in result))) }
-    ensures none { result ≡ Err ServerStop.Connections → registry.new ≡ registry.old }
+    ensures none { result ≡ Err ServerStop.Connections → C.fails connections.old connections.new × (registry.new ≡ registry.old) }
     ensures endures { Endures (state_of registry.old) (state_of registry.new) }
 {
     match connections.open() {
@@ -148,7 +156,7 @@ pub fn serve_all<C: Connections, S: Alter>(
 ) -> Result<(), ServerStop>
     ensures served { (visits : List Visit) × (middle : C)
         × HaveVisited C.opens C.closes C.Reader.remaining C.Writer.contents C.Writer.failures connections.old middle visits
-        × IfVisited result (connections.new ≡ middle)
+        × EndsAt C.fails middle connections.new result
         × (length visits ≤ count) × OnOk result (length visits ≡ count)
         × ((h : History) → Represents registry.old h → HasCleanDisk (state_of registry.new) → EndsServing registry.new h visits (fault_in result) × Leaves newest (state_of registry.new) (IsLeftAfter h visits)) }
     ensures endures { Endures (state_of registry.old) (state_of registry.new) }

@@ -27,6 +27,8 @@ impl<'a> Connections for Messages<'a> {
 
     ghost closes = { λ _ _ _ _ _. ⊤ };
 
+    ghost fails = { λ _ _. ⊤ };
+
     fn open(&mut self) -> Result<(Inlet<&'a [u8]>, Outlet<Vec<u8>>), Broken> {
         if self.opened >= self.messages.len() {
             return Err(Broken);
