@@ -13,7 +13,7 @@ use Rattle.usbids_text.specs.declared.kind.Depth.{Depth}
 use Rattle.usbids_text.specs.declared.kind.Depth.TheVariants.{Zero, One, Two}
 use Rattle.usbids_text.specs.declared.kind.Kind.TheVariants.{Vendor, Tagged}
 use Rattle.usbids_text.specs.Words.{is_separator, is_tail, is_inner, trimmed, before, word, past_separators, after_word, number_from, code_in, is_four, is_tag, is_code, begins_well, ends_well, is_name}
-use Rattle.usbids_text.specs.Entries.{Row, is_depth, is_row}
+use Rattle.usbids_text.specs.Entries.{EntryLine, is_depth, is_line}
 use Rattle.usbids_text.specs.Lines.{short_enough, with_code, below, tagged, top, after_tab, by_tabs, is_comment, class_of}
 use Rattle.usbids_text.proofs.EntryLemmas.{both, and_both}
 
@@ -146,61 +146,61 @@ code_fits bytes c e = elim (cases_Bool (nat_le 1 (length bytes) && nat_le (lengt
 ]
 
 -- the entry that is read from a code and a name
-short_row : (row found : Row) → is_code row.code row.digits ≡ true → list_all is_inner row.name ≡ true → begins_well row.name ≡ true → ends_well row.name ≡ true → is_depth row.depth row.digits ≡ true → short_enough row ≡ Ok (Some found) → is_row found ≡ true
-unfolding is_row is_name
-short_row row found code inner begins ends depth e = elim (cases_Bool (nat_le (length row.name) 65000)) [
+short_entry : (entry_line found : EntryLine) → is_code entry_line.code entry_line.digits ≡ true → list_all is_inner entry_line.name ≡ true → begins_well entry_line.name ≡ true → ends_well entry_line.name ≡ true → is_depth entry_line.depth entry_line.digits ≡ true → short_enough entry_line ≡ Ok (Some found) → is_line found ≡ true
+unfolding is_line is_name
+short_entry entry_line found code inner begins ends depth e = elim (cases_Bool (nat_le (length entry_line.name) 65000)) [
   | inl short ↦
-      let read : Ok (Some row) ≡ Ok (Some found) = sym (rw short refl) ∙ e in
-      let same : row ≡ found = cc in
-      ap is_row (sym same) ∙ rw (code, short, inner, begins, ends, depth) refl
+      let read : Ok (Some entry_line) ≡ Ok (Some found) = sym (rw short refl) ∙ e in
+      let same : entry_line ≡ found = cc in
+      ap is_line (sym same) ∙ rw (code, short, inner, begins, ends, depth) refl
   | inr long ↦ let read : Err LineTooLong ≡ Ok (Some found) = sym (rw long refl) ∙ e in absurd cc
 ]
 
-code_row : (depth : Depth) (bytes : List ℕ) (o : Option ℕ) (found : Row) → IsPlain bytes → is_depth depth (length (word bytes)) ≡ true → code_in (word bytes) ≡ o → with_code depth bytes o ≡ Ok (Some found) → is_row found ≡ true
+code_entry : (depth : Depth) (bytes : List ℕ) (o : Option ℕ) (found : EntryLine) → IsPlain bytes → is_depth depth (length (word bytes)) ≡ true → code_in (word bytes) ≡ o → with_code depth bytes o ≡ Ok (Some found) → is_line found ≡ true
 unfolding after_word
-code_row depth bytes None found plain deep code e = absurd cc
-code_row depth bytes (Some n) found plain deep code e =
+code_entry depth bytes None found plain deep code e = absurd cc
+code_entry depth bytes (Some n) found plain deep code e =
     let after = plain_after bytes plain in
-    short_row (record { depth = depth; code = n; digits = length (word bytes); name = after_word bytes }) found (code_fits (word bytes) n code) after.inner (begins_after (drop (before is_separator bytes) bytes)) after.ends deep e
+    short_entry (record { depth = depth; code = n; digits = length (word bytes); name = after_word bytes }) found (code_fits (word bytes) n code) after.inner (begins_after (drop (before is_separator bytes) bytes)) after.ends deep e
 
-below_row : (depth : Depth) (bytes : List ℕ) (found : Row) → IsPlain bytes → is_depth depth (length (word bytes)) ≡ true → below depth bytes ≡ Ok (Some found) → is_row found ≡ true
+below_entry : (depth : Depth) (bytes : List ℕ) (found : EntryLine) → IsPlain bytes → is_depth depth (length (word bytes)) ≡ true → below depth bytes ≡ Ok (Some found) → is_line found ≡ true
 unfolding below
-below_row depth bytes found plain deep e = code_row depth bytes (code_in (word bytes)) found plain deep refl e
+below_entry depth bytes found plain deep e = code_entry depth bytes (code_in (word bytes)) found plain deep refl e
 
 four_long : (bytes : List ℕ) → is_four bytes ≡ true → (length bytes == 4) ≡ true
 unfolding is_four
 four_long bytes e = (both (length bytes == 4) (is_some (code_in bytes)) e).0
 
-top_row_is : (bytes : List ℕ) (found : Row) → IsPlain bytes → top bytes ≡ Ok (Some found) → is_row found ≡ true
+top_line_is : (bytes : List ℕ) (found : EntryLine) → IsPlain bytes → top bytes ≡ Ok (Some found) → is_line found ≡ true
 unfolding top tagged
-top_row_is bytes found plain e = elim (cases_Bool (is_four (word bytes))) [
-  | inl four ↦ below_row (Zero Vendor) bytes found plain (four_long (word bytes) four) (sym (rw four refl) ∙ e)
+top_line_is bytes found plain e = elim (cases_Bool (is_four (word bytes))) [
+  | inl four ↦ below_entry (Zero Vendor) bytes found plain (four_long (word bytes) four) (sym (rw four refl) ∙ e)
   | inr other ↦ elim (cases_Bool (is_tag (word bytes))) [
-    | inl tag ↦ below_row (Zero (Tagged (word bytes))) (after_word bytes) found (plain_after bytes plain) tag (sym (rw (other, tag) refl) ∙ e)
+    | inl tag ↦ below_entry (Zero (Tagged (word bytes))) (after_word bytes) found (plain_after bytes plain) tag (sym (rw (other, tag) refl) ∙ e)
     | inr none ↦ let read : Err BadTop ≡ Ok (Some found) = sym (rw (other, none) refl) ∙ e in absurd cc
   ]
 ]
 
-after_tab_row : (bytes : List ℕ) (found : Row) → IsPlain bytes → after_tab bytes ≡ Ok (Some found) → is_row found ≡ true
-after_tab_row [] found plain e = below_row One [] found plain refl e
-after_tab_row (b ∷ bytes) found plain e = elim (cases_Bool (b == 9)) [
-  | inl tab ↦ below_row Two bytes found (plain_tail b bytes plain) refl (sym (rw tab refl) ∙ e)
-  | inr other ↦ below_row One (b ∷ bytes) found plain refl (sym (rw other refl) ∙ e)
+after_tab_entry : (bytes : List ℕ) (found : EntryLine) → IsPlain bytes → after_tab bytes ≡ Ok (Some found) → is_line found ≡ true
+after_tab_entry [] found plain e = below_entry One [] found plain refl e
+after_tab_entry (b ∷ bytes) found plain e = elim (cases_Bool (b == 9)) [
+  | inl tab ↦ below_entry Two bytes found (plain_tail b bytes plain) refl (sym (rw tab refl) ∙ e)
+  | inr other ↦ below_entry One (b ∷ bytes) found plain refl (sym (rw other refl) ∙ e)
 ]
 
-by_tabs_row : (bytes : List ℕ) (found : Row) → IsPlain bytes → by_tabs bytes ≡ Ok (Some found) → is_row found ≡ true
-by_tabs_row [] found plain e = absurd cc
-by_tabs_row (b ∷ bytes) found plain e = elim (cases_Bool (b == 9)) [
-  | inl tab ↦ after_tab_row bytes found (plain_tail b bytes plain) (sym (rw tab refl) ∙ e)
-  | inr other ↦ top_row_is (b ∷ bytes) found plain (sym (rw other refl) ∙ e)
+by_tabs_entry : (bytes : List ℕ) (found : EntryLine) → IsPlain bytes → by_tabs bytes ≡ Ok (Some found) → is_line found ≡ true
+by_tabs_entry [] found plain e = absurd cc
+by_tabs_entry (b ∷ bytes) found plain e = elim (cases_Bool (b == 9)) [
+  | inl tab ↦ after_tab_entry bytes found (plain_tail b bytes plain) (sym (rw tab refl) ∙ e)
+  | inr other ↦ top_line_is (b ∷ bytes) found plain (sym (rw other refl) ∙ e)
 ]
 
-pub class_row : (line : List ℕ) (found : Row) → list_all is_inner line ≡ true → class_of line ≡ Ok (Some found) → is_row found ≡ true
+pub class_entry : (line : List ℕ) (found : EntryLine) → list_all is_inner line ≡ true → class_of line ≡ Ok (Some found) → is_line found ≡ true
 unfolding class_of
-class_row line found inner e = elim (cases_Bool (nat_lt 65536 (length line))) [
+class_entry line found inner e = elim (cases_Bool (nat_lt 65536 (length line))) [
   | inl long ↦ let read : Err LineTooLong ≡ Ok (Some found) = sym (rw long refl) ∙ e in absurd cc
   | inr short ↦ elim (cases_Bool (is_comment (past_separators (trimmed line)))) [
     | inl comment ↦ let read : Ok None ≡ Ok (Some found) = sym (rw (short, comment) refl) ∙ e in absurd cc
-    | inr other ↦ by_tabs_row (trimmed line) found (record { inner = inner_trimmed line inner; ends = ends_trimmed line }) (sym (rw (short, other) refl) ∙ e)
+    | inr other ↦ by_tabs_entry (trimmed line) found (record { inner = inner_trimmed line inner; ends = ends_trimmed line }) (sym (rw (short, other) refl) ∙ e)
   ]
 ]

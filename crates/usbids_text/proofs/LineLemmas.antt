@@ -11,10 +11,10 @@ use Rattle.usbids_text.specs.declared.kind.Depth.{Depth}
 use Rattle.usbids_text.specs.declared.kind.Depth.TheVariants.{Zero, One, Two}
 use Rattle.usbids_text.specs.declared.kind.Kind.TheVariants.{Vendor, Tagged}
 use Rattle.usbids_text.specs.Words.{is_separator, is_tail, is_inner, is_upper, trimmed, word, past_separators, after_word, code_in, is_four, is_tag, is_code, begins_well, ends_well, is_name}
-use Rattle.usbids_text.specs.Entries.{Row, is_depth, is_row}
+use Rattle.usbids_text.specs.Entries.{EntryLine, is_depth, is_line}
 use Rattle.usbids_text.specs.Lines.{short_enough, with_code, below, tagged, top, after_tab, by_tabs, is_comment, class_of}
 use Rattle.usbids_text.specs.Writing.{front, code_text, gap, line_text}
-use Rattle.usbids_text.proofs.EntryLemmas.{both, and_both, row_code, row_name, row_depth}
+use Rattle.usbids_text.proofs.EntryLemmas.{both, and_both, entry_code, entry_name, entry_depth}
 use Rattle.usbids_text.proofs.WordLemmas.{trimmed_done, ends_well_last}
 use Rattle.usbids_text.proofs.CodeLemmas.{is_solid, not-true, word_is, after_is, past_solid, past_one, gap_past, gap_stops, text_of, hex_solid, hex_plain, hex_tab, solid_text, inner_text, ends_text, length_text, IsSpelt, spelt, code_reads_back}
 
@@ -43,7 +43,7 @@ body_begins digits code name s = record {
 code_solid : (digits code : ℕ) → IsSpelt digits code → list_all is_solid (code_text digits code) ≡ true
 code_solid digits code s = ap (list_all is_solid) s.text ∙ solid_text (s.first ∷ s.others) (s.small, s.each)
 
-abbrev mk : Depth → ℕ → ℕ → List ℕ → Row
+abbrev mk : Depth → ℕ → ℕ → List ℕ → EntryLine
 mk depth code digits name = record { depth = depth; code = code; digits = digits; name = name }
 
 body_word : (digits code : ℕ) (name : List ℕ) → IsSpelt digits code → word (body digits code name) ≡ code_text digits code
@@ -55,8 +55,8 @@ body_name digits code name s h = after_is (code_text digits code) (gap name ++ n
 code_long : (digits code : ℕ) → IsSpelt digits code → length (code_text digits code) ≡ digits
 code_long digits code s = ap length s.text ∙ (length_text (s.first ∷ s.others) ∙ s.counts)
 
-short_name : (row : Row) → nat_le (length row.name) 65000 ≡ true → short_enough row ≡ Ok (Some row)
-short_name row e = rw e refl
+short_name : (entry_line : EntryLine) → nat_le (length entry_line.name) 65000 ≡ true → short_enough entry_line ≡ Ok (Some entry_line)
+short_name entry_line e = rw e refl
 
 below_body : (depth : Depth) (digits code : ℕ) (name : List ℕ) → is_code code digits ≡ true → IsSpelt digits code → begins_well name ≡ true → nat_le (length name) 65000 ≡ true → below depth (body digits code name) ≡ Ok (Some (mk depth code digits name))
 unfolding below
@@ -261,8 +261,8 @@ line_read (Zero (Tagged tag)) digits code name e n d =
     ∙ (class_top (tag_line tag (body digits code name)) (tag_begins tag (body digits code name) t) (omega (arith, length-append tag (32 ∷ body digits code name))) (ends_tag tag (body digits code name) b (body_ends digits code name s w.ends))
     ∙ (top_tagged tag (body digits code name) d t b ∙ below_body (Zero (Tagged tag)) digits code name e s w.begins w.short))
 
-pub row_read : (row : Row) → is_row row ≡ true → class_of (line_text (front row.depth) row.digits row.code row.name) ≡ Ok (Some row)
-row_read row e = line_read row.depth row.digits row.code row.name (row_code row e) (row_name row e) (row_depth row e)
+pub entry_read : (entry_line : EntryLine) → is_line entry_line ≡ true → class_of (line_text (front entry_line.depth) entry_line.digits entry_line.code entry_line.name) ≡ Ok (Some entry_line)
+entry_read entry_line e = line_read entry_line.depth entry_line.digits entry_line.code entry_line.name (entry_code entry_line e) (entry_name entry_line e) (entry_depth entry_line e)
 
 inner_body : (digits code : ℕ) (name : List ℕ) → IsSpelt digits code → list_all is_inner name ≡ true → list_all is_inner (body digits code name) ≡ true
 inner_body digits code name s h =
@@ -279,10 +279,10 @@ front_inner Two digits d = refl
 front_inner (Zero Vendor) digits d = refl
 front_inner (Zero (Tagged tag)) digits d = let t = tags tag d in list_all-append is_inner tag (32 ∷ []) ∙ rw (tag_inner tag t.upper) refl
 
-pub row_inner : (row : Row) → is_row row ≡ true → list_all is_inner (line_text (front row.depth) row.digits row.code row.name) ≡ true
+pub entry_inner : (entry_line : EntryLine) → is_line entry_line ≡ true → list_all is_inner (line_text (front entry_line.depth) entry_line.digits entry_line.code entry_line.name) ≡ true
 unfolding line_text
-row_inner row e =
-    let s = spelt row.digits row.code (row_code row e) in
-    let w = named row.name (row_name row e) in
-    list_all-append is_inner (front row.depth) (body row.digits row.code row.name)
-    ∙ and_both (list_all is_inner (front row.depth)) (list_all is_inner (body row.digits row.code row.name)) (front_inner row.depth row.digits (row_depth row e)) (inner_body row.digits row.code row.name s w.inner)
+entry_inner entry_line e =
+    let s = spelt entry_line.digits entry_line.code (entry_code entry_line e) in
+    let w = named entry_line.name (entry_name entry_line e) in
+    list_all-append is_inner (front entry_line.depth) (body entry_line.digits entry_line.code entry_line.name)
+    ∙ and_both (list_all is_inner (front entry_line.depth)) (list_all is_inner (body entry_line.digits entry_line.code entry_line.name)) (front_inner entry_line.depth entry_line.digits (entry_depth entry_line e)) (inner_body entry_line.digits entry_line.code entry_line.name s w.inner)

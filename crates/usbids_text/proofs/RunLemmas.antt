@@ -7,7 +7,7 @@ use Rattle.usbids_text.specs.declared.fault.LineFault.{LineFault}
 use Rattle.usbids_text.specs.declared.fault.ReadFault.TheVariants.{Line}
 use Rattle.std.specs.List.{list_all}
 use Rattle.usbids_text.specs.Words.{is_inner}
-use Rattle.usbids_text.specs.Entries.{Row, preorder, tops_rows}
+use Rattle.usbids_text.specs.Entries.{EntryLine, preorder, tops_lines}
 use Rattle.usbids_text.specs.Lines.{class_of}
 use Rattle.usbids_text.specs.Documents.{entries, with_line, AreLinesOf, FaultIn, fault_of, next}
 use Rattle.usbids_text.specs.Opens.{whole, misplaced_in}
@@ -15,22 +15,22 @@ use Rattle.usbids_text.specs.Feeding.{Held, line_done, with_class, with_fault, r
 use Rattle.usbids_text.specs.Outcome.{done}
 use Rattle.usbids_text.proofs.CutLemmas.{done_fault}
 use Rattle.usbids_text.proofs.DocumentLemmas.{IsOpen, puts, puts_sound, misplaced_same}
-use Rattle.usbids_text.proofs.ClassLemmas.{class_row}
+use Rattle.usbids_text.proofs.ClassLemmas.{class_entry}
 use Rattle.usbids_text.proofs.InnerLemmas.{AreInner}
 
-abbrev pub joined : Option (List Row) → Option (List Row) → Option (List Row)
+abbrev pub joined : Option (List EntryLine) → Option (List EntryLine) → Option (List EntryLine)
 joined None b = None
 joined (Some x) None = None
 joined (Some x) (Some y) = Some (x ++ y)
 
-with_line_joined : (c : Result (Option Row) Why) (a b : Option (List Row)) → with_line c (joined a b) ≡ joined (with_line c a) b
+with_line_joined : (c : Result (Option EntryLine) Why) (a b : Option (List EntryLine)) → with_line c (joined a b) ≡ joined (with_line c a) b
 with_line_joined (Err why) a b = refl
 with_line_joined (Ok None) a b = refl
-with_line_joined (Ok (Some row)) None b = refl
-with_line_joined (Ok (Some row)) (Some x) None = refl
-with_line_joined (Ok (Some row)) (Some x) (Some y) = refl
+with_line_joined (Ok (Some entry_line)) None b = refl
+with_line_joined (Ok (Some entry_line)) (Some x) None = refl
+with_line_joined (Ok (Some entry_line)) (Some x) (Some y) = refl
 
-joined_nil : (b : Option (List Row)) → b ≡ joined (Some []) b
+joined_nil : (b : Option (List EntryLine)) → b ≡ joined (Some []) b
 joined_nil None = refl
 joined_nil (Some y) = refl
 
@@ -39,9 +39,9 @@ unfolding entries
 entries_append [] b = joined_nil (entries b)
 entries_append (l ∷ a) b = ap (with_line (class_of l)) (entries_append a b) ∙ with_line_joined (class_of l) (entries a) (entries b)
 
-entries_push : (ls : List (List ℕ)) (l : List ℕ) (rows : List Row) → entries ls ≡ Some rows → entries (ls ++ l ∷ []) ≡ joined (Some rows) (with_line (class_of l) (Some []))
+entries_push : (ls : List (List ℕ)) (l : List ℕ) (entry_lines : List EntryLine) → entries ls ≡ Some entry_lines → entries (ls ++ l ∷ []) ≡ joined (Some entry_lines) (with_line (class_of l) (Some []))
 unfolding entries
-entries_push ls l rows e = entries_append ls (l ∷ []) ∙ ap (λ (r : Option (List Row)). joined r (with_line (class_of l) (Some []))) e
+entries_push ls l entry_lines e = entries_append ls (l ∷ []) ∙ ap (λ (r : Option (List EntryLine)). joined r (with_line (class_of l) (Some []))) e
 
 -- no line was faulty
 pub record Good (h : Held) (ls : List (List ℕ)) : Type 0 where
@@ -65,33 +65,33 @@ step_faulty h ls l why good e = record {
   faulty = record { before = ls; line = l; after = []; doc = whole h.built; cut = refl; number = good.number; lines_of = good.lines_of; faulty = e };
 }
 
-step_row : (h : Held) (ls : List (List ℕ)) (l : List ℕ) (row : Row) (o : Option Why) → Good h ls → list_all is_inner l ≡ true → class_of l ≡ Ok (Some row) → misplaced_in h.built row ≡ o → Good (with_fault h row o) (ls ++ l ∷ []) ⊎ Bad (with_fault h row o) (ls ++ l ∷ [])
-step_row h ls l row None good inner is place =
-    let p = puts h.built row place in
+step_entry : (h : Held) (ls : List (List ℕ)) (l : List ℕ) (entry_line : EntryLine) (o : Option Why) → Good h ls → list_all is_inner l ≡ true → class_of l ≡ Ok (Some entry_line) → misplaced_in h.built entry_line ≡ o → Good (with_fault h entry_line o) (ls ++ l ∷ []) ⊎ Bad (with_fault h entry_line o) (ls ++ l ∷ [])
+step_entry h ls l entry_line None good inner is place =
+    let p = puts h.built entry_line place in
     inl (record {
       opens = p.opens;
       lines_of = record {
-        sound = puts_sound h.built row place (class_row l row inner is) good.lines_of.sound;
-        rows = entries_push ls l (preorder (whole h.built)) good.lines_of.rows ∙ (ap (λ (c : Result (Option Row) Why). joined (Some (preorder (whole h.built))) (with_line c (Some []))) is ∙ ap (λ (r : List Row). Some r) (sym p.rows));
+        sound = puts_sound h.built entry_line place (class_entry l entry_line inner is) good.lines_of.sound;
+        entry_lines = entries_push ls l (preorder (whole h.built)) good.lines_of.entry_lines ∙ (ap (λ (c : Result (Option EntryLine) Why). joined (Some (preorder (whole h.built))) (with_line c (Some []))) is ∙ ap (λ (r : List EntryLine). Some r) (sym p.entry_lines));
       };
       number = number_push h.line ls l good.number;
       clear = good.clear;
     })
-step_row h ls l row (Some why) good inner is place =
-    inr (step_faulty h ls l why good (ap (fault_of (whole h.built)) is ∙ (sym (misplaced_same h.built row good.opens) ∙ place)))
+step_entry h ls l entry_line (Some why) good inner is place =
+    inr (step_faulty h ls l why good (ap (fault_of (whole h.built)) is ∙ (sym (misplaced_same h.built entry_line good.opens) ∙ place)))
 
-step_class : (h : Held) (ls : List (List ℕ)) (l : List ℕ) (c : Result (Option Row) Why) → Good h ls → list_all is_inner l ≡ true → class_of l ≡ c → Good (with_class h c) (ls ++ l ∷ []) ⊎ Bad (with_class h c) (ls ++ l ∷ [])
+step_class : (h : Held) (ls : List (List ℕ)) (l : List ℕ) (c : Result (Option EntryLine) Why) → Good h ls → list_all is_inner l ≡ true → class_of l ≡ c → Good (with_class h c) (ls ++ l ∷ []) ⊎ Bad (with_class h c) (ls ++ l ∷ [])
 step_class h ls l (Err why) good inner is = inr (step_faulty h ls l why good (ap (fault_of (whole h.built)) is))
 step_class h ls l (Ok None) good inner is = inl (record {
   opens = good.opens;
   lines_of = record {
     sound = good.lines_of.sound;
-    rows = entries_push ls l (preorder (whole h.built)) good.lines_of.rows ∙ (ap (λ (c : Result (Option Row) Why). joined (Some (preorder (whole h.built))) (with_line c (Some []))) is ∙ ap (λ (r : List Row). Some r) (append-nil (preorder (whole h.built))));
+    entry_lines = entries_push ls l (preorder (whole h.built)) good.lines_of.entry_lines ∙ (ap (λ (c : Result (Option EntryLine) Why). joined (Some (preorder (whole h.built))) (with_line c (Some []))) is ∙ ap (λ (r : List EntryLine). Some r) (append-nil (preorder (whole h.built))));
   };
   number = number_push h.line ls l good.number;
   clear = good.clear;
 })
-step_class h ls l (Ok (Some row)) good inner is = step_row h ls l row (misplaced_in h.built row) good inner is refl
+step_class h ls l (Ok (Some entry_line)) good inner is = step_entry h ls l entry_line (misplaced_in h.built entry_line) good inner is refl
 
 pub step_line : (h : Held) (ls : List (List ℕ)) (l : List ℕ) → Good h ls → list_all is_inner l ≡ true → Good (line_done h l) (ls ++ l ∷ []) ⊎ Bad (line_done h l) (ls ++ l ∷ [])
 unfolding line_done
@@ -128,8 +128,8 @@ verdict h before (l ∷ ls) good inner =
     ]))
 
 start_good : Good start.held []
-unfolding entries tops_rows
-start_good = record { opens = refl; lines_of = record { sound = record { fours = refl; each = refl }; rows = refl }; number = refl; clear = refl }
+unfolding entries tops_lines
+start_good = record { opens = refl; lines_of = record { sound = record { fours = refl; each = refl }; entry_lines = refl }; number = refl; clear = refl }
 
 pub verdict_of : (ls : List (List ℕ)) → AreInner ls → Good (done start.held ls) ls ⊎ Bad (done start.held ls) ls
 verdict_of ls inner = verdict start.held [] ls start_good inner

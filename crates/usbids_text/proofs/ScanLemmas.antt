@@ -13,7 +13,7 @@ use Rattle.usbids_text.specs.declared.fault.ReadFault.{ReadFault}
 use Rattle.usbids_text.specs.declared.fault.ReadFault.TheVariants.{Line, NoMemory}
 use Rattle.usbids_text.specs.declared.seen.Seen.{Seen}
 use Rattle.usbids_text.specs.declared.seen.Wanted.{Wanted}
-use Rattle.usbids_text.specs.Entries.{Row, LeafEntry, MidEntry, TopEntry}
+use Rattle.usbids_text.specs.Entries.{EntryLine, LeafEntry, MidEntry, TopEntry}
 use Rattle.usbids_text.specs.Documents.{below_mid, below_top}
 use Rattle.usbids_text.specs.Finding.{first_mid, find_in, find_mid, vendor_has}
 use Rattle.usbids_text.specs.Lines.{class_of}
@@ -62,22 +62,22 @@ in_none v c t e = rw e (elim (cases_Bool (vendor_has v t)) [ inl h ↦ rw h refl
 
 -- ---- one entry
 
-abbrev at : Depth → ℕ → ℕ → List ℕ → Row
+abbrev at : Depth → ℕ → ℕ → List ℕ → EntryLine
 at depth code digits name = record { depth = depth; code = code; digits = digits; name = name }
 
 abbrev opened : List TopEntry → Option TopEntry → Option MidEntry → Open
 opened tops top mid = record { tops = tops; top = top; mid = mid }
 
-below_same : (w : Wanted) (row : Row) (t : TopEntry) (kind : Kind) → t.kind ≡ kind → seen_below (over_kind w.vendor kind t.code) row.digits ≡ below_top row (Some t)
-below_same w row t Vendor k = rw k (elim (cases_Bool (t.code == w.vendor)) [
-  | inl e ↦ rw e (elim (cases_Bool (row.digits == 4)) [ inl f ↦ rw f refl | inr f ↦ rw f refl ])
-  | inr e ↦ rw e (elim (cases_Bool (row.digits == 4)) [ inl f ↦ rw f refl | inr f ↦ rw f refl ])
+below_same : (w : Wanted) (entry_line : EntryLine) (t : TopEntry) (kind : Kind) → t.kind ≡ kind → seen_below (over_kind w.vendor kind t.code) entry_line.digits ≡ below_top entry_line (Some t)
+below_same w entry_line t Vendor k = rw k (elim (cases_Bool (t.code == w.vendor)) [
+  | inl e ↦ rw e (elim (cases_Bool (entry_line.digits == 4)) [ inl f ↦ rw f refl | inr f ↦ rw f refl ])
+  | inr e ↦ rw e (elim (cases_Bool (entry_line.digits == 4)) [ inl f ↦ rw f refl | inr f ↦ rw f refl ])
 ])
-below_same w row t (Tagged tag) k = rw k refl
+below_same w entry_line t (Tagged tag) k = rw k refl
 
-over_same : (w : Wanted) (row : Row) (top : Option TopEntry) → seen_below (over_of w.vendor top) row.digits ≡ below_top row top
-over_same w row None = refl
-over_same w row (Some t) = below_same w row t t.kind refl
+over_same : (w : Wanted) (entry_line : EntryLine) (top : Option TopEntry) → seen_below (over_of w.vendor top) entry_line.digits ≡ below_top entry_line top
+over_same w entry_line None = refl
+over_same w entry_line (Some t) = below_same w entry_line t t.kind refl
 
 mid_same : (mid : Option MidEntry) → (if is_some mid then None else Some NoParent) ≡ below_mid mid
 mid_same None = refl
@@ -89,8 +89,8 @@ misplaced_depth w h (Zero kind) code digits name = refl
 misplaced_depth w h One code digits name = over_same w (at One code digits name) h.built.top
 misplaced_depth w h Two code digits name = mid_same (open_mid h.built.top h.built.mid)
 
-pub misplaced_seen : (w : Wanted) (h : Held) (row : Row) → seen_misplaced (seen_of w h) row ≡ misplaced_in h.built row
-misplaced_seen w h row = misplaced_depth w h row.depth row.code row.digits row.name
+pub misplaced_seen : (w : Wanted) (h : Held) (entry_line : EntryLine) → seen_misplaced (seen_of w h) entry_line ≡ misplaced_in h.built entry_line
+misplaced_seen w h entry_line = misplaced_depth w h entry_line.depth entry_line.code entry_line.digits entry_line.name
 
 -- what the search has found in a document under construction
 abbrev found : Wanted → List TopEntry → Option TopEntry → Option MidEntry → Option (List ℕ)
@@ -133,19 +133,19 @@ put_depth w line fault tops (Some t) mid One code digits name place =
 put_depth w line fault tops top mid Two code digits name place =
     rw (open_leaf top mid (record { code = code; digits = digits; name = name }), found_leaf w tops top mid (record { code = code; digits = digits; name = name })) refl
 
-pub put_seen : (w : Wanted) (h : Held) (row : Row) → misplaced_in h.built row ≡ None → seen_put w (seen_of w h) row ≡ seen_of w (built_on h (put h.built row))
-put_seen w h row place = put_depth w h.line h.fault h.built.tops h.built.top h.built.mid row.depth row.code row.digits row.name place
+pub put_seen : (w : Wanted) (h : Held) (entry_line : EntryLine) → misplaced_in h.built entry_line ≡ None → seen_put w (seen_of w h) entry_line ≡ seen_of w (built_on h (put h.built entry_line))
+put_seen w h entry_line place = put_depth w h.line h.fault h.built.tops h.built.top h.built.mid entry_line.depth entry_line.code entry_line.digits entry_line.name place
 
 -- ---- one line
 
-fault_seen : (w : Wanted) (h : Held) (row : Row) (o : Option Why) → misplaced_in h.built row ≡ o → seen_fault w (seen_of w h) row o ≡ seen_of w (with_fault h row o)
-fault_seen w h row None place = ap (λ (q : Seen). seen_next q) (put_seen w h row place)
-fault_seen w h row (Some why) place = refl
+fault_seen : (w : Wanted) (h : Held) (entry_line : EntryLine) (o : Option Why) → misplaced_in h.built entry_line ≡ o → seen_fault w (seen_of w h) entry_line o ≡ seen_of w (with_fault h entry_line o)
+fault_seen w h entry_line None place = ap (λ (q : Seen). seen_next q) (put_seen w h entry_line place)
+fault_seen w h entry_line (Some why) place = refl
 
-class_seen : (w : Wanted) (h : Held) (c : Result (Option Row) Why) → seen_class w (seen_of w h) c ≡ seen_of w (with_class h c)
+class_seen : (w : Wanted) (h : Held) (c : Result (Option EntryLine) Why) → seen_class w (seen_of w h) c ≡ seen_of w (with_class h c)
 class_seen w h (Err why) = refl
 class_seen w h (Ok None) = refl
-class_seen w h (Ok (Some row)) = ap (seen_fault w (seen_of w h) row) (misplaced_seen w h row) ∙ fault_seen w h row (misplaced_in h.built row) refl
+class_seen w h (Ok (Some entry_line)) = ap (seen_fault w (seen_of w h) entry_line) (misplaced_seen w h entry_line) ∙ fault_seen w h entry_line (misplaced_in h.built entry_line) refl
 
 pub line_seen : (w : Wanted) (h : Held) (line : List ℕ) → seen_line w (seen_of w h) line ≡ seen_of w (line_done h line)
 unfolding seen_line line_done

@@ -6,7 +6,7 @@ use Rattle.std.proofs.lemmas.List.{append-nil}
 use Rattle.usbids_text.specs.declared.line.Why.{Why}
 use Rattle.usbids_text.specs.declared.kind.Kind.{Kind}
 use Rattle.usbids_text.specs.declared.kind.Kind.TheVariants.{Vendor, Tagged}
-use Rattle.usbids_text.specs.Entries.{Row, LeafEntry, MidEntry, TopEntry, leaf_row, mid_row, top_row, leaves_rows, mids_rows, tops_rows, preorder, is_vendor, has_four, is_sound_top, IsSound}
+use Rattle.usbids_text.specs.Entries.{EntryLine, LeafEntry, MidEntry, TopEntry, leaf_line, mid_line, top_line, leaves_lines, mids_lines, tops_lines, preorder, is_vendor, has_four, is_sound_top, IsSound}
 use Rattle.usbids_text.specs.Lines.{class_of}
 use Rattle.usbids_text.specs.Documents.{misplaced, AreLinesOf, FaultIn, fault_of, entries, with_line}
 use Rattle.usbids_text.specs.declared.fault.LineFault.{LineFault}
@@ -20,18 +20,18 @@ use Rattle.usbids_text.specs.Opens.{Open, with_mid, whole, put, misplaced_in, wi
 use Rattle.usbids_text.proofs.EntryLemmas.{both}
 use Rattle.usbids_text.proofs.InnerLemmas.{AreInner, are_inner_before}
 
-abbrev placed_at : Open → Row → Option Why → Option Open
-placed_at o row None = Some (put o row)
-placed_at o row (Some why) = None
+abbrev placed_at : Open → EntryLine → Option Why → Option Open
+placed_at o entry_line None = Some (put o entry_line)
+placed_at o entry_line (Some why) = None
 
-abbrev tried : Option Open → Row → Option Open
-tried None row = None
-tried (Some o) row = placed_at o row (misplaced_in o row)
+abbrev tried : Option Open → EntryLine → Option Open
+tried None entry_line = None
+tried (Some o) entry_line = placed_at o entry_line (misplaced_in o entry_line)
 
 -- puts the entries in their places, if each has one
-unfoldable run : Option Open → List Row → Option Open
+unfoldable run : Option Open → List EntryLine → Option Open
 run o [] = o
-run o (row ∷ rows) = run (tried o row) rows
+run o (entry_line ∷ entry_lines) = run (tried o entry_line) entry_lines
 
 abbrev at : List TopEntry → Option TopEntry → Option MidEntry → Open
 at tops top mid = record { tops = tops; top = top; mid = mid }
@@ -39,25 +39,25 @@ at tops top mid = record { tops = tops; top = top; mid = mid }
 abbrev with_leaves : MidEntry → List LeafEntry → MidEntry
 with_leaves m ls = record m { leaves = m.leaves ++ ls }
 
-run_append : (o : Option Open) (a b : List Row) → run o (a ++ b) ≡ run (run o a) b
+run_append : (o : Option Open) (a b : List EntryLine) → run o (a ++ b) ≡ run (run o a) b
 unfolding run
 run_append o [] b = refl
 run_append o (x ∷ a) b = run_append (tried o x) a b
 
-run_none : (rows : List Row) → run None rows ≡ None
+run_none : (entry_lines : List EntryLine) → run None entry_lines ≡ None
 unfolding run
 run_none [] = refl
-run_none (x ∷ rows) = run_none rows
+run_none (x ∷ entry_lines) = run_none entry_lines
 
-tried_leaf : (tops : List TopEntry) (t : TopEntry) (m : MidEntry) (l : LeafEntry) → tried (Some (at tops (Some t) (Some m))) (leaf_row l) ≡ Some (at tops (Some t) (Some (with_leaf m l)))
+tried_leaf : (tops : List TopEntry) (t : TopEntry) (m : MidEntry) (l : LeafEntry) → tried (Some (at tops (Some t) (Some m))) (leaf_line l) ≡ Some (at tops (Some t) (Some (with_leaf m l)))
 unfolding put misplaced_in
 tried_leaf tops t m l = refl
 
-run_leaves : (tops : List TopEntry) (t : TopEntry) (m : MidEntry) (ls : List LeafEntry) → run (Some (at tops (Some t) (Some m))) (leaves_rows ls) ≡ Some (at tops (Some t) (Some (with_leaves m ls)))
-unfolding leaves_rows run
+run_leaves : (tops : List TopEntry) (t : TopEntry) (m : MidEntry) (ls : List LeafEntry) → run (Some (at tops (Some t) (Some m))) (leaves_lines ls) ≡ Some (at tops (Some t) (Some (with_leaves m ls)))
+unfolding leaves_lines run
 run_leaves tops t m [] = ap (λ (x : List LeafEntry). Some (at tops (Some t) (Some (record m { leaves = x })))) (sym (append-nil m.leaves))
 run_leaves tops t m (l ∷ ls) =
-    ap (λ (o : Option Open). run o (leaves_rows ls)) (tried_leaf tops t m l) ∙ (run_leaves tops t (with_leaf m l) ls
+    ap (λ (o : Option Open). run o (leaves_lines ls)) (tried_leaf tops t m l) ∙ (run_leaves tops t (with_leaf m l) ls
     ∙ ap (λ (x : List LeafEntry). Some (at tops (Some t) (Some (record m { leaves = x })))) (append_assoc m.leaves (l ∷ []) ls))
 
 abbrev with_mids : TopEntry → List MidEntry → TopEntry
@@ -74,7 +74,7 @@ four_split : (kind : Kind) (m : MidEntry) (ms : List MidEntry) → (not (is_vend
 four_split (Tagged tag) m ms e = (refl, refl)
 four_split Vendor m ms e = let parts = both (m.digits == 4) (list_all has_four ms) e in (ap not parts.0, parts.1)
 
-tried_mid : (tops : List TopEntry) (t : TopEntry) (mid : Option MidEntry) (m : MidEntry) → (is_vendor t.kind && not (m.digits == 4)) ≡ false → tried (Some (at tops (Some t) mid)) (mid_row m) ≡ Some (at tops (Some (with_mid t mid)) (Some (record m { leaves = [] })))
+tried_mid : (tops : List TopEntry) (t : TopEntry) (mid : Option MidEntry) (m : MidEntry) → (is_vendor t.kind && not (m.digits == 4)) ≡ false → tried (Some (at tops (Some t) mid)) (mid_line m) ≡ Some (at tops (Some (with_mid t mid)) (Some (record m { leaves = [] })))
 unfolding put misplaced_in
 tried_mid tops t mid m e = rw e refl
 
@@ -82,8 +82,8 @@ kind_same : (t : TopEntry) (mid : Option MidEntry) → (with_mid t mid).kind ≡
 kind_same t None = refl
 kind_same t (Some m) = refl
 
-run_mids : (ms : List MidEntry) (tops : List TopEntry) (t : TopEntry) (mid : Option MidEntry) → IsOpenAt tops (Some t) mid → (not (is_vendor t.kind) || list_all has_four ms) ≡ true → Ran (run (Some (at tops (Some t) mid)) (mids_rows ms)) (tops ++ with_mids (with_mid t mid) ms ∷ [])
-unfolding mids_rows run
+run_mids : (ms : List MidEntry) (tops : List TopEntry) (t : TopEntry) (mid : Option MidEntry) → IsOpenAt tops (Some t) mid → (not (is_vendor t.kind) || list_all has_four ms) ≡ true → Ran (run (Some (at tops (Some t) mid)) (mids_lines ms)) (tops ++ with_mids (with_mid t mid) ms ∷ [])
+unfolding mids_lines run
 run_mids [] tops t mid opens four = record {
   ends = at tops (Some t) mid;
   is = refl;
@@ -92,10 +92,10 @@ run_mids [] tops t mid opens four = record {
 }
 run_mids (m ∷ ms) tops t mid opens four =
     let parts = four_split t.kind m ms four in
-    let one : run (Some (at tops (Some t) mid)) (mids_rows (m ∷ ms)) ≡ run (Some (at tops (Some (with_mid t mid)) (Some m))) (mids_rows ms) =
-    ap (λ (o : Option Open). run o (leaves_rows m.leaves ++ mids_rows ms)) (tried_mid tops t mid m parts.0)
-    ∙ (run_append (Some (at tops (Some (with_mid t mid)) (Some (record m { leaves = [] })))) (leaves_rows m.leaves) (mids_rows ms)
-    ∙ ap (λ (o : Option Open). run o (mids_rows ms)) (run_leaves tops (with_mid t mid) (record m { leaves = [] }) m.leaves)) in
+    let one : run (Some (at tops (Some t) mid)) (mids_lines (m ∷ ms)) ≡ run (Some (at tops (Some (with_mid t mid)) (Some m))) (mids_lines ms) =
+    ap (λ (o : Option Open). run o (leaves_lines m.leaves ++ mids_lines ms)) (tried_mid tops t mid m parts.0)
+    ∙ (run_append (Some (at tops (Some (with_mid t mid)) (Some (record m { leaves = [] })))) (leaves_lines m.leaves) (mids_lines ms)
+    ∙ ap (λ (o : Option Open). run o (mids_lines ms)) (run_leaves tops (with_mid t mid) (record m { leaves = [] }) m.leaves)) in
     let rest = run_mids ms tops (with_mid t mid) (Some m) tt (ap (λ (k : Kind). not (is_vendor k) || list_all has_four ms) (kind_same t mid) ∙ parts.1) in
     record {
       ends = rest.ends;
@@ -104,21 +104,21 @@ run_mids (m ∷ ms) tops t mid opens four =
       opens = rest.opens;
     }
 
-tried_top : (o : Open) (t : TopEntry) → tried (Some o) (top_row t) ≡ Some (at (whole o) (Some (record t { mids = [] })) None)
+tried_top : (o : Open) (t : TopEntry) → tried (Some o) (top_line t) ≡ Some (at (whole o) (Some (record t { mids = [] })) None)
 unfolding put misplaced_in
 tried_top o t = refl
 
-run_tops : (ts : List TopEntry) (o : Open) → IsOpen o → list_all is_sound_top ts ≡ true → Ran (run (Some o) (tops_rows ts)) (whole o ++ ts)
-unfolding tops_rows run
+run_tops : (ts : List TopEntry) (o : Open) → IsOpen o → list_all is_sound_top ts ≡ true → Ran (run (Some o) (tops_lines ts)) (whole o ++ ts)
+unfolding tops_lines run
 run_tops [] o opens sound = record { ends = o; is = refl; tops_are = sym (append-nil (whole o)); opens = opens }
 run_tops (t ∷ ts) o opens sound =
     let parts = both (is_sound_top t) (list_all is_sound_top ts) sound in
     let mids = run_mids t.mids (whole o) (record t { mids = [] }) None refl parts.0 in
     let rest = run_tops ts mids.ends mids.opens parts.1 in
-    let one : run (Some o) (tops_rows (t ∷ ts)) ≡ run (Some mids.ends) (tops_rows ts) =
-    ap (λ (x : Option Open). run x (mids_rows t.mids ++ tops_rows ts)) (tried_top o t)
-    ∙ (run_append (Some (at (whole o) (Some (record t { mids = [] })) None)) (mids_rows t.mids) (tops_rows ts)
-    ∙ ap (λ (x : Option Open). run x (tops_rows ts)) mids.is) in
+    let one : run (Some o) (tops_lines (t ∷ ts)) ≡ run (Some mids.ends) (tops_lines ts) =
+    ap (λ (x : Option Open). run x (mids_lines t.mids ++ tops_lines ts)) (tried_top o t)
+    ∙ (run_append (Some (at (whole o) (Some (record t { mids = [] })) None)) (mids_lines t.mids) (tops_lines ts)
+    ∙ ap (λ (x : Option Open). run x (tops_lines ts)) mids.is) in
     record {
       ends = rest.ends;
       is = one ∙ rest.is;
@@ -139,40 +139,40 @@ document_is_one a b sa sb e =
     sym ra.tops_are ∙ (ap whole same ∙ rb.tops_are)
 
 pub one_spelt : (ls : List (List ℕ)) (a b : List TopEntry) → AreLinesOf ls a → AreLinesOf ls b → a ≡ b
-one_spelt ls a b sa sb = let e : Some (preorder a) ≡ Some (preorder b) = sym sa.rows ∙ sb.rows in document_is_one a b sa.sound sb.sound (cc)
+one_spelt ls a b sa sb = let e : Some (preorder a) ≡ Some (preorder b) = sym sa.entry_lines ∙ sb.entry_lines in document_is_one a b sa.sound sb.sound (cc)
 
-tried_misplaced : (o : Open) (row : Row) (why : Why) → misplaced_in o row ≡ Some why → tried (Some o) row ≡ None
-tried_misplaced o row why e = rw e refl
+tried_misplaced : (o : Open) (entry_line : EntryLine) (why : Why) → misplaced_in o entry_line ≡ Some why → tried (Some o) entry_line ≡ None
+tried_misplaced o entry_line why e = rw e refl
 
-no_place : (d before : List TopEntry) (row : Row) (more : List Row) (why : Why) → IsSound d → IsSound before → misplaced before row ≡ Some why → preorder before ++ row ∷ more ≡ preorder d → ⊥
+no_place : (d before : List TopEntry) (entry_line : EntryLine) (more : List EntryLine) (why : Why) → IsSound d → IsSound before → misplaced before entry_line ≡ Some why → preorder before ++ entry_line ∷ more ≡ preorder d → ⊥
 unfolding run
-no_place d before row more why sd sb bad e =
+no_place d before entry_line more why sd sb bad e =
     let rd = run_document d sd in
     let rb = run_document before sb in
     let doc : whole rb.ends ≡ before = rb.tops_are in
-    let place : misplaced_in rb.ends row ≡ Some why = misplaced_same rb.ends row rb.opens ∙ (ap (λ (x : List TopEntry). misplaced x row) doc ∙ bad) in
-    let stops : run (Some (none_open [])) (preorder before ++ row ∷ more) ≡ None =
-    run_append (Some (none_open [])) (preorder before) (row ∷ more) ∙ (ap (λ (o : Option Open). run (tried o row) more) rb.is ∙ (ap (λ (o : Option Open). run o more) (tried_misplaced rb.ends row why place) ∙ run_none more)) in
+    let place : misplaced_in rb.ends entry_line ≡ Some why = misplaced_same rb.ends entry_line rb.opens ∙ (ap (λ (x : List TopEntry). misplaced x entry_line) doc ∙ bad) in
+    let stops : run (Some (none_open [])) (preorder before ++ entry_line ∷ more) ≡ None =
+    run_append (Some (none_open [])) (preorder before) (entry_line ∷ more) ∙ (ap (λ (o : Option Open). run (tried o entry_line) more) rb.is ∙ (ap (λ (o : Option Open). run o more) (tried_misplaced rb.ends entry_line why place) ∙ run_none more)) in
     let goes : None ≡ Some rd.ends = sym stops ∙ (ap (run (Some (none_open []))) e ∙ rd.is) in
     absurd cc
 
-faulty_row : (d before : List TopEntry) (c : Result (Option Row) Why) (more : Option (List Row)) (why : Why) → IsSound d → IsSound before → fault_of before c ≡ Some why → joined (Some (preorder before)) (with_line c more) ≡ Some (preorder d) → ⊥
-faulty_row d before (Err w) more why sd sb bad e = absurd cc
-faulty_row d before (Ok None) more why sd sb bad e = absurd cc
-faulty_row d before (Ok (Some row)) None why sd sb bad e = absurd cc
-faulty_row d before (Ok (Some row)) (Some more) why sd sb bad e = no_place d before row more why sd sb bad (cc)
+faulty_entry : (d before : List TopEntry) (c : Result (Option EntryLine) Why) (more : Option (List EntryLine)) (why : Why) → IsSound d → IsSound before → fault_of before c ≡ Some why → joined (Some (preorder before)) (with_line c more) ≡ Some (preorder d) → ⊥
+faulty_entry d before (Err w) more why sd sb bad e = absurd cc
+faulty_entry d before (Ok None) more why sd sb bad e = absurd cc
+faulty_entry d before (Ok (Some entry_line)) None why sd sb bad e = absurd cc
+faulty_entry d before (Ok (Some entry_line)) (Some more) why sd sb bad e = no_place d before entry_line more why sd sb bad (cc)
 
 -- the lines of a document have no fault
 pub not_both_at_once : (ls : List (List ℕ)) (d : List TopEntry) (n : ℕ) (why : Why) → AreLinesOf ls d → FaultIn ls n why → ⊥
 unfolding entries
 not_both_at_once ls d n why s f =
-    faulty_row d f.doc (class_of f.line) (entries f.after) why s.sound f.lines_of.sound f.faulty
-    (ap (λ (r : Option (List Row)). joined r (with_line (class_of f.line) (entries f.after))) (sym f.lines_of.rows) ∙ (sym (entries_append f.before (f.line ∷ f.after)) ∙ (ap entries (sym f.cut) ∙ s.rows)))
+    faulty_entry d f.doc (class_of f.line) (entries f.after) why s.sound f.lines_of.sound f.faulty
+    (ap (λ (r : Option (List EntryLine)). joined r (with_line (class_of f.line) (entries f.after))) (sym f.lines_of.entry_lines) ∙ (sym (entries_append f.before (f.line ∷ f.after)) ∙ (ap entries (sym f.cut) ∙ s.entry_lines)))
 
-with_class_faulty : (h : Held) (c : Result (Option Row) Why) (why : Why) → IsOpen h.built → fault_of (whole h.built) c ≡ Some why → with_class h c ≡ refused h why
+with_class_faulty : (h : Held) (c : Result (Option EntryLine) Why) (why : Why) → IsOpen h.built → fault_of (whole h.built) c ≡ Some why → with_class h c ≡ refused h why
 with_class_faulty h (Err w) why opens e = ap (refused h) (cc)
 with_class_faulty h (Ok None) why opens e = absurd cc
-with_class_faulty h (Ok (Some row)) why opens e = ap (with_fault h row) (misplaced_same h.built row opens ∙ e)
+with_class_faulty h (Ok (Some entry_line)) why opens e = ap (with_fault h entry_line) (misplaced_same h.built entry_line opens ∙ e)
 
 done_append : (h : Held) (a b : List (List ℕ)) → done h (a ++ b) ≡ done (done h a) b
 unfolding done

@@ -5,18 +5,18 @@ use Rattle.std.specs.List.{list_all}
 use Rattle.std.proofs.lemmas.Bool.{le-ltb}
 use Rattle.std.proofs.lemmas.Bool.Decides.{nat_tests}
 use Rattle.usbids_text.specs.Words.{is_inner, trimmed, before, past_separators}
-use Rattle.usbids_text.specs.Entries.{Row, TopEntry, preorder, is_row, IsSound}
+use Rattle.usbids_text.specs.Entries.{EntryLine, TopEntry, preorder, is_line, IsSound}
 use Rattle.usbids_text.specs.Lines.{class_of, is_comment}
 use Rattle.usbids_text.specs.Cut.{cut, lines, with_rest}
 use Rattle.usbids_text.specs.Documents.{entries, with_line, IsTextOf}
 use Rattle.usbids_text.specs.Moments.{Moment}
-use Rattle.usbids_text.specs.Writing.{front, line_text, row_text, rows_text, date_text, time_text, stamp_text, title, head_text, written}
+use Rattle.usbids_text.specs.Writing.{front, line_text, entry_text, lines_text, date_text, time_text, stamp_text, title, head_text, written}
 use Rattle.usbids_text.proofs.EntryLemmas.{both}
 use Rattle.usbids_text.proofs.InnerLemmas.{Pieces}
 use Rattle.usbids_text.proofs.CutLemmas.{IsPart, cut_line}
 use Rattle.usbids_text.proofs.ClassLemmas.{trimmed_some}
 use Rattle.usbids_text.proofs.CodeLemmas.{past_solid}
-use Rattle.usbids_text.proofs.LineLemmas.{row_read, row_inner}
+use Rattle.usbids_text.proofs.LineLemmas.{entry_read, entry_inner}
 
 not_not : (b : Bool) → not b ≡ true → b ≡ false
 not_not true e = absurd cc
@@ -35,34 +35,34 @@ lines_line : (l rest : List ℕ) → list_all is_inner l ≡ true → lines (l +
 unfolding lines
 lines_line l rest e = ap (λ (c : Pieces). with_rest c.0 c.1) (cut_line l 10 rest (is_part_of l e) refl) ∙ with_rest_line l (cut rest).0 (cut rest).1
 
-entries_row : (l rest : List ℕ) (row : Row) (rows : List Row) → list_all is_inner l ≡ true → class_of l ≡ Ok (Some row) → entries (lines rest) ≡ Some rows → entries (lines (l ++ 10 ∷ rest)) ≡ Some (row ∷ rows)
+entries_line : (l rest : List ℕ) (entry_line : EntryLine) (entry_lines : List EntryLine) → list_all is_inner l ≡ true → class_of l ≡ Ok (Some entry_line) → entries (lines rest) ≡ Some entry_lines → entries (lines (l ++ 10 ∷ rest)) ≡ Some (entry_line ∷ entry_lines)
 unfolding entries
-entries_row l rest row rows inner is e =
+entries_line l rest entry_line entry_lines inner is e =
     ap entries (lines_line l rest inner)
-    ∙ (ap (λ (o : Option (List Row)). with_line (class_of l) o) e ∙ rw is refl)
+    ∙ (ap (λ (o : Option (List EntryLine)). with_line (class_of l) o) e ∙ rw is refl)
 
-entries_none : (l rest : List ℕ) (rows : List Row) → list_all is_inner l ≡ true → class_of l ≡ Ok None → entries (lines rest) ≡ Some rows → entries (lines (l ++ 10 ∷ rest)) ≡ Some rows
+entries_none : (l rest : List ℕ) (entry_lines : List EntryLine) → list_all is_inner l ≡ true → class_of l ≡ Ok None → entries (lines rest) ≡ Some entry_lines → entries (lines (l ++ 10 ∷ rest)) ≡ Some entry_lines
 unfolding entries
-entries_none l rest rows inner is e =
+entries_none l rest entry_lines inner is e =
     ap entries (lines_line l rest inner)
-    ∙ (ap (λ (o : Option (List Row)). with_line (class_of l) o) e ∙ rw is refl)
+    ∙ (ap (λ (o : Option (List EntryLine)). with_line (class_of l) o) e ∙ rw is refl)
 
 no_lines : entries (lines []) ≡ Some []
 unfolding entries lines cut
 no_lines = refl
 
-row_line : (row : Row) (rest : List ℕ) → row_text row ++ rest ≡ line_text (front row.depth) row.digits row.code row.name ++ 10 ∷ rest
-unfolding row_text
-row_line row rest = append_assoc (line_text (front row.depth) row.digits row.code row.name) (10 ∷ []) rest
+line_of_entry : (entry_line : EntryLine) (rest : List ℕ) → entry_text entry_line ++ rest ≡ line_text (front entry_line.depth) entry_line.digits entry_line.code entry_line.name ++ 10 ∷ rest
+unfolding entry_text
+line_of_entry entry_line rest = append_assoc (line_text (front entry_line.depth) entry_line.digits entry_line.code entry_line.name) (10 ∷ []) rest
 
 -- the lines of entries are read as those entries
-rows_read : (rows : List Row) → list_all is_row rows ≡ true → entries (lines (rows_text rows)) ≡ Some rows
-unfolding rows_text
-rows_read [] e = no_lines
-rows_read (row ∷ rows) e =
-    let p = both (is_row row) (list_all is_row rows) e in
-    ap (λ (l : List ℕ). entries (lines l)) (row_line row (rows_text rows))
-    ∙ entries_row (line_text (front row.depth) row.digits row.code row.name) (rows_text rows) row rows (row_inner row p.0) (row_read row p.0) (rows_read rows p.1)
+lines_read : (entry_lines : List EntryLine) → list_all is_line entry_lines ≡ true → entries (lines (lines_text entry_lines)) ≡ Some entry_lines
+unfolding lines_text
+lines_read [] e = no_lines
+lines_read (entry_line ∷ entry_lines) e =
+    let p = both (is_line entry_line) (list_all is_line entry_lines) e in
+    ap (λ (l : List ℕ). entries (lines l)) (line_of_entry entry_line (lines_text entry_lines))
+    ∙ entries_line (line_text (front entry_line.depth) entry_line.digits entry_line.code entry_line.name) (lines_text entry_lines) entry_line entry_lines (entry_inner entry_line p.0) (entry_read entry_line p.0) (lines_read entry_lines p.1)
 
 -- a comment is not an entry
 comment_class : (l : List ℕ) → length (35 ∷ l) ≤ 65536 → class_of (35 ∷ l) ≡ Ok None
@@ -106,23 +106,23 @@ title_class : class_of title ≡ Ok None
 unfolding title
 title_class = comment_class _ (omega arith)
 
-blank_read : (rest : List ℕ) (rows : List Row) → entries (lines rest) ≡ Some rows → entries (lines ([] ++ 10 ∷ rest)) ≡ Some rows
-blank_read rest rows e = entries_none [] rest rows refl blank_class e
+blank_read : (rest : List ℕ) (entry_lines : List EntryLine) → entries (lines rest) ≡ Some entry_lines → entries (lines ([] ++ 10 ∷ rest)) ≡ Some entry_lines
+blank_read rest entry_lines e = entries_none [] rest entry_lines refl blank_class e
 
 -- the stamp and the empty line have no entries
-stamp_read : (stamp : Option Moment) (rest : List ℕ) (rows : List Row) → entries (lines rest) ≡ Some rows → entries (lines ((stamp_text stamp ++ 10 ∷ []) ++ rest)) ≡ Some rows
+stamp_read : (stamp : Option Moment) (rest : List ℕ) (entry_lines : List EntryLine) → entries (lines rest) ≡ Some entry_lines → entries (lines ((stamp_text stamp ++ 10 ∷ []) ++ rest)) ≡ Some entry_lines
 unfolding stamp_text
-stamp_read None rest rows e = blank_read rest rows e
-stamp_read (Some m) rest rows e =
-    entries_none (version_line m) (date_line m ++ 10 ∷ (10 ∷ rest)) rows (version_inner m) (version_class m)
-    (entries_none (date_line m) (10 ∷ rest) rows (date_inner m) (date_class m) (blank_read rest rows e))
+stamp_read None rest entry_lines e = blank_read rest entry_lines e
+stamp_read (Some m) rest entry_lines e =
+    entries_none (version_line m) (date_line m ++ 10 ∷ (10 ∷ rest)) entry_lines (version_inner m) (version_class m)
+    (entries_none (date_line m) (10 ∷ rest) entry_lines (date_inner m) (date_class m) (blank_read rest entry_lines e))
 
-head_read : (stamp : Option Moment) (rest : List ℕ) (rows : List Row) → entries (lines rest) ≡ Some rows → entries (lines (head_text stamp ++ rest)) ≡ Some rows
-head_read stamp rest rows e =
+head_read : (stamp : Option Moment) (rest : List ℕ) (entry_lines : List EntryLine) → entries (lines rest) ≡ Some entry_lines → entries (lines (head_text stamp ++ rest)) ≡ Some entry_lines
+head_read stamp rest entry_lines e =
     let tail : List ℕ = stamp_text stamp ++ 10 ∷ [] in
     let same : head_text stamp ++ rest ≡ title ++ 10 ∷ (tail ++ rest) = append_assoc (title ++ 10 ∷ []) tail rest ∙ append_assoc title (10 ∷ []) (tail ++ rest) in
-    ap (λ (l : List ℕ). entries (lines l)) same ∙ entries_none title (tail ++ rest) rows title_inner title_class (stamp_read stamp rest rows e)
+    ap (λ (l : List ℕ). entries (lines l)) same ∙ entries_none title (tail ++ rest) entry_lines title_inner title_class (stamp_read stamp rest entry_lines e)
 
 -- the written text is the text of the document
 pub written_text_is_text : (doc : List TopEntry) (stamp : Option Moment) → IsSound doc → IsTextOf (written doc stamp) doc
-written_text_is_text doc stamp s = record { sound = s; rows = head_read stamp (rows_text (preorder doc)) (preorder doc) (rows_read (preorder doc) s.each) }
+written_text_is_text doc stamp s = record { sound = s; entry_lines = head_read stamp (lines_text (preorder doc)) (preorder doc) (lines_read (preorder doc) s.each) }

@@ -4,7 +4,7 @@ use Rattle.usbids_text.specs.declared.line.Why.{Why}
 use Rattle.usbids_text.specs.declared.line.Why.TheVariants.{LineTooLong}
 use Rattle.usbids_text.specs.declared.fault.ReadFault.{ReadFault}
 use Rattle.usbids_text.specs.declared.fault.ReadFault.TheVariants.{Line}
-use Rattle.usbids_text.specs.Entries.{Row}
+use Rattle.usbids_text.specs.Entries.{EntryLine}
 use Rattle.usbids_text.specs.Lines.{class_of}
 use Rattle.usbids_text.specs.Documents.{next}
 use Rattle.usbids_text.specs.Opens.{Open, none_open, put, misplaced_in}
@@ -18,13 +18,13 @@ pub record Held : Type 0 where
 abbrev pub refused : Held → Why → Held
 refused h why = record h { fault = Some (Line (record { line = h.line; why = why })) }
 
-abbrev pub with_fault : Held → Row → Option Why → Held
-with_fault h row None = record h { line = next h.line; built = put h.built row }
-with_fault h row (Some why) = refused h why
+abbrev pub with_fault : Held → EntryLine → Option Why → Held
+with_fault h entry_line None = record h { line = next h.line; built = put h.built entry_line }
+with_fault h entry_line (Some why) = refused h why
 
-abbrev pub with_class : Held → Result (Option Row) Why → Held
+abbrev pub with_class : Held → Result (Option EntryLine) Why → Held
 with_class h (Ok None) = record h { line = next h.line }
-with_class h (Ok (Some row)) = with_fault h row (misplaced_in h.built row)
+with_class h (Ok (Some entry_line)) = with_fault h entry_line (misplaced_in h.built entry_line)
 with_class h (Err why) = refused h why
 
 -- the state after one more line

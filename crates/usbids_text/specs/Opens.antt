@@ -3,7 +3,7 @@ use Rattle.std.specs.Prelude.{ℕ, List, [], ◌∷◌, ◌++◌, Bool, true, Op
 use Rattle.usbids_text.specs.declared.line.Why.{Why}
 use Rattle.usbids_text.specs.declared.kind.Kind.{Kind}
 use Rattle.usbids_text.specs.declared.kind.Depth.TheVariants.{Zero, One, Two}
-use Rattle.usbids_text.specs.Entries.{Row, LeafEntry, MidEntry, TopEntry, has_room}
+use Rattle.usbids_text.specs.Entries.{EntryLine, LeafEntry, MidEntry, TopEntry, has_room}
 use Rattle.usbids_text.specs.Documents.{fault_at}
 
 -- the closed tops, the open top and the open mid
@@ -50,8 +50,8 @@ abbrev pub put_leaf : Open → ℕ → ℕ → List ℕ → Open
 put_leaf o code digits name = record o { mid = more_leaf o.mid (record { code = code; digits = digits; name = name }) }
 
 -- puts an entry in its place
-unfoldable pub put : Open → Row → Open
-put o row = elim row.depth as (λ _. Open) [ Zero kind ↦ put_top o kind row.code row.digits row.name | One ↦ put_mid o row.code row.digits row.name | Two ↦ put_leaf o row.code row.digits row.name ]
+unfoldable pub put : Open → EntryLine → Open
+put o entry_line = elim entry_line.depth as (λ _. Open) [ Zero kind ↦ put_top o kind entry_line.code entry_line.digits entry_line.name | One ↦ put_mid o entry_line.code entry_line.digits entry_line.name | Two ↦ put_leaf o entry_line.code entry_line.digits entry_line.name ]
 
 -- a mid is open only in a top
 abbrev pub open_mid : Option TopEntry → Option MidEntry → Option MidEntry
@@ -59,8 +59,8 @@ open_mid None mid = None
 open_mid (Some t) mid = mid
 
 -- the fault of an entry that is misplaced here
-unfoldable pub misplaced_in : Open → Row → Option Why
-misplaced_in o row = fault_at row o.top (open_mid o.top o.mid)
+unfoldable pub misplaced_in : Open → EntryLine → Option Why
+misplaced_in o entry_line = fault_at entry_line o.top (open_mid o.top o.mid)
 
 -- the open top may contain the open mid
 abbrev pub fits_in : Option TopEntry → Option MidEntry → Bool

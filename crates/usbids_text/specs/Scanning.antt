@@ -12,7 +12,7 @@ use Rattle.usbids_text.specs.declared.seen.Over.{Over}
 use Rattle.usbids_text.specs.declared.seen.Over.TheVariants as over
 use Rattle.usbids_text.specs.declared.seen.Seen.{Seen}
 use Rattle.usbids_text.specs.declared.seen.Wanted.{Wanted}
-use Rattle.usbids_text.specs.Entries.{Row, TopEntry}
+use Rattle.usbids_text.specs.Entries.{EntryLine, TopEntry}
 use Rattle.usbids_text.specs.Lines.{class_of}
 use Rattle.usbids_text.specs.Documents.{next}
 use Rattle.usbids_text.specs.Finding.{find_mid}
@@ -42,8 +42,8 @@ seen_below over.Wanted digits = if digits == 4 then None else Some BadCode
 seen_below over.Other digits = if digits == 4 then None else Some BadCode
 
 -- the fault of an entry that is misplaced here
-unfoldable pub seen_misplaced : Seen → Row → Option Why
-seen_misplaced q row = elim row.depth as (λ _. Option Why) [ Zero kind ↦ None | One ↦ seen_below q.over row.digits | Two ↦ (if q.has_mid then None else Some NoParent) ]
+unfoldable pub seen_misplaced : Seen → EntryLine → Option Why
+seen_misplaced q entry_line = elim entry_line.depth as (λ _. Option Why) [ Zero kind ↦ None | One ↦ seen_below q.over entry_line.digits | Two ↦ (if q.has_mid then None else Some NoParent) ]
 
 abbrev pub seen_top : Wanted → Seen → Kind → ℕ → Seen
 seen_top wanted q kind code = record q { over = over_kind wanted.vendor kind code; has_mid = false }
@@ -59,8 +59,8 @@ abbrev pub seen_mid : Wanted → Seen → ℕ → List ℕ → Seen
 seen_mid wanted q code name = record q { has_mid = true; found = option_or q.found (if is_match wanted q.over code then Some name else None) }
 
 -- the state after an entry that is in its place
-unfoldable pub seen_put : Wanted → Seen → Row → Seen
-seen_put wanted q row = elim row.depth as (λ _. Seen) [ Zero kind ↦ seen_top wanted q kind row.code | One ↦ seen_mid wanted q row.code row.name | Two ↦ q ]
+unfoldable pub seen_put : Wanted → Seen → EntryLine → Seen
+seen_put wanted q entry_line = elim entry_line.depth as (λ _. Seen) [ Zero kind ↦ seen_top wanted q kind entry_line.code | One ↦ seen_mid wanted q entry_line.code entry_line.name | Two ↦ q ]
 
 abbrev pub seen_refused : Seen → Why → Seen
 seen_refused q why = record q { fault = Some (Line (record { line = q.line; why = why })) }
@@ -68,13 +68,13 @@ seen_refused q why = record q { fault = Some (Line (record { line = q.line; why 
 abbrev pub seen_next : Seen → Seen
 seen_next q = record q { line = next q.line }
 
-abbrev pub seen_fault : Wanted → Seen → Row → Option Why → Seen
-seen_fault wanted q row None = seen_next (seen_put wanted q row)
-seen_fault wanted q row (Some why) = seen_refused q why
+abbrev pub seen_fault : Wanted → Seen → EntryLine → Option Why → Seen
+seen_fault wanted q entry_line None = seen_next (seen_put wanted q entry_line)
+seen_fault wanted q entry_line (Some why) = seen_refused q why
 
-abbrev pub seen_class : Wanted → Seen → Result (Option Row) Why → Seen
+abbrev pub seen_class : Wanted → Seen → Result (Option EntryLine) Why → Seen
 seen_class wanted q (Ok None) = seen_next q
-seen_class wanted q (Ok (Some row)) = seen_fault wanted q row (seen_misplaced q row)
+seen_class wanted q (Ok (Some entry_line)) = seen_fault wanted q entry_line (seen_misplaced q entry_line)
 seen_class wanted q (Err why) = seen_refused q why
 
 -- the state after one more line

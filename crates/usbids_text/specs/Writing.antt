@@ -4,7 +4,7 @@ use Rattle.usbnum_core.specs.Number.{digits_of}
 use Rattle.usbids_text.specs.declared.kind.Kind.TheVariants.{Vendor, Tagged}
 use Rattle.usbids_text.specs.declared.kind.Depth.{Depth}
 use Rattle.usbids_text.specs.declared.kind.Depth.TheVariants.{Zero, One, Two}
-use Rattle.usbids_text.specs.Entries.{Row, TopEntry, preorder}
+use Rattle.usbids_text.specs.Entries.{EntryLine, TopEntry, preorder}
 use Rattle.usbids_text.specs.Moments.{Moment}
 
 -- one tab for each level of depth; for a tagged top the tag and a space
@@ -28,13 +28,13 @@ unfoldable pub line_text : List ℕ → ℕ → ℕ → List ℕ → List ℕ
 line_text before digits code name = before ++ (code_text digits code ++ (gap name ++ name))
 
 -- an entry's line
-unfoldable pub row_text : Row → List ℕ
-row_text row = line_text (front row.depth) row.digits row.code row.name ++ 10 ∷ []
+unfoldable pub entry_text : EntryLine → List ℕ
+entry_text entry_line = line_text (front entry_line.depth) entry_line.digits entry_line.code entry_line.name ++ 10 ∷ []
 
 -- the lines of entries in order
-unfoldable pub rows_text : List Row → List ℕ
-rows_text [] = []
-rows_text (row ∷ rows) = row_text row ++ rows_text rows
+unfoldable pub lines_text : List EntryLine → List ℕ
+lines_text [] = []
+lines_text (entry_line ∷ entry_lines) = entry_text entry_line ++ lines_text entry_lines
 
 -- two decimal digits, and four
 abbrev pub two_digits : ℕ → List ℕ
@@ -65,4 +65,4 @@ head_text stamp = (title ++ 10 ∷ []) ++ (stamp_text stamp ++ 10 ∷ [])
 
 -- the head, and then each entry in preorder
 abbrev pub written : List TopEntry → Option Moment → List ℕ
-written doc stamp = head_text stamp ++ rows_text (preorder doc)
+written doc stamp = head_text stamp ++ lines_text (preorder doc)

@@ -1,8 +1,8 @@
 //! Builds a document entry by entry.
 ghost use Rattle.std.specs.Prelude.{◌≡◌, [], OnOk, IfOk, IsTrue, Option, Some, None};
 ghost use Rattle.usbids_text.specs.Words.{is_code};
-ghost use Rattle.usbids_text.specs.Entries.{is_depth, is_row};
-ghost use Rattle.usbids_text.specs.Lines.{row_of};
+ghost use Rattle.usbids_text.specs.Entries.{is_depth, is_line};
+ghost use Rattle.usbids_text.specs.Lines.{line_of};
 ghost use Rattle.usbids_text.specs.Opens.{none_open, whole_top, whole, put_top, put_mid, put_leaf, put, misplaced_in, fits_in, has_room_in};
 ghost use Rattle.usbids_text.specs.declared.kind.Depth.TheVariants.{Zero};
 
@@ -112,9 +112,9 @@ impl Builder {
     /// Puts an entry in its place.
     #[tactic(auto, unfolding(crate::specs::Opens::put))]
     pub fn put(&mut self, entry: Entry<'_>) -> Result<(), NoMemory>
-        requires row { IsTrue (is_row (row_of entry)) }
-        requires place { misplaced_in (open_of self.old) (row_of entry) ≡ None }
-        ensures { OnOk result (open_of self.new ≡ put (open_of self.old) (row_of entry.entry)) }
+        requires entry_line { IsTrue (is_line (line_of entry)) }
+        requires place { misplaced_in (open_of self.old) (line_of entry) ≡ None }
+        ensures { OnOk result (open_of self.new ≡ put (open_of self.old) (line_of entry.entry)) }
     {
         let Entry {
             depth,
@@ -133,7 +133,7 @@ impl Builder {
     /// Returns the fault of an entry that is misplaced here.
     #[tactic(auto, unfolding(crate::specs::Opens::misplaced_in))]
     pub fn misplaced(&self, entry: &Entry<'_>) -> Option<Why>
-        ensures { result ≡ misplaced_in (open_of self.now) (row_of entry.now) }
+        ensures { result ≡ misplaced_in (open_of self.now) (line_of entry.now) }
     {
         match &entry.depth {
             Depth::Zero(_) => None,

@@ -101,13 +101,13 @@ pub struct Leaf {
 
 impl Model for Leaf {
     ghost use Rattle.std.specs.Prelude.{IsTrue};
-    ghost use Rattle.usbids_text.specs.Entries.{LeafEntry, leaf_row, is_row};
+    ghost use Rattle.usbids_text.specs.Entries.{LeafEntry, leaf_line, is_line};
 
     ghost Value = { LeafEntry };
 
     ghost view = { λ a. record { code = a.code; digits = a.digits; name = a.name } };
 
-    ghost invariant = { λ a. IsTrue (is_row (leaf_row (record { code = a.code; digits = a.digits; name = a.name }))) };
+    ghost invariant = { λ a. IsTrue (is_line (leaf_line (record { code = a.code; digits = a.digits; name = a.name }))) };
 }
 
 impl Leaf {
@@ -155,13 +155,13 @@ pub struct Mid {
 impl Model for Mid {
     ghost use Rattle.std.specs.Prelude.{IsTrue, [], ◌∷◌, ◌++◌};
     ghost use Rattle.std.specs.List.{list_all};
-    ghost use Rattle.usbids_text.specs.Entries.{MidEntry, mids_rows, is_row};
+    ghost use Rattle.usbids_text.specs.Entries.{MidEntry, mids_lines, is_line};
 
     ghost Value = { MidEntry };
 
     ghost view = { λ a. record { code = a.code; digits = a.digits; name = a.name; leaves = a.leaves.items } };
 
-    ghost invariant = { λ a. IsTrue (list_all is_row (mids_rows (record { code = a.code; digits = a.digits; name = a.name; leaves = a.leaves.items } ∷ []))) };
+    ghost invariant = { λ a. IsTrue (list_all is_line (mids_lines (record { code = a.code; digits = a.digits; name = a.name; leaves = a.leaves.items } ∷ []))) };
 }
 
 impl Mid {

@@ -3,8 +3,8 @@ ghost use Rattle.std.specs.Prelude.{◌≡◌, Some, None, OnOk, IsTrue, is_some
 ghost use Rattle.std.specs.List.{list_all};
 ghost use Rattle.usbids_text.specs.Words.{is_inner, is_name};
 ghost use Rattle.usbids_text.specs.Documents.{next};
-ghost use Rattle.usbids_text.specs.Lines.{row_of};
-ghost use Rattle.usbids_text.specs.Entries.{is_row};
+ghost use Rattle.usbids_text.specs.Lines.{line_of};
+ghost use Rattle.usbids_text.specs.Entries.{is_line};
 ghost use Rattle.usbids_text.specs.Scanning.{over_kind, seen_misplaced, seen_put, seen_top, seen_mid, seen_refused, seen_line, seen_step, seen_answer};
 
 use crate::document::Name;
@@ -84,7 +84,7 @@ impl Seen {
     /// Returns the fault of an entry that is misplaced here.
     #[tactic(auto, unfolding(crate::specs::Scanning::seen_misplaced))]
     fn misplaced(&self, entry: &Entry<'_>) -> Option<Why>
-        ensures { result ≡ seen_misplaced self.now (row_of entry.now) }
+        ensures { result ≡ seen_misplaced self.now (line_of entry.now) }
     {
         match &entry.depth {
             Depth::Zero(_) => None,
@@ -125,8 +125,8 @@ impl Seen {
     /// Takes an entry that is in its place.
     #[tactic(auto, unfolding(crate::specs::Scanning::seen_put))]
     fn put(&mut self, alloc: Global, wanted: Wanted, entry: Entry<'_>) -> Result<(), NoMemory>
-        requires { IsTrue (is_row (row_of entry)) }
-        ensures { OnOk result (self.new ≡ seen_put wanted self.old (row_of entry.entry)) }
+        requires { IsTrue (is_line (line_of entry)) }
+        ensures { OnOk result (self.new ≡ seen_put wanted self.old (line_of entry.entry)) }
     {
         let Entry {
             depth,
