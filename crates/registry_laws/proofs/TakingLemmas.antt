@@ -155,11 +155,11 @@ entries_by h vid org doc deed tally titles free act n =
 
 -- ---- the verdict
 
-row : (curators : List (List ℕ)) (known : Option Org) (there : Bool) (classes : List ItemClass) (caller : List ℕ) (vid : ℕ) (org : List ℕ) (items : List Item) →
+import_passes : (curators : List (List ℕ)) (known : Option Org) (there : Bool) (classes : List ItemClass) (caller : List ℕ) (vid : ℕ) (org : List ℕ) (items : List Item) →
     list_any (bytes_eq caller) curators ≡ true → is_some known ≡ true → there ≡ true → length items ≤ MOST_ITEMS →
     import_checks curators known there classes caller vid org items ≡ Ok (Imported vid org (fresh_of classes items) (tally_of classes))
-row curators None there classes caller vid org items c k t s = absurd cc
-row curators (Some o) there classes caller vid org items c k t s = let short : nat_le (length items) MOST_ITEMS ≡ true = grind arith in rw (c, t, short) refl
+import_passes curators None there classes caller vid org items c k t s = absurd cc
+import_passes curators (Some o) there classes caller vid org items c k t s = let short : nat_le (length items) MOST_ITEMS ≡ true = grind arith in rw (c, t, short) refl
 
 new_by : (under : Option Deed) (request : Request) (out : Result Act Refusal) (act : Act) → under ≡ None → out ≡ Ok act → verdict_by (option_map kept_of under) request out ≡ New (deed_for request act)
 new_by under request out act u o = ap (λ (k : Option Deed). verdict_by (option_map kept_of k) request out) u ∙ ap (λ (r : Result Act Refusal). verdict_by None request r) o
@@ -174,7 +174,7 @@ new_deed h caller key org named doc may =
     let vid = vendor_meant h named in
     let items = items_of vid doc in
     new_by (kept h caller key) (import_of caller key org h.founding.vendor named doc) _ (act_of h org vid doc) may.unused
-    (row h.founding.curators (org_of h org) (has_vendor h vid) (classes_from (standing_at h vid) [] items) caller vid org items may.curator may.known may.vendor may.short)
+    (import_passes h.founding.curators (org_of h org) (has_vendor h vid) (classes_from (standing_at h vid) [] items) caller vid org items may.curator may.known may.vendor may.short)
 
 pub takes : TakesOver
 takes h caller key org named doc may titles free =
