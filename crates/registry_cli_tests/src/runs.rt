@@ -26,7 +26,7 @@ fn founds_the_trial(rt: HostRuntime) -> Result<(), Fail> {
 }
 
 #[test]
-fn tells_want_of_memory_from_a_failure(rt: HostRuntime) {
+fn tells_out_of_memory_from_a_failure(rt: HostRuntime) {
     let memory = store_failure(Error::SqliteFailure(ErrorCode::OutOfMemory));
     assert_eq!(rt; memory, Failure::Memory);
     assert_eq!(rt; store_failure(Error::InvalidQuery), Failure::Store);

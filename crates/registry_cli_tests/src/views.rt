@@ -338,7 +338,7 @@ const BAD_ARGUMENTS: &[(&str, &str, &str, Option<&str>, &str)] = &[
 ];
 
 #[test]
-fn the_first_bad_argument_of_an_import_is_told(rt: HostRuntime) {
+fn reports_the_first_bad_argument_of_an_import(rt: HostRuntime) {
     for (caller, key, org, vendor, told) in BAD_ARGUMENTS {
         let word = import_of_arguments(rt.alloc(), caller, key, org, *vendor)
             .expect(&rt, "memory")

@@ -89,7 +89,11 @@ fn shown(alloc: Global, served: Result<Served, PeerFault>, bytes: Vec<u8>) -> St
 }
 
 /// What is written for a message that is read whole at once.
-pub(crate) fn told(alloc: Global, registry: &mut Registry<MemStore>, message: &[u8]) -> String {
+pub(crate) fn response_text(
+    alloc: Global,
+    registry: &mut Registry<MemStore>,
+    message: &[u8],
+) -> String {
     let mut source = Inlet::new(message);
     let mut sink = Outlet::new(Vec::new(alloc));
     let served = serve_one(alloc, &mut source, &mut sink, registry);

@@ -1,6 +1,6 @@
 //! Peers that fail: a reader after each byte of an order, a writer after each byte of its response.
 
-use crate::ends::{Brim, Drip, ENROL, ENROLLED, founded, told};
+use crate::ends::{Brim, Drip, ENROL, ENROLLED, founded, response_text};
 use byte_streams::{Inlet, Outlet};
 use registry_desk::{PeerFault, serve_one};
 use registry_store::Registry;
@@ -47,12 +47,15 @@ fn peers_that_fail(rt: HostRuntime) -> Result<(), Fail> {
     };
     expect_readers(&rt, alloc, &mut registry);
     assert!(rt;
-        told(alloc, &mut registry, b"GET /orgs/acme HTTP/1.1\r\n\r\n")
+        response_text(alloc, &mut registry, b"GET /orgs/acme HTTP/1.1\r\n\r\n")
             .as_str()
             .ends_with("{\"name\":\"NoOrg\",\"refused\":4}\n")
     );
     expect_writers(&rt, alloc, &mut registry);
-    assert_eq!(rt; told(alloc, &mut registry, ENROL).as_str(), ENROLLED);
+    assert_eq!(rt;
+        response_text(alloc, &mut registry, ENROL).as_str(),
+        ENROLLED
+    );
     drop(registry.close().into_store());
     Ok(())
 }

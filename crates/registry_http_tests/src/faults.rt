@@ -171,7 +171,7 @@ fn expect_rows(
 }
 
 #[test]
-fn tells_the_first_fault(rt: HostRuntime) -> Result<(), Fail> {
+fn reports_the_first_fault(rt: HostRuntime) -> Result<(), Fail> {
     expect_rows(&rt, rt.alloc(), &FAULTS)?;
     Ok(())
 }
@@ -208,7 +208,7 @@ fn expect_broken(rt: &impl Abort, alloc: Global) -> Result<(), NoMemory> {
 }
 
 #[test]
-fn a_reader_that_fails_is_told(rt: HostRuntime) -> Result<(), Fail> {
+fn reports_a_failed_reader(rt: HostRuntime) -> Result<(), Fail> {
     expect_broken(&rt, rt.alloc())?;
     Ok(())
 }
@@ -248,7 +248,7 @@ fn a_head_has_limits(rt: HostRuntime) -> Result<(), Fail> {
 }
 
 #[test]
-fn a_faulty_head_is_told_at_once(rt: HostRuntime) -> Result<(), Fail> {
+fn reports_a_faulty_head_at_once(rt: HostRuntime) -> Result<(), Fail> {
     let alloc = rt.alloc();
     let mut source = Drip {
         bytes: b"POST /x HTTP/1.1\r\n\r\n",

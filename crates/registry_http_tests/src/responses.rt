@@ -352,7 +352,7 @@ fn expect_unavailable(
 }
 
 #[test]
-fn tells_why_nothing_is_asked(rt: HostRuntime) -> Result<(), Fail> {
+fn responds_with_the_reason(rt: HostRuntime) -> Result<(), Fail> {
     let alloc = rt.alloc();
     expect_unavailable(
         &rt,
@@ -370,7 +370,7 @@ fn tells_why_nothing_is_asked(rt: HostRuntime) -> Result<(), Fail> {
 }
 
 // Checks that a sink that takes some bytes of a response and then fails has a prefix of it.
-fn expect_beginnings(rt: &impl Abort, alloc: Global) -> Result<(), NoMemory> {
+fn expect_prefixes(rt: &impl Abort, alloc: Global) -> Result<(), NoMemory> {
     let response = org_response(alloc, None)?;
     let whole = written(rt, alloc, &response)?;
     let whole = whole.as_bytes();
@@ -388,7 +388,7 @@ fn expect_beginnings(rt: &impl Abort, alloc: Global) -> Result<(), NoMemory> {
 }
 
 #[test]
-fn a_writer_that_fails_is_told(rt: HostRuntime) -> Result<(), Fail> {
-    expect_beginnings(&rt, rt.alloc())?;
+fn reports_a_failed_writer(rt: HostRuntime) -> Result<(), Fail> {
+    expect_prefixes(&rt, rt.alloc())?;
     Ok(())
 }

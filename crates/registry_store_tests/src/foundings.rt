@@ -86,9 +86,9 @@ fn is_there(
     let files = whole(alloc, left)?;
     let requests = wanted.requests.as_slice();
     let (was_there, second) = gone_on(alloc, files, &wanted.founding, requests).ok_or("not found")?;
-    let stands = wanted.plain.stands.first().ok_or("nothing stands")?;
+    let lists = wanted.plain.lists.first().ok_or("no lists")?;
     let replies = lines_of(alloc, second.replies.as_slice())?;
-    assert_eq!(rt; second.stands.as_str(), stands.as_str(), "at {calls}");
+    assert_eq!(rt; second.lists.as_str(), lists.as_str(), "at {calls}");
     assert_eq!(rt;
         replies.as_str(),
         wanted.plain.replies.as_str(),

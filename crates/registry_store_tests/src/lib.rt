@@ -7,6 +7,8 @@ mod disks;
 #[cfg(test)]
 mod foundings;
 #[cfg(test)]
+mod listing;
+#[cfg(test)]
 mod memory;
 #[cfg(test)]
 mod migrations;
@@ -26,8 +28,6 @@ mod runs;
 mod steps;
 #[cfg(test)]
 mod through;
-#[cfg(test)]
-mod told;
 #[cfg(test)]
 mod values;
 #[cfg(test)]

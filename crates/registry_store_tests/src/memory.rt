@@ -75,7 +75,7 @@ fn act_around_a_crash<D: Crash + Drop>(
 }
 
 // Acts over a new registry in files in memory.
-fn tell(alloc: Global, founding: &Founding, request: &Request) -> Option<(Told, Told)> {
+fn write_text(alloc: Global, founding: &Founding, request: &Request) -> Option<(Told, Told)> {
     let log = Memory::new(alloc);
     let db = Memory::new(alloc);
     let conn = connected(alloc, Files { log, db }, PLAIN).ok()?;
@@ -90,7 +90,7 @@ fn is_short(answer: Answer) -> bool {
 
 // Checks that each answer is right, and that a fault leaves the registry poisoned.
 fn is_right(told: Told) -> bool {
-    let Told { first, again, orgs } = told;
+    let Told { first, again, orgs } = listing;
     match (first, again) {
         (Answer::Enrolled, Answer::Enrolled) => orgs == Some(1) || orgs.is_none(),
         (Answer::Enrolled, fault) => is_short(fault) && orgs.is_none(),
@@ -109,7 +109,7 @@ fn out_of_memory_poisons_a_registry_and_loses_nothing(rt: HostRuntime) -> Result
     let founding = founding(alloc)?;
     let (enrol, _) = ENROL;
     let request = request(alloc, enrol)?;
-    let (before, after) = tell(alloc, &founding, &request).ok_or("memory")?;
+    let (before, after) = write_text(alloc, &founding, &request).ok_or("memory")?;
     assert!(rt; is_right(before), "{before:?}");
     assert!(rt; is_right(after), "{after:?}");
     assert!(rt; is_whole(before) || is_whole(after), "{before:?} {after:?}");

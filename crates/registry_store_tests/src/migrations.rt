@@ -3,11 +3,11 @@
 //! migration.
 
 use crate::disks::{Fate, Image, PLAIN, Part, Stops, connected, founded, was_seen, whole};
+use crate::listing::add_answer;
 use crate::older::{OF_FIRST, OF_SECOND, ONE_VENDOR, RESERVE, older};
 use crate::openings::{Wanted, left_at};
 use crate::runs::{Second, go_on, plain_over, second_in};
 use crate::steps::Step;
-use crate::told::add_answer;
 use crate::values::{founding, lines_of, replies_to, requests_of};
 use registry_store::Registry;
 use sqlite::{Connection, FileStore, Files};
@@ -37,7 +37,7 @@ fn founded_today(alloc: Global) -> Result<Wanted, Fail> {
     let requests = requests_of(alloc, &ONE_VENDOR)?;
     let mut plain = plain_over(alloc, &image, requests.as_slice())?;
     Ok(Wanted {
-        stands: plain.stands.pop().ok_or("nothing stands")?,
+        lists: plain.lists.pop().ok_or("no lists")?,
         rows: plain.rows,
     })
 }
@@ -51,7 +51,7 @@ fn opens_as_today(rt: &impl Abort, alloc: Global, image: &Image) -> Result<(), F
         "not opened",
     )?;
     let replies = lines_of(alloc, second.replies.as_slice())?;
-    assert_eq!(rt; second.stands.as_str(), wanted.stands.as_str());
+    assert_eq!(rt; second.lists.as_str(), wanted.lists.as_str());
     assert_eq!(rt; replies.as_str(), replies_to(alloc, &ONE_VENDOR)?.as_str());
     assert_eq!(rt; second.rows.as_str(), wanted.rows.as_str());
     Ok(())
@@ -131,11 +131,7 @@ fn version_after(
 ) -> Result<String, Fail> {
     let files = whole(alloc, left)?;
     let (version, second) = version_and_raised(alloc, files).ok_or("not opened")?;
-    assert_eq!(rt;
-        second.stands.as_str(),
-        wanted.stands.as_str(),
-        "at {calls}"
-    );
+    assert_eq!(rt; second.lists.as_str(), wanted.lists.as_str(), "at {calls}");
     assert_eq!(rt; second.rows.as_str(), wanted.rows.as_str(), "at {calls}");
     Ok(version)
 }

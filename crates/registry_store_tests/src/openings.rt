@@ -30,7 +30,7 @@ fn open_in<D: Disk + Drop>(
 /// The lists and the rows of files that are opened without a stop.
 #[derive(Drop)]
 pub struct Wanted {
-    pub stands: String,
+    pub lists: String,
     pub rows: String,
 }
 
@@ -73,11 +73,7 @@ fn stop_at_each(
         if !was_seen(&last, &left) {
             let files = whole(alloc, &left)?;
             let second = second_in(alloc, files, &[], 0).ok_or("not opened")?;
-            assert_eq!(rt;
-                second.stands.as_str(),
-                wanted.stands.as_str(),
-                "at {calls}"
-            );
+            assert_eq!(rt; second.lists.as_str(), wanted.lists.as_str(), "at {calls}");
             assert_eq!(rt; second.rows.as_str(), wanted.rows.as_str(), "at {calls}");
         }
         if is_whole {
@@ -92,7 +88,7 @@ fn stop_at_each(
 fn wanted_of(alloc: Global, image: &Image) -> Result<Wanted, Fail> {
     let second = second_in(alloc, whole(alloc, image)?, &[], 0).ok_or("not opened")?;
     Ok(Wanted {
-        stands: second.stands,
+        lists: second.lists,
         rows: second.rows,
     })
 }

@@ -54,13 +54,13 @@ fn ends_well(rt: &impl Abort, first: &First, calls: u64) {
 
 // Checks that the registry represents the history after as many requests as have replies or, if it
 // was open, after one more.
-fn stands_as(rt: &impl Abort, plain: &Plain, first: &First, stands: &str, calls: u64) {
+fn lists_as(rt: &impl Abort, plain: &Plain, first: &First, lists: &str, calls: u64) {
     let count = first.replies.len();
-    let as_told = plain.stands.get(count);
-    let one_more = plain.stands.get(count.saturating_add(1));
-    let is_either = as_told.is_some_and(|text| text.as_str() == stands)
-        || first.is_open && one_more.is_some_and(|text| text.as_str() == stands);
-    assert!(rt; is_either, "at {calls}: {stands}");
+    let as_acknowledged = plain.lists.get(count);
+    let one_more = plain.lists.get(count.saturating_add(1));
+    let is_either = as_acknowledged.is_some_and(|text| text.as_str() == lists)
+        || first.is_open && one_more.is_some_and(|text| text.as_str() == lists);
+    assert!(rt; is_either, "at {calls}: {lists}");
 }
 
 // Checks that the replies are the rest of the run, and the tables those of a run without a stop.
@@ -129,7 +129,7 @@ fn stop_at_each(
         let count = first.replies.len();
         let seen = seen_after(alloc, last, left, round.requests.as_slice(), count)?;
         ends_well(rt, &first, calls);
-        stands_as(rt, &round.plain, &first, seen.second.stands.as_str(), calls);
+        lists_as(rt, &round.plain, &first, seen.second.lists.as_str(), calls);
         goes_on(rt, alloc, &round.plain, &first, &seen.second, calls)?;
         assert!(rt; most <= count, "at {calls}");
         if is_whole {

@@ -1,7 +1,7 @@
 //! A run over files that may stop, how it goes on, and the same run without stops.
 
 use crate::disks::{COPYING, Image, are_same, closed, opened, whole};
-use crate::told::{rows_of, tell_lists, told};
+use crate::listing::{listing, rows_of, write_lists};
 use crate::values::lines_of;
 use registry_rules::{Reply, Request};
 use registry_store::{Fault, Registry, RunEnd, leave, leave_store, open_files};
@@ -25,7 +25,11 @@ pub struct First {
 pub const SPENT: &str =
     "Some(Poisoned)\nSome(Poisoned), 0 replies\nErr(Poisoned)\nErr(Poisoned)\nErr(Poisoned)\nErr(Poisoned)\n";
 
-fn tell_act<S: Alter>(registry: &mut Registry<S>, requests: &[Request], text: &mut String) -> bool {
+fn write_act<S: Alter>(
+    registry: &mut Registry<S>,
+    requests: &[Request],
+    text: &mut String,
+) -> bool {
     match requests.first() {
         Some(request) => {
             let fault = registry.act(request).err();
@@ -35,7 +39,11 @@ fn tell_act<S: Alter>(registry: &mut Registry<S>, requests: &[Request], text: &m
     }
 }
 
-fn tell_run<S: Alter>(registry: &mut Registry<S>, requests: &[Request], text: &mut String) -> bool {
+fn write_run<S: Alter>(
+    registry: &mut Registry<S>,
+    requests: &[Request],
+    text: &mut String,
+) -> bool {
     let RunEnd { replies, fault } = registry.run_from(requests, 0);
     let count = replies.len();
     writeln!(text, "{fault:?}, {count} replies").is_ok()
@@ -48,9 +56,9 @@ fn answers<S: Alter>(
     requests: &[Request],
 ) -> Option<String> {
     let mut text = String::new(alloc);
-    if tell_act(registry, requests, &mut text)
-        && tell_run(registry, requests, &mut text)
-        && tell_lists(registry, &mut text)
+    if write_act(registry, requests, &mut text)
+        && write_run(registry, requests, &mut text)
+        && write_lists(registry, &mut text)
     {
         Some(text)
     } else {
@@ -102,7 +110,7 @@ pub fn first_in<D: Disk + Drop>(
 /// rows of all tables then.
 #[derive(Drop)]
 pub struct Second {
-    pub stands: String,
+    pub lists: String,
     pub replies: Vec<Reply>,
     pub fault: Option<Fault>,
     pub rows: String,
@@ -115,13 +123,13 @@ pub fn go_on<S: Alter + Drop>(
     requests: &[Request],
     answered: usize,
 ) -> Option<Second> {
-    let stands = told(alloc, &mut registry);
+    let lists = listing(alloc, &mut registry);
     let answered = usize::min(answered, requests.len());
     let RunEnd { replies, fault } = registry.run_from(requests, answered);
     let mut conn = registry.close();
     let rows = rows_of(alloc, &mut conn);
     Some(Second {
-        stands: stands?,
+        lists: lists?,
         replies,
         fault,
         rows: rows?,
@@ -177,7 +185,7 @@ pub fn seen_after(
 #[derive(Drop)]
 pub struct Plain {
     /// The lists of the registry before the first request, and after each.
-    pub stands: Vec<String>,
+    pub lists: Vec<String>,
     /// The replies as lines.
     pub replies: String,
     pub rows: String,
@@ -185,9 +193,13 @@ pub struct Plain {
     pub image: Image,
 }
 
-fn add_told<S: Alter>(alloc: Global, registry: &mut Registry<S>, stands: &mut Vec<String>) -> bool {
-    match told(alloc, registry) {
-        Some(text) => stands.push(text).is_ok(),
+fn add_listing<S: Alter>(
+    alloc: Global,
+    registry: &mut Registry<S>,
+    lists: &mut Vec<String>,
+) -> bool {
+    match listing(alloc, registry) {
+        Some(text) => lists.push(text).is_ok(),
         None => false,
     }
 }
@@ -197,14 +209,14 @@ fn act_on_each<S: Alter>(
     alloc: Global,
     registry: &mut Registry<S>,
     requests: &[Request],
-    stands: &mut Vec<String>,
+    lists: &mut Vec<String>,
     replies: &mut Vec<Reply>,
 ) -> bool {
     for request in requests {
         let Ok(reply) = registry.act(request) else {
             return false;
         };
-        if replies.push(reply).is_err() || !add_told(alloc, registry, stands) {
+        if replies.push(reply).is_err() || !add_listing(alloc, registry, lists) {
             return false;
         }
     }
@@ -215,14 +227,14 @@ fn plain_in<D: Disk + Drop>(
     alloc: Global,
     files: Files<D>,
     requests: &[Request],
-    stands: &mut Vec<String>,
+    lists: &mut Vec<String>,
     replies: &mut Vec<Reply>,
 ) -> Option<(String, Files<D>)> {
     let Ok(mut registry) = opened(alloc, files, COPYING) else {
         return None;
     };
-    let went = add_told(alloc, &mut registry, stands)
-        && act_on_each(alloc, &mut registry, requests, stands, replies);
+    let went = add_listing(alloc, &mut registry, lists)
+        && act_on_each(alloc, &mut registry, requests, lists, replies);
     let mut conn = registry.close();
     let rows = rows_of(alloc, &mut conn);
     let files = leave_store(conn);
@@ -232,14 +244,14 @@ fn plain_in<D: Disk + Drop>(
 /// Returns the results of a run over files with these contents, which do not stop.
 pub fn plain_over(alloc: Global, image: &Image, requests: &[Request]) -> Result<Plain, Fail> {
     let files = whole(alloc, image)?;
-    let mut stands = Vec::new(alloc);
+    let mut lists = Vec::new(alloc);
     let mut replies = Vec::new(alloc);
-    let (rows, files) = plain_in(alloc, files, requests, &mut stands, &mut replies).ok_or(
+    let (rows, files) = plain_in(alloc, files, requests, &mut lists, &mut replies).ok_or(
         "not run",
     )?;
     Ok(Plain {
         image: closed(alloc, files)?,
-        stands,
+        lists,
         replies: lines_of(alloc, replies.as_slice())?,
         rows,
     })

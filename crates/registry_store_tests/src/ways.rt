@@ -116,8 +116,8 @@ fn each_way_of_closing_keeps_all(rt: HostRuntime) -> Result<(), Fail> {
     for way in WAYS {
         let files = whole(alloc, &image)?;
         let second = go_on_in(alloc, files, requests.as_slice(), 5, way).ok_or("not opened")?;
-        let stands = plain.stands.get(5).ok_or("nothing stands")?;
-        assert_eq!(rt; second.stands.as_str(), stands.as_str(), "{way:?}");
+        let lists = plain.lists.get(5).ok_or("no lists")?;
+        assert_eq!(rt; second.lists.as_str(), lists.as_str(), "{way:?}");
         assert_eq!(rt; second.rows.as_str(), plain.rows.as_str(), "{way:?}");
         assert_eq!(rt;
             second.replies.len(),

@@ -37,7 +37,12 @@ fn add_opening<S: Alter>(alloc: Global, conn: &mut Connection<S>, text: &mut Str
 }
 
 impl Calls for Foundings<'_> {
-    fn tell<S: Alter>(&self, alloc: Global, conn: &mut Connection<S>, text: &mut String) -> bool {
+    fn write_text<S: Alter>(
+        &self,
+        alloc: Global,
+        conn: &mut Connection<S>,
+        text: &mut String,
+    ) -> bool {
         add_state(conn, text)
             && writeln!(text, "{:?}", create_in(conn, self.founding)).is_ok()
             && add_state(conn, text)

@@ -87,7 +87,12 @@ fn add_all_facts<S: Alter>(
 }
 
 impl Calls for Lookups<'_> {
-    fn tell<S: Alter>(&self, alloc: Global, conn: &mut Connection<S>, text: &mut String) -> bool {
+    fn write_text<S: Alter>(
+        &self,
+        alloc: Global,
+        conn: &mut Connection<S>,
+        text: &mut String,
+    ) -> bool {
         create_in(conn, self.founding).is_ok()
             && make(alloc, conn, self.changes)
             && keep(alloc, conn, self.accepted, self.reply)

@@ -72,11 +72,11 @@ fn raise<S: Alter>(alloc: Global, conn: &mut Connection<S>, text: &mut String) -
     writeln!(text, "{:?}", migrate(alloc, conn)).is_ok()
 }
 
-fn tell_version<S: Alter>(conn: &Connection<S>, text: &mut String) -> bool {
+fn write_version<S: Alter>(conn: &Connection<S>, text: &mut String) -> bool {
     writeln!(text, "{:?}", version_of(conn)).is_ok()
 }
 
-fn tell_rows<S: Alter>(conn: &mut Connection<S>, queries: &[&str], text: &mut String) -> bool {
+fn write_rows<S: Alter>(conn: &mut Connection<S>, queries: &[&str], text: &mut String) -> bool {
     for query in queries {
         if !add_answer(conn, query, text) {
             return false;
@@ -106,12 +106,17 @@ impl Old<'_> {
 }
 
 impl Calls for Old<'_> {
-    fn tell<S: Alter>(&self, alloc: Global, conn: &mut Connection<S>, text: &mut String) -> bool {
+    fn write_text<S: Alter>(
+        &self,
+        alloc: Global,
+        conn: &mut Connection<S>,
+        text: &mut String,
+    ) -> bool {
         self.make_in(alloc, conn)
-            && tell_version(conn, text)
+            && write_version(conn, text)
             && raise(alloc, conn, text)
-            && tell_version(conn, text)
-            && tell_rows(conn, &QUERIES, text)
+            && write_version(conn, text)
+            && write_rows(conn, &QUERIES, text)
             && opens(alloc, conn)
     }
 }
@@ -179,12 +184,17 @@ const SEEN: [&str; 3] = [
 ];
 
 impl Calls for Odd<'_> {
-    fn tell<S: Alter>(&self, alloc: Global, conn: &mut Connection<S>, text: &mut String) -> bool {
+    fn write_text<S: Alter>(
+        &self,
+        alloc: Global,
+        conn: &mut Connection<S>,
+        text: &mut String,
+    ) -> bool {
         self.old.make_in(alloc, conn)
-            && tell_version(conn, text)
+            && write_version(conn, text)
             && raise(alloc, conn, text)
-            && tell_version(conn, text)
-            && tell_rows(conn, &SEEN, text)
+            && write_version(conn, text)
+            && write_rows(conn, &SEEN, text)
     }
 }
 

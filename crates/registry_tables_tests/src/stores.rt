@@ -11,12 +11,21 @@ use std::process::Abort;
 /// Calls on a store.
 pub trait Calls {
     /// Makes the calls and adds what they return. Returns false if one fails.
-    fn tell<S: Alter>(&self, alloc: Global, conn: &mut Connection<S>, text: &mut String) -> bool;
+    fn write_text<S: Alter>(
+        &self,
+        alloc: Global,
+        conn: &mut Connection<S>,
+        text: &mut String,
+    ) -> bool;
 }
 
-fn told<S: Alter, C: Calls>(alloc: Global, conn: &mut Connection<S>, calls: &C) -> Option<String> {
+fn listing<S: Alter, C: Calls>(
+    alloc: Global,
+    conn: &mut Connection<S>,
+    calls: &C,
+) -> Option<String> {
     let mut text = String::new(alloc);
-    if calls.tell(alloc, conn, &mut text) {
+    if calls.write_text(alloc, conn, &mut text) {
         Some(text)
     } else {
         None
@@ -26,7 +35,7 @@ fn told<S: Alter, C: Calls>(alloc: Global, conn: &mut Connection<S>, calls: &C) 
 // Returns the text of the calls over a new store in memory.
 fn over_memory<C: Calls>(alloc: Global, calls: &C) -> Option<String> {
     match Connection::open_in_memory(alloc) {
-        Ok(mut conn) => told(alloc, &mut conn, calls),
+        Ok(mut conn) => listing(alloc, &mut conn, calls),
         Err(_) => None,
     }
 }
@@ -36,7 +45,7 @@ fn over_files<C: Calls>(alloc: Global, calls: &C) -> Option<String> {
     let log = Memory::new(alloc);
     let db = Memory::new(alloc);
     match Connection::open_files(alloc, Files { log, db }, Options::new(1)) {
-        Ok(mut conn) => told(alloc, &mut conn, calls),
+        Ok(mut conn) => listing(alloc, &mut conn, calls),
         Err(_) => None,
     }
 }

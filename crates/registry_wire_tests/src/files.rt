@@ -1,6 +1,6 @@
 //! Founding files, imports and stamps, and the result of reading each.
 
-use crate::lines::spelled;
+use crate::lines::canonical;
 use registry_rules::Founding;
 use registry_wire::{
     FoundingFault, WireRefusal, founding_from_toml, import_request, stamp_from_text,
@@ -161,7 +161,7 @@ fn imported(
     let key = Key::new(alloc, b"i1")?.ok_or("no key")?;
     let org = Slug::new(alloc, b"acme")?.ok_or("no organisation")?;
     let request = import_request(alloc, caller, key, org, founding, named, &list)?;
-    Ok(spelled(alloc, &request)?)
+    Ok(canonical(alloc, &request)?)
 }
 
 #[test]

@@ -8,7 +8,7 @@ use std::test::Fail;
 use usbnum_core::NoMemory;
 
 /// Returns the caller, the key and the order's canonical form, with tabs between them.
-pub(crate) fn spelled(alloc: Global, request: &Request) -> Result<Vec<u8>, NoMemory> {
+pub(crate) fn canonical(alloc: Global, request: &Request) -> Result<Vec<u8>, NoMemory> {
     let (caller, key) = (request.caller.as_str(), request.key.as_str());
     let mut text = format!(in alloc; "{caller}\t{key}\t")?.into_bytes();
     text.extend_from_slice(request_bytes(alloc, request)?.as_bytes())?;
@@ -18,7 +18,7 @@ pub(crate) fn spelled(alloc: Global, request: &Request) -> Result<Vec<u8>, NoMem
 // Reads a line, and returns the request or the refusal.
 fn read(alloc: Global, line: &[u8]) -> Result<Vec<u8>, NoMemory> {
     match line_request(alloc, line)? {
-        Ok(request) => spelled(alloc, &request),
+        Ok(request) => canonical(alloc, &request),
         Err(refusal) => Ok(refusal_json(alloc, refusal)?.into_bytes()),
     }
 }

@@ -107,12 +107,12 @@ fn links(rt: HostRuntime) -> Result<(), Fail> {
     let longer = format!(in alloc; "{long}a")?;
     assert_eq!(rt; site(alloc, &longer)?.as_str(), BAD_SITE);
     // A slash and two dots remove the part before them, so a long text has a short link.
-    let spelled = format!(in alloc; "{front}{}", times(alloc, 1359, "/..")?)?;
-    let spelled = format!(in alloc; "{spelled}{}", times(alloc, 2, "?")?)?;
-    assert_eq!(rt; spelled.len(), 4096);
-    assert_eq!(rt; site(alloc, &spelled)?.as_str(), "http://a.example/??");
-    let spelled = format!(in alloc; "{spelled}?")?;
-    assert_eq!(rt; site(alloc, &spelled)?.as_str(), BAD_SITE);
+    let canonical = format!(in alloc; "{front}{}", times(alloc, 1359, "/..")?)?;
+    let canonical = format!(in alloc; "{canonical}{}", times(alloc, 2, "?")?)?;
+    assert_eq!(rt; canonical.len(), 4096);
+    assert_eq!(rt; site(alloc, &canonical)?.as_str(), "http://a.example/??");
+    let canonical = format!(in alloc; "{canonical}?")?;
+    assert_eq!(rt; site(alloc, &canonical)?.as_str(), BAD_SITE);
     Ok(())
 }
 

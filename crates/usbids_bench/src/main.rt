@@ -93,17 +93,17 @@ fn report(rt: &HostRuntime, document: &Document) -> io::Result<()> {
 fn time_read(rt: &HostRuntime, bytes: &[u8]) -> io::Result<()> {
     let start = Instant::now(rt)?;
     let read = read_all(rt.alloc(), bytes);
-    let poisoned = start.elapsed(rt)?;
+    let elapsed = start.elapsed(rt)?;
     drop(read);
-    println!(rt; "read {}", poisoned.as_micros())
+    println!(rt; "read {}", elapsed.as_micros())
 }
 
 fn time_write(rt: &HostRuntime, document: &Document) -> io::Result<()> {
     let start = Instant::now(rt)?;
     let text = text_of(rt.alloc(), document);
-    let poisoned = start.elapsed(rt)?;
+    let elapsed = start.elapsed(rt)?;
     drop(text);
-    println!(rt; "write {}", poisoned.as_micros())
+    println!(rt; "write {}", elapsed.as_micros())
 }
 
 fn time(rt: &HostRuntime, bytes: &[u8], times: u32) -> io::Result<()> {

@@ -59,7 +59,7 @@ const FAULTY: &[(&[u8], u64, Why)] = &[
 ];
 
 #[test]
-fn tells_a_fault_before_any_match(rt: HostRuntime) -> Result<(), Fail> {
+fn reports_a_fault_before_any_match(rt: HostRuntime) -> Result<(), Fail> {
     for (list, line, why) in FAULTY {
         let vendor = Vid::new(0x1209).ok_or("a vendor")?;
         let mut scan = Scan::new(rt.alloc(), vendor, 0x11);

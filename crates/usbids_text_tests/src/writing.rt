@@ -62,7 +62,7 @@ fn writes_the_usual_list(rt: HostRuntime) -> Result<(), Fail> {
 }
 
 #[test]
-fn writes_a_list_that_was_spelt_otherwise(rt: HostRuntime) -> Result<(), Fail> {
+fn writes_a_list_in_its_one_form(rt: HostRuntime) -> Result<(), Fail> {
     let alloc = rt.alloc();
     let document = read_all(alloc, b"# x\n\n1209 \tA \r\n\t00AB\tB\r\n\t00ac")?;
     let mut sink = Outlet::new(Vec::new(alloc));
@@ -73,7 +73,7 @@ fn writes_a_list_that_was_spelt_otherwise(rt: HostRuntime) -> Result<(), Fail> {
 }
 
 #[test]
-fn tells_of_a_writer_that_fails(rt: HostRuntime) -> Result<(), Fail> {
+fn reports_a_failed_writer(rt: HostRuntime) -> Result<(), Fail> {
     let alloc = rt.alloc();
     let mut entries = String::from_str(alloc, USUAL)?;
     for _ in 0..200u8 {

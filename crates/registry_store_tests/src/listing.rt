@@ -6,13 +6,13 @@ use sqlite::types::ValueRef;
 use sqlite::{Alter, Connection, Row};
 use std::alloc::Global;
 
-fn tell_founding<S: Alter>(registry: &Registry<S>, text: &mut String) -> bool {
+fn write_founding<S: Alter>(registry: &Registry<S>, text: &mut String) -> bool {
     let founding = registry.founding();
     writeln!(text, "{founding:?}").is_ok()
 }
 
 /// Adds each list of a registry as a line.
-pub fn tell_lists<S: Alter>(registry: &mut Registry<S>, text: &mut String) -> bool {
+pub fn write_lists<S: Alter>(registry: &mut Registry<S>, text: &mut String) -> bool {
     let vendors = registry.vendors();
     let orgs = registry.orgs();
     let numbers = registry.numbers();
@@ -20,7 +20,7 @@ pub fn tell_lists<S: Alter>(registry: &mut Registry<S>, text: &mut String) -> bo
     writeln!(text, "{vendors:?}\n{orgs:?}\n{numbers:?}\n{petitions:?}").is_ok()
 }
 
-fn tell_spans<S: Alter>(registry: &Registry<S>, vendors: &[Vendor], text: &mut String) -> bool {
+fn write_spans<S: Alter>(registry: &Registry<S>, vendors: &[Vendor], text: &mut String) -> bool {
     for vendor in vendors {
         let reserved = registry.reserved(vendor.vid);
         if writeln!(text, "{reserved:?}").is_err() {
@@ -31,19 +31,19 @@ fn tell_spans<S: Alter>(registry: &Registry<S>, vendors: &[Vendor], text: &mut S
 }
 
 // Adds the reserved numbers of each vendor.
-fn tell_reserved<S: Alter>(registry: &mut Registry<S>, text: &mut String) -> bool {
+fn write_reserved<S: Alter>(registry: &mut Registry<S>, text: &mut String) -> bool {
     match registry.vendors() {
-        Ok(vendors) => tell_spans(registry, vendors.as_slice(), text),
+        Ok(vendors) => write_spans(registry, vendors.as_slice(), text),
         Err(_) => false,
     }
 }
 
 /// Returns the founding of a registry, all its lists, and the reserved numbers of each vendor.
-pub fn told<S: Alter>(alloc: Global, registry: &mut Registry<S>) -> Option<String> {
+pub fn listing<S: Alter>(alloc: Global, registry: &mut Registry<S>) -> Option<String> {
     let mut text = String::new(alloc);
-    if tell_founding(registry, &mut text)
-        && tell_lists(registry, &mut text)
-        && tell_reserved(registry, &mut text)
+    if write_founding(registry, &mut text)
+        && write_lists(registry, &mut text)
+        && write_reserved(registry, &mut text)
     {
         Some(text)
     } else {
