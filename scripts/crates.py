@@ -43,7 +43,7 @@ class Crate:
         return [*found.values()]
 
     def edits(self, top=None):
-        """The files in its folder of must-fail edits, of this repository or of a copy of its edits, without README files."""
+        """The files in its folder of must-fail edits, of this repository or of a copy of its edits, but not `.md` files."""
         folder = f"{top}/crates/{self.name}/must-fail" if top else f"{self.folder}/must-fail"
         names = sorted(os.listdir(folder)) if os.path.isdir(folder) else []
         return [f"{folder}/{it}" for it in names if not it.endswith(".md")]

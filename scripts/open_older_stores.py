@@ -232,8 +232,7 @@ def killed(words, seconds):
 
 
 def stops_from(version, stores, today, stops):
-    """Kills the opening of a store with many rows the given number of times. Returns how often each schema was left, or a
-    log without a schema of its own."""
+    """Kills the opening of a store with many rows the given number of times. Returns how often each schema was left."""
     wanted = {3: rows_of(today)} | {it: in_order(in_schema(it, rows_of(today))) for it in range(version, 3)}
     whole = make(f"{stores.folder}/whole.db", version, wanted[3])
     store = copy(whole, f"{stores.folder}/stopped.db")

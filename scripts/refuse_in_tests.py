@@ -1,9 +1,9 @@
 #!/usr/bin/env python3
 """Runs tests of the crates again and again, each time with another allocation refused, and checks what they print.
 
-A test that is refused memory passes, because it did without, or it fails and says so: by an error of type out of memory,
-or because a call returned nothing where a result was expected. A test that compares another result than the right one
-fails here: running out of memory has changed a result.
+A test that is refused memory passes, because it did without, or it fails and says so: by an out-of-memory error, or
+because a call returned nothing where a result was expected. A test that compares another result than the right one fails
+here: running out of memory has changed a result.
 
 For a test that asks for many allocations it refuses some hundred, evenly spread, except for two tests that make the
 tables and each statement on them once; with --all it refuses each allocation.
