@@ -2,8 +2,8 @@
 # Runs the scripts that try what was built: cases over stores in files, a plain history beside it, the man page and the
 # examples in the help, what SQLite sees of a store, stores of older schemas, Debian's list of USB numbers, each
 # allocation refused in turn, kills at random moments, and clients that talk HTTP to it, with nginx in front and without.
-# What a script prints is shown only where it fails or says that it was skipped.
-# Wants python3 and cc, and fails where one is missing; with SKIP=1 the scripts are left out.
+# It shows the output of a script only if it fails or says that it was skipped.
+# Needs python3 and cc, and fails if one is missing; with SKIP=1 the scripts are skipped.
 cd "$(dirname "$0")" || exit 1
 if [ "${SKIP:-}" = 1 ]; then
     echo "SKIP=1: the scripts that try the program are left out" >&2

@@ -7,7 +7,7 @@ use registry_commands::{
 };
 use usbnum_core::NoMemory;
 
-/// Imports the list in a file into the registry in a file, where the arguments say what is asked for.
+/// Imports the list in a file into the registry in a file, if the arguments are valid.
 pub fn run_import(
     rt: &HostRuntime,
     store: &str,

@@ -70,8 +70,8 @@ fn perform(rt: &HostRuntime, command: Command<&str>) -> u8 {
     }
 }
 
-/// Shows why there is no command, or the help or the version that was asked for, and returns the exit
-/// status.
+/// Prints why the arguments are refused, or the help or the version that they ask for, and returns
+/// the exit status.
 fn explain(rt: &HostRuntime, usage: &Usage) -> u8 {
     match usage {
         Usage::Refused(error) => {

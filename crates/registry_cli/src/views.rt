@@ -1,4 +1,4 @@
-//! The commands that show something and change nothing: they open what the arguments name, and hand it on.
+//! The commands that only show something: each opens the files that its arguments name.
 
 use crate::files::{open_input, open_registry};
 use byte_streams::Outlet;
@@ -9,7 +9,7 @@ use registry_wire::stamp_from_text;
 use usbids_text::Stamp;
 use usbnum_core::{parse_code, parse_vid};
 
-/// The stamp of a text: none where there is no text, and an error where the text is not a stamp.
+/// Returns the stamp of a text, if given, or an error if the text is not a stamp.
 fn stamp_of(text: Option<&str>) -> Result<Option<Stamp>, BadArgument> {
     match text {
         None => Ok(None),

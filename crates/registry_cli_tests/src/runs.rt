@@ -1,4 +1,5 @@
-//! Request lines over registries in memory: what is written, and the status, where an input or an output fails.
+//! Request lines over registries in memory: the output and the exit status where an input or an
+//! output fails.
 
 use crate::lines::Stumbling;
 use crate::shared::{ENROL, ENROLLED, joined, tried, wrote};
@@ -32,7 +33,7 @@ fn tells_out_of_memory_from_a_failure(rt: HostRuntime) {
     assert_eq!(rt; store_failure(Error::InvalidQuery), Failure::Store);
 }
 
-/// A writer of one byte a write, which fails once it has so many.
+/// A writer that takes one byte per write, and fails once it has `most` bytes.
 #[derive(Drop)]
 struct Narrow {
     bytes: Vec<u8>,
@@ -82,11 +83,11 @@ fn an_output_that_fails(rt: HostRuntime) -> Result<(), Fail> {
     Ok(())
 }
 
-// An input that fails at a read gives no list of requests: nothing is acted on.
+// Where the input fails nothing is acted on.
 #[test]
 fn an_input_that_fails(rt: HostRuntime) -> Result<(), Fail> {
     let reply = joined(rt.alloc(), &[ENROLLED])?;
-    // A byte a read, and one read more that finds the end.
+    // One byte per read, and one more read that finds the end.
     for good in 0..=109 {
         let written = tried(
             rt.alloc(),

@@ -19,7 +19,7 @@ use Rattle.registry_commands.specs.Messages.{bad_line_text, exceeds_text, reply_
 use Rattle.registry_commands.specs.Apply.{IsApplied, IsRejected, IsRun, IsStoppedAt, lines_between}
 use Rattle.registry_commands.proofs.FailureLemmas.{tells_more}
 
--- nothing is a prefix of anything
+-- the empty text is a prefix of any text
 pub no_beginning : (o : Option (List ℕ)) (bytes : List ℕ) → AppendsPrefix o o bytes
 no_beginning o bytes = record { front = []; rest = bytes; whole = refl; appended = appends_nil o }
 
@@ -42,7 +42,7 @@ module _ {S : Type 0} {g : Ghosts S} where
     ends = inr at;
   }
 
-  -- ---- all of it
+  -- ---- the whole command
 
   -- a failure before the first request
   pub fails_before : (OfInput OfOutput : Failure → Type 0) (it : Registry S g) (read : Result (List Request) BadLine) (a : ℕ) (out : Option (List ℕ)) (errors : ErrorOutput) (status : ℕ)
@@ -80,7 +80,7 @@ module _ {S : Type 0} {g : Ghosts S} where
       ];
     }
 
-    -- the requests were read of an input, which may fail too
+    -- the requests were read from an input, which may fail too
     pub applied_more : (read : Result (List Request) BadLine) (a : ℕ) → IsApplied OfMemory OfOutput it new read a out out_new errors status
         → IsApplied OfInput OfOutput it new read a out out_new errors status
     applied_more (Err bad) a is = rejected_more (bad_line_text bad) is

@@ -35,7 +35,7 @@ pub founding_fails : {S : Type 0} (OfInput : Failure → Type 0) (g : Ghosts S) 
 founding_fails OfInput g conn (Err refusal) errors status one told = (refl, inr (one, told))
 founding_fails OfInput g conn (Ok listed) errors status one told = inl (refl, one, told)
 
--- the founding file was read of an input, which may fail too
+-- the founding file was read from an input, which may fail too
 pub found_more : {S : Type 0} (OfMemory OfInput : Failure → Type 0) → ((failure : Failure) → OfMemory failure → OfInput failure)
     → (g : Ghosts S) (conn new : Held S) (read : Result Listed WireRefusal) (errors : ErrorOutput) (status : ℕ)
     → IsFoundBy g OfMemory conn new read errors status → IsFoundBy g OfInput conn new read errors status
@@ -44,7 +44,7 @@ found_more OfMemory OfInput more g conn new (Err refusal) errors status is =
 found_more OfMemory OfInput more g conn new (Ok listed) errors status is =
     elim is [ inl failed ↦ inl (failed.0, failed.1, tells_more OfMemory OfInput errors more failed.2) | inr tried ↦ inr tried ]
 
--- why a connection is handed back with no registry
+-- the fault of a founding is one of its failures
 pub of_founding : {S : Type 0} (g : Ghosts S) (conn new : Held S) (fault : Fault)
     → (fault ≡ faults.Taken → (new ≡ conn) × ¬ HasNoMeta (state g conn).now) → (fault ≢ faults.Poisoned) × (fault ≢ faults.Foreign)
     → IsOfFounding g conn new (failure_of fault)
@@ -65,7 +65,7 @@ pub of_start : (n : ℕ) (bytes : List ℕ) (failure : Failure) → (failure ≡
 of_start n bytes failure (inl store) = inl store
 of_start n bytes failure (inr memory) = inr (memory_of_input n n bytes refl failure memory)
 
--- memory gives back what was put into it
+-- a store in memory has a clean disk
 pub memory_is_clean : (it : Registry MemStore over_memory) → HasCleanDisk (state_of it)
 unfolding doubt
 memory_is_clean it = refl

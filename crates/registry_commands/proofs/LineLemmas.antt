@@ -1,4 +1,4 @@
--- The first line of some bytes, and what is read of the lines so far.
+-- The first line of an input, and the requests read so far.
 use Rattle.std.proofs.Common.{suc, ◌≡◌, ℕ, ◌+◌, ◌-◌, ◌<◌, Bool, true, false, List, [], ◌∷◌, ◌++◌, length, take, drop, Some, None, refl, sym, ap, subst, ◌∙◌, arith, append_assoc, length-drop}
 use Rattle.std.specs.Prelude.{Result, Ok, Err, cond, not, ◌==◌, nat_lt, position}
 use Rattle.std.specs.List.{position_or_len}
@@ -10,7 +10,7 @@ use Rattle.registry_wire.specs.Reading.{line_reading}
 use Rattle.registry_commands.specs.declared.lines.BadLine.{BadLine}
 use Rattle.registry_commands.specs.Lines.{in_front, is_blank, lines_of, requests_from, with_request}
 
--- how far the first line feed is
+-- the index of the first line feed
 abbrev feed : List ℕ → ℕ
 feed bytes = position_or_len (λ b. b == 10) bytes
 
@@ -47,7 +47,7 @@ one_line (b ∷ c ∷ bytes) h some = no_feed b (c ∷ bytes) (b == 10) h
     later true k = omega arith
     later false k = omega arith
 
--- with a line feed there, the first line is what is before it
+-- the first line ends before the first line feed
 pub first_found : (bytes : List ℕ) (end : ℕ) → Some end ≡ position (λ b. b == 10) bytes
     → (end < length bytes) × (lines_of bytes ≡ take end bytes ∷ lines_of (drop (end + 1) bytes))
 first_found bytes end found = go (nat_lt (feed bytes) (length bytes)) refl found
@@ -60,7 +60,7 @@ first_found bytes end found = go (nat_lt (feed bytes) (length bytes)) refl found
         (omega arith, rw same (lines_at bytes below))
     go false e is = absurd cc
 
--- with none, all of the bytes are one line
+-- without a line feed all bytes are one line
 pub first_none : (bytes : List ℕ) → None ≡ position (λ b. b == 10) bytes → 0 < length bytes → lines_of bytes ≡ bytes ∷ lines_of []
 unfolding lines_of
 first_none bytes found some = one_line bytes (λ h. absurd (go (lt-ltb _ _ h))) some
@@ -68,11 +68,11 @@ first_none bytes found some = one_line bytes (λ h. absurd (go (lt-ltb _ _ h))) 
     go : nat_lt (feed bytes) (length bytes) ≡ true → ⊥
     go e = let bad : None ≡ Some (feed bytes) = rw e at found in absurd cc
 
--- a slice up to the end is what is left
+-- a slice up to the end has the remaining bytes
 pub suffix : (i : ℕ) (bytes : List ℕ) → take (length bytes - i) (drop i bytes) ≡ drop i bytes
 suffix i bytes = take_all (length bytes - i) (drop i bytes) (omega (arith, length-drop i bytes))
 
--- the requests that were read, and then what the rest gives
+-- the requests that were read, then those of the rest, or its bad line
 abbrev pub with_front : List Request → Result (List Request) BadLine → Result (List Request) BadLine
 with_front front (Ok rest) = Ok (front ++ rest)
 with_front front (Err bad) = Err bad
@@ -99,7 +99,7 @@ bad_line : (n : ℕ) (line : List ℕ) (lines : List (List ℕ)) (refusal : Wire
 unfolding requests_from
 bad_line n line lines refusal filled read = rw (filled, read) refl
 
--- what was read of the lines so far, and what all of them give
+-- the requests read so far, as part of the result for all lines
 module _ (all : Result (List Request) BadLine) (front : List Request) (n : ℕ) (rest : List ℕ) (ahead : with_front front (requests_from n (lines_of rest)) ≡ all) where
   module _ (line after : List ℕ) (lines : lines_of rest ≡ line ∷ lines_of after) where
     abbrev then : with_front front (requests_from n (line ∷ lines_of after)) ≡ all

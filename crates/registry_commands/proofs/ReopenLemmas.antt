@@ -1,4 +1,4 @@
--- What is found again after request lines were acted on.
+-- What is opened after request lines were acted on.
 use Rattle.std.proofs.Common.{◌≡◌, inl, inr, ℕ, ◌+◌, ◌≤◌, List, length, take, Option, Some, None, refl, sym, ap, subst, ◌∙◌, arith}
 use Rattle.std.specs.Prelude.{Result, Ok, Err, IfSome}
 use Rattle.std.proofs.Math.Logic.{∥∥₁_map}
@@ -27,7 +27,7 @@ use Rattle.registry_commands.specs.Reopened.{IsReopened, IsReopenedAt}
 use Rattle.registry_commands.proofs.ApplyLemmas.{keeps_same, no_beginning}
 
 module _ {S : Type 0} {g : Ghosts S} where
-  -- the registry is opened at one of the histories that the last one left
+  -- the opened registry represents one of the histories that the last one left
   abbrev pub Opens : Registry S g → Registry S g → Type 0
   Opens last it = (h next : History) → Legal h → Legal next → (HasCleanDisk (state_of last) → Leaves newest (state_of last) (IsEither h next))
       → HasCleanDisk (state_of it) → ∥ ((x : History) × IsEither h next x × Represents it x) ∥₁
@@ -40,7 +40,7 @@ module _ {S : Type 0} {g : Ghosts S} where
   ]
 
   module _ (first last it : Registry S g) (opens : Opens last it) (before : HasCleanDisk (state_of it) → HasCleanDisk (state_of last)) where
-    -- a registry is opened where it stood
+    -- the opened registry represents the history that the last one did
     stays : (h : History) → Represents last h → HasCleanDisk (state_of it) → ∥ Represents it h ∥₁
     stays h stands clean =
         let legal = stands.counts.legal in
@@ -107,7 +107,7 @@ module _ {S : Type 0} {g : Ghosts S} where
   MayOpen last opened = (h next : History) → Legal h → Legal next → (HasCleanDisk (state_of last) → Leaves newest (state_of last) (IsEither h next))
       → IfSome opened (λ it. HasCleanDisk (state_of it) → ∥ ((x : History) × IsEither h next x × Represents it x) ∥₁)
 
-  -- the same of a registry that may be opened
+  -- the same if a registry is opened
   pub if_reopened : (OfInput OfOutput : Failure → Type 0) (first last : Registry S g) (read : Result (List Request) BadLine) (a : ℕ) (out out_new : Option (List ℕ)) (errors : ErrorOutput) (status : ℕ)
       → IsApplied OfInput OfOutput first last read a out out_new errors status
       → (opened : Option (Registry S g)) → MayOpen last opened → IfSome opened (λ it. HasCleanDisk (state_of it) → HasCleanDisk (state_of last))

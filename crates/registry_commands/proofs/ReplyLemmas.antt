@@ -1,4 +1,4 @@
--- A run whose replies an output takes as lines.
+-- Runs that write their replies as lines.
 use Rattle.std.proofs.Common.{◌≡◌, ◌⊎◌, inl, inr, ℕ, true, ◌+◌, List, take, [], ◌∷◌, Option, refl, sym, ap, subst, ◌∙◌, arith}
 use Rattle.std.proofs.lemmas.List.{append-nil}
 use Rattle.std.specs.Io.KnownBytes.{Appends, Keeps}
@@ -26,7 +26,7 @@ module _ {S : Type 0} {g : Ghosts S} (it : Registry S g) (h : History) where
   poisoned_or_there stop.Cut stands = inr stands
 
 module _ {W : Type 0} (contents : W → Option (List ℕ)) (failures : W → ℕ) where
-  -- the lines of all these replies are out
+  -- the lines of all these replies are written
   pub record AreOut (old new : ReplyLines W) (replies : List Reply) : Type 0 where
     pub same_output : new.output.ghost_name ≡ old.output.ghost_name
     pub gained : Appends (contents old.output.now) (contents new.output.now) (reply_lines replies)
@@ -43,14 +43,14 @@ module _ {W : Type 0} (contents : W → Option (List ℕ)) (failures : W → ℕ
         kept = rest.kept ∙ taken.1.kept;
       }
 
-  -- nothing was given to the output after these replies
+  -- nothing was written after these replies
   pub no_more : (old middle new : ReplyLines W) (replies : List Reply) → HaveTaken (TakesLine contents failures) old middle replies → new ≡ middle
       → (new.output.ghost_name ≡ old.output.ghost_name) × (failures new.output.now ≡ failures old.output.now)
   no_more old middle new replies taken same =
       let out = taken_lines old middle replies taken in
       subst (λ (k : ReplyLines W). (k.output.ghost_name ≡ old.output.ghost_name) × (failures k.output.now ≡ failures old.output.now)) (sym same) (out.same_output, out.kept)
 
-  -- of the next line at most a prefix is out
+  -- at most a prefix of the next line is written
   next_begun : (why : RunStop) (middle new : ReplyLines W) (next : Reply) → IsCutBy (CutsLine contents failures) why middle new next
       → AppendsPrefix (contents middle.output.now) (contents new.output.now) (reply_line next)
   next_begun (stop.Fault fault) middle new next cut =
@@ -58,7 +58,7 @@ module _ {W : Type 0} (contents : W → Option (List ℕ)) (failures : W → ℕ
       (no_beginning (contents middle.output.now) (reply_line next))
   next_begun stop.Cut middle new next cut = cut.gained
 
-  -- nothing of it is out, or its request is acted on
+  -- nothing of it is written, or its request was acted on
   next_acted : {S : Type 0} {g : Ghosts S} (it : Registry S g) (h : History) (why : RunStop) (middle new : ReplyLines W) (next : Reply) → IsCutBy (CutsLine contents failures) why middle new next
       → IsLeftAt why it h → Keeps (contents middle.output.now) (contents new.output.now) ⊎ Represents it h
   next_acted it h (stop.Fault fault) middle new next cut poisoned =

@@ -1,4 +1,4 @@
--- What reports are made of.
+-- The parts of reports.
 use Rattle.std.proofs.Common.{◌≡◌, ℕ, ◌+◌, ◌<◌, Bool, true, false, List, [], ◌∷◌, ◌++◌, length, take, get_or, refl, sym, ap, subst, ◌∙◌, Result, Ok, Err, OnOk}
 use Rattle.std.specs.Prelude.{map}
 use Rattle.std.proofs.lemmas.List.{map-append}
@@ -38,7 +38,7 @@ reserved_next h vendors i v old new spans within is put has so_far = rw put (rec
 })
 
 module _ {S : Type 0} {g : Ghosts S} where
-  -- a set is not given: the registry was poisoned, or there was no memory
+  -- the reserved numbers are not returned: the registry was poisoned, or memory ran out
   pub of_reserved : (it : Registry S g) (fault : Fault) → (is_poisoned it ≡ true → fault ≡ faults.Poisoned) → (is_poisoned it ≡ false → fault ≡ faults.NoMemory) → IsOfReading it it (failure_of fault)
   of_reserved it fault poisoned not_poisoned = go (is_poisoned it) refl
     where
@@ -46,11 +46,11 @@ module _ {S : Type 0} {g : Ghosts S} where
       go true e = subst (λ (f : Fault). IsOfReading it it (failure_of f)) (sym (poisoned e)) e
       go false e = subst (λ (f : Fault). IsOfReading it it (failure_of f)) (sym (not_poisoned e)) tt
 
-  -- reading may want memory
+  -- reading may run out of memory
   pub of_memory : (it new : Registry S g) (failure : Failure) → failure ≡ Memory → IsOfReading it new failure
   of_memory it new failure is = subst (λ (f : Failure). IsOfReading it new f) (sym is) tt
 
--- what holds at Ok has a consequence
+-- a consequence of what holds at Ok
 pub on_ok : {A E P Q : Type 0} (r : Result A E) → (P → Q) → OnOk r P → OnOk r Q
 on_ok (Ok x) f p = f p
 on_ok (Err e) f p = p

@@ -1,4 +1,4 @@
--- A registry is read, and is as it was.
+-- Reading a registry leaves it as it was.
 use Rattle.std.proofs.Common.{◌≡◌, ◌⊎◌, inl, inr, sym, ap, refl, ◌∙◌, ◌≤◌, arith}
 use Rattle.sqlite.specs.Store.{Ghosts}
 use Rattle.sqlite.specs.State.{HasCleanDisk, Survives}
@@ -17,7 +17,7 @@ use Rattle.registry_commands.specs.Apply.{IsOfRun}
 use Rattle.registry_commands.specs.Shown.{IsLeft, IsOfReading}
 
 module _ {S : Type 0} {g : Ghosts S} where
-  -- a list is not given
+  -- a list is not returned, after a fault
   pub of_list : (it new : Registry S g) (fault : Fault) → (fault ≡ faults.Poisoned → is_poisoned it ≡ true)
       → ((h : History) → Represents it h → HasCleanDisk (state_of new) → (fault ≡ faults.Store) ⊎ (fault ≡ faults.NoMemory)) → IsOfReading it new (failure_of fault)
   of_list it new faults.Store poisoned kind = tt
@@ -26,7 +26,7 @@ module _ {S : Type 0} {g : Ghosts S} where
   of_list it new faults.Taken poisoned kind = λ at. elim (kind at.0 at.1 at.2) [ inl e ↦ absurd cc | inr e ↦ absurd cc ]
   of_list it new faults.Poisoned poisoned kind = poisoned refl
 
-  -- of two readings, one after the other
+  -- two readings, one after the other
   pub left_then : (it mid new : Registry S g) → IsLeft it mid → IsLeft mid new → IsLeft it new
   left_then it mid new a b = record {
     stays = λ h stands. b.stays h (a.stays h stands);
@@ -34,11 +34,11 @@ module _ {S : Type 0} {g : Ghosts S} where
     survives = quiet_then (state_of it) (state_of mid) (state_of new) a.survives b.survives;
   }
 
-  -- the disk was clean before, where it is clean
+  -- a disk that is clean after a reading was clean before it
   pub clean_before : (mid new : Registry S g) → IsLeft mid new → HasCleanDisk (state_of new) → HasCleanDisk (state_of mid)
   clean_before mid new b clean = let more = b.survives.clean in omega (arith, more, clean)
 
-  -- what a later reading fails of, both may fail of
+  -- a failure of the second reading is one of both
   pub of_second : (it mid new : Registry S g) → IsLeft it mid → (failure : Failure) → IsOfReading mid new failure → IsOfReading it new failure
   of_second it mid new a Store may = tt
   of_second it mid new a Memory may = tt

@@ -1,4 +1,4 @@
--- What is said of an argument that is not valid.
+-- The message for an invalid argument.
 use Rattle.std.specs.Prelude.{List, ℕ, codes}
 use Rattle.registry_commands.specs.declared.arguments.BadArgument.{BadArgument}
 use Rattle.registry_commands.specs.declared.arguments.BadArgument.TheVariants.{Stamp, Name, Vid, Pid, Caller, Key, Org, Vendor}

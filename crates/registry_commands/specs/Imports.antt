@@ -1,4 +1,4 @@
--- What is written and what the registry is after a list was imported.
+-- What is written, and what the registry represents, after a list was imported.
 use Rattle.std.specs.Prelude.{◌≡◌, ◌⊎◌, ◌≤◌, ℕ, true, List, length, Option, Some, None, Result, Ok, Err}
 use Rattle.std.specs.Io.KnownBytes.{Appends, Keeps}
 use Rattle.sqlite.specs.Store.{Ghosts}
@@ -31,7 +31,7 @@ use Rattle.registry_commands.specs.Printed.{IsUnprinted}
 
 -- ---- the arguments
 
--- the vendor that an argument names, if it is given
+-- the vendor that an argument names, or the fault of the argument
 abbrev pub named_vendor : Option ℕ → Result (Option ℕ) BadArgument
 named_vendor None = Err Vendor
 named_vendor (Some vid) = Ok (Some vid)
@@ -47,7 +47,7 @@ pub record AreOfImport (caller key org : List ℕ) (vendor : Option (List ℕ)) 
   pub org_is : IsSlug org × (import.org ≡ org)
   pub vendor_is : vendor_argument vendor ≡ Ok import.vendor
 
--- the first argument that is not valid
+-- the first invalid argument, in the order caller, key, organisation, vendor
 abbrev pub IsFirstBad : List ℕ → List ℕ → List ℕ → Option (List ℕ) → BadArgument → Type 0
 IsFirstBad caller key org vendor Caller = ¬ IsSlug caller
 IsFirstBad caller key org vendor Key = IsSlug caller × ¬ IsKey key
@@ -57,23 +57,23 @@ IsFirstBad caller key org vendor _ = ⊥
 
 -- ---- the reply
 
--- the status that a reply ends with
+-- the exit status for a reply
 abbrev pub status_of : Reply → ℕ
 status_of (Done text) = 0
 status_of (Refused refusal) = 2
 
--- the reply's line is out and the status says whether it is a refusal; or a prefix of it is out, after a failure
+-- the reply's line is written and the status says whether it is a refusal; or a prefix is written, after a failure
 abbrev pub IsReplied : (Failure → Type 0) → Reply → Option (List ℕ) → Option (List ℕ) → ErrorOutput → ℕ → Type 0
 IsReplied May reply out out_new errors status =
     ((status ≡ status_of reply) × Appends out out_new (reply_line reply) × PrintsNothing errors)
     ⊎ ((status ≡ 1) × AppendsPrefix out out_new (reply_line reply) × PrintsFailure May errors)
 
--- the request of an import, by the founding vendor and the list
+-- the request of an import, with this founding vendor and this list
 abbrev pub request_of : Import → ℕ → List TopEntry → Request
 request_of import founding doc = import_of import.caller import.key import.org founding import.vendor doc
 
 module _ {S : Type 0} {g : Ghosts S} where
-  -- The request was acted on: its reply's line is out, and the registry represents the history after it.
+  -- The request was acted on: its reply's line is written, and the registry represents the history after it.
   pub record GivesReply (it new : Registry S g) (r : Request) (out out_new : Option (List ℕ)) (errors : ErrorOutput) (status : ℕ) : Type 0 where
     pub reply : Reply
     pub status_is : status ≡ status_of reply
@@ -81,7 +81,8 @@ module _ {S : Type 0} {g : Ghosts S} where
     pub quiet : PrintsNothing errors
     pub answered : (h : History) → MayBeActedOn it h r → HasCleanDisk (state_of new) → (reply ≡ answer_one h r) × Represents new (after_one h r)
 
-  -- A prefix of the reply's line is out. A crash leaves the history before the request or after it, and the registry is poisoned or stands after it.
+  -- A prefix of the reply's line is written. A crash leaves the history before the request or after it, and the registry is
+  -- poisoned or represents the history after it.
   pub record IsCut (new : Registry S g) (h : History) (r : Request) (out out_new : Option (List ℕ)) : Type 0 where
     pub gained : AppendsPrefix out out_new (reply_line (answer_one h r))
     pub leaves : Leaves newest (state_of new) (λ x. (x ≡ h) ⊎ (x ≡ after_one h r))
@@ -98,18 +99,18 @@ module _ {S : Type 0} {g : Ghosts S} where
     pub ends : GivesReply it new r out out_new errors status ⊎ IsFailed OfOutput it new r out out_new errors status
     pub endures : Endures (state_of it) (state_of new)
 
-  -- there was no memory for the request, and nothing was done
+  -- no request was made, after a failure, and nothing was done
   abbrev pub IsNotMade : (Failure → Type 0) → Registry S g → Registry S g → Option (List ℕ) → Option (List ℕ) → ErrorOutput → ℕ → Type 0
   IsNotMade May it new out out_new errors status = (new ≡ it) × IsUnprinted May out out_new errors status
 
-  -- the request of this list is acted on; or it is told why the bytes are no list, and nothing is done
+  -- the request of this list is acted on; or the error output says why the bytes are not a list, and nothing is done
   abbrev pub IsImportOf : (Failure → Type 0) → Registry S g → Registry S g → Import → Result (List TopEntry) ReadFault → Option (List ℕ) → Option (List ℕ) → ErrorOutput → ℕ → Type 0
   IsImportOf OfOutput it new import (Ok doc) out out_new errors status =
       ((r : Request) × ((h : History) → Represents it h → r ≡ request_of import h.founding.vendor doc) × IsActedOn OfOutput it new r out out_new errors status)
       ⊎ IsNotMade IsOfMemory it new out out_new errors status
   IsImportOf OfOutput it new import (Err fault) out out_new errors status = (new ≡ it) × Keeps out out_new × IsRefused fault errors status
 
-  -- what was read in these bytes is imported; or the input failed, or had more than an input may have, and nothing is done
+  -- what was read in these bytes is imported; or the input failed or was too long, and nothing is done
   abbrev pub IsImported : (Failure → Type 0) → (Failure → Type 0) → Registry S g → Registry S g → Import → List ℕ → Option (List ℕ) → Option (List ℕ) → ErrorOutput → ℕ → Type 0
   IsImported OfInput OfOutput it new import bytes out out_new errors status =
       ((read : Result (List TopEntry) ReadFault) × (length bytes ≤ 4294967295) × Answers bytes read × IsImportOf OfOutput it new import read out out_new errors status)

@@ -1,4 +1,4 @@
--- What the program writes.
+-- What the program prints.
 use Rattle.std.specs.Prelude.{List, [], ◌∷◌, ◌++◌, ℕ, codes}
 use Rattle.std.specs.Fmt.{decimal}
 use Rattle.serde_json.specs.Written.{compact_text}
@@ -13,7 +13,7 @@ use Rattle.registry_commands.specs.declared.lines.BadLine.{BadLine}
 use Rattle.registry_commands.specs.declared.messages.Failure.{Failure}
 use Rattle.registry_commands.specs.declared.messages.Failure.TheVariants.{Store, Memory, Foreign, Taken, Poisoned, File}
 
--- a reply as a line of the output
+-- a reply as a line
 unfoldable pub reply_line : Reply → List ℕ
 reply_line reply = compact_text (reply_data reply) ++ codes "\n"
 
@@ -22,19 +22,19 @@ abbrev pub reply_lines : List Reply → List ℕ
 reply_lines [] = []
 reply_lines (reply ∷ replies) = reply_line reply ++ reply_lines replies
 
--- why bytes are no request or no founding, as a line
+-- a line that says why bytes are not a request, a founding file or a list
 unfoldable pub refusal_line : WireRefusal → List ℕ
 refusal_line refusal = compact_text (refusal_data refusal) ++ codes "\n"
 
--- the first line that is not one, and why
+-- the message for the first line that is not a request
 unfoldable pub bad_line_text : BadLine → List ℕ
 bad_line_text bad = codes "line " ++ decimal bad.number ++ codes ": " ++ refusal_line bad.refusal
 
--- more requests are said to be answered than there are
+-- the message if more requests are said to be answered than were read
 abbrev pub exceeds_text : List ℕ
 exceeds_text = codes "answered exceeds requests\n"
 
--- why a command fails
+-- the message for a failure of a command
 abbrev pub failure_line : Failure → List ℕ
 failure_line Store = codes "fault: store\n"
 failure_line Memory = codes "fault: memory\n"
@@ -43,7 +43,7 @@ failure_line Taken = codes "fault: taken\n"
 failure_line Poisoned = codes "fault: spent\n"
 failure_line File = codes "fault: file\n"
 
--- the failure that a fault of the registry is
+-- the failure for a fault of the registry
 abbrev pub failure_of : Fault → Failure
 failure_of faults.Store = Store
 failure_of faults.NoMemory = Memory
@@ -51,7 +51,7 @@ failure_of faults.Foreign = Foreign
 failure_of faults.Taken = Taken
 failure_of faults.Poisoned = Poisoned
 
--- the failure that an input's fault is
+-- the failure for a fault of an input
 abbrev pub input_failure : InputFault → Failure
 input_failure inputs.File = File
 input_failure inputs.NoMemory = Memory

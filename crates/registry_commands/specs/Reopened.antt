@@ -1,4 +1,4 @@
--- What the next opening of a store finds, after request lines were acted on over it.
+-- What the next opening of a store finds after request lines were acted on.
 use Rattle.std.specs.Prelude.{◌≡◌, ◌⊎◌, ◌<◌, ◌≤◌, ◌+◌, ℕ, List, length, take, Option, Result, Ok, Err}
 use Rattle.std.specs.Io.KnownBytes.{Appends, Keeps}
 use Rattle.sqlite.specs.Store.{Ghosts}
@@ -14,12 +14,12 @@ use Rattle.registry_commands.specs.declared.lines.BadLine.{BadLine}
 use Rattle.registry_commands.specs.Apply.{lines_between}
 
 module _ {S : Type 0} {g : Ghosts S} where
-  -- Nothing was acted on and no reply was written: the registry that is opened represents what the first one did.
+  -- Nothing was acted on and no reply was written: the opened registry represents the history that the first one did.
   abbrev pub IsReopenedAsBefore : Registry S g → Registry S g → Option (List ℕ) → Option (List ℕ) → Type 0
   IsReopenedAsBefore first it out out_new = Keeps out out_new × ((h : History) → Represents first h → HasCleanDisk (state_of it) → ∥ Represents it h ∥₁)
 
-  -- The reply lines of the requests up to the n-th are out; at status 0 that is all of them. The registry that is opened has acted
-  -- on these n requests, and on at most one more: on this one where anything of its line is out.
+  -- The reply lines of the requests up to the n-th are written; at status 0 these are all requests. The opened registry has
+  -- acted on these n requests, and on at most one more: on that one if anything of its line is written.
   pub record IsReopenedAt (it : Registry S g) (h : History) (rs : List Request) (a n : ℕ) (out out_new : Option (List ℕ)) (status : ℕ) : Type 0 where
     pub from : a ≤ n
     pub within : n ≤ length rs
@@ -28,7 +28,8 @@ module _ {S : Type 0} {g : Ghosts S} where
         × (Keeps middle out_new ⊎ ∥ Represents it (after h (take (n + 1) rs)) ∥₁)
     pub answered : ∥ HasAnswered it h rs n ∥₁
 
-  -- what is opened after the requests that were read were acted on over the first registry, of which so many are answered already, or after a line that is not one
+  -- the registry that is opened after the first one acted on the requests that were read, of which the first a were answered
+  -- before; or that is opened after a line that is not a request
   abbrev pub IsReopened : Registry S g → Result (List Request) BadLine → ℕ → Option (List ℕ) → Option (List ℕ) → ℕ → Registry S g → Type 0
   IsReopened first (Err bad) a out out_new status it = IsReopenedAsBefore first it out out_new
   IsReopened first (Ok rs) a out out_new status it =

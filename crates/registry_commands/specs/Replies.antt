@@ -10,13 +10,13 @@ use Rattle.registry_commands.specs.Failures.{IsOfOutput}
 use Rattle.registry_commands.specs.Messages.{reply_line}
 
 module _ {W : Type 0} (contents : W → Option (List ℕ)) (failures : W → ℕ) (old new : ReplyLines W) (reply : Reply) where
-  -- the reply line is out, and the output did not fail
+  -- the reply line is written, and the output did not fail
   pub record TakesLine : Type 0 where
     pub same_output : new.output.ghost_name ≡ old.output.ghost_name
     pub gained : Appends (contents old.output.now) (contents new.output.now) (reply_line reply)
     pub kept : failures new.output.now ≡ failures old.output.now
 
-  -- a prefix of the reply line is out, and the failure is noted
+  -- a prefix of the reply line is written, and the failure is noted
   pub record CutsLine : Type 0 where
     pub same_output : new.output.ghost_name ≡ old.output.ghost_name
     pub gained : AppendsPrefix (contents old.output.now) (contents new.output.now) (reply_line reply)

@@ -23,17 +23,17 @@ pub record IsTrial (founding : Founding) : Type 0 where
   pub licences : AreInOrder (codes "MIT" ∷ codes "GPL-3.0-only" ∷ []) founding.licences
   pub fixed : (n : ℕ) → spans_have founding.fixed n ≡ (nat_le 1 n && nat_le n 16)
 
--- all requests were acted on after such a founding, and all reply lines are out
+-- all requests were acted on after such a founding, and all reply lines are written
 pub record IsTried (rs : List Request) (out out_new : Option (List ℕ)) : Type 0 where
   pub founding : Founding
   pub trial : IsTrial founding
   pub gained : Appends out out_new (reply_lines (answers (founded founding) rs))
 
--- a trial failed before any line was acted on: the store, in which the registry is founded, or the input
+-- a failure before any line was acted on: of the store, at the founding, or of the input
 abbrev pub IsOfStart : (Failure → Type 0) → Failure → Type 0
 IsOfStart OfInput failure = (failure ≡ Store) ⊎ OfInput failure
 
--- Some requests were acted on after such a founding. Their reply lines are out, and of the next one at most a prefix.
+-- The first n requests were acted on after such a founding. Their reply lines are written, and at most a prefix of the next.
 pub record IsTriedInPart (rs : List Request) (out out_new : Option (List ℕ)) : Type 0 where
   pub founding : Founding
   pub trial : IsTrial founding
@@ -43,7 +43,7 @@ pub record IsTriedInPart (rs : List Request) (out out_new : Option (List ℕ)) :
   pub whole : Appends out middle (lines_between (founded founding) rs 0 n)
   pub cut : AppendsPrefix middle out_new (lines_between (founded founding) rs n (n + 1))
 
--- What a trial writes, and its status. Its registry stands, so no failure is Foreign, Taken or Poisoned.
+-- What a trial writes, and its exit status. Its registry is sound, so no failure is Foreign, Taken or Poisoned.
 abbrev pub IsTrialOf : (Failure → Type 0) → (Failure → Type 0) → Result (List Request) BadLine → Option (List ℕ) → Option (List ℕ) → ErrorOutput → ℕ → Type 0
 IsTrialOf OfInput OfOutput (Err bad) out out_new errors status =
     Keeps out out_new × (((status ≡ 2) × Prints errors (bad_line_text bad)) ⊎ ((status ≡ 1) × PrintsFailure (IsOfStart OfInput) errors))

@@ -1,4 +1,4 @@
-//! Request lines, acted on one after another over a registry.
+//! Acts on request lines over a registry, one after another.
 
 ghost use Rattle.std.specs.Prelude.{◌≡◌, ◌≤◌, ◌⊎◌, ℕ, List, length, IfErr, Ok, OnOk, OnErr};
 ghost use Rattle.sqlite.specs.State.{HasCleanDisk};
@@ -21,8 +21,8 @@ use registry_store::{Registry, RunStop};
 use sqlite::Alter;
 use std::alloc::Global;
 
-/// Acts on the requests from the first unanswered one on. The reply to each is written before the
-/// next request is acted on.
+/// Acts on the requests from the first unanswered one on. Writes the reply to each before it acts
+/// on the next one.
 fn write_replies<S: Alter, W: Sink>(
     registry: &mut Registry<S>,
     requests: &[Request],
@@ -49,7 +49,7 @@ fn write_replies<S: Alter, W: Sink>(
     }
 }
 
-/// The same over an output.
+/// Does the same over an output.
 fn answer_from<S: Alter, W: Sink>(
     alloc: Global,
     registry: &mut Registry<S>,
@@ -74,7 +74,7 @@ fn answer_from<S: Alter, W: Sink>(
     write_replies(registry, requests, answered, &mut lines)
 }
 
-/// Says which line is not a request, and returns the exit status.
+/// Prints which line is not a request, and returns the exit status.
 fn reject_line<E: Sink>(alloc: Global, errors: &mut E, bad: BadLine) -> u8
     ensures { ((result ≡ 2) × Prints (error_output E.contents E.failures errors.old errors.new) (bad_line_text bad))
         ⊎ ((result ≡ 1) × PrintsFailure IsOfMemory (error_output E.contents E.failures errors.old errors.new)) }
@@ -86,7 +86,7 @@ fn reject_line<E: Sink>(alloc: Global, errors: &mut E, bad: BadLine) -> u8
     2
 }
 
-/// Acts on requests that were read, but for the first ones, which are answered.
+/// Acts on the requests after the first `answered` ones.
 fn apply_requests<S: Alter, W: Sink, E: Sink>(
     alloc: Global,
     requests: &[Request],
@@ -134,15 +134,16 @@ fn apply_bytes<S: Alter, W: Sink, E: Sink>(
     }
 }
 
-/// Acts on the requests of all lines of a source, but for the first ones, of which it is said how many
-/// are answered. All lines are read before the first request is acted on, and each reply line is
-/// written before the next request is acted on.
+/// Acts on the requests of all lines of a source, except for the first `answered` ones, which were
+/// answered before. Reads all lines before it acts on the first request, and writes each reply line
+/// before it acts on the next request.
 ///
 /// The status is 0 where all requests were acted on, refused ones too, and all reply lines are
-/// written. It is 2 where a line is not a request, or there are fewer requests than were answered: then
-/// nothing is acted on, and the errors say why. It is 1 after a failure, which the errors name: of the
-/// source, the registry, the output, or memory. An input of more than 4,294,967,295 bytes is such a
-/// failure, and nothing is acted on. Where the errors fail nothing else changes.
+/// written. It is 2 where a line is not a request, or `answered` exceeds the number of requests:
+/// then nothing is acted on, and the error output says why. It is 1 after a failure of the source,
+/// the registry, the output, or memory, which the error output names. An input of more than
+/// 4,294,967,295 bytes is such a failure, and nothing is acted on. A failure of the error output
+/// changes nothing else.
 pub fn apply_lines<R: Source, S: Alter, W: Sink, E: Sink>(
     alloc: Global,
     source: &mut R,

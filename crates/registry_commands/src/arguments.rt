@@ -1,4 +1,4 @@
-//! Arguments of the command line that are not valid.
+//! Invalid arguments of the command line.
 
 ghost use Rattle.std.specs.Prelude.{◌≡◌};
 ghost use Rattle.registry_commands.specs.Failures.{Prints, error_output};
@@ -7,18 +7,18 @@ ghost use Rattle.registry_commands.specs.Arguments.{bad_argument_line};
 use crate::messages::tell;
 use byte_streams::Sink;
 
-/// An argument that is not valid.
+/// An invalid argument.
 #[derive(Clone, Copy, Debug, PartialEq, Eq)]
 pub enum BadArgument {
     /// The stamp of an export.
     Stamp,
     /// The name of a report.
     Name,
-    /// The vendor number of a look-up.
+    /// The vendor ID of a look-up.
     Vid,
-    /// The product number of a look-up.
+    /// The product ID of a look-up.
     Pid,
-    /// Who asks for an import.
+    /// The caller of an import.
     Caller,
     /// The key of an import.
     Key,
@@ -32,7 +32,7 @@ impl BadArgument {
     ghost use Rattle.std.specs.Prelude.{◌≡◌};
     ghost use Rattle.registry_commands.specs.Arguments.{bad_argument_line};
 
-    /// What the user is told, as a line.
+    /// Returns the message for this argument, as a line.
     pub fn line(self) -> &'static str
         ensures { result.now ≡ bad_argument_line self }
     {
@@ -49,7 +49,7 @@ impl BadArgument {
     }
 }
 
-/// Says which argument is not valid, and returns the exit status.
+/// Prints which argument is invalid, and returns the exit status.
 pub fn reject_argument<E: Sink>(errors: &mut E, argument: BadArgument) -> u8
     ensures status { result ≡ 2 }
     ensures told { Prints (error_output E.contents E.failures errors.old errors.new) (bad_argument_line argument) }

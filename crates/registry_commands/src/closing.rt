@@ -1,4 +1,4 @@
-//! A store that a command has done with.
+//! Closes a store when a command is done with it.
 
 ghost use Rattle.std.specs.Prelude.{◌≡◌, ◌≢◌, ◌⊎◌, ℕ};
 ghost use Rattle.sqlite.specs.Closing.{IsCopied};
@@ -16,12 +16,13 @@ use registry_store::{Closed, close_files, leave_store};
 use sqlite::{Connection, FileStore, Files};
 use sqlite_disk::Disk;
 
-/// Lets go of the store, and hands its files on. Where the command went well, status 0, the store is closed, which
-/// takes its log into its file; where that fails the status is 1, and the errors say why. After a status of 1 or 2
-/// nothing more is written to the store, and its log stays beside its file.
+/// Ends the use of a store, and returns the exit status and the files. At status 0 it closes the
+/// store, which copies the log into the database file; where that fails it prints the failure, and
+/// the status is 1. At status 1 or 2 it writes nothing to the store, and the log stays beside its
+/// file.
 ///
-/// Whatever the status, nothing is committed. Unless closing failed, the two files hold what the store held, as they
-/// read now and after any crash.
+/// Whatever the status, nothing is committed. Unless closing failed, the two files hold what the
+/// store held, as they read now and after any crash.
 pub fn close_store<D: Disk + Drop, E: Sink>(
     conn: Connection<FileStore<D>>,
     errors: &mut E,

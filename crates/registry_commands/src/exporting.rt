@@ -1,4 +1,4 @@
-//! The list of a registry's held numbers.
+//! Exports the list of a registry's held numbers.
 
 ghost use Rattle.std.specs.Prelude.{◌≡◌, IfErr, IfOk};
 ghost use Rattle.usbids_text.specs.Documents.{IsTextOf};
@@ -38,7 +38,7 @@ fn listed(
     }
 }
 
-/// The list of what the registry holds, whose vendors are these.
+/// Returns the list of the registry's held numbers under these vendors, which are all.
 fn list_under<S: Alter>(
     alloc: Global,
     registry: &mut Registry<S>,
@@ -54,9 +54,9 @@ fn list_under<S: Alter>(
     }
 }
 
-/// The list of what the registry holds. Nothing is changed.
+/// Returns the list of the registry's held numbers. Changes nothing.
 ///
-/// It fails where the registry does, or where memory is short.
+/// Fails where the registry fails or memory runs out.
 pub fn document_of<S: Alter>(alloc: Global, registry: &mut Registry<S>) -> Result<Document, Failure>
     ensures answered { (h : History) → Represents registry.old h → HasCleanDisk (state_of registry.new) → IfOk result (λ doc. IsListing h doc) }
     ensures failure { IfErr result (IsOfReading registry.old registry.new) }
@@ -85,11 +85,12 @@ fn put_document<W: Sink, E: Sink>(
     }
 }
 
-/// Writes the list of the numbers that are held, under their vendors, with the titles of their cards, and with a stamp
-/// where one is given. Nothing is changed.
+/// Writes the list of the held numbers, under their vendors, with the titles of their cards, and
+/// with a stamp if one is given. Changes nothing.
 ///
-/// The status is 0 where the whole list is written. It is 1 after a failure, which the errors name: of the registry or
-/// memory, and then nothing is written, or of the output, which took a prefix of the list.
+/// The status is 0 where the whole list is written. It is 1 after a failure, which the error output
+/// names. After a failure of the registry or of memory nothing is written; after a failure of the
+/// output a prefix of the list is.
 pub fn export<S: Alter, W: Sink, E: Sink>(
     alloc: Global,
     registry: &mut Registry<S>,

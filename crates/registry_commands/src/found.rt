@@ -1,4 +1,4 @@
-//! A registry that is founded on a connection, by a founding file.
+//! Founds a registry on a connection, by a founding file.
 
 ghost use Rattle.std.specs.Prelude.{◌≡◌, ◌⊎◌, ℕ, List};
 ghost use Rattle.byte_streams.specs.Streams.{MayGive};
@@ -16,7 +16,7 @@ use registry_wire::{WireRefusal, founding_from_toml};
 use sqlite::{Alter, Connection};
 use std::alloc::Global;
 
-/// Says why bytes are not a founding file or not a list, and returns the exit status.
+/// Prints why bytes are not a founding file or not a list, and returns the exit status.
 pub(crate) fn reject<E: Sink>(alloc: Global, errors: &mut E, refusal: WireRefusal) -> u8
     ensures { ((result ≡ 2) × Prints (error_output E.contents E.failures errors.old errors.new) (refusal_line refusal))
         ⊎ ((result ≡ 1) × PrintsFailure IsOfMemory (error_output E.contents E.failures errors.old errors.new)) }
@@ -28,7 +28,7 @@ pub(crate) fn reject<E: Sink>(alloc: Global, errors: &mut E, refusal: WireRefusa
     2
 }
 
-/// Founds a registry, and hands back the connection with the status.
+/// Founds a registry, and returns the exit status and the connection.
 fn found_with<S: Alter, E: Sink>(
     alloc: Global,
     conn: Connection<S>,
@@ -43,7 +43,7 @@ fn found_with<S: Alter, E: Sink>(
     }
 }
 
-/// The same by the bytes of a founding file.
+/// Does the same by the bytes of a founding file.
 fn found_by<S: Alter, E: Sink>(
     alloc: Global,
     conn: Connection<S>,
@@ -59,13 +59,13 @@ fn found_by<S: Alter, E: Sink>(
     }
 }
 
-/// Founds a registry on a connection, by the founding file that a source gives, and hands back the
-/// connection with the status.
+/// Founds a registry on a connection, by the founding file that a source gives, and returns the
+/// exit status and the connection.
 ///
-/// The status is 0 where the registry is founded. It is 2 where the source gives no founding file:
-/// then nothing is changed, and the errors say why. It is 1 after a failure, which the errors name;
-/// one is that the store holds a registry already, which is never replaced, and one that the source
-/// gives more than 4,294,967,295 bytes: then nothing is changed.
+/// The status is 0 where the registry is founded. It is 2 where the input is not a founding file:
+/// then nothing is changed, and the error output says why. It is 1 after a failure, which the error
+/// output names. A store that already holds a registry is such a failure (a registry is never
+/// replaced), and so is an input of more than 4,294,967,295 bytes: both change nothing.
 pub fn found_registry<R: Source, S: Alter, E: Sink>(
     alloc: Global,
     conn: Connection<S>,

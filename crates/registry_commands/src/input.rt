@@ -1,4 +1,4 @@
-//! All that comes from a source.
+//! Reads a whole input.
 
 ghost use Rattle.std.specs.Prelude.{Err, Some, ◌≡◌, ◌≤◌, ◌++◌, ℕ, List, length, IfOk, IfErr, OnOk};
 ghost use Rattle.std.specs.Io.KnownBytes.{Consumes, IsAtEnd};
@@ -11,15 +11,15 @@ use std::alloc::Global;
 use std::error::Error;
 use std::fmt;
 
-/// How many bytes an input may have.
+/// The greatest number of bytes that an input may have.
 const MOST: usize = 4_294_967_295;
 
 /// Why an input could not be read.
 #[derive(Clone, Copy, Debug, PartialEq, Eq)]
 pub enum InputFault {
-    /// It failed, or it has more than 4,294,967,295 bytes.
+    /// The source failed, or gives more than 4,294,967,295 bytes.
     File,
-    /// There is no memory for it.
+    /// Out of memory.
     NoMemory,
 }
 
@@ -37,8 +37,7 @@ impl fmt::Display for InputFault {
 
 impl Error for InputFault {}
 
-/// The next bytes of the source behind those that came before, and how many they are: none at the
-/// end alone.
+/// Appends the next bytes of the source, and returns their number, which is 0 only at the end.
 fn take_more<R: Source>(source: &mut R, bytes: &mut Vec<u8>) -> Result<usize, InputFault>
     ensures ok { IfOk result (λ n. (more : List ℕ) × (bytes.new.items ≡ bytes.old.items ++ more) × (length more ≡ n)
         × Consumes (R.remaining source.old) (R.remaining source.new) more × (n ≡ 0 → IsAtEnd (R.remaining source.new))
@@ -56,8 +55,8 @@ fn take_more<R: Source>(source: &mut R, bytes: &mut Vec<u8>) -> Result<usize, In
     }
 }
 
-/// All bytes of the source, at most 4,294,967,295. `File` comes only where the source failed during
-/// this call or has more than that, and `NoMemory` only where it did not fail.
+/// Reads all bytes of the source, at most 4,294,967,295. Returns `File` only where the source
+/// failed during this call or gives more bytes, and `NoMemory` only where it did not fail.
 pub fn read_all<R: Source>(alloc: Global, source: &mut R) -> Result<Vec<u8>, InputFault>
     ensures ok { IfOk result (λ v. MayGive (R.remaining source.old) v.items × (length v.items ≤ 4294967295)) }
     ensures kept { OnOk result (R.failures source.new ≡ R.failures source.old) }

@@ -1,5 +1,5 @@
-//! The commands of `usbreg`, over any store and any streams: they read and act on request lines, write replies and
-//! failures, and return the exit status.
+//! The commands of `usbreg`, over any store and any streams. Each writes to an output and an error
+//! output, and returns the exit status.
 #![tactic(auto)]
 
 mod apply;

@@ -1,4 +1,4 @@
-//! A list that is read in pieces.
+//! Reads a list in pieces.
 
 ghost use Rattle.std.specs.Prelude.{◌≡◌, ◌⊎◌, ◌<◌, ◌≤◌, ℕ, List, length, IfOk, OnOk, OnErr};
 ghost use Rattle.byte_streams.specs.Streams.{HasFailed, MayGive};
@@ -8,8 +8,8 @@ use byte_streams::{Broken, Source};
 use std::alloc::Global;
 use usbids_text::{Document, ReadFault, Reader, feed_all};
 
-/// The document that all bytes of the source spell, or why there is none. They are read in pieces, and are at most
-/// 4,294,967,295. `Broken` comes only where the source failed or has more.
+/// Reads a list of at most 4,294,967,295 bytes in pieces, and returns its document, or the fault in
+/// it. Returns `Broken` only where the source failed or gives more bytes.
 pub(crate) fn read_list<R: Source>(
     alloc: Global,
     source: &mut R,

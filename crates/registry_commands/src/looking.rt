@@ -1,4 +1,4 @@
-//! A device that is looked up in a list.
+//! Looks a device up in a list.
 
 ghost use Rattle.std.specs.Prelude.{◌≡◌, ◌++◌, ◌∷◌, [], ℕ, List, IfOk};
 ghost use Rattle.byte_streams.specs.Streams.{MayGive};
@@ -33,7 +33,7 @@ fn put_name<W: Sink, E: Sink>(alloc: Global, name: &Name, output: &mut W, errors
     }
 }
 
-/// Prints why the bytes are no list, and returns the status.
+/// Prints why the bytes are not a list, and returns the exit status.
 pub(crate) fn put_fault<E: Sink>(alloc: Global, fault: ReadFault, errors: &mut E) -> u8
     ensures { IsRefused fault (error_output E.contents E.failures errors.old errors.new) result }
 {
@@ -43,7 +43,7 @@ pub(crate) fn put_fault<E: Sink>(alloc: Global, fault: ReadFault, errors: &mut E
     }
 }
 
-/// Writes the name that was found, or that none was, and returns the exit status.
+/// Writes the name that was found, or prints `not found`, and returns the exit status.
 fn put_found<W: Sink, E: Sink>(
     alloc: Global,
     found: Option<Name>,
@@ -62,7 +62,7 @@ fn put_found<W: Sink, E: Sink>(
     }
 }
 
-/// Writes what was found, or why nothing was, and returns the exit status.
+/// Writes what was found, or prints why the bytes are not a list, and returns the exit status.
 fn put_answer<W: Sink, E: Sink>(
     alloc: Global,
     found: Result<Option<Name>, ReadFault>,
@@ -78,12 +78,13 @@ fn put_answer<W: Sink, E: Sink>(
     }
 }
 
-/// Writes the name of the first device with this code, in the order of the list, under a vendor of this number, as a
-/// line. The list is read once, in pieces, and no document is made of it.
+/// Writes the name of the first device with this code, in the order of the list, under a vendor
+/// with this number, as a line. Reads the list once, in pieces, and builds no document.
 ///
-/// The status is 0 where the name is written. It is 2 where there is no such device, or where the source gives no list:
-/// the errors say which. It is 1 after a failure, which the errors name: of the source, the output, or memory. An input
-/// of more than 4,294,967,295 bytes is such a failure.
+/// The status is 0 where the name is written. It is 2 where the list has no such device, or the
+/// input is not a list: the error output says which. It is 1 after a failure of the source, the
+/// output, or memory, which the error output names. An input of more than 4,294,967,295 bytes is
+/// such a failure.
 pub fn look_up<R: Source, W: Sink, E: Sink>(
     alloc: Global,
     source: &mut R,

@@ -1,4 +1,4 @@
-//! What the program writes: replies, and why it rejects an input or fails.
+//! What the program prints: replies, and why it rejects an input or fails.
 
 ghost use Rattle.std.specs.Prelude.{◌≡◌, ◌≢◌, ◌⊎◌, ℕ, IfErr, IfOk, OnOk, OnErr};
 ghost use Rattle.std.specs.String.{string_bytes};
@@ -22,13 +22,13 @@ use usbnum_core::NoMemory;
 pub enum Failure {
     /// The store refused or failed.
     Store,
-    /// There is no memory for something that is needed.
+    /// Out of memory.
     Memory,
     /// The store holds no registry.
     Foreign,
-    /// The store holds a registry already.
+    /// The store already holds a registry.
     Taken,
-    /// The registry had a fault before.
+    /// The registry is poisoned: it had a fault before.
     Poisoned,
     /// An input or the output failed.
     File,
@@ -38,7 +38,7 @@ impl Failure {
     ghost use Rattle.std.specs.Prelude.{◌≡◌};
     ghost use Rattle.registry_commands.specs.Messages.{failure_line};
 
-    /// What the user is told, as a line.
+    /// Returns the message for this failure, as a line.
     pub fn line(self) -> &'static str
         ensures { result.now ≡ failure_line self }
     {
@@ -53,7 +53,7 @@ impl Failure {
     }
 }
 
-/// The failure that a fault of the registry is.
+/// Returns the failure for a fault of the registry.
 pub fn failure_of(fault: Fault) -> Failure
     ensures { result ≡ failure_of fault }
 {
@@ -66,7 +66,7 @@ pub fn failure_of(fault: Fault) -> Failure
     }
 }
 
-/// The failure that an error of the store is: out of memory where it says so.
+/// Returns the failure for an error of the store: `Memory` where it is out of memory, else `Store`.
 pub fn store_failure(error: Error) -> Failure
     ensures { ((result ≡ Failure.Memory) × (error ≡ Error.SqliteFailure ErrorCode.OutOfMemory))
         ⊎ ((result ≡ Failure.Store) × (error ≢ Error.SqliteFailure ErrorCode.OutOfMemory)) }
@@ -77,7 +77,7 @@ pub fn store_failure(error: Error) -> Failure
     }
 }
 
-/// The failure that an input's is.
+/// Returns the failure for a fault of an input.
 pub(crate) fn input_failure(fault: InputFault) -> Failure
     ensures { result ≡ input_failure fault }
 {
@@ -87,7 +87,7 @@ pub(crate) fn input_failure(fault: InputFault) -> Failure
     }
 }
 
-/// A reply as a line of the output.
+/// Returns a reply as a line.
 #[tactic(auto, unfolding(crate::specs::Messages::reply_line))]
 fn reply_line(alloc: Global, reply: &Reply) -> Result<String, NoMemory>
     ensures { IfOk result (λ line. string_bytes line ≡ reply_line reply.now) }
@@ -97,7 +97,7 @@ fn reply_line(alloc: Global, reply: &Reply) -> Result<String, NoMemory>
     Ok(line)
 }
 
-/// Why bytes are no request or no founding, as a line.
+/// Returns a line that says why bytes are not a request, a founding file or a list.
 #[tactic(auto, unfolding(crate::specs::Messages::refusal_line))]
 pub(crate) fn refusal_line(alloc: Global, refusal: WireRefusal) -> Result<String, NoMemory>
     ensures { IfOk result (λ line. string_bytes line ≡ refusal_line refusal) }
@@ -107,7 +107,7 @@ pub(crate) fn refusal_line(alloc: Global, refusal: WireRefusal) -> Result<String
     Ok(line)
 }
 
-/// The line that is not a request, by its number, and why.
+/// Returns a line that says which line is not a request, and why.
 #[tactic(auto, unfolding(crate::specs::Messages::bad_line_text))]
 pub(crate) fn bad_line_text(alloc: Global, bad: BadLine) -> Result<String, NoMemory>
     ensures { IfOk result (λ text. string_bytes text ≡ bad_line_text bad) }
@@ -117,7 +117,7 @@ pub(crate) fn bad_line_text(alloc: Global, bad: BadLine) -> Result<String, NoMem
     Ok(format!(in alloc; "line {number}: {line}")?)
 }
 
-/// Writes to the errors: all of the text, or a prefix of it where they fail.
+/// Writes a text to the error output: all of it, or a prefix where the error output fails.
 pub(crate) fn tell<E: Sink>(errors: &mut E, text: &str)
     ensures told { Prints (error_output E.contents E.failures errors.old errors.new) text.now }
 {
@@ -127,8 +127,8 @@ pub(crate) fn tell<E: Sink>(errors: &mut E, text: &str)
     }
 }
 
-/// Says why the command fails, and returns the exit status. The errors get the whole line, or a
-/// beginning of it where they fail.
+/// Prints why the command fails, and returns the exit status. The error output gets the whole line,
+/// or a prefix of it where it fails.
 pub fn fail<E: Sink>(errors: &mut E, failure: Failure) -> u8
     ensures status { result ≡ 1 }
     ensures told { Prints (error_output E.contents E.failures errors.old errors.new) (failure_line failure) }
@@ -139,8 +139,8 @@ pub fn fail<E: Sink>(errors: &mut E, failure: Failure) -> u8
 
 /// Writes a reply as a line.
 ///
-/// The failure is `File` where the output failed, and else `Memory`. Either way a prefix of the
-/// line was written.
+/// Returns `File` where the output failed, else `Memory`. Either way a prefix of the line, perhaps
+/// an empty one, was written.
 pub(crate) fn put_reply<W: Sink>(
     alloc: Global,
     output: &mut W,

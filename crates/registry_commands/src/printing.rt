@@ -1,4 +1,4 @@
-//! Texts that are written to the output.
+//! Writes texts to the output.
 
 ghost use Rattle.registry_commands.specs.Failures.{IsOfOutput, error_output};
 ghost use Rattle.registry_commands.specs.Printed.{IsPrinted};
@@ -6,7 +6,8 @@ ghost use Rattle.registry_commands.specs.Printed.{IsPrinted};
 use crate::messages::{Failure, fail};
 use byte_streams::{Broken, Sink, put_all};
 
-/// Writes a text, and returns the exit status: 0, or 1 where the output failed, which the errors name.
+/// Writes a text to the output, and returns the exit status: 0, or 1 where the output failed, which
+/// the error output says.
 pub(crate) fn print<W: Sink, E: Sink>(output: &mut W, errors: &mut E, text: &[u8]) -> u8
     ensures { IsPrinted (IsOfOutput (W.failures output.old) (W.failures output.new)) text.now
         (W.contents output.old) (W.contents output.new) (error_output E.contents E.failures errors.old errors.new) result }

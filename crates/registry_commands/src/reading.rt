@@ -1,4 +1,4 @@
-//! The lists of a registry, of which a command shows something.
+//! Reads the lists of a registry for a command that shows them.
 
 ghost use Rattle.std.specs.Prelude.{IfErr, IfOk};
 ghost use Rattle.sqlite.specs.State.{HasCleanDisk};
@@ -13,7 +13,7 @@ use registry_store::Registry;
 use sqlite::Alter;
 use usbnum_core::Number;
 
-/// All vendors of the registry, by their numbers.
+/// Returns all vendors of the registry, by number.
 pub(crate) fn vendors_of<S: Alter>(registry: &mut Registry<S>) -> Result<Vec<Vendor>, Failure>
     ensures answered { (h : History) → Represents registry.old h → HasCleanDisk (state_of registry.new) → IfOk result (λ list. IsVendorList h list.items) }
     ensures failure { IfErr result (IsOfReading registry.old registry.new) }
@@ -25,7 +25,7 @@ pub(crate) fn vendors_of<S: Alter>(registry: &mut Registry<S>) -> Result<Vec<Ven
     }
 }
 
-/// All numbers that have an owner, by vendor and then by product.
+/// Returns all numbers that have an owner, by vendor and then by product.
 pub(crate) fn numbers_of<S: Alter>(
     registry: &mut Registry<S>,
 ) -> Result<Vec<(Number, Entry)>, Failure>
@@ -39,7 +39,7 @@ pub(crate) fn numbers_of<S: Alter>(
     }
 }
 
-/// All petitions, by their numbers.
+/// Returns all petitions, by number.
 pub(crate) fn petitions_of<S: Alter>(
     registry: &mut Registry<S>,
 ) -> Result<Vec<(u32, Petition)>, Failure>

@@ -1,4 +1,4 @@
-//! From one run of the program to the next.
+//! Acts on request lines and opens the store again, as two runs of the program do.
 
 ghost use Rattle.std.specs.Prelude.{ℕ, List, IfSome};
 ghost use Rattle.byte_streams.specs.Streams.{MayGive};
@@ -13,10 +13,12 @@ use sqlite::{FileStore, Options};
 use sqlite_disk::{Crash, Disk};
 use std::alloc::Global;
 
-/// Acts on request lines as `apply_lines` does, lets go of the store as `close_store` does, and opens its files again.
+/// Acts on request lines as `apply_lines` does, ends the use of the store as `close_store` does,
+/// and opens its files again.
 ///
-/// Whatever the status, what is opened has acted on a prefix of the requests, which holds every one whose reply line
-/// is out, and at most one more. None is opened where closing or opening fails.
+/// Whatever the status, the opened registry has acted on a prefix of the requests: on every request
+/// whose reply line is written, and on at most one more. Returns no registry where closing or
+/// opening fails.
 pub fn apply_and_open<R: Source, D: Disk + Drop, W: Sink, E: Sink>(
     alloc: Global,
     source: &mut R,
@@ -41,7 +43,7 @@ pub fn apply_and_open<R: Source, D: Disk + Drop, W: Sink, E: Sink>(
     (status, open_files(alloc, files, options))
 }
 
-/// The same with a crash of both disks in place of the close.
+/// Does the same, but crashes both disks instead of closing the store.
 pub fn apply_and_crash<R: Source, D: Crash + Drop, W: Sink, E: Sink>(
     alloc: Global,
     source: &mut R,

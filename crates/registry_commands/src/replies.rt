@@ -1,4 +1,4 @@
-//! The replies of a run as lines of an output.
+//! Writes the replies of a run as lines of an output.
 
 ghost use Rattle.registry_commands.specs.Replies.{CutsLine, TakesLine};
 
@@ -8,7 +8,7 @@ use registry_rules::Reply;
 use registry_store::{Cut, Replies};
 use std::alloc::Global;
 
-/// An output that takes the replies of a run as lines, and why it took no more.
+/// An output that takes the replies of a run as lines, and the failure that stopped it.
 #[derive(Drop)]
 pub(crate) struct ReplyLines<'a, W> {
     pub(crate) alloc: Global,

@@ -1,4 +1,4 @@
-//! The reports on a registry.
+//! Reports on a registry.
 
 ghost use Rattle.std.specs.Prelude.{◌≡◌, ◌++◌, ◌∷◌, [], ℕ, List, IfErr, IfOk, OnOk, string_bytes};
 ghost use Rattle.sqlite.specs.State.{HasCleanDisk};
@@ -27,15 +27,15 @@ use usbnum_core::{NoMemory, Number, Spans, Vid};
 /// A kind of report on a registry.
 #[derive(Clone, Copy, Debug, PartialEq, Eq)]
 pub enum ReportKind {
-    /// How many numbers of each vendor are free, reserved, held and returned.
+    /// For each vendor, how many numbers are free, reserved, held and returned.
     Census,
-    /// How many numbers each organisation holds, and how many it returned.
+    /// For each organisation, how many numbers it holds and how many it returned.
     Holders,
     /// The open petitions.
     Petitions,
 }
 
-/// The report of this name, or None where there is none.
+/// Returns the kind of report with this name, or None.
 #[tactic(auto, unfolding(crate::specs::Reports::report_named))]
 pub fn report_named(name: &str) -> Option<ReportKind>
     ensures { result ≡ report_named name.now }
@@ -51,7 +51,7 @@ pub fn report_named(name: &str) -> Option<ReportKind>
     }
 }
 
-/// The reserved numbers of a vendor.
+/// Returns the reserved numbers of a vendor.
 fn reserved_under<S: Alter>(registry: &Registry<S>, vid: Vid) -> Result<Spans, Failure>
     ensures answered { (h : History) → Represents registry.now h → IfOk result (λ spans. (pid : ℕ) → spans_have spans pid ≡ is_reserved h (number vid pid)) }
     ensures failure { IfErr result (IsOfReading registry.now registry.now) }
@@ -62,7 +62,7 @@ fn reserved_under<S: Alter>(registry: &Registry<S>, vid: Vid) -> Result<Spans, F
     }
 }
 
-/// Puts a vendor with a set of numbers behind the others.
+/// Appends a vendor with a set of numbers.
 fn put_pair(pairs: &mut Vec<(Vid, Spans)>, vid: Vid, spans: Spans) -> Result<(), Failure>
     ensures put { OnOk result (pairs.new.items ≡ pairs.old.items ++ (vid, spans) ∷ []) }
     ensures failure { IfErr result (λ failure. failure ≡ Failure.Memory) }
@@ -73,7 +73,7 @@ fn put_pair(pairs: &mut Vec<(Vid, Spans)>, vid: Vid, spans: Spans) -> Result<(),
     }
 }
 
-/// Puts a vendor with its reserved numbers behind the others.
+/// Appends a vendor with its reserved numbers.
 fn put_reserved<S: Alter>(
     registry: &Registry<S>,
     pairs: &mut Vec<(Vid, Spans)>,
@@ -89,7 +89,7 @@ fn put_reserved<S: Alter>(
     }
 }
 
-/// Each vendor with its reserved numbers.
+/// Returns each vendor with its reserved numbers.
 fn reserved_of<S: Alter>(
     alloc: Global,
     registry: &Registry<S>,
@@ -108,7 +108,7 @@ fn reserved_of<S: Alter>(
     Ok(pairs)
 }
 
-/// The census of these lists.
+/// Returns the census of these lists.
 fn counted(
     alloc: Global,
     pairs: &[(Vid, Spans)],
@@ -124,7 +124,7 @@ fn counted(
     }
 }
 
-/// The census of all vendors and these numbers.
+/// Returns the census of these vendors and numbers, which are all.
 fn census_with<S: Alter>(
     alloc: Global,
     registry: &Registry<S>,
@@ -140,7 +140,7 @@ fn census_with<S: Alter>(
     }
 }
 
-/// The census of these vendors, which are all.
+/// Returns the census of these vendors, which are all.
 fn census_under<S: Alter>(
     alloc: Global,
     registry: &mut Registry<S>,
@@ -167,7 +167,7 @@ fn census_of<S: Alter>(alloc: Global, registry: &mut Registry<S>) -> Result<Stri
     }
 }
 
-/// The holders of these numbers.
+/// Returns the report on the holders of these numbers.
 fn held_by(alloc: Global, numbers: &[(Number, Entry)]) -> Result<String, Failure>
     ensures answered { (h : History) → IsNumberList h numbers.now → IfOk result (λ text. IsHoldersReport h (string_bytes text)) }
     ensures failure { IfErr result (λ failure. failure ≡ Failure.Memory) }
@@ -189,7 +189,7 @@ fn holders_of<S: Alter>(alloc: Global, registry: &mut Registry<S>) -> Result<Str
     }
 }
 
-/// The open ones of these petitions, in a registry with this founding vendor.
+/// Returns the report on the open ones of these petitions, in a registry with this founding vendor.
 fn open_ones(alloc: Global, founding: Vid, petitions: &[(u32, Petition)]) -> Result<String, Failure>
     ensures answered { (h : History) → founding ≡ h.founding.vendor → IsPetitionList h petitions.now → IfOk result (λ text. IsPetitionsReport h (string_bytes text)) }
     ensures failure { IfErr result (λ failure. failure ≡ Failure.Memory) }
@@ -212,9 +212,9 @@ fn open_ones_of<S: Alter>(alloc: Global, registry: &mut Registry<S>) -> Result<S
     }
 }
 
-/// The text of a report on the registry. Nothing is changed.
+/// Returns the text of a report on the registry. Changes nothing.
 ///
-/// It fails where the registry does, or where memory is short.
+/// Fails where the registry fails or memory runs out.
 pub fn report_of<S: Alter>(
     alloc: Global,
     registry: &mut Registry<S>,
@@ -231,10 +231,11 @@ pub fn report_of<S: Alter>(
     }
 }
 
-/// Writes a report on the registry. Nothing is changed.
+/// Writes a report on the registry. Changes nothing.
 ///
-/// The status is 0 where the whole report is written. It is 1 after a failure, which the errors name: of the registry or
-/// memory, and then nothing is written, or of the output, which took a prefix of the report.
+/// The status is 0 where the whole report is written. It is 1 after a failure, which the error
+/// output names. After a failure of the registry or of memory nothing is written; after a failure
+/// of the output a prefix of the report is.
 pub fn report<S: Alter, W: Sink, E: Sink>(
     alloc: Global,
     registry: &mut Registry<S>,

@@ -1,4 +1,4 @@
-//! A registry in memory, founded anew each time.
+//! Runs request lines over a registry in memory, founded anew each time.
 
 ghost use Rattle.std.specs.Prelude.{◌≡◌, ◌⊎◌, ◌&&◌, ◌∷◌, [], ℕ, List, nat_le, codes, IfErr, IfOk};
 ghost use Rattle.std.specs.Io.KnownBytes.{Keeps};
@@ -21,7 +21,7 @@ use sqlite::{Connection, MemStore};
 use std::alloc::Global;
 use usbnum_core::{NoMemory, Pid, Span, Spans, Text, TextRule, Vid};
 
-/// One of the trial's texts, all of which keep to their rules.
+/// Returns one of the trial's texts, which all obey their rules.
 fn text<R: TextRule>(alloc: Global, text: &str) -> Result<Text<R>, NoMemory>
     ensures { IfOk result (λ own. own ≡ text.now) }
 {
@@ -65,7 +65,7 @@ fn fixed(alloc: Global) -> Result<Spans, NoMemory>
     Ok(fixed)
 }
 
-/// What the registry of a trial is founded with.
+/// Returns the founding of a trial.
 pub fn trial_founding(alloc: Global) -> Result<Founding, NoMemory>
     ensures { IfOk result IsTrial }
 {
@@ -101,8 +101,8 @@ fn found_trial(alloc: Global) -> Result<Registry<MemStore>, Failure>
     }
 }
 
-/// Founds a registry in memory, acts on the request lines of a source, as `apply_lines` does, and
-/// returns its exit status. The registry is gone afterwards.
+/// Founds a registry in memory, acts on the request lines of a source as `apply_lines` does, and
+/// returns the exit status. The registry is gone afterwards.
 pub fn trial<R: Source, W: Sink, E: Sink>(
     alloc: Global,
     source: &mut R,

@@ -1,4 +1,4 @@
--- What is left where a registry represents one of two histories.
+-- What a crash leaves if a registry represents one of two histories.
 use Rattle.std.proofs.Common.{◌⊎◌, inl, inr}
 use Rattle.sqlite.specs.Store.{Ghosts}
 use Rattle.sqlite.specs.State.{HasCleanDisk}
@@ -14,14 +14,14 @@ module _ {S : Type 0} {g : Ghosts S} where
   ends_either NoMemory it h next stands = stands
   ends_either (Registry fault) it h next stands = inr stands
 
-  -- a registry leaves the history that it represents, first of two
+  -- a crash leaves the history that the registry represents: the first of two
   pub left_first : (fault : DeskFault) (it : TheRegistry S g) (h next : History) → Represents it h → HasCleanDisk (state_of it) → IsLeftAt fault it h next
   left_first fault it h next stands clean = record {
     leaves = λ db may. let l = stands.at.left clean db may in (l.0, inl l.1, l.2);
     ends = ends_either fault it h next (inl stands);
   }
 
-  -- or second
+  -- or the second
   pub left_second : (fault : DeskFault) (it : TheRegistry S g) (h next : History) → Represents it next → HasCleanDisk (state_of it) → IsLeftAt fault it h next
   left_second fault it h next stands clean = record {
     leaves = λ db may. let l = stands.at.left clean db may in (l.0, inr l.1, l.2);

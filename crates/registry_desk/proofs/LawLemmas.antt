@@ -1,4 +1,4 @@
--- A message has one response.
+-- A history has one response to a message.
 use Rattle.std.proofs.Common.{◌≡◌, ℕ, Bool, not, ◌&&◌, List, [], ◌∷◌, ◌++◌, Some, None, refl, sym, ap, subst, ◌∙◌}
 use Rattle.std.specs.Prelude.{map, Ok, Err, is_none, bytes_eq}
 use Rattle.std.specs.Cmp.Lexicographic.{slice_cmp}

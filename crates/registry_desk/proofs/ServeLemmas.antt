@@ -1,4 +1,4 @@
--- What serving one message comes to.
+-- Serving one message.
 use Rattle.std.proofs.Common.{sym, ◌≡◌, inl, inr, ℕ, List, refl, ap, ◌∙◌}
 use Rattle.std.specs.Prelude.{Some, ◌≢◌, Result, Ok, Err, IfOk, IfErr, IsOk}
 use Rattle.sqlite.specs.Store.{Ghosts}
@@ -27,7 +27,7 @@ unfolding refusal_response json_response
 status_31 = refl
 
 module _ {S : Type 0} {g : Ghosts S} where
-  -- memory was short before the message was read
+  -- memory ran out before the message was read
   pub served_early : (it : TheRegistry S g) (h : History) (bytes : List ℕ) → Represents it h → HasCleanDisk (state_of it)
       → IsServed it h bytes (response_bytes (unavailable_response (unavailable_of NoMemory))) (given_up NoMemory)
   served_early it h bytes stands clean = inr (record {
@@ -40,7 +40,7 @@ module _ {S : Type 0} {g : Ghosts S} where
     left = left_first NoMemory it h h stands clean;
   })
 
-  -- the message was read, and its response was sent, or 31 in its place
+  -- the message was read, and its response was sent, or refusal 31 in its place
   sent_then : (new : TheRegistry S g) (h : History) (bytes text : List ℕ) (served : Served) (said : Result Message HttpRefusal) (response written : Response)
       → Says h.founding.vendor bytes said → HasCleanDisk (state_of new)
       → IsResponse h said response × Represents new (after_message h said)
@@ -64,7 +64,7 @@ module _ {S : Type 0} {g : Ghosts S} where
     left = left_second NoMemory new h (after_message h said) ok.1 clean;
   })
 
-  -- the message was read, and this was done
+  -- the message was read and acted on
   pub served_then : (new : TheRegistry S g) (h : History) (bytes text : List ℕ) (served : Served) (said : Result Message HttpRefusal) (done : Result Response DeskFault)
       → Says h.founding.vendor bytes said → HasCleanDisk (state_of new)
       → IfOk done (λ response. IsResponse h said response × Represents new (after_message h said))
@@ -82,7 +82,7 @@ module _ {S : Type 0} {g : Ghosts S} where
     left = err.1;
   })
 
--- only a poisoned registry is said to be poisoned
+-- what was served has the fault Poisoned only if that was the fault of the registry
 pub tells_poisoned : (done : Result Response DeskFault) (text : List ℕ) (served : Served) → IsTold done text served → served.fault ≡ Some faults.Poisoned → done ≡ Err (Registry faults.Poisoned)
 tells_poisoned (Ok response) text served told poisoned = let none = sym (ap (λ (s : Served). s.fault) told.3) ∙ poisoned in absurd cc
 tells_poisoned (Err NoMemory) text served told poisoned = let none = sym (ap (λ (s : Served). s.fault) told.1) ∙ poisoned in absurd cc

@@ -1,4 +1,4 @@
--- One connection after another.
+-- Serving one connection after another.
 use Rattle.std.proofs.Common.{◌≡◌, ◌⊎◌, inl, inr, ℕ, ◌+◌, ◌<◌, ◌≤◌, List, [], ◌∷◌, ◌++◌, length, refl, sym, ap, subst, ◌∙◌, arith, length-append}
 use Rattle.std.specs.Prelude.{Option, Some, None, Result, Ok, Err, OnOk}
 use Rattle.sqlite.specs.Store.{Ghosts}
@@ -20,7 +20,7 @@ use Rattle.registry_desk.specs.declared.server.ServerStop.{ServerStop}
 use Rattle.registry_desk.specs.declared.server.ServerStop.TheVariants as stops
 use Rattle.registry_desk.specs.Server.{Visit, IsVisit, HaveVisited, IsTurn, Turns, RepresentsAfter, IsHalted, EndsVisit, EndsServing, IsLeftAfter, EndsAt, IfVisited, fault_in}
 
--- one connection more
+-- one more connection
 pub visited_more : {C R W : Type 0} (opens : C → C → R → W → Type 0) (closes : C → C → R → W → Option ℕ → Type 0) (remaining : R → Option (List ℕ)) (contents : W → Option (List ℕ)) (failures : W → ℕ)
     (old middle new : C) (visits : List Visit) (visit : Visit) → HaveVisited opens closes remaining contents failures old middle visits
     → IsVisit opens closes remaining contents failures middle new visit → HaveVisited opens closes remaining contents failures old new (visits ++ visit ∷ [])
@@ -29,13 +29,13 @@ visited_more opens closes remaining contents failures old middle new [] visit sa
 visited_more opens closes remaining contents failures old middle new (first ∷ visits) visit before one =
     (before.0, before.1, visited_more opens closes remaining contents failures before.0 middle new visits visit before.2 one)
 
--- one turn more
+-- one more turn
 pub turns_more : (h middle next : History) (visits : List Visit) (visit : Visit) → Turns h visits middle → IsTurn middle visit next → Turns h (visits ++ visit ∷ []) next
 turns_more h middle next [] visit same one = (next, subst (λ x. IsTurn x visit next) same one, refl)
 turns_more h middle next (first ∷ visits) visit before one = (before.0, before.1, turns_more before.0 middle next visits visit before.2 one)
 
 module _ {S : Type 0} {g : Ghosts S} where
-  -- what was served where memory alone was short, by where the registry stands
+  -- serving a message for which memory ran out, by the history that the registry represents
   short_turn : (new : TheRegistry S g) (h : History) (bytes text : List ℕ) (exchange : Exchange) (next : History)
       → text ≡ response_bytes (unavailable_response (unavailable_of NoMemory)) → IsNext h bytes NoMemory next → Represents new h ⊎ Represents new next
       → EndsVisit new h (record { bytes = bytes; text = text; end = Ok exchange }) None
@@ -49,7 +49,7 @@ module _ {S : Type 0} {g : Ghosts S} where
   given_up_visit new h bytes text exchange (Registry fault) next kind text_is next_is left =
       record { kind = kind; text_is = text_is; next = next; next_is = next_is; left = left }
 
-  -- what was served is a visit
+  -- serving a message is a visit
   pub served_visit : (new : TheRegistry S g) (h : History) (bytes text : List ℕ) (exchange : Exchange) (served : Served) → exchange.fault ≡ served.fault
       → IsServed new h bytes text served → EndsVisit new h (record { bytes = bytes; text = text; end = Ok exchange }) exchange.fault
   served_visit new h bytes text exchange served same (inl it) =
@@ -62,20 +62,20 @@ module _ {S : Type 0} {g : Ghosts S} where
       subst (λ (f : Option Fault). EndsVisit new h (record { bytes = bytes; text = text; end = Ok exchange }) f) (sym (same ∙ ap (λ (s : Served). s.fault) it.served_is))
       (given_up_visit new h bytes text exchange it.fault it.next it.kind it.text_is it.next_is it.left)
 
-  -- the history after one connection more
+  -- the history after one more connection
   pub represents_more : (mid new : TheRegistry S g) (h : History) (visits : List Visit) (visit : Visit) → RepresentsAfter mid h visits
       → ((x : History) → Represents mid x → EndsVisit new x visit None) → RepresentsAfter new h (visits ++ visit ∷ [])
   represents_more mid new h visits visit before one =
       let it = one before.0 before.2 in
       (it.0, turns_more h before.0 it.0 visits visit before.1 it.1, it.2)
 
-  -- the fault at one connection more
+  -- the fault at one more connection
   pub halted_more : (mid new : TheRegistry S g) (h : History) (visits : List Visit) (visit : Visit) (fault : Fault) → RepresentsAfter mid h visits
       → ((x : History) → Represents mid x → EndsVisit new x visit (Some fault)) → IsHalted new h (visits ++ visit ∷ []) fault
   halted_more mid new h visits visit fault before one =
       record { before = visits; last = visit; all = refl; middle = before.0; turns = before.1; halted = one before.0 before.2 }
 
-  -- and what a crash leaves then
+  -- what a crash leaves then
   pub with_crash : (it : TheRegistry S g) (h : History) (visits : List Visit) (fault : Option Fault) → EndsServing it h visits fault → HasCleanDisk (state_of it)
       → EndsServing it h visits fault × Leaves newest (state_of it) (IsLeftAfter h visits)
   with_crash it h visits None ends clean = (
@@ -114,7 +114,7 @@ module _ {S C R W : Type 0} {g : Ghosts S} (opens : C → C → R → W → Type
       × (length visits ≤ count) × OnOk result (length visits ≡ count)
       × ((h : History) → Represents first h → HasCleanDisk (state_of last) → EndsServing last h visits (fault_in result) × Leaves newest (state_of last) (IsLeftAfter h visits))
 
-  -- a server stops at a connection that does not come, or at a fault
+  -- a server stops when no more connections come, or at a fault
   pub stops_at : (old middle new : C) (first mid last : TheRegistry S g) (count : ℕ) (visits : List Visit) (stop : ServerStop)
       → HaveVisited opens closes remaining contents failures old middle visits → length visits < count
       → (HasCleanDisk (state_of last) → HasCleanDisk (state_of mid))

@@ -1,4 +1,4 @@
--- What is sent where the registry has a fault or memory is short.
+-- What is sent where the registry has a fault or memory runs out.
 use Rattle.std.specs.Prelude.{ℕ, List, codes, Option, Some, None}
 use Rattle.registry_store.specs.declared.fault.Fault.{Fault}
 use Rattle.registry_store.specs.declared.fault.Fault.TheVariants as faults
@@ -14,7 +14,7 @@ use Rattle.registry_desk.specs.declared.server.ServerStop.TheVariants as stops
 use Rattle.registry_desk.specs.declared.fault.DeskFault.{DeskFault}
 use Rattle.registry_desk.specs.declared.fault.DeskFault.TheVariants.{Registry, NoMemory}
 
--- running out of memory is refusal 31, any other fault is 30
+-- the refusal for a fault: 31 when out of memory, 30 for any other
 abbrev pub unavailable_of : DeskFault → Unavailable
 unavailable_of NoMemory = unavailable.NoMemory
 unavailable_of (Registry faults.NoMemory) = unavailable.NoMemory
@@ -23,12 +23,12 @@ unavailable_of (Registry faults.Foreign) = unavailable.StoreFault
 unavailable_of (Registry faults.Taken) = unavailable.StoreFault
 unavailable_of (Registry faults.Poisoned) = unavailable.StoreFault
 
--- the registry's fault behind it
+-- the fault of the registry behind this one
 abbrev pub fault_of : DeskFault → Option Fault
 fault_of (Registry fault) = Some fault
 fault_of NoMemory = None
 
--- the fault that a failure of a list or a report is; those have no input and no output that could fail
+-- the fault for a failure of a list or a report, which have no input and no output that could fail
 abbrev pub failed_by : Failure → DeskFault
 failed_by failures.Memory = NoMemory
 failed_by failures.Store = Registry faults.Store

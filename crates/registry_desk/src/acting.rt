@@ -1,4 +1,4 @@
-//! A message over a registry: a query is answered, an order is acted on.
+//! Answers a query from a registry, or acts on an order.
 
 ghost use Rattle.std.specs.Prelude.{◌≡◌, ◌≢◌, true, Err, IfOk, IfErr, OnOk, OnErr, IsOk};
 ghost use Rattle.sqlite.specs.State.{HasCleanDisk};
@@ -18,7 +18,7 @@ use registry_store::Registry;
 use sqlite::Alter;
 use std::alloc::Global;
 
-/// Acts on an order.
+/// Acts on an order, and returns the response.
 fn act_on<S: Alter>(
     alloc: Global,
     registry: &mut Registry<S>,
@@ -35,7 +35,7 @@ fn act_on<S: Alter>(
     Ok(reply_response(alloc, &reply)?)
 }
 
-/// The response to a message that is refused.
+/// Returns the response to a message that is refused.
 fn refuse(alloc: Global, refusal: HttpRefusal) -> Result<Response, DeskFault>
     ensures ok { IfOk result (λ response. response ≡ refusal_response refusal) }
     ensures err { IfErr result (λ fault. fault ≡ desk_faults.NoMemory) }
@@ -43,7 +43,7 @@ fn refuse(alloc: Global, refusal: HttpRefusal) -> Result<Response, DeskFault>
     Ok(refusal_response(alloc, refusal)?)
 }
 
-/// The response to what a message says.
+/// Acts on what a message says, and returns the response.
 pub(crate) fn response_to<S: Alter>(
     alloc: Global,
     registry: &mut Registry<S>,

@@ -1,4 +1,4 @@
-//! Why a message has no response of its own: the registry has a fault, or memory is short.
+//! Why a message gets refusal 30 or 31: the registry has a fault, or memory runs out.
 
 ghost use Rattle.std.specs.Prelude.{◌≡◌};
 ghost use Rattle.registry_desk.specs.declared.fault.DeskFault.TheVariants.{Registry, NoMemory as OutOfMemory};
@@ -9,12 +9,12 @@ use registry_http::Unavailable;
 use registry_store::Fault;
 use usbnum_core::NoMemory;
 
-/// Why a message has no response of its own.
+/// Why a message gets refusal 30 or 31 instead of a response of its own.
 #[derive(Clone, Copy, Debug, Drop, PartialEq, Eq)]
 pub(crate) enum DeskFault {
     /// The registry had a fault.
     Registry(Fault),
-    /// Memory is short for the message or its response.
+    /// Out of memory for the message or its response.
     NoMemory,
 }
 
@@ -34,7 +34,7 @@ impl From<NoMemory> for DeskFault {
     }
 }
 
-/// The refusal that is sent then: 31 where memory runs out, 30 for any other fault.
+/// Returns the refusal for a fault: 31 when out of memory, 30 for any other.
 pub(crate) fn unavailable_of(fault: DeskFault) -> Unavailable
     ensures { result ≡ unavailable_of fault }
 {
@@ -48,7 +48,7 @@ pub(crate) fn unavailable_of(fault: DeskFault) -> Unavailable
     }
 }
 
-/// The registry's fault behind it, where there is one.
+/// Returns the fault of the registry behind this one, if any.
 pub(crate) fn fault_of(fault: DeskFault) -> Option<Fault>
     ensures { result ≡ fault_of fault }
 {
@@ -58,7 +58,7 @@ pub(crate) fn fault_of(fault: DeskFault) -> Option<Fault>
     }
 }
 
-/// The fault that a failure of a list or a report is.
+/// Returns the fault for a failure of a list or a report.
 pub(crate) fn failed_by(failure: Failure) -> DeskFault
     ensures { result ≡ failed_by failure }
 {

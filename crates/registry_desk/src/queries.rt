@@ -1,4 +1,4 @@
-//! Queries: one function for each kind, from a registry to the response.
+//! Answers queries from a registry, with one function for each kind.
 
 ghost use Rattle.std.specs.Prelude.{◌≡◌, true, None, Err, IfOk, IfErr};
 ghost use Rattle.sqlite.specs.State.{HasCleanDisk};
@@ -31,7 +31,7 @@ use std::alloc::Global;
 use usbids_text::{Document, WriteFault, write};
 use usbnum_core::{Number, Pid, Slug, Vid};
 
-/// Asks for a number of a vendor, which the response names if it is to.
+/// Looks up a number of a vendor. The response names `vendor`, if given.
 fn ask_number<S: Alter>(
     alloc: Global,
     registry: &mut Registry<S>,
@@ -56,7 +56,8 @@ fn no_vendor(alloc: Global) -> Result<Response, DeskFault>
     Ok(reply_response(alloc, &Reply::Refused(Refusal::NoVendor))?)
 }
 
-/// Asks for a number of a vendor that is named; refusal 34 where there is no such vendor.
+/// Looks up a number of a vendor that the query names. Returns refusal 34 if the registry has no
+/// such vendor.
 fn ask_vendor_number<S: Alter>(
     alloc: Global,
     registry: &mut Registry<S>,
@@ -75,7 +76,7 @@ fn ask_vendor_number<S: Alter>(
     }
 }
 
-/// Asks for an organisation.
+/// Looks up an organisation.
 fn ask_org<S: Alter>(
     alloc: Global,
     registry: &mut Registry<S>,
@@ -90,7 +91,7 @@ fn ask_org<S: Alter>(
     Ok(org_response(alloc, org.as_ref())?)
 }
 
-/// Asks for a petition.
+/// Looks up a petition.
 fn ask_petition<S: Alter>(
     alloc: Global,
     registry: &mut Registry<S>,
@@ -106,7 +107,7 @@ fn ask_petition<S: Alter>(
     Ok(petition_response(alloc, founding, id, petition.as_ref())?)
 }
 
-/// The response of a list: the document as it is written, without a stamp.
+/// Returns the response with the text of the document, without a stamp.
 fn list_response(alloc: Global, document: &Document) -> Result<Response, DeskFault>
     ensures ok { IfOk result (λ response. response ≡ text_response (written document.now None)) }
     ensures err { IfErr result (λ fault. fault ≡ desk_faults.NoMemory) }
@@ -118,7 +119,7 @@ fn list_response(alloc: Global, document: &Document) -> Result<Response, DeskFau
     }
 }
 
-/// Asks for the list of the numbers that are held.
+/// Returns the response with the list of the held numbers.
 fn ask_list<S: Alter>(alloc: Global, registry: &mut Registry<S>) -> Result<Response, DeskFault>
     ensures answered { (h : History) → Represents registry.old h → HasCleanDisk (state_of registry.new) → IfOk result (IsListResponse h) }
     ensures kind { (h : History) → Represents registry.old h → HasCleanDisk (state_of registry.new) → IfErr result IsOfSoundRegistry }
@@ -141,7 +142,7 @@ fn kind_of(report: Report) -> ReportKind
     }
 }
 
-/// Asks for a report.
+/// Returns the response with a report.
 fn ask_report<S: Alter>(
     alloc: Global,
     registry: &mut Registry<S>,
@@ -158,7 +159,7 @@ fn ask_report<S: Alter>(
     }
 }
 
-/// The response to a query.
+/// Returns the response to a query.
 pub(crate) fn ask<S: Alter>(
     alloc: Global,
     registry: &mut Registry<S>,

@@ -1,4 +1,4 @@
-//! One message: read, acted on, and its response written.
+//! Serves one message: reads it, acts on it, and writes its response.
 
 ghost use Rattle.std.specs.Prelude.{◌≡◌, ◌≢◌, ◌⊎◌, true, ℕ, List, Option, Err, Some, IfOk, OnErr};
 ghost use Rattle.sqlite.specs.State.{HasCleanDisk};
@@ -21,7 +21,7 @@ use std::alloc::Global;
 use std::error::Error;
 use std::fmt;
 
-/// What was sent.
+/// The response that was sent.
 #[derive(Clone, Copy, Debug, Drop, PartialEq, Eq)]
 pub struct Served {
     /// The status of the response.
@@ -30,7 +30,7 @@ pub struct Served {
     pub fault: Option<Fault>,
 }
 
-/// Why a connection is given up.
+/// The end of a connection that failed.
 #[derive(Clone, Copy, Debug, PartialEq, Eq)]
 pub enum PeerFault {
     /// The source failed.
@@ -53,7 +53,7 @@ impl fmt::Display for PeerFault {
 
 impl Error for PeerFault {}
 
-/// The registry's fault behind what was to be sent, and the status where all of it was written.
+/// The registry's fault behind a response, and the status where the response was written whole.
 #[derive(Clone, Copy, Debug, Drop, PartialEq, Eq)]
 pub(crate) struct Exchange {
     pub(crate) fault: Option<Fault>,
@@ -81,7 +81,7 @@ fn send_response<W: Sink>(alloc: Global, sink: &mut W, response: &Response) -> E
     Exchange { fault: None, sent }
 }
 
-/// Writes the response of what was done.
+/// Writes the response, or refusal 30 or 31 for a fault.
 fn send<W: Sink>(alloc: Global, sink: &mut W, done: Result<Response, DeskFault>) -> Exchange
     ensures told { (text : List ℕ) × (served : Served) × IsTold done text served
         × Writes (W.contents sink.old) (W.contents sink.new) (W.failures sink.old) (W.failures sink.new) result.sent text × IsOfServed result served }
@@ -94,7 +94,8 @@ fn send<W: Sink>(alloc: Global, sink: &mut W, done: Result<Response, DeskFault>)
 
 /// Reads one message from the source, acts on it, and writes its response to the sink.
 ///
-/// `Broken` comes only where the source failed in this call: then nothing is written and nothing was acted on.
+/// Returns `Broken` only where the source failed in this call: then nothing is written and nothing
+/// was acted on.
 pub(crate) fn serve_message<R: Source, W: Sink, S: Alter>(
     alloc: Global,
     source: &mut R,
@@ -120,7 +121,7 @@ pub(crate) fn serve_message<R: Source, W: Sink, S: Alter>(
     }
 }
 
-/// What is said of an exchange.
+/// Returns what was sent, or `Write` where the sink failed.
 fn served_of(exchange: Exchange) -> Result<Served, PeerFault>
     ensures written { (old : Option (List ℕ)) (new : Option (List ℕ)) (failures : ℕ) (failures_new : ℕ) (text : List ℕ) → Writes old new failures failures_new exchange.sent text → Writes old new failures failures_new result text }
     ensures ok { (served : Served) → IsOfServed exchange served → IfOk result (λ it. it ≡ served) }
@@ -137,12 +138,13 @@ fn served_of(exchange: Exchange) -> Result<Served, PeerFault>
 
 /// Reads one message from the source, acts on it, and writes its response to the sink.
 ///
-/// `Read` comes only where the source failed in this call: then nothing is written and nothing was acted on. `Write`
-/// comes only where the sink failed: then a prefix of the response was written, and an order may have been acted on.
-/// Its repeat under its key has the same reply.
+/// Returns `Read` only where the source failed in this call: then nothing is written and nothing
+/// was acted on. Returns `Write` only where the sink failed: then a prefix of the response was
+/// written, and an order may have been acted on; sent again under its key it gets the same reply.
 ///
-/// The message takes at most 8,192 bytes of memory for its head, and 16,384 for the body of an order in JSON besides the
-/// request itself; a list that is imported takes that of its document. Refusals 30 and 31 take none.
+/// A message needs at most 8,192 bytes of memory for its head, and an order in JSON at most 16,384
+/// for its body besides the request itself; an imported list needs the memory of its document.
+/// Refusals 30 and 31 need none.
 pub fn serve_one<R: Source, W: Sink, S: Alter>(
     alloc: Global,
     source: &mut R,

@@ -1,4 +1,4 @@
-//! The server: one connection after another, over one registry.
+//! The server: it serves one connection after another over one registry.
 
 ghost use Rattle.std.specs.Prelude.{◌≡◌, ◌≤◌, ℕ, List, Option, Some, length, IfOk, IfErr, OnOk, Err};
 ghost use Rattle.sqlite.specs.State.{HasCleanDisk};
@@ -17,18 +17,19 @@ use std::alloc::Global;
 use std::error::Error;
 use std::fmt;
 
-/// Where connections come from, one after another.
+/// A source of connections, one after another.
 pub trait Connections {
-    /// What the message of a connection is read from.
+    /// The source of a connection's message.
     type Reader: Source + Drop;
 
-    /// What its response is written to.
+    /// The sink of its response.
     type Writer: Sink + Drop;
 
     /// The next connection was opened, with this reader and this writer.
     ghost opens: { Self → Self → Self.Reader → Self.Writer → Type 0 };
 
-    /// The connection was closed, with its reader and its writer as serving left them, and this status.
+    /// The connection was closed, with its reader and its writer as serving left them, and this
+    /// status.
     ghost closes: { Self → Self → Self.Reader → Self.Writer → Option ℕ → Type 0 };
 
     /// No further connection can come.
@@ -43,9 +44,10 @@ pub trait Connections {
         ensures opened { IfOk result (λ ends. opens self.old self.new ends.0 ends.1) }
         ensures failed { IfErr result (λ _. fails self.old self.new) };
 
-    /// Closes a connection whose message is served, with the status of its response, or `None` where its peer failed.
+    /// Closes a connection whose message was served, with the status of its response, or `None`
+    /// where its peer failed.
     ///
-    /// A message that is refused before its end leaves bytes unread.
+    /// A message that was refused before its end leaves bytes unread.
     fn close(&mut self, reader: Self::Reader, writer: Self::Writer, status: Option<u16>)
         ensures { closes self.old self.new reader writer status };
 }
@@ -53,7 +55,7 @@ pub trait Connections {
 /// Why a server stops before its last connection.
 #[derive(Clone, Copy, Debug, Drop, PartialEq, Eq)]
 pub enum ServerStop {
-    /// No connection can come.
+    /// No more connections can come.
     Connections,
     /// The registry had a fault at the last connection.
     Registry(Fault),
@@ -73,7 +75,8 @@ impl fmt::Display for ServerStop {
 
 impl Error for ServerStop {}
 
-/// What the serving of one connection came to: the registry's fault, and the status where a response was written whole.
+/// The result of serving one connection: the registry's fault, if any, and the status where a
+/// response was written whole.
 #[derive(Clone, Copy, Debug, Drop, PartialEq, Eq)]
 struct Outcome {
     fault: Option<Fault>,
@@ -116,8 +119,9 @@ fn serve_between<R: Source, W: Sink, S: Alter>(
 
 /// Opens the next connection, serves its message, and closes it.
 ///
-/// `ServerStop::Registry` comes where the registry had a fault, whether its response was written or the peer was gone. A peer's
-/// fault, or a 503 because memory ran out, stops nothing.
+/// Returns `ServerStop::Registry` where the registry had a fault, whether the response was written
+/// or the peer was gone. A peer's fault, or a 503 because memory ran out outside the registry, is
+/// not an error.
 pub fn serve_next<C: Connections, S: Alter>(
     alloc: Global,
     connections: &mut C,
@@ -143,11 +147,13 @@ pub fn serve_next<C: Connections, S: Alter>(
     }
 }
 
-/// Serves connections one after another, at most so many, up to the first fault of the registry.
+/// Serves at most `count` connections, one after another, up to the first fault of the registry.
 ///
-/// Of a registry that represents a history, each message has its response over the history before it, and the registry then
-/// represents the history after all of them, in order. A crash leaves the history after the messages of a prefix of the
-/// connections, which holds each message that got its response, and at most one more: that of a fault of the registry.
+/// Over a registry that represents a history, each message gets its response over the history
+/// before it, and the registry then represents the history after all messages, in order. A crash
+/// leaves the history after the messages of all connections, or, where the registry had a fault at
+/// the last one, perhaps of all but that one. So it holds each message whose response was written
+/// whole.
 pub fn serve_all<C: Connections, S: Alter>(
     alloc: Global,
     connections: &mut C,

@@ -7,7 +7,7 @@ use registry_store::Registry;
 use sqlite::{Connection, MemStore};
 use std::alloc::Global;
 
-/// Gives one byte a read, and fails at each read past the last.
+/// A source that gives one byte per read, and fails after the last.
 #[derive(Drop)]
 pub(crate) struct Drip<'a> {
     pub(crate) bytes: &'a [u8],
@@ -33,7 +33,7 @@ impl<'a> Source for Drip<'a> {
     }
 }
 
-/// Takes so many bytes, and then fails.
+/// A sink that takes `room` bytes, and then fails.
 #[derive(Drop)]
 pub(crate) struct Brim {
     pub(crate) bytes: Vec<u8>,
@@ -88,7 +88,7 @@ fn shown(alloc: Global, served: Result<Served, PeerFault>, bytes: Vec<u8>) -> St
     }
 }
 
-/// What is written for a message that is read whole at once.
+/// Returns what is written for a message that is read whole at once.
 pub(crate) fn response_text(
     alloc: Global,
     registry: &mut Registry<MemStore>,
@@ -100,7 +100,7 @@ pub(crate) fn response_text(
     shown(alloc, served, sink.into_inner())
 }
 
-/// The same of a message that comes byte by byte from a reader that fails after it.
+/// Does the same for a message that comes byte by byte from a reader that fails after it.
 pub(crate) fn dripped(alloc: Global, registry: &mut Registry<MemStore>, message: &[u8]) -> String {
     let mut source = Drip {
         bytes: message,

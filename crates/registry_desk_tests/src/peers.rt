@@ -9,7 +9,7 @@ use std::alloc::Global;
 use std::process::Abort;
 use std::test::Fail;
 
-/// Nothing is written where the reader fails.
+/// Checks that nothing is written where the reader fails.
 fn expect_readers(rt: &impl Abort, alloc: Global, registry: &mut Registry<MemStore>) {
     for count in 0..ENROL.len() {
         let mut source = Drip {
@@ -24,7 +24,7 @@ fn expect_readers(rt: &impl Abort, alloc: Global, registry: &mut Registry<MemSto
     }
 }
 
-/// A prefix of the response is written where the writer fails.
+/// Checks that a prefix of the response is written where the writer fails.
 fn expect_writers(rt: &impl Abort, alloc: Global, registry: &mut Registry<MemStore>) {
     for room in 0..ENROLLED.len() {
         let mut source = Inlet::new(ENROL);

@@ -1,4 +1,4 @@
-//! Messages of the subject's rows, and their whole responses.
+//! Messages of several kinds, and their whole responses.
 
 use crate::ends::{ENROL, ENROLLED, dripped, founded, response_text};
 use std::test::Fail;

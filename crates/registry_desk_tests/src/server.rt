@@ -6,7 +6,7 @@ use registry_desk::{Connections, ServerStop, serve_all};
 use std::alloc::Global;
 use std::test::Fail;
 
-/// Messages, one a connection, and what was written for the last, with its status.
+/// Messages, one per connection, and the bytes and the status of the last response.
 #[derive(Drop)]
 struct Messages<'a> {
     alloc: Global,

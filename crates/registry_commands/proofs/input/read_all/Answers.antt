@@ -7,7 +7,7 @@ use Rattle.registry_commands.specs.Failures.{IsOfInput}
 use Rattle.registry_commands.specs.Messages.{input_failure}
 use Rattle.registry_commands.proofs.input.read_all.Goals as goal
 
--- what is said of an input's fault
+-- the fault of an input
 told : (before after : ℕ) (bytes : List ℕ) (fault : InputFault) → (fault ≡ inputs.File → HasFailed before after) → (fault ≡ inputs.NoMemory → after ≡ before)
     → IsOfInput before after bytes (input_failure fault)
 told before after bytes inputs.File failed kept = inl (failed refl)

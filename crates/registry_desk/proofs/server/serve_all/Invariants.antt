@@ -5,7 +5,7 @@ use Rattle.registry_store.specs.Promise.{Represents, Endures, state_of}
 use Rattle.registry_desk.specs.Server.{Visit, HaveVisited, RepresentsAfter}
 use Rattle.registry_desk.proofs.server.serve_all.Given as goal
 
--- so many connections were served, and the registry represents the history after their messages
+-- as many connections as the counter says were served, and the registry represents the history after their messages
 abbrev pub invariant-loop : goal.invariant-loop
 invariant-loop g l = record {
   endures : Endures (state_of l.initial.registry) (state_of l.registry);
