@@ -65,7 +65,7 @@ module _ {S : Type 0} {g : Ghosts S} where
             let n = length rs in
             let all : after h rs ≡ after h (take n rs) = ap (after h) (sym (take_all n rs (omega arith))) in
             let leaves : Leaves newest (state_of last) (IsPlace h rs n) =
-            leaves_weaker newest (state_of last) (λ x. x ≡ after h rs) (IsPlace h rs n) (λ x e. inl (e ∙ all)) (through.stands.at.left (before clean)) in (
+            leaves_weaker newest (state_of last) (λ x. x ≡ after h rs) (IsPlace h rs n) (λ x e. inl (e ∙ all)) (through.represents.at.left (before clean)) in (
               n,
               record {
                 from = within;

@@ -34,7 +34,7 @@ module _ {S : Type 0} {g : Ghosts S} where
   -- after all.
   pub record IsThrough (it : Registry S g) (h : History) (rs : List Request) (a : ℕ) (old new : Option (List ℕ)) : Type 0 where
     pub gained : Appends old new (reply_lines (drop a (answers h rs)))
-    pub stands : Represents it (after h rs)
+    pub represents : Represents it (after h rs)
 
   -- The run stopped with n requests answered, whose reply lines are written. Of the next line either nothing is written, or
   -- a prefix is and the registry represents the history after its request. A crash leaves these n requests, and at most one

@@ -52,7 +52,7 @@ module _ {S : Type 0} {g : Ghosts S} where
     is = ok.0;
     text_is = text_is ∙ ap response_bytes same;
     served_is = served_is ∙ ap answered same;
-    stands = ok.1;
+    represents = ok.1;
   })
   sent_then new h bytes text served said response written says clean ok (inr short) text_is served_is = inr (record {
     fault = NoMemory;

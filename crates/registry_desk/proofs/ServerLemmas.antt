@@ -56,7 +56,7 @@ module _ {S : Type 0} {g : Ghosts S} where
       subst (λ (f : Option Fault). EndsVisit new h (record { bytes = bytes; text = text; end = Ok exchange }) f) (sym (same ∙ ap (λ (s : Served). s.fault) it.served_is)) (
         after_message h it.said,
         inl (record { said = it.said; says = it.says; response = it.response; is = it.is; text_is = it.text_is; next_is = refl }),
-        it.stands,
+        it.represents,
       )
   served_visit new h bytes text exchange served same (inr it) =
       subst (λ (f : Option Fault). EndsVisit new h (record { bytes = bytes; text = text; end = Ok exchange }) f) (sym (same ∙ ap (λ (s : Served). s.fault) it.served_is))

@@ -54,7 +54,7 @@ module _ {S : Type 0} {g : Ghosts S} where
     pub is : IsResponse h said response
     pub text_is : text ≡ response_bytes response
     pub served_is : served ≡ answered response
-    pub stands : Represents new (after_message h said)
+    pub represents : Represents new (after_message h said)
 
   -- the text is refusal 30 or 31, and a crash leaves h or the history after the message
   pub record IsGivenUp (new : TheRegistry S g) (h : History) (bytes text : List ℕ) (served : Served) : Type 0 where

@@ -2,8 +2,8 @@
 
 use crate::fields::{founding, slug, span, title};
 use registry_rules::laws::{
-    has_four_states, has_one_organisation, has_own_canonical_form, has_row_if_owned,
-    is_kept_for_good, is_legal_from_start, is_owned_or_reserved, may_be_repeated, stays_legal,
+    has_entry_if_owned, has_four_states, has_one_organisation, has_one_state,
+    has_own_canonical_form, is_kept_for_good, is_legal_from_start, may_be_repeated, stays_legal,
 };
 use registry_rules::{CanonicalForm, Curators, Holdings, Licences, ReplyText, Totals};
 
@@ -79,8 +79,8 @@ fn laws_may_be_cited(rt: HostRuntime) {
     may_be_repeated();
     is_kept_for_good();
     has_one_organisation();
-    is_owned_or_reserved();
+    has_one_state();
     has_four_states();
     has_own_canonical_form();
-    has_row_if_owned();
+    has_entry_if_owned();
 }
