@@ -12,7 +12,7 @@ returns-in-Ok-run_to-clause-run g c h at clean =
     let got = c.in-Ok-run_to.ensures.through h at clean in
     let none : c.in-Ok.replies.items ≡ [] = c.in-Ok.ensures.items in
     let rest = drop c.args.answered (answers h c.args.requests.now) in
-    record { all = (listed c.in-Ok.replies c.run_to.new.replies rest got.0).0 ∙ ap (λ (xs : List Reply). xs ++ rest) none; stands = got.1 }
+    record { all = (listed c.in-Ok.replies c.run_to.new.replies rest got.0).0 ∙ ap (λ (xs : List Reply). xs ++ rest) none; represents = got.1 }
 
 pub returns-in-Err-Fault-clause-run : goal.returns-in-Err-Fault-clause-run
 returns-in-Err-Fault-clause-run g c h at clean =
