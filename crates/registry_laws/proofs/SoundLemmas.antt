@@ -14,7 +14,7 @@ use Rattle.usbids_text.specs.Writing.{written}
 use Rattle.usbids_text.specs.declared.fault.ReadFault.TheVariants.{Line, NoMemory}
 use Rattle.usbids_text.specs.declared.kind.Kind.TheVariants.{Vendor as OfVendor}
 use Rattle.usbids_text.specs.declared.kind.Depth.TheVariants.{Zero, One}
-use Rattle.usbids_text.proofs.EntryLemmas.{make_line, and_both}
+use Rattle.usbids_text.proofs.EntryLemmas.{make_entry, and_both}
 use Rattle.usbids_text.proofs.UniqueLemmas.{one_spelt, not_both_at_once}
 use Rattle.usbids_text.proofs.WrittenLemmas.{written_text_is_text}
 use Rattle.registry_rules.specs.declared.record.Entry.{Entry}
@@ -27,7 +27,7 @@ four : (n : ℕ) → IsNumber n → is_code n 4 ≡ true
 four n is = let w = is.within in grind arith
 
 device_line : (pair : Number × Entry) → IsEntry pair → is_line (mid_line (device_of pair)) ≡ true
-device_line pair is = make_line One pair.0.pid 4 pair.1.card.title (four pair.0.pid is.pid) (title_name pair.1.card.title is.title) refl
+device_line pair is = make_entry One pair.0.pid 4 pair.1.card.title (four pair.0.pid is.pid) (title_name pair.1.card.title is.title) refl
 
 devices_lines : (vid : ℕ) (pairs : List (Number × Entry)) → All IsEntry pairs → list_all is_line (mids_lines (devices_of vid pairs)) ≡ true
 unfolding mids_lines leaves_lines
@@ -45,7 +45,7 @@ devices_fours vid (pair ∷ pairs) = elim (cases_Bool (is_listed vid pair)) [
 ]
 
 vendor_line : (numbers : List (Number × Entry)) (vendor : Vendor) → IsVendor vendor → is_line (top_line (top_of numbers vendor)) ≡ true
-vendor_line numbers vendor is = make_line (Zero OfVendor) vendor.vid 4 vendor.name (four vendor.vid is.vid) (title_name vendor.name is.name) refl
+vendor_line numbers vendor is = make_entry (Zero OfVendor) vendor.vid 4 vendor.name (four vendor.vid is.vid) (title_name vendor.name is.name) refl
 
 list_lines : (vendors : List Vendor) (numbers : List (Number × Entry)) → All IsVendor vendors → All IsEntry numbers → list_all is_line (tops_lines (list_of vendors numbers)) ≡ true
 unfolding tops_lines

@@ -34,7 +34,7 @@ use Rattle.registry_rules.specs.declared.record.Entry.{Entry}
 use Rattle.registry_rules.specs.declared.record.Org.{Org}
 use Rattle.registry_rules.specs.declared.refusal.Refusal.{Refusal}
 use Rattle.registry_rules.specs.declared.verdict.Verdict.TheVariants.{New}
-use Rattle.registry_rules.proofs.EntryLemmas.{put_item, imported_line, unowned_is}
+use Rattle.registry_rules.proofs.EntryLemmas.{put_item, imported_entry, unowned_is}
 use Rattle.registry_rules.proofs.ImportLemmas.{IsFreshItem}
 use Rattle.registry_wire.specs.Decisions.{title_or_not}
 use Rattle.registry_wire.specs.Import.{item_of, items_of, import_of}
@@ -149,7 +149,7 @@ entries_by : (h : History) (vid : ℕ) (org : List ℕ) (doc : List TopEntry) (d
     (n : Number) → entry_of (with_deed h deed) n ≡ option_or (entry_listed org vid doc n) (entry_of h n)
 entries_by h vid org doc deed tally titles free act n =
     ap (λ (a : Act). entry_of (with_deed h (record deed { act = a })) n) act
-    ∙ (sym (imported_line org (owner_of h n) (card_of h n) (held_by h n) (item_at vid (taken h vid doc) n) (λ item e. fits_by h vid doc titles free n (nat_eq vid n.vid) (find_mid vid n.pid doc) refl refl item (sym (taken_is h vid doc titles free n) ∙ e)))
+    ∙ (sym (imported_entry org (owner_of h n) (card_of h n) (held_by h n) (item_at vid (taken h vid doc) n) (λ item e. fits_by h vid doc titles free n (nat_eq vid n.vid) (find_mid vid n.pid doc) refl refl item (sym (taken_is h vid doc titles free n) ∙ e)))
     ∙ (ap (put_item org (entry_of h n)) (taken_is h vid doc titles free n)
     ∙ put_by org (entry_of h n) n.pid (nat_eq vid n.vid) (find_mid vid n.pid doc) (λ name e. (titles n.pid name e).1)))
 

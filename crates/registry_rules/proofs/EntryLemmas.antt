@@ -31,21 +31,21 @@ use Rattle.registry_rules.specs.declared.record.Entry.{Entry}
 abbrev pub entry_by : Option (List ℕ) → Option Card → Option Bool → Option Entry
 entry_by owner card held = option_and_then (λ org. option_map (λ card. record { org = org; held = unwrap_or held false; card = card }) card) owner
 
-pub granted_row : (b : Bool) (owner : Option (List ℕ)) (now : Bool) (card : Option Card) (held : Option Bool) (petition : Petition) → (b ≡ true → OwnerFits owner now petition.org) →
+pub granted_entry : (b : Bool) (owner : Option (List ℕ)) (now : Bool) (card : Option Card) (held : Option Bool) (petition : Petition) → (b ≡ true → OwnerFits owner now petition.org) →
     (if b then Some (entry_granted petition) else entry_by owner card held)
     ≡ entry_by (sooner owner (given b petition.org)) (option_or (given b (card_asked petition)) card) (option_or (given b true) held)
-granted_row false owner now card held petition h = refl
-granted_row true None now card held petition h = refl
-granted_row true (Some owner) now card held petition h =
+granted_entry false owner now card held petition h = refl
+granted_entry true None now card held petition h = refl
+granted_entry true (Some owner) now card held petition h =
     ap (λ org. Some (record { org = org; held = true; card = card_asked petition })) (sym (h refl).0)
 
 -- a return leaves the owner and the card
-pub returned_row : (b : Bool) (owner : Option (List ℕ)) (card : Option Card) (held : Option Bool) →
+pub returned_entry : (b : Bool) (owner : Option (List ℕ)) (card : Option Card) (held : Option Bool) →
     (if b then option_map (with_held false) (entry_by owner card held) else entry_by owner card held) ≡ entry_by owner card (option_or (given b false) held)
-returned_row false owner card held = refl
-returned_row true None card held = refl
-returned_row true (Some org) None held = refl
-returned_row true (Some org) (Some card) held = refl
+returned_entry false owner card held = refl
+returned_entry true None card held = refl
+returned_entry true (Some org) None held = refl
+returned_entry true (Some org) (Some card) held = refl
 
 -- Cards: an owned number has one.
 
@@ -100,12 +100,12 @@ carded_deeds founding (deed ∷ earlier) n legal =
 pub carded : (h : History) (n : Number) → Legal h → IsCarded (owner_of h n) (card_of h n)
 carded h n legal = carded_deeds h.founding h.deeds n legal
 
-pub amended_row : (b : Bool) (owner : Option (List ℕ)) (card : Option Card) (held : Option Bool) (new : Card) → IsCarded owner card →
+pub amended_entry : (b : Bool) (owner : Option (List ℕ)) (card : Option Card) (held : Option Bool) (new : Card) → IsCarded owner card →
     (if b then option_map (with_card new) (entry_by owner card held) else entry_by owner card held) ≡ entry_by owner (option_or (given b new) card) held
-amended_row false owner card held new has = refl
-amended_row true None card held new has = refl
-amended_row true (Some org) None held new has = absurd has
-amended_row true (Some org) (Some card) held new has = refl
+amended_entry false owner card held new has = refl
+amended_entry true None card held new has = refl
+amended_entry true (Some org) None held new has = absurd has
+amended_entry true (Some org) (Some card) held new has = refl
 
 -- The items of an import.
 
@@ -132,14 +132,14 @@ item_is_put : (vid : ℕ) (org : List ℕ) (item : Item) (text : List ℕ) (code
 item_is_put vid org item text true e t = absurd cc
 item_is_put vid org item text false e t = ap (option_map (λ title. PutEntry (number vid item.code) (entry_imported org title))) t
 
-pub items_row : (standing : ℕ → Standing) (vid : ℕ) (org : List ℕ) (items : List Item) (n : Number) (old : Option Entry) → AllByRecursion (IsFreshItem standing) items → AreApart items →
+pub items_entry : (standing : ℕ → Standing) (vid : ℕ) (org : List ℕ) (items : List Item) (n : Number) (old : Option Entry) → AllByRecursion (IsFreshItem standing) items → AreApart items →
     after_all (entry_changed n) (filter_map (item_change vid org) items) old ≡ put_item org old (item_of vid items n)
-items_row standing vid org [] n old each apart = ap (put_item org old) (sym (either (nat_eq vid n.vid) None))
-items_row standing vid org (item ∷ items) n old each apart =
+items_entry standing vid org [] n old each apart = ap (put_item org old) (sym (either (nat_eq vid n.vid) None))
+items_entry standing vid org (item ∷ items) n old each apart =
     let text = titled item.title each.0.titled in
     let entry = entry_imported org text.0 in
     ap (λ change. after_all (entry_changed n) (cons_option change (filter_map (item_change vid org) items)) old) (item_is_put vid org item text.0 (nat_eq item.code 0) each.0.code text.1)
-    ∙ items_row standing vid org items n (if is_number n (number vid item.code) then Some entry else old) each.1 apart.1
+    ∙ items_entry standing vid org items n (if is_number n (number vid item.code) then Some entry else old) each.1 apart.1
     ∙ next entry (ap (option_map (entry_imported org)) text.1)
   where
     next : (entry : Entry) → option_map (entry_imported org) item.title ≡ Some entry →
@@ -159,12 +159,12 @@ pub unowned_is : (owner : Option (List ℕ)) → is_some owner ≡ false → own
 unowned_is None e = refl
 unowned_is (Some org) e = absurd cc
 
-pub imported_row : (org : List ℕ) (owner : Option (List ℕ)) (card : Option Card) (held : Option Bool) (found : Option Item) →
+pub imported_entry : (org : List ℕ) (owner : Option (List ℕ)) (card : Option Card) (held : Option Bool) (found : Option Item) →
     ((item : Item) → found ≡ Some item → (owner ≡ None) × (is_none item.title ≡ false)) →
     put_item org (entry_by owner card held) found
     ≡ entry_by (sooner owner (option_map (λ (item : Item). org) found)) (option_or (option_and_then card_of_item found) card) (option_or (option_map (λ (item : Item). true) found) held)
-imported_row org owner card held None fits = refl
-imported_row org owner card held (Some item) fits =
+imported_entry org owner card held None fits = refl
+imported_entry org owner card held (Some item) fits =
     let can = fits item refl in
     let text = titled item.title can.1 in
     rw (can.0, text.1) refl
