@@ -68,9 +68,9 @@ pub quiet : (a c : State) (R : Trees → Type 0) → CommitsNothing a c → Surv
 quiet a c R p = survives_weaker a c _ R (λ _ db none. absurd none) p
 
 -- calls that commit nothing leave what a crash could leave before them
-pub none_at_all : {S : Type 0} (g : Ghosts S) (old begun mid end : Held S) → begun ≡ record old { in_transaction = true } → CommitsNothing (state g begun) (state g mid)
+pub commits_none : {S : Type 0} (g : Ghosts S) (old begun mid end : Held S) → begun ≡ record old { in_transaction = true } → CommitsNothing (state g begun) (state g mid)
     → CommitsNothing (state g mid) (state g end) → (R : Trees → Type 0) → Survives (state g old) (state g end) R
-none_at_all g old begun mid end is first ends R =
+commits_none g old begun mid end is first ends R =
     let inner = quiet_then (state g begun) (state g mid) (state g end) first ends in
     quiet (state g old) (state g end) R (survives_begin g old (state g end) _ (subst (λ b. CommitsNothing (state g b) (state g end)) is inner))
 
@@ -176,7 +176,7 @@ module _ {S : Type 0} (g : Ghosts S) (old begun mid : Held S) (is : begun ≡ re
 
     -- nothing was committed
     pub none_at_all : CommitsNothing (state g old) (state g end)
-    none_at_all = survives_begin g old (state g end) _ (subst (λ b. CommitsNothing (state g b) (state g end)) is (quiet_then (state g begun) (state g mid) (state g end) first ends))
+    none_at_all = commits_none g old begun mid end is first ends (λ _. ⊥)
 
     -- the transaction was rolled back, after a verdict that changes nothing
     pub as_before : (HasCleanDisk (state g end) → IsRolledBack (state g mid) (state g end)) → (reply : Reply) → reply_of v ≡ reply → ((h : History) → after_verdict h v ≡ h)

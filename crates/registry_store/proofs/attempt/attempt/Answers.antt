@@ -10,7 +10,7 @@ use Rattle.registry_tables.specs.Rows.{newest}
 use Rattle.registry_schema.specs.declared.fault.TableFault.TheVariants.{Foreign}
 use Rattle.registry_store.specs.Promise.{IsAt}
 use Rattle.registry_store.specs.Attempt.{CommitsOne}
-use Rattle.registry_store.proofs.TransactionLemmas.{answered, one_at_most, as_before, never_foreign, none_at_all, quiet_then, said_of}
+use Rattle.registry_store.proofs.TransactionLemmas.{answered, one_at_most, as_before, never_foreign, commits_none, quiet_then, said_of}
 use Rattle.registry_store.proofs.attempt.attempt.Goals as goal
 
 pub returns-in_ok-commit-in-New-clause-answered : goal.returns-in_ok-commit-in-New-clause-answered
@@ -102,13 +102,13 @@ returns-in_default-clause-survives g c =
     let mid = c.judged.new.tx.conn.now in
     let end = c.conn-in_default-1.given.0 in
     let ends : CommitsNothing (state g.S.Store mid) (state g.S.Store end) = search rules in
-    none_at_all g.S.Store c.args.conn.now c.transaction-tx.result.conn.now mid end c.transaction-tx.ensures.begun c.judged.ensures.survives ends _
+    commits_none g.S.Store c.args.conn.now c.transaction-tx.result.conn.now mid end c.transaction-tx.ensures.begun c.judged.ensures.survives ends _
 
 pub returns-in_err-write-in-New-clause-survives : goal.returns-in_err-write-in-New-clause-survives
 returns-in_err-write-in-New-clause-survives g c =
     let mid = c.judged.new.tx.conn.now in
     let last = c.write.new.tx.conn.now in
-    let end = c.conn-in-New-1.given.0 in
+    let end = c.conn-in_err-write-in-New-1.given.0 in
     let ends : CommitsNothing (state g.S.Store last) (state g.S.Store end) = search rules in
     let before = quiet_then (state g.S.Store c.transaction-tx.result.conn.now) (state g.S.Store mid) (state g.S.Store last) c.judged.ensures.survives c.write.ensures.survives in
-    none_at_all g.S.Store c.args.conn.now c.transaction-tx.result.conn.now last end c.transaction-tx.ensures.begun before ends _
+    commits_none g.S.Store c.args.conn.now c.transaction-tx.result.conn.now last end c.transaction-tx.ensures.begun before ends _
