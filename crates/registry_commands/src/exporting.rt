@@ -22,7 +22,7 @@ use registry_store::Registry;
 use sqlite::Alter;
 use std::alloc::Global;
 use usbids_text::{Document, Stamp, WriteFault, write};
-use usbnum_core::{NoMemory, Number};
+use usbnum_core::Number;
 
 fn listed(
     alloc: Global,
@@ -32,10 +32,7 @@ fn listed(
     ensures list { IfOk result (λ doc. doc ≡ list_of vendors.now numbers.now) }
     ensures failure { IfErr result (λ failure. failure ≡ Failure.Memory) }
 {
-    match list_document(alloc, vendors, numbers) {
-        Ok(document) => Ok(document),
-        Err(NoMemory) => Err(Failure::Memory),
-    }
+    Ok(list_document(alloc, vendors, numbers)?)
 }
 
 /// Returns the list of the registry's held numbers under these vendors, which are all.

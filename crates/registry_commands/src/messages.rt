@@ -66,6 +66,28 @@ pub fn failure_of(fault: Fault) -> Failure
     }
 }
 
+impl From<Fault> for Failure {
+    ghost use Rattle.std.specs.Prelude.{◌≡◌};
+    ghost use Rattle.registry_commands.specs.Messages.{failure_of};
+
+    ghost from_gives = { λ fault failure. failure ≡ failure_of fault };
+
+    fn from(fault: Fault) -> Failure {
+        failure_of(fault)
+    }
+}
+
+impl From<NoMemory> for Failure {
+    ghost use Rattle.std.specs.Prelude.{◌≡◌};
+    ghost use Rattle.registry_commands.specs.declared.messages.Failure.TheVariants.{Memory};
+
+    ghost from_gives = { λ _ failure. failure ≡ Memory };
+
+    fn from(_error: NoMemory) -> Failure {
+        Failure::Memory
+    }
+}
+
 /// Returns the failure for an error of the store: `Memory` where it is out of memory, else `Store`.
 pub fn store_failure(error: Error) -> Failure
     ensures { ((result ≡ Failure.Memory) × (error ≡ Error.SqliteFailure ErrorCode.OutOfMemory))

@@ -7,7 +7,7 @@ ghost use Rattle.registry_tables.specs.Lists.{IsNumberList, IsPetitionList, IsVe
 ghost use Rattle.registry_store.specs.Promise.{Represents, state_of};
 ghost use Rattle.registry_commands.specs.Shown.{IsLeft, IsOfReading};
 
-use crate::messages::{Failure, failure_of};
+use crate::messages::Failure;
 use registry_rules::{Entry, Petition, Vendor};
 use registry_store::Registry;
 use sqlite::Alter;
@@ -19,10 +19,7 @@ pub(crate) fn vendors_of<S: Alter>(registry: &mut Registry<S>) -> Result<Vec<Ven
     ensures failure { IfErr result (IsOfReading registry.old registry.new) }
     ensures left { IsLeft registry.old registry.new }
 {
-    match registry.vendors() {
-        Ok(vendors) => Ok(vendors),
-        Err(fault) => Err(failure_of(fault)),
-    }
+    Ok(registry.vendors()?)
 }
 
 /// Returns all numbers that have an owner, by vendor and then by product.
@@ -33,10 +30,7 @@ pub(crate) fn numbers_of<S: Alter>(
     ensures failure { IfErr result (IsOfReading registry.old registry.new) }
     ensures left { IsLeft registry.old registry.new }
 {
-    match registry.numbers() {
-        Ok(numbers) => Ok(numbers),
-        Err(fault) => Err(failure_of(fault)),
-    }
+    Ok(registry.numbers()?)
 }
 
 /// Returns all petitions, by number.
@@ -47,8 +41,5 @@ pub(crate) fn petitions_of<S: Alter>(
     ensures failure { IfErr result (IsOfReading registry.old registry.new) }
     ensures left { IsLeft registry.old registry.new }
 {
-    match registry.petitions() {
-        Ok(petitions) => Ok(petitions),
-        Err(fault) => Err(failure_of(fault)),
-    }
+    Ok(registry.petitions()?)
 }

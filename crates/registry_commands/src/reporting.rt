@@ -13,7 +13,7 @@ ghost use Rattle.registry_commands.specs.Failures.{IsOfOutput, error_output};
 ghost use Rattle.registry_commands.specs.Reports.{AreReserved, IsCensus, IsHoldersReport, IsPetitionsReport, IsReport, IsReported, report_named};
 ghost use Rattle.registry_commands.specs.Shown.{IsLeft, IsOfReading};
 
-use crate::messages::{Failure, fail, failure_of};
+use crate::messages::{Failure, fail};
 use crate::printing::print;
 use crate::reading::{numbers_of, petitions_of, vendors_of};
 use byte_streams::Sink;
@@ -22,7 +22,7 @@ use registry_rules::{Entry, Petition, Vendor};
 use registry_store::Registry;
 use sqlite::Alter;
 use std::alloc::Global;
-use usbnum_core::{NoMemory, Number, Spans, Vid};
+use usbnum_core::{Number, Spans, Vid};
 
 /// A kind of report on a registry.
 #[derive(Clone, Copy, Debug, PartialEq, Eq)]
@@ -56,10 +56,7 @@ fn reserved_under<S: Alter>(registry: &Registry<S>, vid: Vid) -> Result<Spans, F
     ensures answered { (h : History) → Represents registry.now h → IfOk result (λ spans. (pid : ℕ) → spans_have spans pid ≡ is_reserved h (number vid pid)) }
     ensures failure { IfErr result (IsOfReading registry.now registry.now) }
 {
-    match registry.reserved(vid) {
-        Ok(spans) => Ok(spans),
-        Err(fault) => Err(failure_of(fault)),
-    }
+    Ok(registry.reserved(vid)?)
 }
 
 /// Appends a vendor with a set of numbers.
@@ -118,10 +115,7 @@ fn counted(
         → IfOk result (λ text. IsCensus h (string_bytes text)) }
     ensures failure { IfErr result (λ failure. failure ≡ Failure.Memory) }
 {
-    match census(alloc, pairs, numbers) {
-        Ok(text) => Ok(text),
-        Err(NoMemory) => Err(Failure::Memory),
-    }
+    Ok(census(alloc, pairs, numbers)?)
 }
 
 /// Returns the census of these vendors and numbers, which are all.
@@ -172,10 +166,7 @@ fn held_by(alloc: Global, numbers: &[(Number, Entry)]) -> Result<String, Failure
     ensures answered { (h : History) → IsNumberList h numbers.now → IfOk result (λ text. IsHoldersReport h (string_bytes text)) }
     ensures failure { IfErr result (λ failure. failure ≡ Failure.Memory) }
 {
-    match holders(alloc, numbers) {
-        Ok(text) => Ok(text),
-        Err(NoMemory) => Err(Failure::Memory),
-    }
+    Ok(holders(alloc, numbers)?)
 }
 
 fn holders_of<S: Alter>(alloc: Global, registry: &mut Registry<S>) -> Result<String, Failure>
@@ -194,10 +185,7 @@ fn open_ones(alloc: Global, founding: Vid, petitions: &[(u32, Petition)]) -> Res
     ensures answered { (h : History) → founding ≡ h.founding.vendor → IsPetitionList h petitions.now → IfOk result (λ text. IsPetitionsReport h (string_bytes text)) }
     ensures failure { IfErr result (λ failure. failure ≡ Failure.Memory) }
 {
-    match open_petitions(alloc, founding, petitions) {
-        Ok(text) => Ok(text),
-        Err(NoMemory) => Err(Failure::Memory),
-    }
+    Ok(open_petitions(alloc, founding, petitions)?)
 }
 
 fn open_ones_of<S: Alter>(alloc: Global, registry: &mut Registry<S>) -> Result<String, Failure>
