@@ -16,7 +16,8 @@ pub record AreInOrder (given ordered : List (List ℕ)) : Type 0 where
   pub ascending : IsAscending ordered
   pub same : (text : List ℕ) → list_any (bytes_eq text) ordered ≡ list_any (bytes_eq text) given
 
--- a valid list of curators, the callers who may grant and decline petitions
+-- a valid list of curators, the callers who run the registry: they grant and decline petitions, reserve and release numbers,
+-- import, and add vendors and licences
 pub record IsCurators (slugs : List (List ℕ)) : Type 0 where
   pub some : 1 ≤ length slugs
   pub most : length slugs ≤ MOST_CURATORS
