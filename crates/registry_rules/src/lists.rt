@@ -10,8 +10,8 @@ use std::alloc::AllocError;
 use std::marker::Model;
 use usbnum_core::{NoMemory, Slug, Text, TextRule, Title};
 
-/// The curators of a registry, the callers who run it: one to `MOST_CURATORS` slugs, sorted by their
-/// bytes and without repeats.
+/// The curators of a registry, the callers who run it: one to `MOST_CURATORS` slugs, sorted by
+/// their bytes and without repeats.
 #[derive(Debug, Drop)]
 pub struct Curators {
     slugs: Vec<Slug>,
