@@ -30,7 +30,7 @@ VendorId = ℕ
 abbrev pub ProductId : Type 0
 ProductId = ℕ
 
--- the number of a petition: 1 for the first. A petition is an organisation's application for a USB number, which a curator
--- grants or declines.
+-- the number of a petition: 1 for the first. A petition is an organisation's application for a USB number; it is open until
+-- a curator grants or declines it or the organisation's keeper withdraws it.
 abbrev pub PetitionId : Type 0
 PetitionId = ℕ
