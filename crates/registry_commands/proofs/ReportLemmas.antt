@@ -49,8 +49,3 @@ module _ {S : Type 0} {g : Ghosts S} where
   -- reading may run out of memory
   pub of_memory : (it new : Registry S g) (failure : Failure) → failure ≡ Memory → IsOfReading it new failure
   of_memory it new failure is = subst (λ (f : Failure). IsOfReading it new f) (sym is) tt
-
--- a consequence of what holds at Ok
-pub on_ok : {A E P Q : Type 0} (r : Result A E) → (P → Q) → OnOk r P → OnOk r Q
-on_ok (Ok x) f p = f p
-on_ok (Err e) f p = p

@@ -1,4 +1,4 @@
--- What the checks of an order say where they accept it: which of them passed, and what the act is.
+-- The checks of an accepted order: which of them passed, and what its act is.
 use Rattle.std.proofs.Common.{◌≡◌, ℕ, ◌+◌, List, Option, Some, None, Result, Ok, Err, Bool, true, false, length, refl, sym}
 use Rattle.std.specs.Prelude.{not, nat_lt, nat_le}
 use Rattle.std.specs.List.{list_any}
@@ -23,12 +23,12 @@ use Rattle.registry_rules.specs.declared.refusal.Refusal.{Refusal}
 
 -- Steps that passed.
 
--- a passed check, and what came after it
+-- a check that passed, and the result of the step after it
 passed : {B : Type 0} (b : Bool) (refusal : Refusal) (next : Result B Refusal) (x : B) → (check b refusal >> next) ≡ Ok x → (b ≡ true) × (next ≡ Ok x)
 passed true refusal next x e = (refl, e)
 passed false refusal next x e = absurd cc
 
--- a last check
+-- a check that passed as the last step
 checked : (b : Bool) (refusal : Refusal) (x : Passed) → check b refusal ≡ Ok x → b ≡ true
 checked true refusal x e = refl
 checked false refusal x e = absurd cc
@@ -41,7 +41,7 @@ was_there : {A B : Type 0} (found : Option A) (refusal : Refusal) (f : A → Res
 was_there None refusal f x e = absurd cc
 was_there (Some a) refusal f x e = (a, refl, e)
 
--- the only open state
+-- `Open` is the only open state
 pub open_is : (state : PetitionState) → is_open state ≡ true → state ≡ Open
 open_is Open e = refl
 open_is (IsGranted pid) e = absurd cc
@@ -64,9 +64,9 @@ not_false false e = refl
 bytes_same : (a b : List ℕ) → bytes_eq a b ≡ true → a ≡ b
 bytes_same a b e = (bytes_eq-Decides a b).0 e
 
--- The number that is to be given.
+-- The number that an act gives.
 
--- nobody owns the number, or the organisation does and doesn't hold it
+-- the number has no owner, or the organisation owns it and does not hold it
 abbrev pub OwnerFits : Option (List ℕ) → Bool → List ℕ → Type 0
 OwnerFits None held org = Unit {0}
 OwnerFits (Some owner) held org = (owner ≡ org) × (held ≡ false)
@@ -85,7 +85,7 @@ given_ok standing org x e =
     let first = passed (not standing.reserved) _ _ x e in
     record { unreserved = not_false standing.reserved first.0; owner = owner_fits standing.owner standing.held org x first.1 }
 
--- The rows.
+-- The kinds of order.
 
 pub record IsEnrolment (known : Option Org) (orgs : ℕ) (org : Org) (act : Act) : Type 0 where
   pub unknown : known ≡ None
@@ -211,7 +211,7 @@ withdraw_ok found known caller id act e =
     let same : Ok (Withdrawn id a.0) ≡ Ok act = d.1 in
     record { petition = a.0; org = c.0; there = a.1; org_there = c.1; keeper = c.2; was_open = open_is a.0.state d.0; does = cc }
 
--- the number is held, and the caller keeps the organisation that owns it
+-- the number is held, and the caller is the keeper of its owner
 pub record IsHeldByKeeper (standing : Standing) (known : Option Org) (caller : List ℕ) : Type 0 where
   pub org : Org
   pub held : standing.held ≡ true

@@ -1,4 +1,4 @@
--- What a grant, a return, an amended card and an import leave of a number's entry, and that an owned number has a card.
+-- A number's entry after a grant, a return, an amended card and an import; an owned number has a card.
 use Rattle.std.proofs.Common.{◌≡◌, ℕ, List, [], ◌∷◌, Option, Some, None, Bool, true, false, refl, ap, sym, ◌∙◌, inl, inr}
 use Rattle.std.specs.Prelude.{nat_eq, unwrap_or, option_and_then, if◌then◌else◌, find, is_some, is_none}
 use Rattle.std.specs.Option.{option_map, option_or}
@@ -47,9 +47,9 @@ returned_entry true None card held = refl
 returned_entry true (Some org) None held = refl
 returned_entry true (Some org) (Some card) held = refl
 
--- Cards: an owned number has one.
+-- An owned number has a card.
 
--- where there is an owner there is a card
+-- if there is an owner, there is a card
 abbrev pub IsCarded : Option (List ℕ) → Option Card → Type 0
 IsCarded None card = Unit {0}
 IsCarded (Some owner) None = ⊥
@@ -126,7 +126,7 @@ either : {A : Type 0} (b : Bool) (x : A) → (if b then x else x) ≡ x
 either true x = refl
 either false x = refl
 
--- what one item changes
+-- the change that a fresh item makes
 item_is_put : (vid : ℕ) (org : List ℕ) (item : Item) (text : List ℕ) (code : Bool) → code ≡ false → item.title ≡ Some text →
     (if code then None else option_map (λ title. PutEntry (number vid item.code) (entry_imported org title)) item.title) ≡ Some (PutEntry (number vid item.code) (entry_imported org text))
 item_is_put vid org item text true e t = absurd cc

@@ -1,4 +1,4 @@
--- What an accepted act says of the history before it.
+-- The conditions that an accepted act meets in the history before it.
 use Rattle.std.proofs.Common.{◌≡◌, ℕ, ◌+◌, List, [], ◌∷◌, Option, Some, None, Ok, true, false, length, refl, ap, sym, ◌∙◌, subst}
 use Rattle.std.specs.Prelude.{nat_lt, is_some, option_and_then}
 use Rattle.std.specs.Option.{option_map}
@@ -31,7 +31,7 @@ use Rattle.registry_rules.specs.declared.record.Petition.{Petition}
 use Rattle.registry_rules.specs.declared.record.PetitionState.TheVariants.{Open}
 use Rattle.registry_rules.specs.declared.verdict.Verdict.TheVariants.{New}
 
--- What each kind of act says.
+-- The conditions of each kind of act.
 
 pub record CanEnrol (h : History) (caller : List ℕ) (org : Org) : Type 0 where
   pub unknown : org_of h org.slug ≡ None
@@ -96,7 +96,7 @@ pub record CanAddLicence (h : History) (licence : List ℕ) : Type 0 where
   pub unknown : is_licence h licence ≡ false
   pub below : nat_lt (length (licences h)) MOST_LICENCES ≡ true
 
--- what an act of the caller says of the history before it
+-- the act of the caller meets its conditions in the history before it
 abbrev pub Follows : History → List ℕ → Act → Type 0
 Follows h caller (Enrolled org) = CanEnrol h caller org
 Follows h caller (OrgAmended org) = CanAmendOrg h caller org
@@ -121,7 +121,7 @@ org_by slug (Some keeper) None org e = absurd cc
 org_by slug (Some keeper) (Some found) org e =
     let same : Some (record { slug = slug; title = found.title; site = found.site; keeper = keeper }) ≡ Some org = e in cc
 
--- an organisation that was found has the slug by which it was
+-- an organisation has the slug under which it is found
 pub slug_is : (h : History) (slug : List ℕ) (org : Org) → org_of h slug ≡ Some org → org.slug ≡ slug
 slug_is h slug org e = org_by slug _ _ org e
 
@@ -129,13 +129,13 @@ mapped : {A B : Type 0} (f : A → B) (found : Option A) (b : B) → option_map 
 mapped f None b e = absurd cc
 mapped f (Some a) b e = (a, refl, (let same : Some (f a) ≡ Some b = e in cc))
 
--- what was found of a number is how that number stands
+-- the state that is found for a number is the state of that number
 stands : (h : History) (found : Option Number) (standing : Standing) → option_map (standing_of h) found ≡ Some standing → standing ≡ standing_of h standing.number
 stands h found standing e =
     let is = mapped (standing_of h) found standing e in
     subst (λ (s : Standing). s ≡ standing_of h s.number) is.2 refl
 
--- What an accepted order says.
+-- The act of an accepted order meets its conditions.
 
 pub follows : (h : History) (caller : List ℕ) (order : Order) (act : Act) → outcome h caller order ≡ Ok act → Follows h caller act
 unfolding outcome
@@ -204,13 +204,13 @@ follows h caller (orders.AddLicence it) act e =
     let is = add_licence_ok h.founding.curators (is_licence h it.licence) (length (licences h)) caller it.licence act e in
     subst (Follows h caller) (sym is.does) (record { unknown = is.unknown; below = is.below })
 
--- a new deed says so of the history before it
+-- so does the act of a new deed
 pub new_follows : (h : History) (request : Request) (deed : Deed) → verdict h request ≡ New deed → Follows h deed.caller deed.act
 new_follows h request deed e =
     let new : IsNew h request deed = is_new h request deed e in
     subst (λ (d : Deed). Follows h d.caller d.act) (sym new.does) (follows h request.caller request.order new.act new.accepted)
 
--- and so does each deed of a legal history
+-- so does the act of each deed of a legal history
 pub legal_follows : (founding : Founding) (deed : Deed) (earlier : List Deed) →
     Legal (record { founding = founding; deeds = deed ∷ earlier }) → Follows (record { founding = founding; deeds = earlier }) deed.caller deed.act
 legal_follows founding deed earlier legal =

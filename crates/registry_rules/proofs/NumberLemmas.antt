@@ -1,4 +1,4 @@
--- What a legal history says of a number: who owns it, whether it is held, and whether it is reserved.
+-- The states of a number in a legal history: owned, held and reserved.
 use Rattle.std.proofs.Common.{◌≡◌, ℕ, List, [], ◌∷◌, Option, Some, None, Bool, true, false, refl, ap, sym, ◌∙◌, subst, inl, inr, ⊎_elim, ◌⊎◌}
 use Rattle.std.specs.Prelude.{nat_eq, is_some, is_none, unwrap_or, ◌&&◌, ◌||◌}
 use Rattle.std.specs.Option.{option_map, option_or}
@@ -24,7 +24,7 @@ use Rattle.registry_rules.specs.declared.item.Item.{Item}
 
 -- The tests.
 
--- two numbers that the test takes for one are one
+-- two numbers that pass the test are equal
 pub same_number : (a b : Number) → is_number a b ≡ true → a ≡ b
 same_number a b e =
     let both = and_parts (nat_eq a.vid b.vid) (nat_eq a.pid b.pid) e in
@@ -42,7 +42,7 @@ some_not : {A : Type 0} (found : Option A) → is_some found ≡ false → found
 some_not None e = refl
 some_not (Some x) e = absurd cc
 
--- One organisation.
+-- A number has one organisation for good.
 
 -- the number has no owner, or this one
 abbrev Allows : Option (List ℕ) → List ℕ → Type 0
@@ -71,7 +71,7 @@ fresh_number h vid fresh n item each e =
       subst (λ (m : Number). is_reserved h m ≡ false) same is.2.unreserved,
     )
 
--- an act that follows gives a number to the organisation that owns it, if there is one
+-- an accepted act gives a number to its owner, if it has one
 receiver_allowed : (h : History) (caller : List ℕ) (act : Act) (n : Number) (org : List ℕ) → Follows h caller act → receiver n act ≡ Some org → Allows (owner_of h n) org
 receiver_allowed h caller (Granted id petition name) n org can e =
     let is = given_is (is_number n name.number) petition.org org e in
@@ -110,7 +110,7 @@ each_names founding n (deed ∷ earlier) legal =
           (each_names founding n earlier (legal_before founding deed earlier legal)),
     )
 
--- whoever a deed of a legal history gives a number to owns it
+-- an organisation to which a deed of a legal history gives a number owns it
 pub one_organisation : (h : History) → Legal h → (n : Number) (deed : Deed) (org : List ℕ) → Contains h.deeds deed → receiver n deed.act ≡ Some org → owner_of h n ≡ Some org
 one_organisation h legal n deed org among e =
     All-contains (Names n h.deeds) h.deeds deed (All-from_recursion (Names n h.deeds) h.deeds (each_names h.founding n h.deeds legal)) among org e
@@ -125,7 +125,7 @@ neither : (owner given : Option (List ℕ)) → sooner owner given ≡ None → 
 neither owner None e = (e, refl)
 neither owner (Some x) e = absurd cc
 
--- whether the number is held, by the deeds so far and by the next one
+-- whether the number is held, by the next deed and the deeds so far
 abbrev held_by : Option Bool → Option Bool → Bool
 held_by next so_far = unwrap_or (option_or next so_far) false
 
@@ -156,15 +156,15 @@ unheld h n e = unheld_in n h.deeds e
 
 -- An owned number is not reserved.
 
--- the number has no owner, or isn't reserved
+-- the number has no owner, or is not reserved
 abbrev pub OwnedOrReserved : Option (List ℕ) → Bool → Type 0
 OwnedOrReserved owner reserved = (owner ≡ None) ⊎ (reserved ≡ false)
 
--- whether the number is reserved, where the next deed says so of it
+-- whether the number is reserved, by whether it is fixed, the next deed and the deeds so far
 abbrev reserved_by : Bool → Option Bool → Option Bool → Bool
 reserved_by fixed next so_far = fixed || unwrap_or (option_or next so_far) false
 
--- a number that is given was neither owned by another nor reserved
+-- a number that an accepted act gives was not reserved
 unreserved_receiver : (h : History) (caller : List ℕ) (act : Act) (n : Number) (org : List ℕ) → Follows h caller act → receiver n act ≡ Some org → is_reserved h n ≡ false
 unreserved_receiver h caller (Granted id petition name) n org can e =
     let is = given_is (is_number n name.number) petition.org org e in

@@ -1,4 +1,4 @@
--- The facts of a history lead to the outcome of the history.
+-- The outcome of an order by the facts of a history is its outcome by the history.
 use Rattle.std.proofs.Common.{◌≡◌, ℕ, ◌+◌, ◌-◌, Ok, Err, Result, List, [], ◌∷◌, ◌++◌, Option, Some, None, Bool, true, false, refl, ap, sym, ◌∙◌, arith, inl, inr}
 use Rattle.std.proofs.lemmas.Bool.{eq-eqb, and_from, or_left, or_right, cases_Bool, not_from_false}
 use Rattle.std.specs.Prelude.{length, nat_eq, unwrap_or, is_some, ◌&&◌, not}
@@ -32,7 +32,7 @@ use Rattle.registry_rules.specs.declared.order.Request.{Request}
 use Rattle.registry_rules.specs.declared.order.Order.TheVariants as orders
 use Rattle.registry_rules.proofs.SpanNumberLemmas.{same_find, same_all}
 
--- a deed that leaves a number held gives it an owner
+-- an act that leaves a number held gives it an owner
 held_given : (n : Number) (act : Act) (owner : Option (List ℕ)) (held : Option Bool) → sooner owner (receiver n act) ≡ None →
     (owner ≡ None → unwrap_or held false ≡ false) → unwrap_or (option_or (holds n act) held) false ≡ false
 held_given n (Granted id petition name) owner held e h =
@@ -45,13 +45,13 @@ held_given n (Returned name) owner held e h =
     elim (is_number n name.number) as (λ b. unwrap_or (option_or (given b false) held) false ≡ false) [ true ↦ refl | false ↦ h e ]
 held_given n _ owner held e h = h e
 
--- a number without an owner isn't held
+-- a number without an owner is not held
 pub unowned : (n : Number) (deeds : List Deed) → first_of (λ deed. receiver n deed.act) deeds ≡ None → unwrap_or (last_of (λ deed. holds n deed.act) deeds) false ≡ false
 unowned n [] e = refl
 unowned n (deed ∷ earlier) e =
     held_given n deed.act (first_of (λ d. receiver n d.act) earlier) (last_of (λ d. holds n d.act) earlier) e (unowned n earlier)
 
--- the standing by what is found of a number
+-- the state of a number, by the holding that is found
 abbrev standing_found : Number → Bool → Option Holding → Standing
 standing_found n reserved found = record { number = n; reserved = reserved; owner = option_map (λ holding. holding.org) found; held = unwrap_or (option_map (λ holding. holding.held) found) false }
 
@@ -60,7 +60,7 @@ standing_owned : (n : Number) (reserved : Bool) (owner : Option (List ℕ)) (hel
 standing_owned n reserved None held h = ap (λ b. record { number = n; reserved = reserved; owner = None; held = b }) (sym (h refl))
 standing_owned n reserved (Some org) held h = refl
 
--- what the facts say of the number is what the history says
+-- the state of the number by the facts is its state by the history
 pub same_standing : (h : History) (facts : Facts) (n : Number) → spans_have facts.reserved.now n.pid ≡ is_reserved h n → holding_in facts.holdings n ≡ holding_of h n →
     standing_in facts n ≡ standing_of h n
 same_standing h facts n reserved holding =
@@ -71,14 +71,14 @@ same_standing h facts n reserved holding =
 pub is_itself : (n : Number) → is_number n n ≡ true
 is_itself n = and_from (nat_eq n.vid n.vid) _ (eq-eqb n.vid n.vid refl) (eq-eqb n.pid n.pid refl)
 
--- the same of a wanted number that may be none
+-- the same for the number that a petition wants, if any
 same_wanted : (h : History) (facts : Facts) (vid : ℕ) (want : Option ℕ) → ((pid : ℕ) → spans_have facts.reserved.now pid ≡ is_reserved h (number vid pid)) →
     ((pid : ℕ) → want ≡ Some pid → holding_in facts.holdings (number vid pid) ≡ holding_of h (number vid pid)) →
     option_map (standing_in_at facts vid) want ≡ option_map (standing_at h vid) want
 same_wanted h facts vid None reserved holdings = refl
 same_wanted h facts vid (Some pid) reserved holdings = ap (λ (s : Standing). Some s) (same_standing h facts (number vid pid) (reserved pid) (holdings pid refl))
 
--- the same of the number that a grant chooses
+-- the same for the number that a grant chooses
 same_chosen : (h : History) (facts : Facts) (founding : ℕ) (named : Option ℕ) (petition : Option Petition) →
     ((pid : ℕ) → spans_have facts.reserved.now pid ≡ is_reserved h (number (unwrap_or (option_map (λ there. there.vid) petition) founding) pid)) →
     ((n : Number) → unwrap_or (option_map (is_number n) (number_chosen named petition (least_for h petition))) false ≡ true → holding_in facts.holdings n ≡ holding_of h n) →
@@ -95,7 +95,7 @@ is_some_map : {A B : Type 0} (f : A → B) (o : Option A) → is_some (option_ma
 is_some_map f None = refl
 is_some_map f (Some x) = refl
 
--- the least owned number of a span
+-- the same for the least owned number of a span
 same_least : (h : History) (facts : Facts) (vid : ℕ) (span : Span) → ((n : Number) → (nat_eq vid n.vid && span_has span n.pid) ≡ true → holding_in facts.holdings n ≡ holding_of h n) →
     least_owned_in facts.holdings vid span ≡ least_owned h vid span
 same_least h facts vid span holdings =
@@ -104,7 +104,7 @@ same_least h facts vid span holdings =
     (λ pid from lt. ap is_some (holdings (number vid pid) (and_from (nat_eq vid vid) _ (eq-eqb vid vid refl) (has span pid from (omega arith))))
     ∙ is_some_map (λ owner. record { number = number vid pid; org = owner; held = is_held h (number vid pid) }) (owner_of h (number vid pid)))
 
--- two standings with one answer at each code that counts
+-- the class of an item is the same if the state of its number is, unless its code is 0
 same_class : (a b : ℕ → Standing) (before : List Item) (item : Item) → (nat_eq item.code 0 ≡ false → a item.code ≡ b item.code) → class_of (a item.code) before item ≡ class_of (b item.code) before item
 same_class a b before item same = elim (cases_Bool (nat_eq item.code 0)) [
   | inl nought ↦ rw nought refl
@@ -165,7 +165,7 @@ same_for h caller key (orders.AddLicence it) facts are = rw (are.founding.curato
 pub same_outcome : (h : History) (request : Request) (facts : Facts) → AreFactsOf h request facts → outcome_on facts request.caller request.order ≡ outcome h request.caller request.order
 same_outcome h request facts are = same_for h request.caller request.key request.order facts are
 
--- the verdict by the facts is that of the history
+-- the verdict by the facts is the verdict by the history
 same_verdict : (h : History) (request : Request) (facts : Facts) → AreFactsOf h request facts → verdict_by facts.kept request (outcome_on facts request.caller request.order) ≡ verdict h request
 unfolding verdict
 same_verdict h request facts are =

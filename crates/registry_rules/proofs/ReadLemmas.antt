@@ -1,4 +1,4 @@
--- An order is read back from its fields, and no field of it holds a tab.
+-- An order can be read back from its fields, and no field has a tab.
 use Rattle.std.proofs.Common.{◌≡◌, ◌≢◌, ◌≤◌, ◌<◌, ◌+◌, ◌/◌, ◌%◌, ◌^◌, ℕ, List, [], ◌∷◌, ◌++◌, Option, Some, None, Bool, true, false, map, length, drop, refl, ap, sym, ◌∙◌, subst, arith, ⊎_elim, inl, inr}
 use Rattle.std.specs.Prelude.{codes, slice_index_or, option_and_then, nat_eq, is_some, unwrap_or, if◌then◌else◌, IfSome, ◌⊎◌}
 use Rattle.std.specs.Fmt.{decimal}
@@ -23,7 +23,7 @@ use Rattle.registry_rules.specs.declared.record.Terms.{Terms}
 use Rattle.registry_rules.specs.declared.order.Order.{Order}
 use Rattle.registry_rules.specs.declared.order.Order.TheVariants as orders
 
--- The fields hold no tab.
+-- The fields have no tab.
 
 fixed_text : (text : List ℕ) → list_any (λ byte. nat_eq byte 9) text ≡ false → HasNoTab text
 fixed_text [] e = tt
@@ -131,7 +131,7 @@ named_reads : (number : Option ℕ) → IsNumberIfAny number → code_of (number
 named_reads None valid = refl
 named_reads (Some number) valid = code_reads number valid.within
 
--- the field at a place, or nothing past the end
+-- the field at an index, empty past the end
 abbrev at : List (List ℕ) → ℕ → List ℕ
 at fields i = slice_index_or fields i []
 
@@ -208,7 +208,7 @@ span_reads span p q =
 
 -- Reading orders.
 
--- the order of each kind, by its fields in their order
+-- the order of each kind, from its fields in sequence
 
 abbrev an_enrol : List ℕ → List ℕ → List ℕ → Order
 an_enrol org title site = orders.Enrol (record { org = org; title = title; site = site })
@@ -252,7 +252,7 @@ a_licence licence = orders.AddLicence (record { licence = licence })
 abbrev terms_at : List (List ℕ) → ℕ → Terms
 terms_at fields i = record { licence = at fields i; site = at fields (i + 1); source = at fields (i + 2) }
 
--- what an order on a span is, where there is a span
+-- the order on a span, if there is one, otherwise some order
 abbrev on_span : (Span → Order) → Option Span → Order
 on_span make None = a_licence []
 on_span make (Some span) = make span
@@ -260,7 +260,7 @@ on_span make (Some span) = make span
 abbrev number_at : List (List ℕ) → ℕ → ℕ
 number_at fields i = unwrap_or (code_of (at fields i)) 0
 
--- the order that fields are of
+-- reads an order from its fields
 abbrev read : List (List ℕ) → Order
 read [] = a_licence []
 read (name ∷ fields) =
@@ -304,7 +304,7 @@ reads (orders.Import it) is =
 reads (orders.AddVendor it) is = ap (λ v. a_vendor v it.name) (number_reads it.vendor is.0)
 reads (orders.AddLicence it) is = refl
 
--- Orders with one canonical form are one order.
+-- Orders with the same canonical form are equal.
 
 filled : (order : Order) → 1 ≤ length (fields_of order)
 filled (orders.Enrol it) = omega arith

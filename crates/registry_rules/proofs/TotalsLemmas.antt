@@ -1,4 +1,4 @@
--- Totals after a deed are those of the history with it.
+-- Totals that are updated with a deed are those of the history with the deed.
 use Rattle.std.proofs.Common.{◌≡◌, ◌∙◌, ap, ap₂, subst, sym, refl, ℕ, ◌+◌, ◌-◌, ◌<◌, ◌≤◌, true, false, List, [], ◌∷◌, ◌++◌, None, length, length-append, append_assoc, arith}
 use Rattle.std.specs.Prelude.{nat_eq, nat_lt, find, is_some, if◌then◌else◌, ◌&&◌, ◌||◌, not}
 use Rattle.std.proofs.lemmas.Bool.{ltb-true}
@@ -45,7 +45,7 @@ use Rattle.registry_rules.specs.declared.name.SpanName.{SpanName}
 use Rattle.registry_rules.specs.declared.totals.Totals.{Totals}
 use Rattle.registry_rules.specs.declared.verdict.Verdict.TheVariants.{New}
 
--- a deed that adds no licence keeps what stands in the founding's place
+-- a deed that adds no licence keeps the founding
 keeps_founding : (h : History) (deed : Deed) (founding : Founding) → adds_licence deed.act ≡ None → IsFoundingOf h founding → IsFoundingOf (with_deed h deed) founding
 keeps_founding h deed founding none s = record {
   vendor = s.vendor;
@@ -56,7 +56,7 @@ keeps_founding h deed founding none s = record {
   allowed_count = rw none s.allowed_count;
 }
 
--- one that adds no vendor keeps the vendors
+-- a deed that adds no vendor keeps the vendors
 keeps_vendors : (h : History) (deed : Deed) (list : List Vendor) → adds_vendor deed.act ≡ None → AreVendorsOf h list → AreVendorsOf (with_deed h deed) list
 keeps_vendors h deed list none s = record {
   each = λ vid. rw none (s.each vid);
@@ -66,11 +66,11 @@ keeps_vendors h deed list none s = record {
 below_limit : (n limit most : ℕ) → nat_lt n limit ≡ true → limit ≤ most → n < most
 below_limit n limit most e within = let less : n < limit = ltb-true n limit e in omega (arith, less, within)
 
--- the founding, where no deed was done yet
+-- the deed of a caller, key, order and act
 abbrev the_deed : List ℕ → List ℕ → Order → Act → Deed
 the_deed caller key order act = record { caller = caller; key = key; order = order; act = act }
 
--- an enrolment: one organisation more
+-- an enrolment: one more organisation
 enrolled_more : (h : History) (caller key : List ℕ) (order : Order) (org : Org) (old new : Totals) → CanEnrol h caller org
     → (old.orgs < 4294967295 → new ≡ record old { orgs = old.orgs + 1 }) → IsSummary h old → IsSummary (with_deed h (the_deed caller key order (Enrolled org))) new
 enrolled_more h caller key order org old new can is s =
@@ -90,7 +90,7 @@ enrolled_more h caller key order org old new can is s =
       nothing = s.nothing;
     })
 
--- an ask: one petition more, which is open
+-- an ask: one more petition, which is open
 asked_more : (h : History) (caller key : List ℕ) (order : Order) (id : ℕ) (petition : Petition) (old new : Totals) → CanAsk h caller id petition
     → LeadsTo (act_changes (Asked id petition)) h (with_deed h (the_deed caller key order (Asked id petition)))
     → Asks old new petition.org → IsSummary h old → IsSummary (with_deed h (the_deed caller key order (Asked id petition))) new
@@ -114,7 +114,7 @@ asked_more h caller key order id petition old new can leads is s =
       nothing = s.nothing;
     })
 
--- a grant: one open petition less, and one number more that is taken
+-- a grant: one fewer open petition, and one more number that is taken
 granted_more : (h : History) (caller key : List ℕ) (order : Order) (id : ℕ) (petition : Petition) (name : NumberName) (old mid new : Totals) → CanGrant h id petition name
     → LeadsTo (act_changes (Granted id petition name)) h (with_deed h (the_deed caller key order (Granted id petition name)))
     → Closes old mid petition.org → HasTaken mid new name.number.vid name.number.pid → IsSummary h old → IsSummary (with_deed h (the_deed caller key order (Granted id petition name))) new
@@ -272,7 +272,7 @@ imported_more h caller key order vid org fresh tally old new can is s =
       nothing = s.nothing;
     })
 
--- one vendor more
+-- one more vendor
 vendor_more : (h : History) (caller key : List ℕ) (order : Order) (vid : ℕ) (name : List ℕ) (old new : Totals) → new ≡ record old { vendors = old.vendors ++ record { vid = vid; name = name } ∷ [] }
     → IsSummary h old → IsSummary (with_deed h (the_deed caller key order (VendorAdded vid name))) new
 vendor_more h caller key order vid name old new is s =
@@ -294,7 +294,7 @@ vendor_more h caller key order vid name old new is s =
       nothing = s.nothing;
     })
 
--- one licence more
+-- one more licence
 licence_more : (h : History) (caller key : List ℕ) (order : Order) (licence : List ℕ) (old new : Totals) → Legal (with_deed h (the_deed caller key order (LicenceAdded licence))) → Allows old new licence
     → IsSummary h old → IsSummary (with_deed h (the_deed caller key order (LicenceAdded licence))) new
 licence_more h caller key order licence old new after is s =
@@ -338,7 +338,7 @@ carries_by h caller key order (Imported vid org fresh tally) old new legal after
 carries_by h caller key order (VendorAdded vid name) old new legal after can leads is s = vendor_more h caller key order vid name old new is s
 carries_by h caller key order (LicenceAdded licence) old new legal after can leads is s = licence_more h caller key order licence old new after is s
 
--- totals carried on by a new deed are those of the history with it
+-- totals that are updated with a new deed are those of the history with the deed
 pub carries : (h : History) (request : Request) (deed : Deed) (old new : Totals) → Legal h → verdict h request ≡ New deed → Carries old new deed.act
     → AreTotalsOf h old → AreTotalsOf (with_deed h deed) new
 unfolding AreTotalsOf

@@ -1,4 +1,4 @@
--- The checks of each order, in their order. The numbers are those of the refusals.
+-- The checks of each kind of order, in the sequence in which they run. The numbers in the comments are those of the refusals.
 use Rattle.std.specs.Prelude.{ℕ, ◌+◌, List, Option, Some, None, Result, Ok, Err, Bool, true, false, not, nat_lt, nat_le, length, is_none}
 use Rattle.std.specs.List.{list_any}
 use Rattle.std.specs.Str.{bytes_eq}
@@ -18,27 +18,28 @@ use Rattle.registry_rules.specs.declared.record.Card.{Card}
 use Rattle.registry_rules.specs.declared.refusal.Refusal.{Refusal}
 use Rattle.registry_rules.specs.declared.refusal.Refusal.TheVariants.{NotCurator, NotKeeper, NoOrg, OrgTaken, NoPetition, PetitionClosed, NumberReserved, NumberOwned, NumberHeld, NumberNotHeld, NoneFree, LicenceUnknown, TooManyOpen, RangeOwned, RangeFixed, RangeNotReserved, Full, ImportTooLong, VendorTaken, NoVendor, LicenceTaken}
 
+-- the second step on the value of the first, or the error of the first
 infixl 10 ◌>>=◌
 abbrev pub ◌>>=◌ : {E A B : Type 0} → Result A E → (A → Result B E) → Result B E
 (Ok x) >>= f = f x
 (Err e) >>= f = Err e
 
--- a check that gives nothing
+-- the value of a check that passes
 abbrev pub Passed : Type 0
 Passed = Unit {0}
 
--- one check, and then the next
+-- the next step after a check that passes, or the error of the check
 infixl 10 ◌>>◌
 abbrev pub ◌>>◌ : {E B : Type 0} → Result Passed E → Result B E → Result B E
 (Ok x) >> next = next
 (Err e) >> next = Err e
 
--- the refusal where the test fails
+-- passes if the test does, otherwise refuses
 abbrev pub check : Bool → Refusal → Result Passed Refusal
 check true refusal = Ok tt
 check false refusal = Err refusal
 
--- what there is, or the refusal
+-- the value, or the refusal if there is none
 abbrev pub present : {A : Type 0} → Option A → Refusal → Result A Refusal
 present (Some x) refusal = Ok x
 present None refusal = Err refusal
@@ -47,23 +48,23 @@ present None refusal = Err refusal
 abbrev pub by_curator : List Slug → Slug → Result Passed Refusal
 by_curator curators caller = check (list_any (bytes_eq caller) curators) NotCurator
 
--- 3: the caller keeps the organisation
+-- 3: the caller is the organisation's keeper
 abbrev pub by_keeper : Org → Slug → Result Passed Refusal
 by_keeper org caller = check (bytes_eq org.keeper caller) NotKeeper
 
--- 3, of an organisation that is there wherever it is asked for
+-- 3: the same for the organisation of a petition or of an owned number, which always exists
 abbrev pub by_known_keeper : Option Org → Slug → Result Passed Refusal
 by_known_keeper None caller = Err NotKeeper
 by_known_keeper (Some org) caller = by_keeper org caller
 
--- 6, 7: the petition is there, and open
+-- 6, 7: the petition exists and is open
 abbrev pub open_petition : Option Petition → Result Petition Refusal
 open_petition petition = do
   petition ← present petition NoPetition
   check (is_open petition.state) PetitionClosed
   Ok petition
 
--- 9, 10: the number has no owner, or the organisation owns it and doesn't hold it
+-- 9, 10: the number has no owner, or the organisation owns it and does not hold it
 abbrev pub not_anothers : Option Slug → Bool → Slug → Result Passed Refusal
 not_anothers None held org = Ok tt
 not_anothers (Some owner) held org = do
@@ -76,16 +77,18 @@ can_be_given standing org = do
   check (not standing.reserved) NumberReserved
   not_anothers standing.owner standing.held org
 
--- 8, 9, 10, which pass where no number is wanted
+-- 8, 9, 10: the same for the number that a petition wants; passes if it names none
 abbrev pub wanted_can_be_given : Option Standing → Slug → Result Passed Refusal
 wanted_can_be_given None org = Ok tt
 wanted_can_be_given (Some standing) org = can_be_given standing org
 
--- 11, 3: the number is held, and the caller keeps its owner
+-- 11, 3: the number is held, and the caller is the keeper of its owner
 abbrev pub held_by_keeper : Standing → Option Org → Slug → Result Passed Refusal
 held_by_keeper standing known caller = do
   check standing.held NumberNotHeld
   by_known_keeper known caller
+
+-- Each kind of order: its checks by their refusals, then its act. `outcome` in Verdict supplies the arguments.
 
 -- Enrol: 5, 18
 abbrev pub enrol_checks : Option Org → ℕ → Org → Result Act Refusal
@@ -150,7 +153,7 @@ return_checks founding standing known caller = do
   held_by_keeper standing known caller
   Ok (Returned (name_of founding standing.number))
 
--- 15: no number of the span has an owner; the least that has one is named
+-- 15: no number of the span has an owner; the refusal names the least that has one
 abbrev pub none_owned : VendorId → VendorId → Option ProductId → Result Passed Refusal
 none_owned founding vid None = Ok tt
 none_owned founding vid (Some pid) = Err (RangeOwned (name_of founding (number vid pid)))

@@ -14,8 +14,8 @@ use std::alloc::{AllocError, Global};
 use std::fmt::{self, Write};
 use usbnum_core::{NoMemory, Pid, Slug, Title, Vid};
 
-/// The canonical form of the request's order: its fields, separated by tabs. Two orders are the same
-/// where their canonical forms are.
+/// Returns the canonical form of the request's order: its fields, separated by tabs. Two orders are
+/// equal if their canonical forms are.
 pub fn request_bytes(alloc: Global, request: &Request) -> Result<CanonicalForm, NoMemory>
     ensures { IfOk result (λ bytes. bytes ≡ canonical_form request.now.order) }
 {
@@ -74,7 +74,7 @@ fn order_text(alloc: Global, order: &Order) -> Result<String, AllocError>
     }
 }
 
-// The title, the terms and the vendor of an order.
+// The fields of the title, the terms and the vendor of an order.
 fn card_text(
     alloc: Global,
     title: &Title,
@@ -116,7 +116,7 @@ fn push_item(text: &mut String, item: &Item) -> Result<(), AllocError>
     }
 }
 
-// The code of an item: four digits, also of 0.
+// The code of an item: four digits, also for 0.
 #[derive(Drop)]
 struct CodeField {
     code: u16,
@@ -133,7 +133,7 @@ impl fmt::Display for CodeField {
     }
 }
 
-// A number that an order may name: four digits, or `-`.
+// A product ID that an order may name: four digits, or `-`.
 #[derive(Drop)]
 struct NumberField {
     number: Option<Pid>,

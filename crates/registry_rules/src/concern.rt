@@ -1,4 +1,4 @@
-//! What an order concerns: its vendor, its numbers and its organisation.
+//! The vendor, the numbers and the organisation that an order concerns.
 
 ghost use Rattle.std.specs.Prelude.{◌≡◌, ℕ, true, false, nat_eq, IfSome, IsSomeAnd};
 ghost use Rattle.std.specs.List.{list_any};
@@ -14,12 +14,12 @@ use crate::{
 };
 use usbnum_core::{Number, Pid, Slug, Span, Vid};
 
-/// Product numbers of a vendor, from the first to the last.
+/// A span of product IDs of a vendor.
 #[derive(Clone, Copy, Debug, PartialEq, Eq)]
 pub struct VendorSpan {
     /// The vendor.
     pub vid: Vid,
-    /// The numbers.
+    /// The product IDs.
     pub span: Span,
 }
 
@@ -34,7 +34,7 @@ fn only(pid: Pid) -> Span
     }
 }
 
-// The span from the lesser of the two starts to the greater of the two ends.
+// The least span that has the numbers of the span and the product ID.
 fn grown(span: &Span, pid: Pid) -> Span
     ensures keeps { (n : ℕ) → span_has span.now n ≡ true → span_has result n ≡ true }
     ensures has { span_has result pid ≡ true }
@@ -51,7 +51,7 @@ fn grown(span: &Span, pid: Pid) -> Span
     }
 }
 
-// The span with the code, unless that is 0.
+// The span extended to the code, unless that is 0.
 fn with_code(found: Option<Span>, code: u16) -> Option<Span>
     ensures keeps { IfSome found (λ old. IsSomeAnd result (λ new. (n : ℕ) → span_has old n ≡ true → span_has new n ≡ true)) }
     ensures has { nat_eq code 0 ≡ false → IsSomeAnd result (λ new. span_has new code ≡ true) }
@@ -65,7 +65,7 @@ fn with_code(found: Option<Span>, code: u16) -> Option<Span>
     }
 }
 
-// From the least code of the items to the greatest; 0 is not a product number.
+// The span from the least code of the items to the greatest, without 0.
 fn codes_span(items: &[Item]) -> Option<Span>
     ensures { (code : ℕ) → nat_eq code 0 ≡ false → list_any (λ item. nat_eq item.code code) items.now ≡ true → IsSomeAnd result (λ span. span_has span code ≡ true) }
 {
@@ -76,8 +76,8 @@ fn codes_span(items: &[Item]) -> Option<Span>
     found
 }
 
-/// Returns the vendor that the order names, or its petition's, or else the founding one. `petition` is
-/// the petition that the order names. No other place resolves a vendor.
+/// Returns the vendor that the order names, or its petition's, otherwise the founding vendor.
+/// `petition` is the petition that the order names. No other function resolves a vendor.
 #[tactic(auto, unfolding(crate::specs::FactsOf::vendor_concerned, crate::specs::FactsOf::petition_named))]
 pub(crate) fn vid_concerned(order: &Order, founding: Vid, petition: Option<&Petition>) -> Vid
     ensures { (h : History) → founding ≡ h.founding.vendor → option_copied petition.entry ≡ petition_named h order.now → result ≡ vendor_concerned h order.now }
@@ -97,9 +97,9 @@ pub(crate) fn vid_concerned(order: &Order, founding: Vid, petition: Option<&Peti
     }
 }
 
-/// Returns a span that holds each product number that the order names or resolves to, with its vendor;
-/// for an import it reaches from the least code to the greatest. `petition` is the petition that the
-/// order names, and `least` the least free number of that petition's vendor.
+/// Returns a span that has each number that the order concerns, with its vendor. For an import it
+/// reaches from the least code to the greatest. `petition` is the petition that the order names,
+/// and `least` the least free product ID of that petition's vendor.
 #[tactic(auto, unfolding(crate::specs::FactsOf::concerns, crate::specs::FactsOf::petition_named, crate::specs::FactsOf::vendor_concerned))]
 pub fn numbers_concerned(
     order: &Order,

@@ -1,16 +1,16 @@
-//! What accepted requests did.
+//! Deeds: accepted requests with their effects.
 
 use crate::{Card, Items, NumberName, Order, Org, Petition, SpanName, Tally};
 use usbnum_core::{Key, Slug, Title, Vid};
 
-/// What an accepted request did. Each name holds its vendor, also where a reply leaves that out.
+/// The effect of an accepted request. Each name has its vendor, even if the reply leaves it out.
 #[derive(Debug)]
 pub enum Act {
     /// An organisation was enrolled.
     Enrolled(Org),
-    /// An organisation has this title and site now.
+    /// An organisation got this title and site.
     OrgAmended(Org),
-    /// The petition of this number was asked.
+    /// The petition was opened under this number.
     Asked {
         id: u32,
         petition: Petition,
@@ -31,12 +31,12 @@ pub enum Act {
         id: u32,
         petition: Petition,
     },
-    /// A held number has this card now.
+    /// A held number got this card.
     CardAmended {
         name: NumberName,
         card: Card,
     },
-    /// A held number was given back.
+    /// A held number was returned.
     Returned {
         name: NumberName,
     },
@@ -66,16 +66,16 @@ pub enum Act {
     },
 }
 
-/// One accepted request, and what it did.
+/// An accepted request with its effect.
 #[derive(Debug, Drop)]
 pub struct Deed {
-    /// Who asked.
+    /// The caller of the request.
     pub caller: Slug,
     /// The key of the request.
     pub key: Key,
-    /// What was asked.
+    /// The order of the request.
     pub order: Order,
-    /// What it did.
+    /// Its effect.
     pub act: Act,
 }
 

@@ -1,4 +1,4 @@
-//! The checks of an import, and what becomes of its items.
+//! The checks of an import, the classes of its items, and its act if the checks pass.
 
 ghost use Rattle.std.specs.Prelude.{◌≡◌, ◌≤◌, [], nat_eq, is_some, IfOk, length, ◌&&◌};
 ghost use Rattle.std.specs.List.{list_any};
@@ -60,7 +60,7 @@ fn classes(
     Ok(classes)
 }
 
-// The fresh ones of the items.
+// The items whose class is fresh.
 fn fresh(alloc: Global, classes: &[ItemClass], items: &[Item]) -> Result<Vec<Item>, AllocError>
     requires { length classes.now ≡ length items.now }
     ensures { IfOk result (λ fresh. fresh.items ≡ fresh_of classes.now items.now) }
@@ -74,7 +74,7 @@ fn fresh(alloc: Global, classes: &[ItemClass], items: &[Item]) -> Result<Vec<Ite
     Ok(fresh)
 }
 
-// A tally with one item more.
+// The tally with one more item of the class.
 fn count(tally: Tally, class: ItemClass) -> Tally
     requires { IsTallyWithin tally MOST_ITEMS }
     ensures { result ≡ counted class tally }
@@ -107,7 +107,7 @@ fn count(tally: Tally, class: ItemClass) -> Tally
     }
 }
 
-// How many there are of each class.
+// The number of items of each class.
 fn tally(classes: &[ItemClass]) -> Tally
     requires { length classes.now ≤ MOST_ITEMS }
     ensures { result ≡ tally_of classes.now }

@@ -17,7 +17,7 @@ use crate::{Act, Deed, Facts, Kept, Order, Refusal, Request, Verdict, request_by
 use std::alloc::{AllocError, Global};
 use usbnum_core::{NoMemory, Slug};
 
-// What the order does, by its checks.
+// Checks the order and returns its act.
 fn act_on(alloc: Global, facts: &Facts<'_>, caller: &Slug, order: &Order) -> Result<Act, Rejection>
     ensures { Gives result (outcome_on facts.now caller.now order.now) }
 {
@@ -49,7 +49,7 @@ fn deed_of(request: &Request, act: Act) -> Result<Deed, AllocError>
     })
 }
 
-// The verdict on a request whose key is kept.
+// The verdict on a request whose caller used the key before.
 fn repeated(alloc: Global, kept: &Kept, request: &Request) -> Result<Verdict, NoMemory>
     ensures { IfOk result (λ found. (outcome : Result Act Refusal) → found ≡ verdict_by (Some kept.now) request.now outcome) }
 {
@@ -61,8 +61,8 @@ fn repeated(alloc: Global, kept: &Kept, request: &Request) -> Result<Verdict, No
     }
 }
 
-/// What becomes of a request, by the facts of a history. On facts of no history it returns, and
-/// promises nothing more.
+/// Returns the verdict on a request, by the facts of a history. With facts that are not those of a
+/// history, the verdict may be any.
 pub fn judge(alloc: Global, facts: &Facts<'_>, request: &Request) -> Result<Verdict, NoMemory>
     ensures { (h : History) → AreFactsOf h request.now facts.now → IfOk result (λ found. found ≡ verdict h request.now) }
 {

@@ -1,22 +1,22 @@
-//! The most that there may be of each kind. A request that would go past one of these is refused.
+//! The limits of a registry. A request that would exceed one of them is refused.
 
-/// How many organisations a registry enrols.
+/// The most organisations of a registry.
 pub const MOST_ORGS: u32 = 65_536;
 
-/// How many petitions a registry takes, over all its vendors and closed ones included.
+/// The most petitions of a registry, over all its vendors and including closed ones.
 pub const MOST_PETITIONS: u32 = 1_000_000;
 
-/// How many petitions of one organisation are open at once, over all vendors.
+/// The most open petitions of one organisation at a time, over all vendors.
 pub const MOST_OPEN: u32 = 16;
 
-/// How many vendors a registry has, the founding one included.
+/// The most vendors of a registry, including the founding vendor.
 pub const MOST_VENDORS: usize = 256;
 
-/// How many licences a registry allows, those of its founding included.
+/// The most licences that a registry allows, including those of its founding.
 pub const MOST_LICENCES: usize = 1024;
 
-/// How many curators a registry is founded with.
+/// The most curators of a registry.
 pub const MOST_CURATORS: usize = 64;
 
-/// How many items one import has.
+/// The most items of one import.
 pub const MOST_ITEMS: usize = 8192;

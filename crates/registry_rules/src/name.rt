@@ -1,4 +1,4 @@
-//! How replies name numbers and spans.
+//! The names of numbers and spans in replies.
 
 ghost use Rattle.std.specs.Prelude.{Some};
 ghost use Rattle.registry_rules.specs.Reply.{number_text, span_text};
@@ -6,17 +6,17 @@ ghost use Rattle.registry_rules.specs.Reply.{number_text, span_text};
 use std::fmt;
 use usbnum_core::{Number, Span, Vid};
 
-/// A number as replies name it. The vendor stands in the name where it is foreign, that is another
-/// than the founding one.
+/// The name of a number in replies. It shows the vendor if that is foreign, which means that it is
+/// not the founding vendor.
 #[derive(Clone, Copy, Debug, PartialEq, Eq)]
 pub struct NumberName {
-    /// The number, with its vendor in either case.
+    /// The number.
     pub number: Number,
-    /// Whether the vendor is another than the founding one.
+    /// Whether the vendor is foreign.
     pub foreign: bool,
 }
 
-/// The name itself: `0011` or `cafe:0011`.
+/// Writes the name, as in `0011` or `cafe:0011`.
 impl fmt::Display for NumberName {
     ghost output = { λ name. Some (number_text name) };
 
@@ -29,18 +29,18 @@ impl fmt::Display for NumberName {
     }
 }
 
-/// A span as replies name it, with its vendor where that is foreign.
+/// The name of a span in replies, with the vendor if that is foreign.
 #[derive(Clone, Copy, Debug, PartialEq, Eq)]
 pub struct SpanName {
-    /// The vendor, in either case.
+    /// The vendor.
     pub vid: Vid,
-    /// The product numbers.
+    /// The product IDs.
     pub span: Span,
-    /// Whether the vendor is another than the founding one.
+    /// Whether the vendor is foreign.
     pub foreign: bool,
 }
 
-/// The name itself: `2000-20ff` or `cafe:2000-20ff`.
+/// Writes the name, as in `2000-20ff` or `cafe:2000-20ff`.
 impl fmt::Display for SpanName {
     ghost output = { λ name. Some (span_text name) };
 

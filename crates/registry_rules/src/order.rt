@@ -1,4 +1,4 @@
-//! What requests ask for: a struct for each kind of order.
+//! Requests and their orders, with a struct for each kind of order.
 
 ghost use Rattle.std.specs.Prelude.{◌≡◌};
 
@@ -6,10 +6,10 @@ use crate::{Items, Terms};
 use std::alloc::AllocError;
 use usbnum_core::{Key, Link, Pid, Slug, Span, Title, Vid};
 
-/// A new organisation, whose keeper is the caller.
+/// Enrols a new organisation, whose keeper is the caller.
 #[derive(Clone, Debug, Drop)]
 pub struct Enrol {
-    /// The slug by which the organisation is known for good.
+    /// The slug of the organisation, which never changes.
     pub org: Slug,
     /// Its title.
     pub title: Title,
@@ -17,70 +17,70 @@ pub struct Enrol {
     pub site: Link,
 }
 
-/// Another title and site of an organisation.
+/// Changes the title and the site of an organisation.
 #[derive(Clone, Debug, Drop)]
 pub struct AmendOrg {
     /// The organisation.
     pub org: Slug,
-    /// Its title from now on.
+    /// Its new title.
     pub title: Title,
-    /// Its site from now on.
+    /// Its new site.
     pub site: Link,
 }
 
-/// A new petition, for the wanted number or for any.
+/// Opens a petition, for a certain number or for any.
 #[derive(Clone, Debug, Drop)]
 pub struct Ask {
     /// The organisation that asks.
     pub org: Slug,
-    /// The number that it wants, if it wants a certain one.
+    /// The product ID that it wants; None for any.
     pub want: Option<Pid>,
-    /// The title that the number's card is to have.
+    /// The title for the number's card.
     pub title: Title,
-    /// The terms that the card is to have.
+    /// The terms for the card.
     pub terms: Terms,
-    /// The vendor of which a number is asked, where it is named.
+    /// The vendor of the number, if the order names it.
     pub vendor: Option<Vid>,
 }
 
-/// The number named, else the one that the petition wants, else the least free one becomes the
-/// petition's organisation's.
+/// Gives the petition's organisation the number named, otherwise the one that the petition wants,
+/// otherwise the least free one.
 #[derive(Clone, Debug, Drop)]
 pub struct Grant {
     /// The petition.
     pub petition: u32,
-    /// The number to grant, where it is named.
+    /// The product ID to grant, if the order names it.
     pub number: Option<Pid>,
 }
 
-/// A curator refuses a petition.
+/// Closes a petition without a grant, by a curator.
 #[derive(Clone, Debug, Drop)]
 pub struct Decline {
     /// The petition.
     pub petition: u32,
 }
 
-/// The keeper takes a petition back.
+/// Closes a petition without a grant, by the keeper of its organisation.
 #[derive(Clone, Debug, Drop)]
 pub struct Withdraw {
     /// The petition.
     pub petition: u32,
 }
 
-/// Another card of a held number.
+/// Changes the card of a held number.
 #[derive(Clone, Debug, Drop)]
 pub struct Amend {
     /// The number.
     pub number: Pid,
-    /// The title from now on.
+    /// The new title.
     pub title: Title,
-    /// The terms from now on.
+    /// The new terms.
     pub terms: Terms,
     /// The number's vendor, where it is named.
     pub vendor: Option<Vid>,
 }
 
-/// A held number is given back; its owner stays the same.
+/// Returns a held number, which keeps its owner.
 #[derive(Clone, Debug, Drop)]
 pub struct Return {
     /// The number.
@@ -89,7 +89,7 @@ pub struct Return {
     pub vendor: Option<Vid>,
 }
 
-/// All numbers of the span are to be reserved.
+/// Reserves all numbers of a span.
 #[derive(Clone, Debug, Drop)]
 pub struct Reserve {
     /// The span.
@@ -98,7 +98,7 @@ pub struct Reserve {
     pub vendor: Option<Vid>,
 }
 
-/// No number of the span is to be reserved any longer.
+/// Releases all numbers of a span.
 #[derive(Clone, Debug, Drop)]
 pub struct Release {
     /// The span.
@@ -107,7 +107,7 @@ pub struct Release {
     pub vendor: Option<Vid>,
 }
 
-/// The fresh items of a list become held numbers of the organisation.
+/// Gives an organisation the numbers of the fresh items of a list.
 #[derive(Clone, Debug, Drop)]
 pub struct Import {
     /// The organisation.
@@ -118,7 +118,7 @@ pub struct Import {
     pub vendor: Option<Vid>,
 }
 
-/// A further vendor.
+/// Adds a vendor.
 #[derive(Clone, Debug, Drop)]
 pub struct AddVendor {
     /// The vendor.
@@ -127,20 +127,19 @@ pub struct AddVendor {
     pub name: Title,
 }
 
-/// A further allowed licence.
+/// Allows a further licence.
 #[derive(Clone, Debug, Drop)]
 pub struct AddLicence {
     /// The licence.
     pub licence: Title,
 }
 
-/// What a request asks for. Where an order may name a vendor and names none, it means the vendor of
-/// the founding.
+/// The order of a request. An order that may name a vendor and does not means the founding vendor.
 #[derive(Debug, Drop)]
 pub enum Order {
     /// Enrols an organisation.
     Enrol(Enrol),
-    /// Amends what is known of an organisation.
+    /// Amends an organisation.
     AmendOrg(AmendOrg),
     /// Asks for a number.
     Ask(Ask),
@@ -189,14 +188,14 @@ impl Clone for Order {
     }
 }
 
-/// An order of a caller, under a key of the caller's choice. The same order under the same key is
+/// An order of a caller, under a key that the caller chooses. The same order under the same key is
 /// acted on once.
 #[derive(Clone, Debug, Drop)]
 pub struct Request {
-    /// Who asks.
+    /// The caller.
     pub caller: Slug,
-    /// The key, by which the caller knows the request.
+    /// The caller's key for the request.
     pub key: Key,
-    /// What is asked for.
+    /// The order.
     pub order: Order,
 }

@@ -1,4 +1,4 @@
-//! The checks of each order, and what it does once they pass.
+//! The checks of each kind of order, and its act if they pass.
 
 ghost use Rattle.std.specs.Prelude.{◌≡◌, Ok};
 ghost use Rattle.registry_rules.specs.Gives.{Gives};

@@ -1,4 +1,4 @@
-//! Why a check ends early.
+//! The error of the checks.
 
 ghost use Rattle.std.specs.Prelude.{◌≡◌};
 ghost use Rattle.registry_rules.specs.declared.rejection.Rejection.TheVariants.{Refused as WasRefused, OutOfMemory};
@@ -7,7 +7,7 @@ use crate::Refusal;
 use std::alloc::AllocError;
 use usbnum_core::NoMemory;
 
-/// Why an order does nothing.
+/// The reason why a check ends early.
 #[derive(Debug, Drop)]
 pub(crate) enum Rejection {
     Refused(Refusal),

@@ -1,4 +1,4 @@
-//! The checks of orders on spans.
+//! The checks of orders on spans, and their acts if they pass.
 
 ghost use Rattle.std.specs.Prelude.{◌≡◌};
 ghost use Rattle.registry_rules.specs.Gives.{Gives};
@@ -24,7 +24,7 @@ fn is_reserved(reserved: &Spans, span: &Span) -> bool
     reserved.covers(*span)
 }
 
-// Whether the holding is of a number of the span.
+// Whether the holding's number is in the vendor's span.
 fn is_in(holding: &Holding, vid: Vid, span: &Span) -> bool
     ensures { result ≡ is_owned_in holding.now vid span.now }
 {
@@ -33,7 +33,7 @@ fn is_in(holding: &Holding, vid: Vid, span: &Span) -> bool
         && holding.number.pid <= span.last()
 }
 
-// The least so far, or the holding's number, where that is of the span and below.
+// The lesser of the least so far and the holding's number, if that is in the span.
 fn lesser(least: Option<Pid>, holding: &Holding, vid: Vid, span: &Span) -> Option<Pid>
     ensures { result ≡ least_with holding.now vid span.now least }
 {
@@ -47,7 +47,7 @@ fn lesser(least: Option<Pid>, holding: &Holding, vid: Vid, span: &Span) -> Optio
     }
 }
 
-// The least number of the span that is owned.
+// The least product ID of the span whose number is owned.
 fn least_owned(holdings: &Holdings, vid: Vid, span: &Span) -> Option<Pid>
     ensures { result ≡ least_owned_in holdings.now vid span.now }
 {

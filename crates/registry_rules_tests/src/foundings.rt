@@ -1,4 +1,4 @@
-//! What a founding and the values beside it say of themselves.
+//! The methods of a founding's values, of texts and holdings, and the calls of the laws.
 
 use crate::fields::{founding, slug, span, title};
 use registry_rules::laws::{
@@ -40,7 +40,7 @@ fn a_founding_says_what_it_has(rt: HostRuntime) {
     assert_eq!(rt; vendor.name.as_str(), "Shared products");
 }
 
-// So many texts are counted, repeats too, and each is kept once.
+// The limits count repeats, and the lists have each text once.
 #[test]
 fn lists_are_counted(rt: HostRuntime) {
     for (count, fits) in [(0_u16, false), (1, true), (64, true), (65, false)] {

@@ -1,4 +1,4 @@
-//! One request's way through the rules, and the totals of lists.
+//! One request through all steps of the rules, and totals from lists.
 
 use crate::fields::{enrol, founding, number, slug, span, title};
 use registry_rules::{
@@ -7,7 +7,7 @@ use registry_rules::{
 };
 use std::process::Abort;
 
-// What comes of Acme's enrolment.
+// The deed of Acme's enrolment.
 fn accepted(rt: &(impl AllocGlobal + Abort), totals: &Totals) -> Option<Deed> {
     let request = enrol(rt, "acme");
     let holdings = Holdings::new(Vec::new(rt.alloc()));
