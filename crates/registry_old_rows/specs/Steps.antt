@@ -1,10 +1,8 @@
 -- What a call on the tables of an older schema does within a transaction.
-use Rattle.std.specs.Prelude.{◌≡◌, ℕ, List, Result, Ok, Err}
+use Rattle.std.specs.Prelude.{ℕ, List}
 use Rattle.sqlite.specs.Effect.{Database}
-use Rattle.sqlite.specs.State.{State, IsUnchanged}
-use Rattle.table_laws.specs.Inside.{GoesOn, StaysInside}
-use Rattle.registry_schema.specs.declared.fault.TableFault.{TableFault}
-use Rattle.registry_schema.specs.declared.fault.TableFault.TheVariants.{Foreign}
+use Rattle.sqlite.specs.State.{State}
+use Rattle.table_laws.specs.Inside.{GoesOn}
 use Rattle.registry_rows.specs.Tables.{Tables}
 use Rattle.registry_old_rows.specs.Between.{HoldsSecond, HoldsBoth}
 
@@ -24,9 +22,3 @@ pub record Second : Type 0 where
 
 abbrev pub IsHeld : Database → Second → Type 0
 IsHeld db x = HoldsSecond x.vid db x.tables x.numbers
-
-module _ (old new : State) where
-  -- what is held determines the result, and does not change; Foreign comes only if nothing of that kind is held
-  abbrev pub TellsOf : {A X : Type 0} → (X → Type 0) → Result A TableFault → (X → A → Type 0) → Type 0
-  TellsOf {A} {X} Held (Ok a) Is = GoesOn old new × ((x : X) → Held x → IsUnchanged old new × Is x a)
-  TellsOf {A} {X} Held (Err e) Is = (e ≡ Foreign → GoesOn old new × ((x : X) → ¬ Held x)) × StaysInside old new

@@ -8,7 +8,7 @@ ghost use Rattle.registry_rows.specs.Tables.{Tables};
 ghost use Rattle.registry_old_rows.specs.Between.{HoldsBoth};
 ghost use Rattle.registry_old_rows.specs.Steps.{Moves};
 
-use registry_schema::{TableFault, fault_of};
+use registry_schema::TableFault;
 use sqlite::{Alter, Transaction, params};
 use usbnum_core::Vid;
 
@@ -20,14 +20,11 @@ pub fn copy_spans<S: Alter>(tx: &mut Transaction<'_, S>, vid: Vid) -> Result<(),
     ensures fault { result ≢ Err TableFault.Foreign }
     ensures survives { CommitsNothing (state S.Store tx.old.conn.now) (state S.Store tx.new.conn.now) }
 {
-    let ran = tx.execute(
+    tx.execute(
         "INSERT INTO spans3 (vid, lo, hi) SELECT ?1, lo, hi FROM spans ORDER BY lo",
         params![u32::from(vid.get())],
-    );
-    match ran {
-        Ok(_) => Ok(()),
-        Err(error) => Err(fault_of(error)),
-    }
+    )?;
+    Ok(())
 }
 
 /// Copies the entries of the second schema's table into that of the third, with this vendor.
@@ -38,14 +35,11 @@ pub fn copy_entries<S: Alter>(tx: &mut Transaction<'_, S>, vid: Vid) -> Result<(
     ensures fault { result ≢ Err TableFault.Foreign }
     ensures survives { CommitsNothing (state S.Store tx.old.conn.now) (state S.Store tx.new.conn.now) }
 {
-    let ran = tx.execute(
+    tx.execute(
         "INSERT INTO entries3 (vid, pid, org, held, title, licence, site, source) SELECT ?1, pid, org, held, title, licence, site, source FROM entries ORDER BY pid",
         params![u32::from(vid.get())],
-    );
-    match ran {
-        Ok(_) => Ok(()),
-        Err(error) => Err(fault_of(error)),
-    }
+    )?;
+    Ok(())
 }
 
 /// Copies the petitions of the second schema's table into that of the third, with this vendor.
@@ -56,14 +50,11 @@ pub fn copy_petitions<S: Alter>(tx: &mut Transaction<'_, S>, vid: Vid) -> Result
     ensures fault { result ≢ Err TableFault.Foreign }
     ensures survives { CommitsNothing (state S.Store tx.old.conn.now) (state S.Store tx.new.conn.now) }
 {
-    let ran = tx.execute(
+    tx.execute(
         "INSERT INTO petitions3 (id, vid, org, want, title, licence, site, source, state, pid) SELECT id, ?1, org, want, title, licence, site, source, state, pid FROM petitions ORDER BY id",
         params![u32::from(vid.get())],
-    );
-    match ran {
-        Ok(_) => Ok(()),
-        Err(error) => Err(fault_of(error)),
-    }
+    )?;
+    Ok(())
 }
 
 /// Empties the second schema's table of spans.
@@ -74,11 +65,8 @@ pub fn empty_spans<S: Alter>(tx: &mut Transaction<'_, S>) -> Result<(), TableFau
     ensures fault { result ≢ Err TableFault.Foreign }
     ensures survives { CommitsNothing (state S.Store tx.old.conn.now) (state S.Store tx.new.conn.now) }
 {
-    let ran = tx.execute("DELETE FROM spans", &[]);
-    match ran {
-        Ok(_) => Ok(()),
-        Err(error) => Err(fault_of(error)),
-    }
+    tx.execute("DELETE FROM spans", &[])?;
+    Ok(())
 }
 
 /// Empties the second schema's table of entries.
@@ -89,11 +77,8 @@ pub fn empty_entries<S: Alter>(tx: &mut Transaction<'_, S>) -> Result<(), TableF
     ensures fault { result ≢ Err TableFault.Foreign }
     ensures survives { CommitsNothing (state S.Store tx.old.conn.now) (state S.Store tx.new.conn.now) }
 {
-    let ran = tx.execute("DELETE FROM entries", &[]);
-    match ran {
-        Ok(_) => Ok(()),
-        Err(error) => Err(fault_of(error)),
-    }
+    tx.execute("DELETE FROM entries", &[])?;
+    Ok(())
 }
 
 /// Empties the second schema's table of petitions.
@@ -104,9 +89,6 @@ pub fn empty_petitions<S: Alter>(tx: &mut Transaction<'_, S>) -> Result<(), Tabl
     ensures fault { result ≢ Err TableFault.Foreign }
     ensures survives { CommitsNothing (state S.Store tx.old.conn.now) (state S.Store tx.new.conn.now) }
 {
-    let ran = tx.execute("DELETE FROM petitions", &[]);
-    match ran {
-        Ok(_) => Ok(()),
-        Err(error) => Err(fault_of(error)),
-    }
+    tx.execute("DELETE FROM petitions", &[])?;
+    Ok(())
 }

@@ -11,10 +11,11 @@ ghost use Rattle.registry_rows.specs.Rows.{meta_key, meta_shown};
 ghost use Rattle.registry_rows.specs.Tables.{Tables};
 ghost use Rattle.registry_old_rows.specs.Old.{number_shown, old_span_key};
 ghost use Rattle.registry_old_rows.specs.Between.{HoldsSecond};
-ghost use Rattle.registry_old_rows.specs.Steps.{Turns, TellsOf, IsHeld};
+ghost use Rattle.registry_old_rows.specs.Steps.{Turns, IsHeld};
+ghost use Rattle.registry_rows.specs.Steps.{AnswersOf};
 
 use registry_rows::{FromRow, Meta, all_from, pid_at};
-use registry_schema::{TableFault, fault_of};
+use registry_schema::TableFault;
 use sqlite::{Alter, Row, Transaction, params};
 use std::alloc::Global;
 use usbnum_core::{Pid, Span, Title, Vid};
@@ -22,15 +23,11 @@ use usbnum_core::{Pid, Span, Title, Vid};
 fn meta_rows<S: Alter>(tx: &mut Transaction<'_, S>) -> Result<Vec<Row>, TableFault>
     ensures same_reference { tx.new.conn.ghost_name ≡ tx.old.conn.ghost_name }
     ensures rows { HasCleanDisk (state S.Store tx.new.conn.now) → IsTrue (state S.Store tx.old.conn.now).in_transaction
-        → TellsOf (state S.Store tx.old.conn.now) (state S.Store tx.new.conn.now) (IsHeld (state S.Store tx.old.conn.now).now) result (λ x rows. rows.items ≡ map meta_shown x.tables.metas) }
+        → AnswersOf (state S.Store tx.old.conn.now) (state S.Store tx.new.conn.now) (IsHeld (state S.Store tx.old.conn.now).now) result (λ x rows. rows.items ≡ map meta_shown x.tables.metas) }
     ensures fault { result ≢ Err TableFault.Foreign }
     ensures survives { CommitsNothing (state S.Store tx.old.conn.now) (state S.Store tx.new.conn.now) }
 {
-    let ran = tx.query_all("SELECT version, vendor, name FROM meta ORDER BY id", &[]);
-    match ran {
-        Ok(rows) => Ok(rows),
-        Err(error) => Err(fault_of(error)),
-    }
+    Ok(tx.query_all("SELECT version, vendor, name FROM meta ORDER BY id", &[])?)
 }
 
 /// Returns the rows of `meta`. A sound store has one.
@@ -40,7 +37,7 @@ pub fn list_old_metas<S: Alter>(
 ) -> Result<Vec<Meta>, TableFault>
     ensures same_reference { tx.new.conn.ghost_name ≡ tx.old.conn.ghost_name }
     ensures listed { HasCleanDisk (state S.Store tx.new.conn.now) → IsTrue (state S.Store tx.old.conn.now).in_transaction
-        → TellsOf (state S.Store tx.old.conn.now) (state S.Store tx.new.conn.now) (IsHeld (state S.Store tx.old.conn.now).now) result (λ x all. all.items ≡ x.tables.metas) }
+        → AnswersOf (state S.Store tx.old.conn.now) (state S.Store tx.new.conn.now) (IsHeld (state S.Store tx.old.conn.now).now) result (λ x all. all.items ≡ x.tables.metas) }
     ensures survives { CommitsNothing (state S.Store tx.old.conn.now) (state S.Store tx.new.conn.now) }
 {
     let rows = meta_rows(tx)?;
@@ -60,14 +57,11 @@ pub fn put_old_meta<S: Alter>(
     ensures fault { result ≢ Err TableFault.Foreign }
     ensures survives { CommitsNothing (state S.Store tx.old.conn.now) (state S.Store tx.new.conn.now) }
 {
-    let ran = tx.execute(
+    tx.execute(
         "INSERT OR REPLACE INTO meta (id, version, vendor, name) VALUES (1, ?1, ?2, ?3)",
         params![version, u32::from(vendor.get()), name.as_str()],
-    );
-    match ran {
-        Ok(_) => Ok(()),
-        Err(error) => Err(fault_of(error)),
-    }
+    )?;
+    Ok(())
 }
 
 /// A row of the table `reserved`.
@@ -95,15 +89,11 @@ impl FromRow for Reserved {
 fn reserved_rows<S: Alter>(tx: &mut Transaction<'_, S>) -> Result<Vec<Row>, TableFault>
     ensures same_reference { tx.new.conn.ghost_name ≡ tx.old.conn.ghost_name }
     ensures rows { HasCleanDisk (state S.Store tx.new.conn.now) → IsTrue (state S.Store tx.old.conn.now).in_transaction
-        → TellsOf (state S.Store tx.old.conn.now) (state S.Store tx.new.conn.now) (IsHeld (state S.Store tx.old.conn.now).now) result (λ x rows. rows.items ≡ map number_shown x.numbers) }
+        → AnswersOf (state S.Store tx.old.conn.now) (state S.Store tx.new.conn.now) (IsHeld (state S.Store tx.old.conn.now).now) result (λ x rows. rows.items ≡ map number_shown x.numbers) }
     ensures fault { result ≢ Err TableFault.Foreign }
     ensures survives { CommitsNothing (state S.Store tx.old.conn.now) (state S.Store tx.new.conn.now) }
 {
-    let ran = tx.query_all("SELECT pid FROM reserved ORDER BY pid", &[]);
-    match ran {
-        Ok(rows) => Ok(rows),
-        Err(error) => Err(fault_of(error)),
-    }
+    Ok(tx.query_all("SELECT pid FROM reserved ORDER BY pid", &[])?)
 }
 
 /// Returns the reserved numbers, one for each row.
@@ -113,7 +103,7 @@ pub fn list_reserved<S: Alter>(
 ) -> Result<Vec<Reserved>, TableFault>
     ensures same_reference { tx.new.conn.ghost_name ≡ tx.old.conn.ghost_name }
     ensures listed { HasCleanDisk (state S.Store tx.new.conn.now) → IsTrue (state S.Store tx.old.conn.now).in_transaction
-        → TellsOf (state S.Store tx.old.conn.now) (state S.Store tx.new.conn.now) (IsHeld (state S.Store tx.old.conn.now).now) result (λ x all. map (λ one. one.pid) all.items ≡ x.numbers) }
+        → AnswersOf (state S.Store tx.old.conn.now) (state S.Store tx.new.conn.now) (IsHeld (state S.Store tx.old.conn.now).now) result (λ x all. map (λ one. one.pid) all.items ≡ x.numbers) }
     ensures survives { CommitsNothing (state S.Store tx.old.conn.now) (state S.Store tx.new.conn.now) }
 {
     let rows = reserved_rows(tx)?;
@@ -127,11 +117,8 @@ pub fn empty_reserved<S: Alter>(tx: &mut Transaction<'_, S>) -> Result<(), Table
     ensures fault { result ≢ Err TableFault.Foreign }
     ensures survives { CommitsNothing (state S.Store tx.old.conn.now) (state S.Store tx.new.conn.now) }
 {
-    let ran = tx.execute("DELETE FROM reserved", &[]);
-    match ran {
-        Ok(_) => Ok(()),
-        Err(error) => Err(fault_of(error)),
-    }
+    tx.execute("DELETE FROM reserved", &[])?;
+    Ok(())
 }
 
 /// Inserts a span of reserved numbers.
@@ -142,12 +129,9 @@ pub fn put_old_span<S: Alter>(tx: &mut Transaction<'_, S>, span: Span) -> Result
     ensures fault { result ≢ Err TableFault.Foreign }
     ensures survives { CommitsNothing (state S.Store tx.old.conn.now) (state S.Store tx.new.conn.now) }
 {
-    let ran = tx.execute(
+    tx.execute(
         "INSERT OR REPLACE INTO spans (lo, hi) VALUES (?1, ?2)",
         params![u32::from(span.first().get()), u32::from(span.last().get())],
-    );
-    match ran {
-        Ok(_) => Ok(()),
-        Err(error) => Err(fault_of(error)),
-    }
+    )?;
+    Ok(())
 }

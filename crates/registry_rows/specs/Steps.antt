@@ -17,7 +17,11 @@ module _ (old new : State) where
   Changes (Ok _) after = GoesOn old new × ((t : Tables) → Holds old.now t → Holds new.now (after t))
   Changes (Err e) after = (e ≢ Foreign) × StaysInside old new
 
-  -- the tables determine the result, and do not change; Foreign comes only if the rows were read and store no values
+  -- what is held determines the result, and does not change; Foreign comes only if nothing of that kind is held
+  abbrev pub AnswersOf : {A X : Type 0} → (X → Type 0) → Result A TableFault → (X → A → Type 0) → Type 0
+  AnswersOf {A} {X} Held (Ok a) Is = GoesOn old new × ((x : X) → Held x → IsUnchanged old new × Is x a)
+  AnswersOf {A} {X} Held (Err e) Is = (e ≡ Foreign → GoesOn old new × ((x : X) → ¬ Held x)) × StaysInside old new
+
+  -- the same of the tables: Foreign comes only if the rows were read and store no values
   abbrev pub Answers : {A : Type 0} → Result A TableFault → (Tables → A → Type 0) → Type 0
-  Answers (Ok a) IsAnswer = GoesOn old new × ((t : Tables) → Holds old.now t → IsUnchanged old new × IsAnswer t a)
-  Answers (Err e) IsAnswer = (e ≡ Foreign → GoesOn old new × ((t : Tables) → ¬ Holds old.now t)) × StaysInside old new
+  Answers result IsAnswer = AnswersOf (Holds old.now) result IsAnswer

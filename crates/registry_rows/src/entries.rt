@@ -16,7 +16,7 @@ use crate::columns::{
 };
 use crate::decode::{FromRow, all_from, first_from};
 use registry_rules::{Card, Entry, Terms};
-use registry_schema::{TableFault, fault_of};
+use registry_schema::TableFault;
 use sqlite::{Alter, Row, Transaction, params};
 use std::alloc::Global;
 use usbnum_core::{Number, Pid, Vid};
@@ -120,7 +120,7 @@ pub fn put_entry<S: Alter>(
     ensures fault { result ≢ Err TableFault.Foreign }
     ensures survives { CommitsNothing (state S.Store tx.old.conn.now) (state S.Store tx.new.conn.now) }
 {
-    let ran = tx.execute(
+    tx.execute(
         "INSERT OR REPLACE INTO entries3 (vid, pid, org, held, title, licence, site, source) VALUES (?1, ?2, ?3, ?4, ?5, ?6, ?7, ?8)",
         params![
             u32::from(number.vid.get()),
@@ -132,11 +132,8 @@ pub fn put_entry<S: Alter>(
             site_of(&entry.card),
             source_of(&entry.card)
         ],
-    );
-    match ran {
-        Ok(_) => Ok(()),
-        Err(error) => Err(fault_of(error)),
-    }
+    )?;
+    Ok(())
 }
 
 /// Sets whether the number is held, if it has an entry.
@@ -151,18 +148,15 @@ pub fn set_held<S: Alter>(
     ensures fault { result ≢ Err TableFault.Foreign }
     ensures survives { CommitsNothing (state S.Store tx.old.conn.now) (state S.Store tx.new.conn.now) }
 {
-    let ran = tx.execute(
+    tx.execute(
         "UPDATE entries3 SET held = ?1 WHERE vid = ?2 AND pid = ?3",
         params![
             held,
             u32::from(number.vid.get()),
             u32::from(number.pid.get())
         ],
-    );
-    match ran {
-        Ok(_) => Ok(()),
-        Err(error) => Err(fault_of(error)),
-    }
+    )?;
+    Ok(())
 }
 
 /// Sets the card of the number, if it has an entry.
@@ -177,7 +171,7 @@ pub fn set_card<S: Alter>(
     ensures fault { result ≢ Err TableFault.Foreign }
     ensures survives { CommitsNothing (state S.Store tx.old.conn.now) (state S.Store tx.new.conn.now) }
 {
-    let ran = tx.execute(
+    tx.execute(
         "UPDATE entries3 SET title = ?1, licence = ?2, site = ?3, source = ?4 WHERE vid = ?5 AND pid = ?6",
         params![
             card.title.as_str(),
@@ -187,11 +181,8 @@ pub fn set_card<S: Alter>(
             u32::from(number.vid.get()),
             u32::from(number.pid.get())
         ],
-    );
-    match ran {
-        Ok(_) => Ok(()),
-        Err(error) => Err(fault_of(error)),
-    }
+    )?;
+    Ok(())
 }
 
 fn entry_rows<S: Alter>(tx: &mut Transaction<'_, S>, number: Number) -> Result<Vec<Row>, TableFault>
@@ -201,14 +192,10 @@ fn entry_rows<S: Alter>(tx: &mut Transaction<'_, S>, number: Number) -> Result<V
     ensures fault { result ≢ Err TableFault.Foreign }
     ensures survives { CommitsNothing (state S.Store tx.old.conn.now) (state S.Store tx.new.conn.now) }
 {
-    let ran = tx.query_all(
+    Ok(tx.query_all(
         "SELECT vid, pid, org, held, title, licence, site, source FROM entries3 WHERE vid = ?1 AND pid = ?2 ORDER BY rowid",
         params![u32::from(number.vid.get()), u32::from(number.pid.get())],
-    );
-    match ran {
-        Ok(rows) => Ok(rows),
-        Err(error) => Err(fault_of(error)),
-    }
+    )?)
 }
 
 /// Returns the number with its entry, if it has one.
@@ -238,18 +225,14 @@ fn rows_between<S: Alter>(
     ensures fault { result ≢ Err TableFault.Foreign }
     ensures survives { CommitsNothing (state S.Store tx.old.conn.now) (state S.Store tx.new.conn.now) }
 {
-    let ran = tx.query_all(
+    Ok(tx.query_all(
         "SELECT vid, pid, org, held, title, licence, site, source FROM entries3 WHERE vid = ?1 AND pid BETWEEN ?2 AND ?3 ORDER BY vid, pid, rowid",
         params![
             u32::from(vid.get()),
             u32::from(low.get()),
             u32::from(high.get())
         ],
-    );
-    match ran {
-        Ok(rows) => Ok(rows),
-        Err(error) => Err(fault_of(error)),
-    }
+    )?)
 }
 
 /// Returns the vendor's entries from the low number to the high one, ascending.
@@ -276,14 +259,10 @@ fn all_rows<S: Alter>(tx: &mut Transaction<'_, S>) -> Result<Vec<Row>, TableFaul
     ensures fault { result ≢ Err TableFault.Foreign }
     ensures survives { CommitsNothing (state S.Store tx.old.conn.now) (state S.Store tx.new.conn.now) }
 {
-    let ran = tx.query_all(
+    Ok(tx.query_all(
         "SELECT vid, pid, org, held, title, licence, site, source FROM entries3 ORDER BY vid, pid, rowid",
         &[],
-    );
-    match ran {
-        Ok(rows) => Ok(rows),
-        Err(error) => Err(fault_of(error)),
-    }
+    )?)
 }
 
 /// Returns all entries, in order of vendor and then product.

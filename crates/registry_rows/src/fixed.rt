@@ -10,7 +10,7 @@ ghost use Rattle.registry_rows.specs.Steps.{Answers, Changes};
 
 use crate::columns::span_at;
 use crate::decode::{FromRow, all_from};
-use registry_schema::{TableFault, fault_of};
+use registry_schema::TableFault;
 use sqlite::{Alter, Row, Transaction, params};
 use std::alloc::Global;
 use usbnum_core::Span;
@@ -35,14 +35,11 @@ pub fn put_fixed<S: Alter>(tx: &mut Transaction<'_, S>, span: Span) -> Result<()
     ensures fault { result ≢ Err TableFault.Foreign }
     ensures survives { CommitsNothing (state S.Store tx.old.conn.now) (state S.Store tx.new.conn.now) }
 {
-    let ran = tx.execute(
+    tx.execute(
         "INSERT OR REPLACE INTO fixed (lo, hi) VALUES (?1, ?2)",
         params![u32::from(span.first().get()), u32::from(span.last().get())],
-    );
-    match ran {
-        Ok(_) => Ok(()),
-        Err(error) => Err(fault_of(error)),
-    }
+    )?;
+    Ok(())
 }
 
 fn all_rows<S: Alter>(tx: &mut Transaction<'_, S>) -> Result<Vec<Row>, TableFault>
@@ -52,11 +49,7 @@ fn all_rows<S: Alter>(tx: &mut Transaction<'_, S>) -> Result<Vec<Row>, TableFaul
     ensures fault { result ≢ Err TableFault.Foreign }
     ensures survives { CommitsNothing (state S.Store tx.old.conn.now) (state S.Store tx.new.conn.now) }
 {
-    let ran = tx.query_all("SELECT lo, hi FROM fixed ORDER BY lo", &[]);
-    match ran {
-        Ok(rows) => Ok(rows),
-        Err(error) => Err(fault_of(error)),
-    }
+    Ok(tx.query_all("SELECT lo, hi FROM fixed ORDER BY lo", &[])?)
 }
 
 /// Returns all fixed numbers as maximal spans, ascending.

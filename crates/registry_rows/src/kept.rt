@@ -11,7 +11,7 @@ ghost use Rattle.registry_rows.specs.Steps.{Answers, Changes};
 use crate::columns::{canonical_form_at, key_at, reply_at, slug_at};
 use crate::decode::{FromRow, first_from};
 use registry_rules::{CanonicalForm, Kept, ReplyText};
-use registry_schema::{TableFault, fault_of};
+use registry_schema::TableFault;
 use sqlite::{Alter, Row, Transaction, params};
 use std::alloc::Global;
 use usbnum_core::{Key, Slug};
@@ -60,7 +60,7 @@ pub fn put_kept<S: Alter>(
     ensures fault { result ≢ Err TableFault.Foreign }
     ensures survives { CommitsNothing (state S.Store tx.old.conn.now) (state S.Store tx.new.conn.now) }
 {
-    let ran = tx.execute(
+    tx.execute(
         "INSERT OR REPLACE INTO kept (caller, request_key, request, reply) VALUES (?1, ?2, ?3, ?4)",
         params![
             caller.as_str(),
@@ -68,11 +68,8 @@ pub fn put_kept<S: Alter>(
             order.as_bytes(),
             reply.as_str()
         ],
-    );
-    match ran {
-        Ok(_) => Ok(()),
-        Err(error) => Err(fault_of(error)),
-    }
+    )?;
+    Ok(())
 }
 
 fn kept_rows<S: Alter>(
@@ -86,14 +83,10 @@ fn kept_rows<S: Alter>(
     ensures fault { result ≢ Err TableFault.Foreign }
     ensures survives { CommitsNothing (state S.Store tx.old.conn.now) (state S.Store tx.new.conn.now) }
 {
-    let ran = tx.query_all(
+    Ok(tx.query_all(
         "SELECT caller, request_key, request, reply FROM kept WHERE caller = ?1 AND request_key = ?2 ORDER BY rowid",
         params![caller.as_str(), key.as_str()],
-    );
-    match ran {
-        Ok(rows) => Ok(rows),
-        Err(error) => Err(fault_of(error)),
-    }
+    )?)
 }
 
 /// Returns what is kept under the caller and key, if anything.

@@ -10,7 +10,7 @@ ghost use Rattle.registry_rows.specs.Steps.{Answers, Changes};
 
 use crate::columns::{number_at, title_at, vid_at};
 use crate::decode::{FromRow, all_from};
-use registry_schema::{TableFault, fault_of};
+use registry_schema::TableFault;
 use sqlite::{Alter, Row, Transaction, params};
 use std::alloc::Global;
 use usbnum_core::{Title, Vid};
@@ -55,14 +55,11 @@ pub fn put_meta<S: Alter>(
     ensures fault { result ≢ Err TableFault.Foreign }
     ensures survives { CommitsNothing (state S.Store tx.old.conn.now) (state S.Store tx.new.conn.now) }
 {
-    let ran = tx.execute(
+    tx.execute(
         "INSERT OR REPLACE INTO meta (id, version, vendor, name) VALUES (1, ?1, ?2, ?3)",
         params![version, u32::from(vendor.get()), name.as_str()],
-    );
-    match ran {
-        Ok(_) => Ok(()),
-        Err(error) => Err(fault_of(error)),
-    }
+    )?;
+    Ok(())
 }
 
 fn all_rows<S: Alter>(tx: &mut Transaction<'_, S>) -> Result<Vec<Row>, TableFault>
@@ -72,11 +69,7 @@ fn all_rows<S: Alter>(tx: &mut Transaction<'_, S>) -> Result<Vec<Row>, TableFaul
     ensures fault { result ≢ Err TableFault.Foreign }
     ensures survives { CommitsNothing (state S.Store tx.old.conn.now) (state S.Store tx.new.conn.now) }
 {
-    let ran = tx.query_all("SELECT version, vendor, name FROM meta ORDER BY id", &[]);
-    match ran {
-        Ok(rows) => Ok(rows),
-        Err(error) => Err(fault_of(error)),
-    }
+    Ok(tx.query_all("SELECT version, vendor, name FROM meta ORDER BY id", &[])?)
 }
 
 /// Returns the rows of `meta`. A sound store has one.

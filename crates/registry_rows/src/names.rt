@@ -10,7 +10,7 @@ ghost use Rattle.registry_rows.specs.Steps.{Answers, Changes};
 
 use crate::columns::{slug_at, title_at};
 use crate::decode::{FromRow, all_from};
-use registry_schema::{TableFault, fault_of};
+use registry_schema::TableFault;
 use sqlite::{Alter, Row, Transaction, params};
 use std::alloc::Global;
 use usbnum_core::{Slug, Title};
@@ -49,14 +49,11 @@ pub fn put_curator<S: Alter>(tx: &mut Transaction<'_, S>, name: &Slug) -> Result
     ensures fault { result ≢ Err TableFault.Foreign }
     ensures survives { CommitsNothing (state S.Store tx.old.conn.now) (state S.Store tx.new.conn.now) }
 {
-    let ran = tx.execute(
+    tx.execute(
         "INSERT OR REPLACE INTO curators (name) VALUES (?1)",
         params![name.as_str()],
-    );
-    match ran {
-        Ok(_) => Ok(()),
-        Err(error) => Err(fault_of(error)),
-    }
+    )?;
+    Ok(())
 }
 
 fn curator_rows<S: Alter>(tx: &mut Transaction<'_, S>) -> Result<Vec<Row>, TableFault>
@@ -66,11 +63,7 @@ fn curator_rows<S: Alter>(tx: &mut Transaction<'_, S>) -> Result<Vec<Row>, Table
     ensures fault { result ≢ Err TableFault.Foreign }
     ensures survives { CommitsNothing (state S.Store tx.old.conn.now) (state S.Store tx.new.conn.now) }
 {
-    let ran = tx.query_all("SELECT name FROM curators ORDER BY name, rowid", &[]);
-    match ran {
-        Ok(rows) => Ok(rows),
-        Err(error) => Err(fault_of(error)),
-    }
+    Ok(tx.query_all("SELECT name FROM curators ORDER BY name, rowid", &[])?)
 }
 
 /// Returns all curators, in order of their bytes.
@@ -95,14 +88,11 @@ pub fn put_licence<S: Alter>(tx: &mut Transaction<'_, S>, name: &Title) -> Resul
     ensures fault { result ≢ Err TableFault.Foreign }
     ensures survives { CommitsNothing (state S.Store tx.old.conn.now) (state S.Store tx.new.conn.now) }
 {
-    let ran = tx.execute(
+    tx.execute(
         "INSERT OR REPLACE INTO licences (name) VALUES (?1)",
         params![name.as_str()],
-    );
-    match ran {
-        Ok(_) => Ok(()),
-        Err(error) => Err(fault_of(error)),
-    }
+    )?;
+    Ok(())
 }
 
 fn licence_rows<S: Alter>(tx: &mut Transaction<'_, S>) -> Result<Vec<Row>, TableFault>
@@ -112,11 +102,7 @@ fn licence_rows<S: Alter>(tx: &mut Transaction<'_, S>) -> Result<Vec<Row>, Table
     ensures fault { result ≢ Err TableFault.Foreign }
     ensures survives { CommitsNothing (state S.Store tx.old.conn.now) (state S.Store tx.new.conn.now) }
 {
-    let ran = tx.query_all("SELECT name FROM licences ORDER BY name, rowid", &[]);
-    match ran {
-        Ok(rows) => Ok(rows),
-        Err(error) => Err(fault_of(error)),
-    }
+    Ok(tx.query_all("SELECT name FROM licences ORDER BY name, rowid", &[])?)
 }
 
 /// Returns all allowed licences, in order of their bytes.

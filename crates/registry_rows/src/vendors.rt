@@ -11,7 +11,7 @@ ghost use Rattle.registry_rows.specs.Steps.{Answers, Changes};
 use crate::columns::{title_at, vid_at};
 use crate::decode::{FromRow, all_from};
 use registry_rules::Vendor;
-use registry_schema::{TableFault, fault_of};
+use registry_schema::TableFault;
 use sqlite::{Alter, Row, Transaction, params};
 use std::alloc::Global;
 use usbnum_core::{Title, Vid};
@@ -43,14 +43,11 @@ pub fn put_vendor<S: Alter>(
     ensures fault { result ≢ Err TableFault.Foreign }
     ensures survives { CommitsNothing (state S.Store tx.old.conn.now) (state S.Store tx.new.conn.now) }
 {
-    let ran = tx.execute(
+    tx.execute(
         "INSERT OR REPLACE INTO vendors (vid, name) VALUES (?1, ?2)",
         params![u32::from(vid.get()), name.as_str()],
-    );
-    match ran {
-        Ok(_) => Ok(()),
-        Err(error) => Err(fault_of(error)),
-    }
+    )?;
+    Ok(())
 }
 
 fn all_rows<S: Alter>(tx: &mut Transaction<'_, S>) -> Result<Vec<Row>, TableFault>
@@ -60,11 +57,7 @@ fn all_rows<S: Alter>(tx: &mut Transaction<'_, S>) -> Result<Vec<Row>, TableFaul
     ensures fault { result ≢ Err TableFault.Foreign }
     ensures survives { CommitsNothing (state S.Store tx.old.conn.now) (state S.Store tx.new.conn.now) }
 {
-    let ran = tx.query_all("SELECT vid, name FROM vendors ORDER BY vid", &[]);
-    match ran {
-        Ok(rows) => Ok(rows),
-        Err(error) => Err(fault_of(error)),
-    }
+    Ok(tx.query_all("SELECT vid, name FROM vendors ORDER BY vid", &[])?)
 }
 
 /// Returns all vendors, in order of vendor ID.

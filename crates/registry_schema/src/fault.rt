@@ -42,3 +42,13 @@ pub fn fault_of(error: Error) -> TableFault
         _ => TableFault::Store,
     }
 }
+
+impl From<Error> for TableFault {
+    ghost use Rattle.registry_schema.specs.Faults.{IsFaultOf};
+
+    ghost from_gives = { λ error fault. IsFaultOf error fault };
+
+    fn from(error: Error) -> TableFault {
+        fault_of(error)
+    }
+}

@@ -8,7 +8,6 @@ ghost use Rattle.table_laws.specs.Making.{no_schema, Adds};
 ghost use Rattle.registry_schema.specs.Schema.{past_meta, past_curators, past_licences, past_fixed, past_orgs, past_petitions, past_entries, past_reserved, schema_1};
 
 use crate::TableFault;
-use crate::fault::fault_of;
 use sqlite::{Alter, Transaction};
 
 fn create_meta<S: Alter>(tx: &mut Transaction<'_, S>) -> Result<(), TableFault>
@@ -18,14 +17,11 @@ fn create_meta<S: Alter>(tx: &mut Transaction<'_, S>) -> Result<(), TableFault>
     ensures fault { result ≢ Err TableFault.Foreign }
     ensures survives { CommitsNothing (state S.Store tx.old.conn.now) (state S.Store tx.new.conn.now) }
 {
-    let ran = tx.execute(
+    tx.execute(
         "CREATE TABLE meta (id INTEGER PRIMARY KEY, version INTEGER NOT NULL, vendor INTEGER NOT NULL, name TEXT NOT NULL) STRICT",
         &[],
-    );
-    match ran {
-        Ok(_) => Ok(()),
-        Err(error) => Err(fault_of(error)),
-    }
+    )?;
+    Ok(())
 }
 
 fn create_curators<S: Alter>(tx: &mut Transaction<'_, S>) -> Result<(), TableFault>
@@ -35,14 +31,11 @@ fn create_curators<S: Alter>(tx: &mut Transaction<'_, S>) -> Result<(), TableFau
     ensures fault { result ≢ Err TableFault.Foreign }
     ensures survives { CommitsNothing (state S.Store tx.old.conn.now) (state S.Store tx.new.conn.now) }
 {
-    let ran = tx.execute(
+    tx.execute(
         "CREATE TABLE curators (name TEXT PRIMARY KEY NOT NULL) STRICT",
         &[],
-    );
-    match ran {
-        Ok(_) => Ok(()),
-        Err(error) => Err(fault_of(error)),
-    }
+    )?;
+    Ok(())
 }
 
 fn create_licences<S: Alter>(tx: &mut Transaction<'_, S>) -> Result<(), TableFault>
@@ -52,14 +45,11 @@ fn create_licences<S: Alter>(tx: &mut Transaction<'_, S>) -> Result<(), TableFau
     ensures fault { result ≢ Err TableFault.Foreign }
     ensures survives { CommitsNothing (state S.Store tx.old.conn.now) (state S.Store tx.new.conn.now) }
 {
-    let ran = tx.execute(
+    tx.execute(
         "CREATE TABLE licences (name TEXT PRIMARY KEY NOT NULL) STRICT",
         &[],
-    );
-    match ran {
-        Ok(_) => Ok(()),
-        Err(error) => Err(fault_of(error)),
-    }
+    )?;
+    Ok(())
 }
 
 fn create_fixed<S: Alter>(tx: &mut Transaction<'_, S>) -> Result<(), TableFault>
@@ -69,14 +59,11 @@ fn create_fixed<S: Alter>(tx: &mut Transaction<'_, S>) -> Result<(), TableFault>
     ensures fault { result ≢ Err TableFault.Foreign }
     ensures survives { CommitsNothing (state S.Store tx.old.conn.now) (state S.Store tx.new.conn.now) }
 {
-    let ran = tx.execute(
+    tx.execute(
         "CREATE TABLE fixed (lo INTEGER PRIMARY KEY, hi INTEGER NOT NULL) STRICT",
         &[],
-    );
-    match ran {
-        Ok(_) => Ok(()),
-        Err(error) => Err(fault_of(error)),
-    }
+    )?;
+    Ok(())
 }
 
 fn create_orgs<S: Alter>(tx: &mut Transaction<'_, S>) -> Result<(), TableFault>
@@ -86,14 +73,11 @@ fn create_orgs<S: Alter>(tx: &mut Transaction<'_, S>) -> Result<(), TableFault>
     ensures fault { result ≢ Err TableFault.Foreign }
     ensures survives { CommitsNothing (state S.Store tx.old.conn.now) (state S.Store tx.new.conn.now) }
 {
-    let ran = tx.execute(
+    tx.execute(
         "CREATE TABLE orgs (slug TEXT PRIMARY KEY NOT NULL, title TEXT NOT NULL, site TEXT NOT NULL, keeper TEXT NOT NULL) STRICT",
         &[],
-    );
-    match ran {
-        Ok(_) => Ok(()),
-        Err(error) => Err(fault_of(error)),
-    }
+    )?;
+    Ok(())
 }
 
 fn create_petitions<S: Alter>(tx: &mut Transaction<'_, S>) -> Result<(), TableFault>
@@ -103,14 +87,11 @@ fn create_petitions<S: Alter>(tx: &mut Transaction<'_, S>) -> Result<(), TableFa
     ensures fault { result ≢ Err TableFault.Foreign }
     ensures survives { CommitsNothing (state S.Store tx.old.conn.now) (state S.Store tx.new.conn.now) }
 {
-    let ran = tx.execute(
+    tx.execute(
         "CREATE TABLE petitions (id INTEGER PRIMARY KEY, org TEXT NOT NULL, want INTEGER, title TEXT NOT NULL, licence TEXT NOT NULL, site TEXT NOT NULL, source TEXT NOT NULL, state INTEGER NOT NULL, pid INTEGER) STRICT",
         &[],
-    );
-    match ran {
-        Ok(_) => Ok(()),
-        Err(error) => Err(fault_of(error)),
-    }
+    )?;
+    Ok(())
 }
 
 fn create_entries<S: Alter>(tx: &mut Transaction<'_, S>) -> Result<(), TableFault>
@@ -120,14 +101,11 @@ fn create_entries<S: Alter>(tx: &mut Transaction<'_, S>) -> Result<(), TableFaul
     ensures fault { result ≢ Err TableFault.Foreign }
     ensures survives { CommitsNothing (state S.Store tx.old.conn.now) (state S.Store tx.new.conn.now) }
 {
-    let ran = tx.execute(
+    tx.execute(
         "CREATE TABLE entries (pid INTEGER PRIMARY KEY, org TEXT NOT NULL, held INTEGER NOT NULL, title TEXT NOT NULL, licence TEXT, site TEXT, source TEXT) STRICT",
         &[],
-    );
-    match ran {
-        Ok(_) => Ok(()),
-        Err(error) => Err(fault_of(error)),
-    }
+    )?;
+    Ok(())
 }
 
 fn create_reserved<S: Alter>(tx: &mut Transaction<'_, S>) -> Result<(), TableFault>
@@ -137,14 +115,11 @@ fn create_reserved<S: Alter>(tx: &mut Transaction<'_, S>) -> Result<(), TableFau
     ensures fault { result ≢ Err TableFault.Foreign }
     ensures survives { CommitsNothing (state S.Store tx.old.conn.now) (state S.Store tx.new.conn.now) }
 {
-    let ran = tx.execute(
+    tx.execute(
         "CREATE TABLE reserved (pid INTEGER PRIMARY KEY) STRICT",
         &[],
-    );
-    match ran {
-        Ok(_) => Ok(()),
-        Err(error) => Err(fault_of(error)),
-    }
+    )?;
+    Ok(())
 }
 
 fn create_kept<S: Alter>(tx: &mut Transaction<'_, S>) -> Result<(), TableFault>
@@ -154,14 +129,11 @@ fn create_kept<S: Alter>(tx: &mut Transaction<'_, S>) -> Result<(), TableFault>
     ensures fault { result ≢ Err TableFault.Foreign }
     ensures survives { CommitsNothing (state S.Store tx.old.conn.now) (state S.Store tx.new.conn.now) }
 {
-    let ran = tx.execute(
+    tx.execute(
         "CREATE TABLE kept (caller TEXT NOT NULL, request_key TEXT NOT NULL, request BLOB NOT NULL, reply TEXT NOT NULL, PRIMARY KEY (caller, request_key)) STRICT",
         &[],
-    );
-    match ran {
-        Ok(_) => Ok(()),
-        Err(error) => Err(fault_of(error)),
-    }
+    )?;
+    Ok(())
 }
 
 /// Creates the tables of the first schema in a database that has none.

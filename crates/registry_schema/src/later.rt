@@ -8,7 +8,6 @@ ghost use Rattle.registry_schema.specs.Schema.{schema_1, schema_2, past_vendors,
 ghost use Rattle.table_laws.specs.Making.{AddsTo};
 
 use crate::TableFault;
-use crate::fault::fault_of;
 use sqlite::{Alter, Transaction};
 
 /// Creates the table that the second schema adds.
@@ -19,14 +18,11 @@ pub fn add_second<S: Alter>(tx: &mut Transaction<'_, S>) -> Result<(), TableFaul
     ensures fault { result ≢ Err TableFault.Foreign }
     ensures survives { CommitsNothing (state S.Store tx.old.conn.now) (state S.Store tx.new.conn.now) }
 {
-    let ran = tx.execute(
+    tx.execute(
         "CREATE TABLE spans (lo INTEGER PRIMARY KEY, hi INTEGER NOT NULL) STRICT",
         &[],
-    );
-    match ran {
-        Ok(_) => Ok(()),
-        Err(error) => Err(fault_of(error)),
-    }
+    )?;
+    Ok(())
 }
 
 fn create_vendors<S: Alter>(tx: &mut Transaction<'_, S>) -> Result<(), TableFault>
@@ -36,14 +32,11 @@ fn create_vendors<S: Alter>(tx: &mut Transaction<'_, S>) -> Result<(), TableFaul
     ensures fault { result ≢ Err TableFault.Foreign }
     ensures survives { CommitsNothing (state S.Store tx.old.conn.now) (state S.Store tx.new.conn.now) }
 {
-    let ran = tx.execute(
+    tx.execute(
         "CREATE TABLE vendors (vid INTEGER PRIMARY KEY, name TEXT NOT NULL) STRICT",
         &[],
-    );
-    match ran {
-        Ok(_) => Ok(()),
-        Err(error) => Err(fault_of(error)),
-    }
+    )?;
+    Ok(())
 }
 
 fn create_spans3<S: Alter>(tx: &mut Transaction<'_, S>) -> Result<(), TableFault>
@@ -53,14 +46,11 @@ fn create_spans3<S: Alter>(tx: &mut Transaction<'_, S>) -> Result<(), TableFault
     ensures fault { result ≢ Err TableFault.Foreign }
     ensures survives { CommitsNothing (state S.Store tx.old.conn.now) (state S.Store tx.new.conn.now) }
 {
-    let ran = tx.execute(
+    tx.execute(
         "CREATE TABLE spans3 (vid INTEGER NOT NULL, lo INTEGER NOT NULL, hi INTEGER NOT NULL, PRIMARY KEY (vid, lo)) STRICT",
         &[],
-    );
-    match ran {
-        Ok(_) => Ok(()),
-        Err(error) => Err(fault_of(error)),
-    }
+    )?;
+    Ok(())
 }
 
 fn create_entries3<S: Alter>(tx: &mut Transaction<'_, S>) -> Result<(), TableFault>
@@ -70,14 +60,11 @@ fn create_entries3<S: Alter>(tx: &mut Transaction<'_, S>) -> Result<(), TableFau
     ensures fault { result ≢ Err TableFault.Foreign }
     ensures survives { CommitsNothing (state S.Store tx.old.conn.now) (state S.Store tx.new.conn.now) }
 {
-    let ran = tx.execute(
+    tx.execute(
         "CREATE TABLE entries3 (vid INTEGER NOT NULL, pid INTEGER NOT NULL, org TEXT NOT NULL, held INTEGER NOT NULL, title TEXT NOT NULL, licence TEXT, site TEXT, source TEXT, PRIMARY KEY (vid, pid)) STRICT",
         &[],
-    );
-    match ran {
-        Ok(_) => Ok(()),
-        Err(error) => Err(fault_of(error)),
-    }
+    )?;
+    Ok(())
 }
 
 fn create_petitions3<S: Alter>(tx: &mut Transaction<'_, S>) -> Result<(), TableFault>
@@ -87,14 +74,11 @@ fn create_petitions3<S: Alter>(tx: &mut Transaction<'_, S>) -> Result<(), TableF
     ensures fault { result ≢ Err TableFault.Foreign }
     ensures survives { CommitsNothing (state S.Store tx.old.conn.now) (state S.Store tx.new.conn.now) }
 {
-    let ran = tx.execute(
+    tx.execute(
         "CREATE TABLE petitions3 (id INTEGER PRIMARY KEY, vid INTEGER NOT NULL, org TEXT NOT NULL, want INTEGER, title TEXT NOT NULL, licence TEXT NOT NULL, site TEXT NOT NULL, source TEXT NOT NULL, state INTEGER NOT NULL, pid INTEGER) STRICT",
         &[],
-    );
-    match ran {
-        Ok(_) => Ok(()),
-        Err(error) => Err(fault_of(error)),
-    }
+    )?;
+    Ok(())
 }
 
 /// Creates the tables that the third schema adds.

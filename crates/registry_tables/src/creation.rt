@@ -9,9 +9,10 @@ ghost use Rattle.registry_tables.specs.Rows.{newest, Rows};
 ghost use Rattle.registry_tables.specs.Calls.{HasNoMeta};
 
 use crate::TableFault;
+use crate::committing::commit;
 use crate::founding::write_founding;
 use registry_rules::Founding;
-use registry_schema::{create_tables, fault_of, is_empty};
+use registry_schema::{create_tables, is_empty};
 use sqlite::{Alter, Connection};
 
 // Creates the tables and writes the founding's rows, in one transaction.
@@ -34,10 +35,7 @@ fn create_in_empty<S: Alter>(
     let mut tx = conn.transaction();
     create_tables(&mut tx)?;
     write_founding(&mut tx, founding)?;
-    match tx.commit() {
-        Ok(()) => Ok(()),
-        Err(error) => Err(fault_of(error)),
-    }
+    commit(tx)
 }
 
 /// Creates all tables and writes the founding's rows, in one transaction.

@@ -4,7 +4,7 @@ ghost use Rattle.std.specs.Prelude.{◌≡◌, ◌≢◌, [], ◌∷◌, IsTrue,
 ghost use Rattle.sqlite.specs.State.{HasCleanDisk};
 ghost use Rattle.sqlite.specs.Held.{state};
 ghost use Rattle.table_laws.specs.Inside.{CommitsNothing};
-ghost use Rattle.registry_old_rows.specs.Steps.{TellsOf};
+ghost use Rattle.registry_rows.specs.Steps.{AnswersOf};
 ghost use Rattle.registry_tables.specs.Raising.{IsMarked};
 
 use registry_old_rows::list_old_metas;
@@ -31,7 +31,7 @@ pub(crate) fn old_meta<S: Alter>(
 ) -> Result<Meta, TableFault>
     ensures same_reference { tx.new.conn.ghost_name ≡ tx.old.conn.ghost_name }
     ensures told { HasCleanDisk (state S.Store tx.new.conn.now) → IsTrue (state S.Store tx.old.conn.now).in_transaction
-        → TellsOf (state S.Store tx.old.conn.now) (state S.Store tx.new.conn.now) (IsMarked version (state S.Store tx.old.conn.now).now) result (λ x meta. x.tables.metas ≡ meta ∷ []) }
+        → AnswersOf (state S.Store tx.old.conn.now) (state S.Store tx.new.conn.now) (IsMarked version (state S.Store tx.old.conn.now).now) result (λ x meta. x.tables.metas ≡ meta ∷ []) }
     ensures survives { CommitsNothing (state S.Store tx.old.conn.now) (state S.Store tx.new.conn.now) }
 {
     let mut metas = list_old_metas(alloc, tx)?;

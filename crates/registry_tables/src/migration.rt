@@ -12,7 +12,7 @@ ghost use Rattle.registry_tables.specs.Raising.{IsMadeBy, CommitsStep, CommitsTw
 
 use crate::second::first_to_second;
 use crate::third::second_to_third;
-use registry_schema::{TableFault, fault_of, version_of};
+use registry_schema::{TableFault, version_of};
 use sqlite::{Alter, Connection, Transaction};
 use std::alloc::Global;
 
@@ -35,11 +35,8 @@ fn try_store<S: Alter>(tx: &mut Transaction<'_, S>) -> Result<(), TableFault>
     ensures fault { result ≢ Err TableFault.Foreign }
     ensures survives { CommitsNothing (state S.Store tx.old.conn.now) (state S.Store tx.new.conn.now) }
 {
-    let ran = tx.query_all("SELECT 1", &[]);
-    match ran {
-        Ok(_) => Ok(()),
-        Err(error) => Err(fault_of(error)),
-    }
+    tx.query_all("SELECT 1", &[])?;
+    Ok(())
 }
 
 // Returns the fault for tables of no schema: Foreign if the store still works. Writes nothing.
