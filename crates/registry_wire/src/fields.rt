@@ -11,7 +11,6 @@ use crate::kind::{Kind, kind_of};
 use crate::link::link_of;
 use crate::rejection::{Rejection, present};
 use crate::span::span_of;
-use crate::text::{key_of, slug_of, title_of};
 use crate::{Field, WireRefusal};
 use serde_json::Value;
 use std::alloc::Global;
@@ -34,34 +33,34 @@ fn text_at(value: &Value, field: Field) -> Option<&str>
     }
 }
 
-#[tactic(auto, unfolding(crate::specs::Reading::slug_in))]
+#[tactic(auto, unfolding(crate::specs::Reading::slug_in, crate::specs::Kinds::slug_of))]
 pub(crate) fn slug_at(alloc: Global, value: &Value, field: Field) -> Result<Slug, Rejection>
     ensures { Gives result (slug_in field (view value.now)) }
 {
     let Some(text) = text_at(value, field) else {
         return wanted(field, None);
     };
-    wanted(field, slug_of(alloc, text.as_bytes())?)
+    wanted(field, Slug::new(alloc, text.as_bytes())?)
 }
 
-#[tactic(auto, unfolding(crate::specs::Reading::key_in))]
+#[tactic(auto, unfolding(crate::specs::Reading::key_in, crate::specs::Kinds::key_of))]
 pub(crate) fn key_at(alloc: Global, value: &Value, field: Field) -> Result<Key, Rejection>
     ensures { Gives result (key_in field (view value.now)) }
 {
     let Some(text) = text_at(value, field) else {
         return wanted(field, None);
     };
-    wanted(field, key_of(alloc, text.as_bytes())?)
+    wanted(field, Key::new(alloc, text.as_bytes())?)
 }
 
-#[tactic(auto, unfolding(crate::specs::Reading::title_in))]
+#[tactic(auto, unfolding(crate::specs::Reading::title_in, crate::specs::Kinds::title_of))]
 pub(crate) fn title_at(alloc: Global, value: &Value, field: Field) -> Result<Title, Rejection>
     ensures { Gives result (title_in field (view value.now)) }
 {
     let Some(text) = text_at(value, field) else {
         return wanted(field, None);
     };
-    wanted(field, title_of(alloc, text.as_bytes())?)
+    wanted(field, Title::new(alloc, text.as_bytes())?)
 }
 
 #[tactic(auto, unfolding(crate::specs::Reading::link_in))]

@@ -22,5 +22,4 @@ mod reply;
 mod request;
 mod span;
 mod stamp;
-mod text;
 mod toml_value;

@@ -5,7 +5,6 @@ ghost use Rattle.toml.specs.View.{view, items_view};
 ghost use Rattle.registry_wire.specs.Founding.{number_from, slug_from, title_from, span_from, span_after, span_written, all_of};
 
 use crate::span::span_of;
-use crate::text::{slug_of, title_of};
 use std::alloc::Global;
 use toml::Value;
 use usbnum_core::{NoMemory, Pid, Slug, Span, Title, Vid, parse_pid, parse_vid};
@@ -35,9 +34,10 @@ impl FromToml for Vid {
 impl FromToml for Slug {
     ghost kind = { slug_from };
 
+    #[tactic(auto, unfolding(crate::specs::Kinds::slug_of))]
     fn read(alloc: Global, value: &Value) -> Result<Option<Slug>, NoMemory> {
         match value.as_str() {
-            Some(text) => slug_of(alloc, text.as_bytes()),
+            Some(text) => Slug::new(alloc, text.as_bytes()),
             None => Ok(None),
         }
     }
@@ -46,9 +46,10 @@ impl FromToml for Slug {
 impl FromToml for Title {
     ghost kind = { title_from };
 
+    #[tactic(auto, unfolding(crate::specs::Kinds::title_of))]
     fn read(alloc: Global, value: &Value) -> Result<Option<Title>, NoMemory> {
         match value.as_str() {
-            Some(text) => title_of(alloc, text.as_bytes()),
+            Some(text) => Title::new(alloc, text.as_bytes()),
             None => Ok(None),
         }
     }
