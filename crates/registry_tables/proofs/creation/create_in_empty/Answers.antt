@@ -30,7 +30,7 @@ returns-clause-made g c clean =
     let two = c.in_ok-write_founding.ensures.written fine one.0.mode in
     (was, no_meta (state g.S.Store old).now is, founding_rows (state g.S.Store last).now f c.in_ok-write_founding.ensures.valid (two.1 no_rows (blank_holds (state g.S.Store mid).now made))) in
     let end = c.commit.new.tx.0 in
-    let same : end ≡ c.conn-1.given.0 = search rules in
+    let same : end ≡ c.conn-2-1.given.0 = search rules in
     let late : HasCleanDisk (state g.S.Store end) = search rules in
     let p = ran (omega (arith, c.commit.ensures.survives.clean)) in
     on_ok_weaker c.commit.result _ _ (λ done. subst (λ h. IsTrue (state g.S.Store old).is_open × HasNoMeta (state g.S.Store old).now × IsTrue (state g.S.Store h).is_open × ((state g.S.Store h).now ≡ (state g.S.Store h).committed) × Rows newest (state g.S.Store h).committed.trees (founded f)) same (p.0, p.1, done.is_open, done.now_is ∙ sym done.committed_is, subst (λ d. Rows newest d.trees (founded f)) (sym done.committed_is) p.2)) (c.commit.ensures.ok late)
@@ -53,7 +53,7 @@ returns-clause-survives g c =
     let two = c.in_ok-write_founding.ensures.written fine one.0.mode in
     (was, no_meta (state g.S.Store old).now is, founding_rows (state g.S.Store last).now f c.in_ok-write_founding.ensures.valid (two.1 no_rows (blank_holds (state g.S.Store mid).now made))) in
     let end = c.commit.new.tx.0 in
-    let same : end ≡ c.conn-1.given.0 = search rules in
+    let same : end ≡ c.conn-2-1.given.0 = search rules in
     let inside = survives_then (state g.S.Store c.transaction-tx.result.conn.now) (state g.S.Store mid) (state g.S.Store last) _ _ (λ _. ⊥) (λ _ db none. none) (λ _ db none. none)
     c.create_tables.ensures.survives c.write_founding.ensures.survives in
     let whole = survives_then (state g.S.Store old) (state g.S.Store last) (state g.S.Store end) _ _ P (λ _ db none. absurd none)
