@@ -33,7 +33,7 @@ returns-clause-made g c clean =
     let same : end ≡ c.conn-2-1.given.0 = search rules in
     let late : HasCleanDisk (state g.S.Store end) = search rules in
     let p = ran (omega (arith, c.commit.ensures.survives.clean)) in
-    on_ok_weaker c.commit.result _ _ (λ done. subst (λ h. IsTrue (state g.S.Store old).is_open × HasNoMeta (state g.S.Store old).now × IsTrue (state g.S.Store h).is_open × ((state g.S.Store h).now ≡ (state g.S.Store h).committed) × Rows newest (state g.S.Store h).committed.trees (founded f)) same (p.0, p.1, done.is_open, done.now_is ∙ sym done.committed_is, subst (λ d. Rows newest d.trees (founded f)) (sym done.committed_is) p.2)) (c.commit.ensures.ok late)
+    on_ok_weaker c.commit.result (λ done. subst (λ h. IsTrue (state g.S.Store old).is_open × HasNoMeta (state g.S.Store old).now × IsTrue (state g.S.Store h).is_open × ((state g.S.Store h).now ≡ (state g.S.Store h).committed) × Rows newest (state g.S.Store h).committed.trees (founded f)) same (p.0, p.1, done.is_open, done.now_is ∙ sym done.committed_is, subst (λ d. Rows newest d.trees (founded f)) (sym done.committed_is) p.2)) (c.commit.ensures.ok late)
 
 pub returns-clause-survives : goal.returns-clause-survives
 returns-clause-survives g c =
