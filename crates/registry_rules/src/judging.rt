@@ -63,6 +63,23 @@ fn repeated(alloc: Global, kept: &Kept, request: &Request) -> Result<Verdict, No
 
 /// Returns the verdict on a request, by the facts of a history. With facts that are not those of a
 /// history, the verdict may be any.
+///
+/// # Examples
+///
+/// Here `rt` is the runtime that `main` gets, `founding` founds a registry, and `request` enrols
+/// the organisation `acme`. It is new: nothing is kept under its key, and there is no `acme` yet.
+///
+/// ```
+/// let totals = Totals::founded(rt.alloc(), &founding).expect(&rt, "memory");
+/// let holdings = Holdings::new(Vec::new(rt.alloc()));
+/// let facts = totals.facts(&request, None, None, None, holdings);
+/// let verdict = judge(rt.alloc(), &facts, &request).expect(&rt, "memory");
+/// let Verdict::New(deed) = verdict else {
+///     panic!(rt; "no deed");
+/// };
+/// let reply = reply_text(rt.alloc(), &deed).expect(&rt, "memory");
+/// assert_eq!(rt; reply.as_str(), "enrolled acme");
+/// ```
 pub fn judge(alloc: Global, facts: &Facts<'_>, request: &Request) -> Result<Verdict, NoMemory>
     ensures { (h : History) → AreFactsOf h request.now facts.now → IfOk result (λ found. found ≡ verdict h request.now) }
 {

@@ -42,6 +42,21 @@ fn a_request_is_accepted(rt: HostRuntime) {
 }
 
 #[test]
+fn a_new_request_has_a_deed(rt: HostRuntime) {
+    let founding = founding(&rt, span(&rt, 1, 16));
+    let request = enrol(&rt, "acme");
+    let totals = Totals::founded(rt.alloc(), &founding).expect(&rt, "memory");
+    let holdings = Holdings::new(Vec::new(rt.alloc()));
+    let facts = totals.facts(&request, None, None, None, holdings);
+    let verdict = judge(rt.alloc(), &facts, &request).expect(&rt, "memory");
+    let Verdict::New(deed) = verdict else {
+        panic!(rt; "no deed");
+    };
+    let reply = reply_text(rt.alloc(), &deed).expect(&rt, "memory");
+    assert_eq!(rt; reply.as_str(), "enrolled acme");
+}
+
+#[test]
 fn totals_are_made_of_lists(rt: HostRuntime) {
     let founding = founding(&rt, span(&rt, 1, 16));
     let mut vendors = Vec::new(rt.alloc());

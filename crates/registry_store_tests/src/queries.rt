@@ -1,8 +1,8 @@
 //! The queries of a registry.
 
 use crate::steps::{ENROL, Step};
-use crate::values::{founding, lines_of, replies_to, requests_of, slug};
-use registry_rules::{Entry, Founding, Org, Petition, PetitionState, Request, Vendor};
+use crate::values::{founding, lines_of, replies_to, request, requests_of, slug};
+use registry_rules::{Entry, Founding, Org, Petition, PetitionState, Reply, Request, Vendor};
 use registry_store::{Fault, Registry, RunEnd};
 use sqlite::{Alter, Connection};
 use std::alloc::Global;
@@ -159,6 +159,23 @@ fn answers_what_it_was_asked_to_do(rt: HostRuntime) -> Result<(), Fail> {
     let vendors = vendors_text(alloc, answers.vendors?.as_slice())?;
     assert_eq!(rt; vendors.as_str(), "1000 Further\n1209 Shared products\n");
     assert_eq!(rt; answers.reserved?.count(), 16 + 256);
+    Ok(())
+}
+
+#[test]
+fn acts_on_one_request(rt: HostRuntime) -> Result<(), Fail> {
+    let alloc = rt.alloc();
+    let founding = founding(alloc)?;
+    let (enrol, _) = ENROL;
+    let request = request(alloc, enrol)?;
+    let conn = Connection::open_in_memory(alloc).expect(&rt, "memory");
+    let found = Registry::found(alloc, conn, &founding);
+    let mut registry = found.ok().expect(&rt, "a registry");
+    let reply = registry.act(&request).expect(&rt, "a reply");
+    let orgs = registry.orgs().expect(&rt, "organisations");
+    let _conn = registry.close();
+    assert!(rt; matches!(&reply, Reply::Done(text) if text.as_str() == "enrolled acme"));
+    assert_eq!(rt; orgs.len(), 1);
     Ok(())
 }
 

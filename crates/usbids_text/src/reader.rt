@@ -188,6 +188,19 @@ impl Intake for Reader {
 /// # Errors
 ///
 /// The first faulty line, or out of memory.
+///
+/// # Examples
+///
+/// Here `rt` is the runtime that `main` gets.
+///
+/// ```
+/// let list = b"1209  Shared products\n\t0011  Blinker\n";
+/// let document = read_all(rt.alloc(), list)?;
+/// let vendor = Vid::new(0x1209).ok_or("no vendor")?;
+/// let name = find(&document, vendor, 0x0011);
+/// assert_eq!(rt; name, Some(b"Blinker".as_slice()));
+/// assert_eq!(rt; find(&document, vendor, 0x0012), None);
+/// ```
 pub fn read_all(alloc: Global, bytes: &[u8]) -> Result<Document, ReadFault>
     ensures { Answers bytes.now result }
 {

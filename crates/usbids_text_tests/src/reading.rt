@@ -77,6 +77,17 @@ fn reads_the_usual_list(rt: HostRuntime) -> Result<(), Fail> {
 }
 
 #[test]
+fn finds_a_device(rt: HostRuntime) -> Result<(), Fail> {
+    let list = b"1209  Shared products\n\t0011  Blinker\n";
+    let document = read_all(rt.alloc(), list)?;
+    let vendor = Vid::new(0x1209).ok_or("no vendor")?;
+    let name = find(&document, vendor, 0x0011);
+    assert_eq!(rt; name, Some(b"Blinker".as_slice()));
+    assert_eq!(rt; find(&document, vendor, 0x0012), None);
+    Ok(())
+}
+
+#[test]
 fn reads_pieces_as_the_whole(rt: HostRuntime) -> Result<(), Fail> {
     let alloc = rt.alloc();
     for text in [USUAL, b"1209  A\r\n\t00AB\tB\r\n\t00ac".as_slice()] {

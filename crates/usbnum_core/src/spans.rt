@@ -20,6 +20,21 @@ use std::marker::Model;
 ///
 /// A contract sees these spans as a list, in which `spans_have` looks for a number. Two sets of the
 /// same numbers are equal. A set keeps its allocator.
+///
+/// # Examples
+///
+/// Here `rt` is the runtime that `main` gets.
+///
+/// ```
+/// let first = Pid::new(0x2000).ok_or("no number")?;
+/// let last = Pid::new(0x20ff).ok_or("no number")?;
+/// let mut set = Spans::new(rt.alloc());
+/// set.add(Span::new(first, last).ok_or("no span")?)?;
+/// assert_eq!(rt; set.count(), 256);
+/// set.cut(Span::new(last, last).ok_or("no span")?)?;
+/// assert!(rt; set.contains(first) && !set.contains(last));
+/// assert_eq!(rt; set.least_outside(&[]), Pid::new(1));
+/// ```
 #[derive(Debug, Drop)]
 pub struct Spans {
     parts: Vec<Span>,

@@ -148,6 +148,19 @@ fn spans_join_and_fall_apart(rt: HostRuntime) -> Result<(), Fail> {
 }
 
 #[test]
+fn numbers_are_added_and_cut(rt: HostRuntime) -> Result<(), Fail> {
+    let first = Pid::new(0x2000).ok_or("no number")?;
+    let last = Pid::new(0x20ff).ok_or("no number")?;
+    let mut set = Spans::new(rt.alloc());
+    set.add(Span::new(first, last).ok_or("no span")?)?;
+    assert_eq!(rt; set.count(), 256);
+    set.cut(Span::new(last, last).ok_or("no span")?)?;
+    assert!(rt; set.contains(first) && !set.contains(last));
+    assert_eq!(rt; set.least_outside(&[]), Pid::new(1));
+    Ok(())
+}
+
+#[test]
 fn the_least_number_outside_is_found(rt: HostRuntime) -> Result<(), Fail> {
     let mut set = Spans::new(rt.alloc());
     assert_eq!(rt; set.least_outside(&[]), Some(pid(1)));
