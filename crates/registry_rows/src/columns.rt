@@ -5,7 +5,6 @@ ghost use Rattle.std.specs.Prelude.{◌≡◌, ◌≢◌, ◌+◌, ◌<◌, ◌^
 ghost use Rattle.sqlite.specs.declared.types.Value.TheVariants.{Text as TextValue, Null, Blob};
 ghost use Rattle.sqlite.specs.Order.{column};
 ghost use Rattle.usbnum_core.specs.Number.{IsNumber};
-ghost use Rattle.usbnum_core.specs.Text.{IsSlug, IsKey, IsTitle, IsLink};
 ghost use Rattle.registry_rows.specs.Rows.{flag, whole, IsSpan};
 ghost use Rattle.usbnum_core.specs.declared.number.Span.{Span as SpanValue};
 
@@ -14,88 +13,35 @@ use registry_schema::TableFault;
 use sqlite::Row;
 use sqlite::types::ValueRef;
 use std::alloc::Global;
-use usbnum_core::{Key, Link, Pid, Slug, Span, Title, Vid};
+use usbnum_core::{Pid, Span, Text, TextRule, Vid};
 
-/// Reads the slug in the column.
-pub fn slug_at(alloc: Global, row: &Row, at: usize) -> Result<Slug, TableFault>
+/// Reads the text in the column, of the kind that the rule `R` accepts.
+pub fn text_at<R: TextRule>(alloc: Global, row: &Row, at: usize) -> Result<Text<R>, TableFault>
     ensures ok { IfOk result (λ text. column row.now at ≡ TextValue text) }
-    ensures foreign { result ≡ Err TableFault.Foreign → (text : _) → IsSlug text → column row.now at ≢ TextValue text }
+    ensures foreign { result ≡ Err TableFault.Foreign → (text : _) → R.IsValid text → column row.now at ≢ TextValue text }
 {
     let Ok(ValueRef::Text(bytes)) = row.get_ref(at) else {
         return Err(TableFault::Foreign);
     };
-    match Slug::new(alloc, bytes) {
+    match Text::new(alloc, bytes) {
         Ok(Some(text)) => Ok(text),
         Ok(None) => Err(TableFault::Foreign),
         Err(_) => Err(TableFault::NoMemory),
     }
 }
 
-/// Reads the key in the column.
-pub fn key_at(alloc: Global, row: &Row, at: usize) -> Result<Key, TableFault>
-    ensures ok { IfOk result (λ text. column row.now at ≡ TextValue text) }
-    ensures foreign { result ≡ Err TableFault.Foreign → (text : _) → IsKey text → column row.now at ≢ TextValue text }
-{
-    let Ok(ValueRef::Text(bytes)) = row.get_ref(at) else {
-        return Err(TableFault::Foreign);
-    };
-    match Key::new(alloc, bytes) {
-        Ok(Some(text)) => Ok(text),
-        Ok(None) => Err(TableFault::Foreign),
-        Err(_) => Err(TableFault::NoMemory),
-    }
-}
-
-/// Reads the title in the column.
-pub fn title_at(alloc: Global, row: &Row, at: usize) -> Result<Title, TableFault>
-    ensures ok { IfOk result (λ text. column row.now at ≡ TextValue text) }
-    ensures foreign { result ≡ Err TableFault.Foreign → (text : _) → IsTitle text → column row.now at ≢ TextValue text }
-{
-    let Ok(ValueRef::Text(bytes)) = row.get_ref(at) else {
-        return Err(TableFault::Foreign);
-    };
-    match Title::new(alloc, bytes) {
-        Ok(Some(text)) => Ok(text),
-        Ok(None) => Err(TableFault::Foreign),
-        Err(_) => Err(TableFault::NoMemory),
-    }
-}
-
-/// Reads the link in the column.
-pub fn link_at(alloc: Global, row: &Row, at: usize) -> Result<Link, TableFault>
-    ensures ok { IfOk result (λ text. column row.now at ≡ TextValue text) }
-    ensures foreign { result ≡ Err TableFault.Foreign → (text : _) → IsLink text → column row.now at ≢ TextValue text }
-{
-    let Ok(ValueRef::Text(bytes)) = row.get_ref(at) else {
-        return Err(TableFault::Foreign);
-    };
-    match Link::new(alloc, bytes) {
-        Ok(Some(text)) => Ok(text),
-        Ok(None) => Err(TableFault::Foreign),
-        Err(_) => Err(TableFault::NoMemory),
-    }
-}
-
-/// Reads the title in the column, or `None` for NULL.
-pub fn title_or_null_at(alloc: Global, row: &Row, at: usize) -> Result<Option<Title>, TableFault>
+/// Reads such a text in the column, or `None` for NULL.
+pub fn text_or_null_at<R: TextRule>(
+    alloc: Global,
+    row: &Row,
+    at: usize,
+) -> Result<Option<Text<R>>, TableFault>
     ensures ok { IfOk result (λ text. MatchOption text (column row.now at ≡ Null) (λ text. column row.now at ≡ TextValue text)) }
-    ensures foreign { result ≡ Err TableFault.Foreign → at < length row.now → (column row.now at ≢ Null) × ((text : _) → IsTitle text → column row.now at ≢ TextValue text) }
+    ensures foreign { result ≡ Err TableFault.Foreign → at < length row.now → (column row.now at ≢ Null) × ((text : _) → R.IsValid text → column row.now at ≢ TextValue text) }
 {
     match row.get_ref(at) {
         Ok(ValueRef::Null) => Ok(None),
-        Ok(ValueRef::Text(_)) => Ok(Some(title_at(alloc, row, at)?)),
-        _ => Err(TableFault::Foreign),
-    }
-}
-
-/// Reads the link in the column, or `None` for NULL.
-pub fn link_or_null_at(alloc: Global, row: &Row, at: usize) -> Result<Option<Link>, TableFault>
-    ensures ok { IfOk result (λ text. MatchOption text (column row.now at ≡ Null) (λ text. column row.now at ≡ TextValue text)) }
-    ensures foreign { result ≡ Err TableFault.Foreign → at < length row.now → (column row.now at ≢ Null) × ((text : _) → IsLink text → column row.now at ≢ TextValue text) }
-{
-    match row.get_ref(at) {
-        Ok(ValueRef::Null) => Ok(None),
-        Ok(ValueRef::Text(_)) => Ok(Some(link_at(alloc, row, at)?)),
+        Ok(ValueRef::Text(_)) => Ok(Some(text_at(alloc, row, at)?)),
         _ => Err(TableFault::Foreign),
     }
 }

@@ -11,9 +11,7 @@ ghost use Rattle.registry_rules.specs.Records.{with_held, with_card};
 ghost use Rattle.registry_rows.specs.Rows.{IsEntry, entry_row, is_of, is_between, by_number};
 ghost use Rattle.registry_rows.specs.Steps.{Answers, Changes, Decodes};
 
-use crate::columns::{
-    flag_at, link_or_null_at, pid_at, slug_at, title_at, title_or_null_at, vid_at,
-};
+use crate::columns::{flag_at, pid_at, text_at, text_or_null_at, vid_at};
 use crate::decode::{FromRow, all_from, first_from};
 use registry_rules::{Card, Entry, Terms};
 use registry_schema::TableFault;
@@ -24,9 +22,9 @@ use usbnum_core::{Number, Pid, Vid};
 fn terms_from(alloc: Global, row: &Row) -> Result<Option<Terms>, TableFault>
     ensures { (e : _) → IsEntry e → row.now ≡ entry_row e → Decodes result e.1.card.terms }
 {
-    let licence = title_or_null_at(alloc, row, 5)?;
-    let site = link_or_null_at(alloc, row, 6)?;
-    let source = link_or_null_at(alloc, row, 7)?;
+    let licence = text_or_null_at(alloc, row, 5)?;
+    let site = text_or_null_at(alloc, row, 6)?;
+    let source = text_or_null_at(alloc, row, 7)?;
     match (licence, site, source) {
         (Some(licence), Some(site), Some(source)) => Ok(Some(Terms {
             licence,
@@ -42,7 +40,7 @@ fn card_from(alloc: Global, row: &Row) -> Result<Card, TableFault>
     ensures { (e : _) → IsEntry e → row.now ≡ entry_row e → Decodes result e.1.card }
 {
     Ok(Card {
-        title: title_at(alloc, row, 4)?,
+        title: text_at(alloc, row, 4)?,
         terms: terms_from(alloc, row)?,
     })
 }
@@ -51,7 +49,7 @@ fn entry_from(alloc: Global, row: &Row) -> Result<Entry, TableFault>
     ensures { (e : _) → IsEntry e → row.now ≡ entry_row e → Decodes result e.1 }
 {
     Ok(Entry {
-        org: slug_at(alloc, row, 2)?,
+        org: text_at(alloc, row, 2)?,
         held: flag_at(row, 3)?,
         card: card_from(alloc, row)?,
     })

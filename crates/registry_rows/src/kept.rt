@@ -8,7 +8,7 @@ ghost use Rattle.table_laws.specs.Inside.{CommitsNothing};
 ghost use Rattle.registry_rows.specs.Rows.{kept_row, is_kept_under};
 ghost use Rattle.registry_rows.specs.Steps.{Answers, Changes};
 
-use crate::columns::{canonical_form_at, key_at, reply_at, slug_at};
+use crate::columns::{canonical_form_at, reply_at, text_at};
 use crate::decode::{FromRow, first_from};
 use registry_rules::{CanonicalForm, Kept, ReplyText};
 use registry_schema::TableFault;
@@ -36,8 +36,8 @@ impl FromRow for KeptRow {
 
     fn from_row(alloc: Global, row: &Row) -> Result<KeptRow, TableFault> {
         Ok(KeptRow {
-            caller: slug_at(alloc, row, 0)?,
-            key: key_at(alloc, row, 1)?,
+            caller: text_at(alloc, row, 0)?,
+            key: text_at(alloc, row, 1)?,
             kept: Kept {
                 order: canonical_form_at(alloc, row, 2)?,
                 reply: reply_at(alloc, row, 3)?,

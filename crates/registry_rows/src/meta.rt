@@ -8,7 +8,7 @@ ghost use Rattle.table_laws.specs.Inside.{CommitsNothing};
 ghost use Rattle.registry_rows.specs.Rows.{meta_key, meta_shown};
 ghost use Rattle.registry_rows.specs.Steps.{Answers, Changes};
 
-use crate::columns::{number_at, title_at, vid_at};
+use crate::columns::{number_at, text_at, vid_at};
 use crate::decode::{FromRow, all_from};
 use registry_schema::TableFault;
 use sqlite::{Alter, Row, Transaction, params};
@@ -37,7 +37,7 @@ impl FromRow for Meta {
         Ok(Meta {
             version: number_at(row, 0)?,
             vendor: vid_at(row, 1)?,
-            name: title_at(alloc, row, 2)?,
+            name: text_at(alloc, row, 2)?,
         })
     }
 }

@@ -8,7 +8,7 @@ ghost use Rattle.table_laws.specs.Inside.{CommitsNothing};
 ghost use Rattle.registry_rows.specs.Rows.{name_row, is_named, by_bytes};
 ghost use Rattle.registry_rows.specs.Steps.{Answers, Changes};
 
-use crate::columns::{slug_at, title_at};
+use crate::columns::text_at;
 use crate::decode::{FromRow, all_from};
 use registry_schema::TableFault;
 use sqlite::{Alter, Row, Transaction, params};
@@ -24,7 +24,7 @@ impl FromRow for Slug {
     ghost columns = { name_row };
 
     fn from_row(alloc: Global, row: &Row) -> Result<Slug, TableFault> {
-        slug_at(alloc, row, 0)
+        text_at(alloc, row, 0)
     }
 }
 
@@ -37,7 +37,7 @@ impl FromRow for Title {
     ghost columns = { name_row };
 
     fn from_row(alloc: Global, row: &Row) -> Result<Title, TableFault> {
-        title_at(alloc, row, 0)
+        text_at(alloc, row, 0)
     }
 }
 

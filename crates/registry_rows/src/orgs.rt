@@ -8,7 +8,7 @@ ghost use Rattle.table_laws.specs.Inside.{CommitsNothing};
 ghost use Rattle.registry_rows.specs.Rows.{org_row, is_called, by_slug};
 ghost use Rattle.registry_rows.specs.Steps.{Answers, Changes};
 
-use crate::columns::{link_at, slug_at, title_at};
+use crate::columns::text_at;
 use crate::decode::{FromRow, all_from, first_from};
 use registry_rules::Org;
 use registry_schema::TableFault;
@@ -25,10 +25,10 @@ impl FromRow for Org {
 
     fn from_row(alloc: Global, row: &Row) -> Result<Org, TableFault> {
         Ok(Org {
-            slug: slug_at(alloc, row, 0)?,
-            title: title_at(alloc, row, 1)?,
-            site: link_at(alloc, row, 2)?,
-            keeper: slug_at(alloc, row, 3)?,
+            slug: text_at(alloc, row, 0)?,
+            title: text_at(alloc, row, 1)?,
+            site: text_at(alloc, row, 2)?,
+            keeper: text_at(alloc, row, 3)?,
         })
     }
 }

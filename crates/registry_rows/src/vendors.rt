@@ -8,7 +8,7 @@ ghost use Rattle.table_laws.specs.Inside.{CommitsNothing};
 ghost use Rattle.registry_rows.specs.Rows.{vendor_key, vendor_shown};
 ghost use Rattle.registry_rows.specs.Steps.{Answers, Changes};
 
-use crate::columns::{title_at, vid_at};
+use crate::columns::{text_at, vid_at};
 use crate::decode::{FromRow, all_from};
 use registry_rules::Vendor;
 use registry_schema::TableFault;
@@ -26,7 +26,7 @@ impl FromRow for Vendor {
     fn from_row(alloc: Global, row: &Row) -> Result<Vendor, TableFault> {
         Ok(Vendor {
             vid: vid_at(row, 0)?,
-            name: title_at(alloc, row, 1)?,
+            name: text_at(alloc, row, 1)?,
         })
     }
 }
