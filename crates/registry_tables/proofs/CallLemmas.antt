@@ -10,7 +10,7 @@ use Rattle.registry_schema.specs.declared.fault.TableFault.{TableFault}
 use Rattle.registry_schema.specs.declared.fault.TableFault.TheVariants.{Foreign}
 use Rattle.registry_rules.specs.History.{History}
 use Rattle.registry_tables.specs.Rows.{newest, Rows, HoldsRows}
-use Rattle.registry_tables.specs.Calls.{Lists, KeepsAll, IsForeign}
+use Rattle.registry_tables.specs.Calls.{Lists, KeepsAll, IsForeign, IsLookUp}
 use Rattle.registry_tables.specs.Finds.{Finds}
 use Rattle.registry_tables.proofs.FindLemmas.{goes_keeps}
 use Rattle.registry_tables.proofs.RowsLemmas.{enters}
@@ -52,15 +52,18 @@ module _ {S : Type 0} (g : Ghosts S) (old begun mid end : Held S) (is : begun �
       tells : HasCleanDisk (state g end) → Finds (state g begun) (state g mid) result Is
       tells clean = let early : HasCleanDisk (state g mid) = omega (arith, last.clean) in told early inside
 
-      pub lists_all : HasCleanDisk (state g end) → IfOk result (λ a. Lists (state g old) (state g end) Is a)
+      lists_all : HasCleanDisk (state g end) → IfOk result (λ a. Lists (state g old) (state g end) Is a)
       lists_all clean = lists_by Is result (tells clean)
 
-      pub is_foreign : HasCleanDisk (state g end) → IsForeign (state g old) (state g end) result
+      is_foreign : HasCleanDisk (state g end) → IsForeign (state g old) (state g end) result
       is_foreign clean = foreign_by Is result (tells clean)
 
-      pub keeps_all : (HasCleanDisk (state g end) → IsRolledBack (state g mid) (state g end)) → HasCleanDisk (state g end) → KeepsAll (state g old) (state g end)
+      keeps_all : (HasCleanDisk (state g end) → IsRolledBack (state g mid) (state g end)) → HasCleanDisk (state g end) → KeepsAll (state g old) (state g end)
       keeps_all undone clean is_open =
           let back = undone clean in
           let kept = keeps_by Is result (tells clean) in
           let same = kept.committed (back.was_open is_open) ∙ ap (λ b. (state g b).committed) is in
           (opened (kept.was_open (back.was_open is_open)), (back.undone is_open).0 ∙ same, (back.undone is_open).1 ∙ same)
+
+      pub look_up : (HasCleanDisk (state g end) → IsRolledBack (state g mid) (state g end)) → CommitsNothing (state g begun) (state g mid) → IsLookUp (state g old) (state g end) result Is
+      look_up undone first = record { answer = lists_all; same = keeps_all undone; foreign = is_foreign; survives = quiet_all first last }

@@ -1,6 +1,6 @@
 -- What the calls on the tables do.
-use Rattle.std.specs.Prelude.{◌≡◌, false, IsTrue, Result, Err}
-use Rattle.sqlite.specs.State.{State}
+use Rattle.std.specs.Prelude.{◌≡◌, false, IsTrue, IfOk, Result, Err}
+use Rattle.sqlite.specs.State.{State, HasCleanDisk}
 use Rattle.sqlite.specs.Effect.{Database}
 use Rattle.registry_schema.specs.Meta.{has_meta_table}
 use Rattle.registry_schema.specs.declared.fault.TableFault.{TableFault}
@@ -11,7 +11,7 @@ use Rattle.registry_rules.specs.Run.{Legal}
 use Rattle.registry_rules.specs.declared.deed.Deed.{Deed}
 use Rattle.registry_rules.specs.declared.order.Request.{Request}
 use Rattle.std.specs.Prelude.{List, ℕ}
-use Rattle.table_laws.specs.Inside.{GoesOn}
+use Rattle.table_laws.specs.Inside.{CommitsNothing, GoesOn}
 use Rattle.sqlite_keyed.specs.Keyed.{insert_by}
 use Rattle.registry_rules.specs.declared.founding.Founding.{Founding}
 use Rattle.registry_rows.specs.Rows.{meta_key, vendor_key}
@@ -42,6 +42,13 @@ module _ (old new : State) where
   -- Foreign comes only from an open connection that shows the rows of no history
   abbrev pub IsForeign : {A : Type 0} → Result A TableFault → Type 0
   IsForeign result = result ≡ Err Foreign → IsTrue old.is_open × ((h : History) → Legal h → ¬ Rows newest old.now.trees h)
+
+-- a look-up in a transaction of its own, which is rolled back: the result is that of each history whose rows were shown, and nothing changes
+pub record IsLookUp {A : Type 0} (old new : State) (result : Result A TableFault) (Is : History → A → Type 0) : Type 0 where
+  pub answer : HasCleanDisk new → IfOk result (Lists old new Is)
+  pub same : HasCleanDisk new → KeepsAll old new
+  pub foreign : HasCleanDisk new → IsForeign old new result
+  pub survives : CommitsNothing old new
 
 -- the transaction goes on, and this function gives its tables after the call
 abbrev pub PutsIn : State → State → (Tables → Tables) → Type 0
