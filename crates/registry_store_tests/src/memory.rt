@@ -42,40 +42,40 @@ fn act_on<S: Alter>(registry: &mut Registry<S>, request: &Request) -> Answer {
 
 // The answers to a request that comes twice, and the number of organisations then.
 #[derive(Clone, Copy, Debug)]
-struct Told {
+struct Outcome {
     first: Answer,
     again: Answer,
     orgs: Option<usize>,
 }
 
-fn act_twice<S: Alter>(registry: &mut Registry<S>, request: &Request) -> Told {
+fn act_twice<S: Alter>(registry: &mut Registry<S>, request: &Request) -> Outcome {
     let first = act_on(registry, request);
     let again = act_on(registry, request);
     let orgs = match registry.orgs() {
         Ok(orgs) => Some(orgs.len()),
         Err(_) => None,
     };
-    Told { first, again, orgs }
+    Outcome { first, again, orgs }
 }
 
-fn close_after<S: Alter + Drop>(mut registry: Registry<S>, request: &Request) -> Told {
-    let told = act_twice(&mut registry, request);
+fn close_after<S: Alter + Drop>(mut registry: Registry<S>, request: &Request) -> Outcome {
+    let outcome = act_twice(&mut registry, request);
     let _conn = registry.close();
-    told
+    outcome
 }
 
 fn act_around_a_crash<D: Crash + Drop>(
     alloc: Global,
     mut registry: Registry<FileStore<D>>,
     request: &Request,
-) -> Option<(Told, Told)> {
+) -> Option<(Outcome, Outcome)> {
     let before = act_twice(&mut registry, request);
     let registry = crash_and_open(alloc, registry, PLAIN)?;
     Some((before, close_after(registry, request)))
 }
 
 // Acts over a new registry in files in memory.
-fn write_text(alloc: Global, founding: &Founding, request: &Request) -> Option<(Told, Told)> {
+fn outcomes(alloc: Global, founding: &Founding, request: &Request) -> Option<(Outcome, Outcome)> {
     let log = Memory::new(alloc);
     let db = Memory::new(alloc);
     let conn = connected(alloc, Files { log, db }, PLAIN).ok()?;
@@ -89,8 +89,8 @@ fn is_short(answer: Answer) -> bool {
 }
 
 // Checks that each answer is right, and that a fault leaves the registry poisoned.
-fn is_right(told: Told) -> bool {
-    let Told { first, again, orgs } = listing;
+fn is_right(outcome: Outcome) -> bool {
+    let Outcome { first, again, orgs } = outcome;
     match (first, again) {
         (Answer::Enrolled, Answer::Enrolled) => orgs == Some(1) || orgs.is_none(),
         (Answer::Enrolled, fault) => is_short(fault) && orgs.is_none(),
@@ -99,8 +99,8 @@ fn is_right(told: Told) -> bool {
     }
 }
 
-fn is_whole(told: Told) -> bool {
-    is_right(told) && told.again == Answer::Enrolled && told.orgs == Some(1)
+fn is_whole(outcome: Outcome) -> bool {
+    is_right(outcome) && outcome.again == Answer::Enrolled && outcome.orgs == Some(1)
 }
 
 #[test]
@@ -109,7 +109,7 @@ fn out_of_memory_poisons_a_registry_and_loses_nothing(rt: HostRuntime) -> Result
     let founding = founding(alloc)?;
     let (enrol, _) = ENROL;
     let request = request(alloc, enrol)?;
-    let (before, after) = write_text(alloc, &founding, &request).ok_or("memory")?;
+    let (before, after) = outcomes(alloc, &founding, &request).ok_or("memory")?;
     assert!(rt; is_right(before), "{before:?}");
     assert!(rt; is_right(after), "{after:?}");
     assert!(rt; is_whole(before) || is_whole(after), "{before:?} {after:?}");
