@@ -10,9 +10,16 @@ use Rattle.clap.specs.Simple.{argument_words, built, built_leaf, help_shape}
 use Rattle.clap.specs.Kinds.{value_kinds}
 use Rattle.clap.specs.declared.builder.value_parser.ValueParser.TheVariants as parser
 use Rattle.clap.specs.declared.error.kind.ErrorKind.TheVariants as kind
-use Rattle.registry_arguments.specs.Commands.{apply_app, apply_in, bare_app, chosen, command_of, export_app, export_in, faults_of, found_app, found_in, import_app, import_in, lookup_app, lookup_in, number_if_given, number_in, report_app, report_in, serve_app, serve_in, trial_app, usbreg_app}
+use Rattle.registry_arguments.specs.declared.command.Command.TheVariants as command
+use Rattle.registry_arguments.specs.Commands.{apply_app, apply_in, asked_by, bare_app, chosen, command_of, export_app, export_in, faults_of, found_app, found_in, import_app, import_in, lookup_app, lookup_in, number_if_given, number_in, report_app, report_in, serve_app, serve_in, trial_app, usbreg_app}
 use Rattle.registry_arguments.proofs.LevelLemmas.{HasValues, first_given, first_passes, level_values}
 use Rattle.registry_arguments.proofs.EnteredLemmas.{Asks, asked}
+
+-- without a subcommand the trial is asked for
+pub no_subcommand : (found : Option (Text × List Row)) → None ≡ option_map (λ (p : Text × List Row). p.1) found → Some command.Trial ≡ asked_by found
+unfolding asked_by
+no_subcommand None none = refl
+no_subcommand (Some p) none = absurd cc
 
 -- ---- values
 
