@@ -52,12 +52,12 @@ by_curator curators caller = check (list_any (bytes_eq caller) curators) NotCura
 abbrev pub by_keeper : Org → Slug → Result Passed Refusal
 by_keeper org caller = check (bytes_eq org.keeper caller) NotKeeper
 
--- 3: the same for the organisation of a petition or of an owned number, which always exists
+-- 3: the same for the organisation of a petition or of a held number; in a legal history it exists
 abbrev pub by_known_keeper : Option Org → Slug → Result Passed Refusal
 by_known_keeper None caller = Err NotKeeper
 by_known_keeper (Some org) caller = by_keeper org caller
 
--- 6, 7: the petition exists and is open
+-- 6, 7: the petition, if it exists and is open
 abbrev pub open_petition : Option Petition → Result Petition Refusal
 open_petition petition = do
   petition ← present petition NoPetition
@@ -88,7 +88,8 @@ held_by_keeper standing known caller = do
   check standing.held NumberNotHeld
   by_known_keeper known caller
 
--- Each kind of order: its checks by their refusals, then its act. `outcome` in Verdict supplies the arguments.
+-- Each kind of order: its checks by their refusals, then its act. `outcome` in Verdict supplies the arguments: `known` is the
+-- organisation concerned, if it exists; an argument of type ℕ is a count.
 
 -- Enrol: 5, 18
 abbrev pub enrol_checks : Option Org → ℕ → Org → Result Act Refusal
@@ -153,7 +154,7 @@ return_checks founding standing known caller = do
   held_by_keeper standing known caller
   Ok (Returned (name_of founding standing.number))
 
--- 15: no number of the span has an owner; the refusal names the least that has one
+-- 15, for Reserve: no number of the span has an owner; the refusal names the least that has one
 abbrev pub none_owned : VendorId → VendorId → Option ProductId → Result Passed Refusal
 none_owned founding vid None = Ok tt
 none_owned founding vid (Some pid) = Err (RangeOwned (name_of founding (number vid pid)))

@@ -1,4 +1,4 @@
--- The texts of replies: to accepted requests, and of refusals.
+-- The texts of replies to accepted requests, and the numbers, names and texts of refusals.
 use Rattle.std.specs.Prelude.{ℕ, List, [], ◌++◌, codes, Option, Some, None, Bool, if◌then◌else◌}
 use Rattle.std.specs.Fmt.{decimal}
 use Rattle.usbnum_core.specs.Number.{digits_of}
@@ -45,7 +45,7 @@ act_text (Imported vid org fresh tally) = codes "imported " ++ tally_text tally
 act_text (VendorAdded vendor name) = codes "added vendor " ++ digits_of vendor
 act_text (LicenceAdded licence) = codes "added licence " ++ licence
 
--- the number of a refusal; 20 to 32 are not refusals of the rules
+-- the number of a refusal. Other crates use 20 to 32, for bad input and for faults (docs/requests.md).
 abbrev pub refusal_number : Refusal → ℕ
 refusal_number KeyReused = 1
 refusal_number NotCurator = 2

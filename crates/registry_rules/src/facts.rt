@@ -62,7 +62,8 @@ pub struct Facts<'a> {
     pub founding: &'a Founding,
     /// All vendors, the founding one included.
     pub vendors: &'a Vendors,
-    /// The vendor concerned: the one that the order means, or its petition's.
+    /// The vendor concerned: the one that the order means, or its petition's, otherwise the
+    /// founding vendor.
     pub vendor: Vid,
     /// What the registry keeps under the request's caller and key.
     pub kept: Option<Kept>,

@@ -49,7 +49,7 @@ fn deed_of(request: &Request, act: Act) -> Result<Deed, AllocError>
     })
 }
 
-// The verdict on a request whose caller used the key before.
+// The verdict on a request whose caller had one accepted under the same key.
 fn repeated(alloc: Global, kept: &Kept, request: &Request) -> Result<Verdict, NoMemory>
     ensures { IfOk result (λ found. (outcome : Result Act Refusal) → found ≡ verdict_by (Some kept.now) request.now outcome) }
 {
