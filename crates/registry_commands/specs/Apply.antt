@@ -6,7 +6,7 @@ use Rattle.sqlite.specs.State.{HasCleanDisk}
 use Rattle.byte_streams.specs.Streams.{AppendsPrefix}
 use Rattle.registry_rules.specs.declared.order.Request.{Request}
 use Rattle.registry_rules.specs.History.{History}
-use Rattle.registry_rules.specs.Run.{after, answers}
+use Rattle.registry_rules.specs.Run.{after, replies_to}
 use Rattle.registry_tables.specs.Rows.{newest}
 use Rattle.registry_store.specs.declared.registry.Registry.{Registry}
 use Rattle.registry_store.specs.Promise.{Leaves, Represents, is_poisoned, state_of}
@@ -19,7 +19,7 @@ use Rattle.registry_commands.specs.Messages.{bad_line_text, exceeds_text, reply_
 
 -- the reply lines of the requests after the first a, up to the n-th
 abbrev pub lines_between : History → List Request → ℕ → ℕ → List ℕ
-lines_between h rs a n = reply_lines (drop a (answers h (take n rs)))
+lines_between h rs a n = reply_lines (drop a (replies_to h (take n rs)))
 
 module _ {S : Type 0} {g : Ghosts S} where
   -- The failures of a run over this registry: Poisoned only if it was poisoned before, Foreign and Taken only if it
@@ -33,7 +33,7 @@ module _ {S : Type 0} {g : Ghosts S} where
   -- All requests after the first a are answered: their reply lines are written, and the registry represents the history
   -- after all.
   pub record IsThrough (it : Registry S g) (h : History) (rs : List Request) (a : ℕ) (old new : Option (List ℕ)) : Type 0 where
-    pub gained : Appends old new (reply_lines (drop a (answers h rs)))
+    pub gained : Appends old new (reply_lines (drop a (replies_to h rs)))
     pub represents : Represents it (after h rs)
 
   -- The run stopped with n requests answered, whose reply lines are written. Of the next line either nothing is written, or

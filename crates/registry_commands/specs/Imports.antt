@@ -13,7 +13,7 @@ use Rattle.registry_rules.specs.declared.order.Request.{Request}
 use Rattle.registry_rules.specs.declared.verdict.Reply.{Reply}
 use Rattle.registry_rules.specs.declared.verdict.Reply.TheVariants.{Done, Refused}
 use Rattle.registry_rules.specs.History.{History}
-use Rattle.registry_rules.specs.Run.{after_one, answer_one}
+use Rattle.registry_rules.specs.Run.{after_one, reply_to}
 use Rattle.registry_tables.specs.Rows.{newest}
 use Rattle.registry_store.specs.declared.registry.Registry.{Registry}
 use Rattle.registry_store.specs.Promise.{Endures, Leaves, Represents, is_poisoned, state_of}
@@ -79,12 +79,12 @@ module _ {S : Type 0} {g : Ghosts S} where
     pub status_is : status ≡ status_of reply
     pub gained : Appends out out_new (reply_line reply)
     pub quiet : PrintsNothing errors
-    pub answered : (h : History) → MayBeActedOn it h r → HasCleanDisk (state_of new) → (reply ≡ answer_one h r) × Represents new (after_one h r)
+    pub answered : (h : History) → MayBeActedOn it h r → HasCleanDisk (state_of new) → (reply ≡ reply_to h r) × Represents new (after_one h r)
 
   -- A prefix of the reply's line is written. A crash leaves the history before the request or after it, and the registry is
   -- poisoned or represents the history after it.
   pub record IsCut (new : Registry S g) (h : History) (r : Request) (out out_new : Option (List ℕ)) : Type 0 where
-    pub gained : AppendsPrefix out out_new (reply_line (answer_one h r))
+    pub gained : AppendsPrefix out out_new (reply_line (reply_to h r))
     pub leaves : Leaves newest (state_of new) (λ x. (x ≡ h) ⊎ (x ≡ after_one h r))
     pub ends : (is_poisoned new ≡ true) ⊎ Represents new (after_one h r)
 

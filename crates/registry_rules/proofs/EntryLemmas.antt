@@ -7,7 +7,7 @@ use Rattle.std.proofs.lemmas.Bool.{cases_eq, eq-eqb, ne_eqb, or_parts}
 use Rattle.usbnum_core.specs.declared.number.Number.{Number}
 use Rattle.registry_rules.specs.Number.{number, is_number}
 use Rattle.registry_rules.specs.History.{History, sooner, first_of, last_of}
-use Rattle.registry_rules.specs.Query.{given, item_of, receiver, card_given, card_asked, card_of_item, owner_of, card_of}
+use Rattle.registry_rules.specs.Query.{answer_if, item_of, receiver, card_given, card_asked, card_of_item, owner_of, card_of}
 use Rattle.registry_rules.specs.Records.{entry_changed, with_held, with_card, after_all}
 use Rattle.registry_rules.specs.Changes.{entry_granted, entry_imported, item_change}
 use Rattle.registry_rules.specs.Import.{Standing}
@@ -33,7 +33,7 @@ entry_by owner card held = option_and_then (λ org. option_map (λ card. record 
 
 pub granted_entry : (b : Bool) (owner : Option (List ℕ)) (now : Bool) (card : Option Card) (held : Option Bool) (petition : Petition) → (b ≡ true → OwnerFits owner now petition.org) →
     (if b then Some (entry_granted petition) else entry_by owner card held)
-    ≡ entry_by (sooner owner (given b petition.org)) (option_or (given b (card_asked petition)) card) (option_or (given b true) held)
+    ≡ entry_by (sooner owner (answer_if b petition.org)) (option_or (answer_if b (card_asked petition)) card) (option_or (answer_if b true) held)
 granted_entry false owner now card held petition h = refl
 granted_entry true None now card held petition h = refl
 granted_entry true (Some owner) now card held petition h =
@@ -41,7 +41,7 @@ granted_entry true (Some owner) now card held petition h =
 
 -- a return leaves the owner and the card
 pub returned_entry : (b : Bool) (owner : Option (List ℕ)) (card : Option Card) (held : Option Bool) →
-    (if b then option_map (with_held false) (entry_by owner card held) else entry_by owner card held) ≡ entry_by owner card (option_or (given b false) held)
+    (if b then option_map (with_held false) (entry_by owner card held) else entry_by owner card held) ≡ entry_by owner card (option_or (answer_if b false) held)
 returned_entry false owner card held = refl
 returned_entry true None card held = refl
 returned_entry true (Some org) None held = refl
@@ -55,12 +55,12 @@ IsCarded None card = Unit {0}
 IsCarded (Some owner) None = ⊥
 IsCarded (Some owner) (Some card) = Unit {0}
 
-carded_grant : (b : Bool) (owner : Option (List ℕ)) (card : Option Card) (org : List ℕ) (new : Card) → IsCarded owner card → IsCarded (sooner owner (given b org)) (option_or (given b new) card)
+carded_grant : (b : Bool) (owner : Option (List ℕ)) (card : Option Card) (org : List ℕ) (new : Card) → IsCarded owner card → IsCarded (sooner owner (answer_if b org)) (option_or (answer_if b new) card)
 carded_grant false owner card org new was = was
 carded_grant true None card org new was = tt
 carded_grant true (Some owner) card org new was = tt
 
-carded_amendment : (b : Bool) (owner : Option (List ℕ)) (card : Option Card) (new : Card) → IsCarded owner card → IsCarded owner (option_or (given b new) card)
+carded_amendment : (b : Bool) (owner : Option (List ℕ)) (card : Option Card) (new : Card) → IsCarded owner card → IsCarded owner (option_or (answer_if b new) card)
 carded_amendment false owner card new was = was
 carded_amendment true None card new was = tt
 carded_amendment true (Some owner) card new was = tt
@@ -101,7 +101,7 @@ pub carded : (h : History) (n : Number) → Legal h → IsCarded (owner_of h n) 
 carded h n legal = carded_deeds h.founding h.deeds n legal
 
 pub amended_entry : (b : Bool) (owner : Option (List ℕ)) (card : Option Card) (held : Option Bool) (new : Card) → IsCarded owner card →
-    (if b then option_map (with_card new) (entry_by owner card held) else entry_by owner card held) ≡ entry_by owner (option_or (given b new) card) held
+    (if b then option_map (with_card new) (entry_by owner card held) else entry_by owner card held) ≡ entry_by owner (option_or (answer_if b new) card) held
 amended_entry false owner card held new has = refl
 amended_entry true None card held new has = refl
 amended_entry true (Some org) None held new has = absurd has

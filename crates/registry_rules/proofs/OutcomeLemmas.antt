@@ -11,7 +11,7 @@ use Rattle.usbnum_core.proofs.MemberLemmas.{has}
 use Rattle.registry_rules.specs.Number.{number, is_number}
 use Rattle.registry_rules.specs.History.{History, sooner, first_of, last_of}
 use Rattle.registry_rules.specs.Import.{Standing, class_of, classes_from}
-use Rattle.registry_rules.specs.Query.{owner_of, is_held, is_reserved, holds, receiver, item_of, given, petition_of, least, org_of, open_count, asked, has_vendor, vendor_meant, is_licence}
+use Rattle.registry_rules.specs.Query.{owner_of, is_held, is_reserved, holds, receiver, item_of, answer_if, petition_of, least, org_of, open_count, asked, has_vendor, vendor_meant, is_licence}
 use Rattle.registry_rules.specs.Checks.{ask_checks, grant_checks, amend_checks, return_checks, reserve_checks, release_checks, import_checks}
 use Rattle.registry_rules.specs.Verdict.{outcome, deed_for, verdict, verdict_by, standing_of, standing_at, org_owning, number_chosen, pid_chosen, least_for, least_owned, meets_fixed, new_petition, new_card, kept_under}
 use Rattle.registry_rules.specs.FactsOf.{AreFactsOf, slug_concerned, petition_named, vendor_concerned, open_concerned, org_concerned, concerns, is_wanted, holding_of, holding_in}
@@ -23,7 +23,7 @@ use Rattle.registry_rules.specs.declared.refusal.Refusal.{Refusal}
 use Rattle.registry_rules.specs.declared.verdict.Verdict.{Verdict}
 use Rattle.registry_rules.specs.declared.verdict.Verdict.TheVariants.{New, Refused}
 use Rattle.registry_rules.specs.declared.facts.Facts.{Facts}
-use Rattle.registry_rules.specs.declared.facts.Kept.{Kept}
+use Rattle.registry_rules.specs.declared.facts.KeptReply.{KeptReply}
 use Rattle.registry_rules.specs.declared.item.Item.{Item}
 use Rattle.registry_rules.specs.declared.record.Holding.{Holding}
 use Rattle.registry_rules.specs.declared.record.Petition.{Petition}
@@ -36,13 +36,13 @@ use Rattle.registry_rules.proofs.SpanNumberLemmas.{same_find, same_all}
 held_given : (n : Number) (act : Act) (owner : Option (List ℕ)) (held : Option Bool) → sooner owner (receiver n act) ≡ None →
     (owner ≡ None → unwrap_or held false ≡ false) → unwrap_or (option_or (holds n act) held) false ≡ false
 held_given n (Granted id petition name) owner held e h =
-    elim (is_number n name.number) as (λ b. sooner owner (given b petition.org) ≡ None → unwrap_or (option_or (given b true) held) false ≡ false)
+    elim (is_number n name.number) as (λ b. sooner owner (answer_if b petition.org) ≡ None → unwrap_or (option_or (answer_if b true) held) false ≡ false)
     [ true ↦ λ no. absurd cc | false ↦ λ no. h no ] e
 held_given n (Imported vid org fresh tally) owner held e h =
     elim (item_of vid fresh n) as (λ o. sooner owner (option_map (λ item. org) o) ≡ None → unwrap_or (option_or (option_map (λ item. true) o) held) false ≡ false)
     [ None ↦ λ no. h no | Some item ↦ λ no. absurd cc ] e
 held_given n (Returned name) owner held e h =
-    elim (is_number n name.number) as (λ b. unwrap_or (option_or (given b false) held) false ≡ false) [ true ↦ refl | false ↦ h e ]
+    elim (is_number n name.number) as (λ b. unwrap_or (option_or (answer_if b false) held) false ≡ false) [ true ↦ refl | false ↦ h e ]
 held_given n _ owner held e h = h e
 
 -- a number without an owner is not held
@@ -172,7 +172,7 @@ same_verdict h request facts are =
     ap (λ kept. verdict_by kept request (outcome_on facts request.caller request.order)) are.kept
     ∙ ap (λ o. verdict_by (kept_under h request.caller request.key) request o) (same_outcome h request facts are)
 
-pub verdict_kept : (h : History) (request : Request) (facts : Facts) (kept : Kept) (found : Verdict) → AreFactsOf h request facts → facts.kept ≡ Some kept →
+pub verdict_kept : (h : History) (request : Request) (facts : Facts) (kept : KeptReply) (found : Verdict) → AreFactsOf h request facts → facts.kept ≡ Some kept →
     ((o : Result Act Refusal) → found ≡ verdict_by (Some kept) request o) → found ≡ verdict h request
 verdict_kept h request facts kept found are is same =
     same (outcome_on facts request.caller request.order) ∙ ap (λ k. verdict_by k request (outcome_on facts request.caller request.order)) (sym is) ∙ same_verdict h request facts are

@@ -48,7 +48,7 @@ impl Holdings {
 
 /// What a registry keeps of an accepted request, by its caller and key, to recognise a repeat.
 #[derive(Clone, Debug, Drop)]
-pub struct Kept {
+pub struct KeptReply {
     /// The canonical form of its order.
     pub order: CanonicalForm,
     /// Its reply.
@@ -66,7 +66,7 @@ pub struct Facts<'a> {
     /// founding vendor.
     pub vendor: Vid,
     /// What the registry keeps under the request's caller and key.
-    pub kept: Option<Kept>,
+    pub kept: Option<KeptReply>,
     /// The organisation concerned: the one that the order names, its petition's, or its number's
     /// owner.
     pub org: Option<Org>,

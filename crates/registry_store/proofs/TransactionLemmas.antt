@@ -16,7 +16,7 @@ use Rattle.registry_rules.specs.declared.verdict.Verdict.{Verdict}
 use Rattle.registry_rules.specs.declared.verdict.Verdict.TheVariants.{New}
 use Rattle.registry_rules.specs.declared.change.Change.{Change}
 use Rattle.registry_rules.specs.History.{History, with_deed}
-use Rattle.registry_rules.specs.Run.{Legal, after_verdict, reply_of, after_one, answer_one}
+use Rattle.registry_rules.specs.Run.{Legal, after_verdict, reply_of, after_one, reply_to}
 use Rattle.registry_rules.specs.TotalsOf.{AreTotalsOf}
 use Rattle.registry_rules.specs.Records.{LeadsTo}
 use Rattle.registry_rules.specs.Verdict.{verdict}
@@ -140,7 +140,7 @@ module _ {S : Type 0} (g : Ghosts S) (old begun mid : Held S) (is : begun ≡ re
           → (HasCleanDisk (state g end) → Shows (state g last) (state g end) (state g last).now (state g last).now false)
           → (reply : List ℕ) → reply ≡ act_text d.act
           → HasCleanDisk (state g end) → (h : History) → Counts before h → IsAt newest (state g old) h
-          → (Done reply ≡ answer_one h r) × Counts after (after_one h r) × IsAt newest (state g end) (after_one h r)
+          → (Done reply ≡ reply_to h r) × Counts after (after_one h r) × IsAt newest (state g end) (after_one h r)
       answered settled went reply said clean h counts at =
           let late : HasCleanDisk (state g last) = omega (arith, third.clean) in
           let mids : HasCleanDisk (state g mid) = omega (arith, second.clean) in
@@ -181,7 +181,7 @@ module _ {S : Type 0} (g : Ghosts S) (old begun mid : Held S) (is : begun ≡ re
     -- the transaction was rolled back, after a verdict that changes nothing
     pub as_before : (HasCleanDisk (state g end) → IsRolledBack (state g mid) (state g end)) → (reply : Reply) → reply_of v ≡ reply → ((h : History) → after_verdict h v ≡ h)
         → HasCleanDisk (state g end) → (h : History) → Counts before h → IsAt newest (state g old) h
-        → (reply ≡ answer_one h r) × Counts before (after_one h r) × IsAt newest (state g end) (after_one h r)
+        → (reply ≡ reply_to h r) × Counts before (after_one h r) × IsAt newest (state g end) (after_one h r)
     as_before back reply is_reply same_history clean h counts at =
         let mids : HasCleanDisk (state g mid) = omega (arith, ends.clean) in
         let start : HasCleanDisk (state g begun) = omega (arith, first.clean) in
