@@ -1,13 +1,11 @@
 -- All bytes that the source gives, from the bytes read so far.
-use Rattle.std.proofs.Common.{◌≡◌, ℕ, ◌≤◌, List, [], ◌++◌, length, take, drop, Option, Some, None, refl, sym, ap, ◌∙◌, append_assoc, arith, length-append}
-use Rattle.std.specs.Io.KnownBytes.{Consumes, IsAtEnd}
-use Rattle.std.proofs.lemmas.List.{append-nil, take-append-le, take-append-drop, length-map, length-take}
+use Rattle.std.proofs.Common.{◌≡◌, ℕ, ◌≤◌, List, [], ◌++◌, length, take, drop, sym, ap, ◌∙◌, append_assoc, arith, length-append}
+use Rattle.std.proofs.lemmas.List.{take-append-le, take-append-drop, length-map, length-take}
 use Rattle.std.proofs.Math.Seq.{take-append_seam}
 use Rattle.httparse.specs.declared.spans.HeaderSpan.{HeaderSpan}
 use Rattle.httparse.specs.declared.spans.RequestSpans.{RequestSpans}
 use Rattle.httparse.specs.Grammar.{RequestHead, HasNoRequest, print_request}
 use Rattle.httparse.specs.Spans.{IsRequestAt, IsRequestWithin, RequestOverflows}
-use Rattle.byte_streams.specs.Streams.{MayGive}
 use Rattle.registry_http.specs.Heads.{HasHead, HasNoHead}
 
 pub has_no_request_nil : HasNoRequest []
