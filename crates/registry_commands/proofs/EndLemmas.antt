@@ -27,7 +27,7 @@ use Rattle.registry_commands.specs.Apply.{IsApplied, IsOfRun}
 use Rattle.registry_commands.specs.Found.{IsFoundBy, IsOfFounding}
 use Rattle.registry_commands.specs.Trial.{IsOfStart, IsTrial, IsTrialOf}
 use Rattle.registry_commands.proofs.ApplyLemmas.{keeps_same}
-use Rattle.registry_commands.proofs.FailureLemmas.{memory_of_input, of_standing, tells_more}
+use Rattle.registry_commands.proofs.FailureLemmas.{memory_of_input, of_sound_run, tells_more}
 
 -- a failure before anything is founded
 pub founding_fails : {S : Type 0} (OfInput : Failure → Type 0) (g : Ghosts S) (conn : Held S) (read : Result Listed WireRefusal) (errors : ErrorOutput) (status : ℕ)
@@ -89,7 +89,7 @@ tried OfInput OfOutput it new founding trial stands (Ok rs) out out_new errors s
               record { founding = founding; trial = trial; n = at.0; within = at.1.within; middle = at.1.gained.0; whole = at.1.gained.1; cut = at.1.gained.2 }
               ),
           tells_more (λ failure. IsOfRun it new (λ h. HasAnswered it h rs 0) failure × OfOutput failure) (λ failure. IsOfSoundRun failure × OfOutput failure) errors
-              (λ failure is. (of_standing it new (λ h. HasAnswered it h rs 0) (founded founding) (inl stands) stands.not_poisoned (memory_is_clean new) failure is.0, is.1)) told,
+              (λ failure is. (of_sound_run it new (λ h. HasAnswered it h rs 0) (founded founding) (inl stands) stands.not_poisoned (memory_is_clean new) failure is.0, is.1)) told,
         ))
       ]
     ]
