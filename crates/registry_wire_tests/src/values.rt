@@ -7,18 +7,23 @@ use std::process::Abort;
 use std::test::Fail;
 use usbnum_core::NoMemory;
 
-// Reads a line, and returns the title, the site or the petition of its order, or the refusal.
+// Returns the licence, the site or the petition of an order.
+fn text_of(alloc: Global, order: &Order) -> Result<String, NoMemory> {
+    match order {
+        Order::AddLicence(it) => Ok(String::from_str(alloc, it.licence.as_str())?),
+        Order::AmendOrg(it) => Ok(String::from_str(alloc, it.site.as_str())?),
+        Order::Decline(it) => {
+            let petition = it.petition;
+            Ok(format!(in alloc; "{petition}")?)
+        }
+        _ => Ok(String::new(alloc)),
+    }
+}
+
+// Reads a line, and returns the licence, the site or the petition of its order, or the refusal.
 fn value(alloc: Global, line: &str) -> Result<String, NoMemory> {
     match line_request(alloc, line.as_bytes())? {
-        Ok(request) => match &request.order {
-            Order::AddLicence(it) => Ok(String::from_str(alloc, it.licence.as_str())?),
-            Order::AmendOrg(it) => Ok(String::from_str(alloc, it.site.as_str())?),
-            Order::Decline(it) => {
-                let petition = it.petition;
-                Ok(format!(in alloc; "{petition}")?)
-            },
-            _ => Ok(String::new(alloc)),
-        },
+        Ok(request) => text_of(alloc, &request.order),
         Err(refusal) => refusal_json(alloc, refusal),
     }
 }
