@@ -1,9 +1,9 @@
 #!/usr/bin/env python3
-"""A plain registry over HTTP, without proofs, by `http.server` and the registry of peer.py: the peer that `usbreg serve` is
-timed beside.
+"""A plain registry over HTTP, without proofs, by `http.server` and the registry of peer.py: the peer of `usbreg serve` in
+benchmarks.
 
-Usage: http_peer.py STORE PORT: serves POST /commands, GET /numbers/{pid} and GET /list of a new store or one that is there,
-on 127.0.0.1, one connection after another, until it is killed."""
+Usage: http_peer.py STORE PORT: serves POST /commands, GET /numbers/{pid} and GET /list of a new or an existing store, on
+127.0.0.1, one connection after another, until it is killed."""
 
 import json
 import sys

@@ -1,9 +1,9 @@
 #!/usr/bin/env python3
-"""Times `usbreg lookup` beside a plain look-up in C and one in Python: whole processes, which take turns.
+"""Times `usbreg lookup` beside a plain look-up in C and one in Python: whole processes, which alternate.
 
-Takes the path of a list, or else Debian's list (package usb.ids), or a made-up one of its size. Prints the median of the
-runs of each, in milliseconds, and the ratios. Wants the program that `make` builds, or the one whose path is in USBREG,
-and cc."""
+Takes the path of a list, else uses Debian's list (package usb.ids), else a made-up one of its size. Prints the median of
+the runs of each, in milliseconds, and the ratios. Needs the program that `make` builds, or the one whose path is in
+USBREG, and cc."""
 
 import os
 import statistics

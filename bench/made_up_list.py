@@ -1,4 +1,4 @@
-"""Prints a made-up list of about so many bytes."""
+"""Prints a made-up list of about the given number of bytes."""
 import random
 import sys
 

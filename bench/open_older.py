@@ -1,12 +1,12 @@
 #!/usr/bin/env python3
-"""Measures the first opening of a large store of schema 2, which brings it to the newest schema, and the second one:
-`usbreg report STORE census`, its seconds and its memory at the peak, and beside it what the engine alone takes to open
-such a file: that of a store with one table more, which is foreign, so that nothing of it is read.
+"""Measures the first opening of a large store of schema 2, which migrates it to the newest schema, and the second one: the
+seconds and the peak memory of `usbreg report STORE census`. Beside it, it measures what the engine alone takes to open
+such a file: a store with one more table, which is foreign, so that nothing of it is read.
 
 SQLite makes the store on tmpfs (/dev/shm), in memory: 65,535 entries and 1,000,000 petitions of 1,000 organisations,
-once without the kept replies of these requests, 2,001,000, and once with them. For a comparison SQLite itself copies and empties the
-tables, by the same statements in one transaction. Each first opening is of a new copy; the best of three is printed.
-Wants cc and the program that `make` builds, or the one whose path is given or is in USBREG."""
+once without the kept replies of these requests, 2,001,000, and once with them. For comparison SQLite itself copies and
+empties the tables, by the same statements in one transaction. Each first opening is of a new copy; the best of three is
+printed. Needs cc and the program that `make` builds, or the one whose path is given or is in USBREG."""
 
 import os
 import re
@@ -69,7 +69,7 @@ def make(store, rows):
 
 
 def measured(peak, words, fault=""):
-    """Seconds, the most bytes of memory at a time, and what was printed, of a run that ends with this fault or none."""
+    """Returns the seconds, the peak memory in bytes, and the output of a run that ends with this fault or none."""
     began = time.perf_counter()
     ran = subprocess.run([peak, *words], capture_output=True, check=False)
     seconds, said = time.perf_counter() - began, ran.stderr.decode().strip()
@@ -87,7 +87,7 @@ def by_sqlite(store):
 
 
 def foreign(store):
-    """Gives the store a table more."""
+    """Adds a table to the store."""
     with opened(store) as connection:
         connection.execute("CREATE TABLE other (title TEXT NOT NULL) STRICT")
         connection.commit()

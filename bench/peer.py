@@ -1,9 +1,9 @@
 #!/usr/bin/env python3
-"""A registry of a few lines over sqlite3, without proofs: the peer that `usbreg` is timed beside.
+"""A registry of a few lines over sqlite3, without proofs: the peer of `usbreg` in benchmarks.
 
-Usage: peer.py STORE FILE: acts on the request lines of a file over a new store, or over one that is there
-(:memory: for memory). It makes the checks of enrol, ask, grant and decline in SQL, keeps counts and the
-least free number in memory, commits each accepted request, and writes each reply before the next request."""
+Usage: peer.py STORE FILE: acts on the request lines of a file over a new or an existing store (:memory: for memory). It
+makes the checks of enrol, ask, grant and decline in SQL, keeps counts and the least free number in memory, commits each
+accepted request, and writes each reply before it acts on the next request."""
 
 import json
 import os

@@ -1,4 +1,5 @@
-"""A plain look-up in a usb.ids list, to compare with: the name of the first such device, line by line to the end of the list."""
+"""A plain look-up in a usb.ids list, for comparison: prints the name of the first such device, and reads the list line by
+line to its end."""
 import re
 import sys
 

@@ -1,4 +1,4 @@
-"""A plain reader of a usb.ids list, to compare with: names as bytes, a tree of lists."""
+"""A plain reader of a usb.ids list, for comparison: names as bytes, a tree of lists."""
 import sys
 import time
 

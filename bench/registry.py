@@ -2,10 +2,10 @@
 """Times `usbreg` beside two registries of a few lines without proofs, one in C over libsqlite3 and one in
 Python over sqlite3, on the same made-up requests: whole programs, from request lines to reply lines.
 
-Prints requests a second and their ratios, in memory and in a file on tmpfs (/dev/shm), best and median of
-five runs that take turns (of 100,000 in memory one alone: there a table is a sorted list); then what a request
-costs on a store with 60,000 entries and 100,000 petitions over what it costs on an empty one. Wants the program
-that `make` builds, or the one whose path is in USBREG, and says what is missing."""
+Prints requests per second and their ratios, in memory and in a file on tmpfs (/dev/shm), best and median of five runs
+that alternate (of 100,000 in memory only one: there a table is a sorted list). Then it prints the cost of a request on a
+store with 60,000 entries and 100,000 petitions over that on an empty one. Needs the program that `make` builds, or the
+one whose path is in USBREG, and says what is missing."""
 
 import os
 import shutil
@@ -23,7 +23,7 @@ RUNS = int(os.environ.get("TIMES", "5"))
 
 
 def timed(words, lines=os.devnull):
-    """Seconds, and what was printed."""
+    """Returns the seconds, and the output."""
     with open(lines, "rb") as given:
         began = time.perf_counter()
         ran = subprocess.run(words, stdin=given, stdout=subprocess.PIPE, check=True)
@@ -72,7 +72,7 @@ def programs(room):
 
 
 def side_by_side(all_programs, lines, run, title, runs):
-    """Each program in turn, so many times; all must print the same."""
+    """Runs each program in turn, the given number of times; all must print the same."""
     count = content(lines).count(b"\n")
     taken = {it.name: [] for it in all_programs}
     for _ in range(runs):
@@ -95,7 +95,7 @@ def new_store(room, it):
 
 
 def on_a_full_store(all_programs, room):
-    """What a request costs on a full store over an empty one, opening left out."""
+    """Returns the cost of a request on a full store over that on an empty one, without opening."""
     full = write_requests(f"{room}/full.jsonl", [*rounds(1, 60000), *declined(60000, 40000)])
     more = write_requests(f"{room}/more.jsonl", rounds(60001, 65000, others=40000))
     few = write_requests(f"{room}/few.jsonl", rounds(1, 5000))

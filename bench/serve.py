@@ -2,11 +2,11 @@
 """Times `usbreg serve` beside two registries over HTTP of a few lines without proofs, one in C over libsqlite3 and one in
 Python by http.server and sqlite3: the same messages, one connection each, from a client in C that keeps up.
 
-Prints messages a second and their ratios, in a file on tmpfs (/dev/shm), best and median of five runs that take turns:
-orders on a new store, and numbers and the list of a store with 60,000 numbers and 100,000 petitions. Then, of usbreg
-alone, what a query costs on that store over what it costs on one with 100 numbers; and how much the most memory that the
-process has had grows by the longest order, the longest list, the most devices and a query for the list. Wants
-the program that `make` builds, or the one whose path is in USBREG, and cc, and says what is missing."""
+Prints messages per second and their ratios, in a file on tmpfs (/dev/shm), best and median of five runs that alternate:
+orders on a new store, and numbers and the list of a store with 60,000 numbers and 100,000 petitions. Then, for usbreg
+alone, it prints the cost of a query on that store over that on one with 100 numbers, and how much the longest order, the
+longest list, the most devices and a query for the list raise the peak memory. Needs the program that `make` builds, or the
+one whose path is in USBREG, and cc, and says what is missing."""
 
 import os
 import re
@@ -22,14 +22,14 @@ from serving import Serving, command, exchange, free_port, get, post
 from usbreg import apply, content, declined, done, found, program, remove, rounds, write_requests
 
 RUNS = int(os.environ.get("TIMES", "5"))
-# How many connections the client has open at a time.
+# The number of connections that the client has open at a time.
 OPEN = 8
 TABLES = f"{HERE}/tables.sql"
 NUMBERS, PETITIONS, FEW = 60000, 100000, 100
 
 
 class Program:
-    """A program that serves a store on a port, and one that acts on request lines."""
+    """A program that serves a store on a port, and another that acts on request lines."""
 
     def __init__(self, name, serve, found, act):
         self.name, self.words, self.new, self.act = name, serve, found, act
@@ -77,13 +77,13 @@ class Client:
         self.path = build(room, "http_client")
 
     def send(self, server, messages):
-        """Seconds, and the bytes of all responses."""
+        """Returns the seconds, and the bytes of all responses."""
         seconds, count = done([self.path, str(server.port), messages, str(OPEN)]).split()
         return float(seconds), int(count)
 
 
 def side_by_side(title, all_programs, count, run):
-    """Each program in turn, so many times; the responses of all must have as many bytes."""
+    """Runs each program in turn, the given number of times; the responses of all must have equally many bytes."""
     taken = {it.name: [] for it in all_programs}
     for _ in range(RUNS):
         sizes = set()
@@ -122,12 +122,12 @@ def queries(title, all_programs, client, room, stores, messages):
 
 
 def numbers(count, most):
-    """Queries for numbers that are held, all over those of a store with so many."""
+    """Queries for held numbers, spread over a store with the given number of them."""
     return [get(f"/numbers/{17 + at * 7919 % most:04x}") for at in range(count)]
 
 
 def growth(usbreg, client, room, full):
-    """What queries cost on the large store over what they cost on a small one."""
+    """Returns the cost of queries on the large store over that on a small one."""
     few = usbreg.filled(f"{room}/few.db", write_requests(f"{room}/few.jsonl", rounds(1, FEW)))
     for title, of in (
         ("/numbers/{pid}", lambda most: numbers(5000, most)),
@@ -143,12 +143,12 @@ def growth(usbreg, client, room, full):
 
 
 def peak(server):
-    """The most bytes of memory that the process has had."""
+    """Returns the peak memory of the process, in bytes."""
     return 1024 * int(re.search(r"^VmHWM:\s+(\d+)", content(f"/proc/{server.process.pid}/status").decode(), re.MULTILINE)[1])
 
 
 def memory(usbreg, room, full):
-    """The most memory after messages of the greatest sizes."""
+    """Measures the peak memory after messages of the greatest sizes."""
     listed = (b"# \n" * 4194304)[:4194304]
     devices = b"1209  x\n" + b"".join(b"\t%04x  %s\n" % (1 + at % 0xfff0, b"D" * 200) for at in range(8192))
     enrolment = b'{"order":"enrol","org":"acme","title":"Acme","site":"https://acme.example/"}'

@@ -1,8 +1,8 @@
 #!/usr/bin/env python3
-"""Runs `usbreg` over stores in files, case by case, and compares what it prints, its status and the tables.
+"""Runs `usbreg` over stores in files, case by case, and compares what it prints, its exit status and the tables.
 
-Usage: scripts/apply_in_files.py [PROGRAM], by default the one that `make` builds. The status is 0 where every
-case is as it should be."""
+Usage: scripts/apply_in_files.py [PROGRAM], by default the one that `make` builds. The exit status is 0 if every case
+passes."""
 
 import json
 import os
@@ -16,7 +16,7 @@ REPLIES = [f'{{"done":"enrolled o{number}"}}\n' for number in range(1, 11)]
 
 
 class Room:
-    """A folder with a program, and how many of its cases were seen."""
+    """A folder with a program, and the number of cases that ran."""
 
     def __init__(self, usbreg, made):
         self.program, self.folder, self.seen = usbreg, made, 0
@@ -25,7 +25,7 @@ class Room:
         return write(f"{self.folder}/{name}", text)
 
     def case(self, words, status=0, output="", errors="", lines=b""):
-        """The words end with this status and print these texts."""
+        """Checks that these arguments end with this exit status and print these texts."""
         ended, printed, said = run([self.program, *words], lines)
         if (ended, printed, said) != (status, output.encode(), errors.encode()):
             sys.exit(f"usbreg {' '.join(words)}: status {ended}, printed {printed!r} and {said!r}")
@@ -38,7 +38,7 @@ class Room:
 
 
 def change_from_outside(store, change):
-    """Another program changes a store."""
+    """Changes a store by another program."""
     with opened(store) as connection:
         connection.execute("PRAGMA journal_mode = WAL")
         connection.execute(change)
@@ -51,7 +51,7 @@ def same_tables(what, store, other):
 
 
 def ten_enrolments(room):
-    """Applied whole, and from the first request that is not answered."""
+    """Applies a file whole, and from the first unanswered request on."""
     whole, empty = room.founded("whole"), room.founded("empty")
     room.case(["apply", whole, TEN], output="".join(REPLIES))
     requests = content(TEN).decode().splitlines(keepends=True)
@@ -68,7 +68,7 @@ def ten_enrolments(room):
 
 
 def what_is_not_acted_on(room):
-    """A bad line, an input or a store that is not there, a store that holds no registry."""
+    """Tries a bad line, a missing input or store, and a store that holds no registry."""
     store, untouched = room.founded("standing"), room.founded("untouched")
     bad = room.file("bad.jsonl", content(TEN).decode().splitlines()[0] + "\n\n[]\n")
     room.case(["apply", store, bad], 2, errors='line 3: {"name":"BadJson","refused":27}\n')
@@ -98,7 +98,7 @@ def what_is_not_acted_on(room):
 
 
 def outputs_that_fail(room):
-    """A reader that goes away after six replies, and a device that is full."""
+    """Tries a reader that goes away after six replies, and a device that is full."""
     store, full = room.founded("piped"), room.founded("full")
     with subprocess.Popen([room.program, "apply", store, TEN], stdout=subprocess.PIPE, stderr=subprocess.PIPE) as applying:
         applying.stdout.close()
@@ -116,7 +116,8 @@ def outputs_that_fail(room):
 
 
 def bad_inputs(room):
-    """The first line that is no request is named by its number, and a founding file by its key. Nothing is acted on."""
+    """The message for an input names the first line that is not a request, by its number; that for a founding file names
+    the key. Nothing is acted on."""
     enrol = content(TEN).decode().splitlines()[0]
     reserve = '{"caller":"ann","key":"k1","order":"reserve","first":"0020","last":"0010"}'
     imported = '{"caller":"ann","key":"k1","order":"import"}'
@@ -138,7 +139,7 @@ def bad_inputs(room):
 
 
 def repeats(room):
-    """Repeats, refusals and a registry that is founded again write nothing: the file keeps its bytes."""
+    """Repeats, refusals and a second founding write nothing: the file keeps its bytes."""
     store = room.founded("repeats")
     room.case(["apply", store, TEN], output="".join(REPLIES))
     before = content(store)
@@ -151,7 +152,7 @@ def repeats(room):
 
 
 def words(room):
-    """No words are a trial."""
+    """Without arguments the program runs a trial."""
     lines = content(f"{EXAMPLES}/first.jsonl")
     replies = '{"done":"enrolled acme"}\n{"done":"petition 1"}\n{"done":"granted 0011 to acme by petition 1"}\n'
     for said in ([], ["trial"]):

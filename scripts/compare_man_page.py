@@ -1,11 +1,11 @@
 #!/usr/bin/env python3
-"""Compares man/usbreg.1 with what `usbreg` says of itself.
+"""Compares man/usbreg.1 with the help of `usbreg`.
 
-The version, the commands, and of each command its usage line, its arguments and its options with their values are
-those of `usbreg --help` and of each command's own help, and nothing else.
+The page must have exactly the version and the commands of `usbreg --help`, and for each command the usage line, the
+arguments and the options with their values of its own help.
 
 Usage: scripts/compare_man_page.py [PROGRAM [PAGE]], by default the program that `make` builds, and man/usbreg.1.
-The status is 0 where they agree.
+The exit status is 0 if they agree.
 """
 
 import re
@@ -13,26 +13,26 @@ import sys
 
 from usbreg import TOP, content, done, program
 
-# What each command's help has, and the page says once.
+# What each command's help has, and the page has once.
 COMMON = {"-h, --help", "-V, --version"}
 
 
 def section(text, name):
-    """The first column of a section of a help text."""
+    """Returns the first column of a section of a help text."""
     there = re.search(rf"^{name}:\n((?:  .*\n)*)", text, re.MULTILINE)
     return [re.split(r"  +", line.strip())[0] for line in there[1].splitlines()] if there else []
 
 
 def help_of_command(usbreg, command):
-    """Its usage line, and its arguments and options. The page writes STORE where the help writes <STORE>, and usbreg
-    where the help has the name of the file that was run."""
+    """Returns its usage line, and its arguments and options. The page has STORE for the help's <STORE>, and usbreg for
+    the name of the file that was run."""
     text = re.sub(r"<(\w+)>", r"\1", done([usbreg, command, "--help"]).decode())
     usage = re.search(r"^Usage: \S+ (.*)$", text, re.MULTILINE)[1]
     return f"usbreg {usage}", {*section(text, "Arguments"), *section(text, "Options")} - COMMON
 
 
 def helped(usbreg):
-    """What is said of each command, and of the program under no name."""
+    """Returns the help of each command, and of the program under no name."""
     whole = done([usbreg, "--help"]).decode()
     told = {"": ("", set(section(whole, "Options")))}
     for command in section(whole, "Commands"):
@@ -41,12 +41,12 @@ def helped(usbreg):
 
 
 def plain(line):
-    """A line of roff without its macro, its quotes and its escapes."""
+    """Returns a line of roff without its macro, its quotes and its escapes."""
     return re.sub(r"^\.\w+ ", "", line).replace('"', "").replace("\\-", "-").replace("  ", " ").strip()
 
 
 def documented(page):
-    """The same of the man page: a command is a heading with its usage, and an argument or option a tag below it."""
+    """Returns the same for the man page: a command is a heading with its usage, and an argument or option a tag below it."""
     told, command = {}, None
     lines = page.splitlines()
     for line, below in zip(lines, lines[1:]):

@@ -1,10 +1,10 @@
 #!/usr/bin/env python3
-"""Holds `usbreg` against a plain history in Python (`plain_history.py`): the cases in `cases/`, histories at the edges of
-limits, and requests made up by chance, the same ones in each run. Replies, all tables and the exported list have to be
-the same, and another reader has to find the held numbers and their titles in the list.
+"""Compares `usbreg` with a plain history in Python (`plain_history.py`): over the cases in `cases/`, histories at the
+edges of limits, and random requests, the same ones in each run. Replies, all tables and the exported list must be the
+same, and another reader must find the held numbers and their titles in the list.
 
-Usage: scripts/compare_with_plain_history.py [PROGRAM], by default the one that `make` builds. The status is 0 where all
-is as it should be.
+Usage: scripts/compare_with_plain_history.py [PROGRAM], by default the one that `make` builds. The exit status is 0 if all
+agree.
 
 A case is a file of request lines and a file of reply lines. A line whose order is `import` has a list in place of items:
 the command `import` takes it."""
@@ -23,7 +23,7 @@ from usbreg import TOP, content, folder, found, opened, program, run, write, wri
 
 LINK = "http://a.example/"
 ORDERS_IN_CHANCE = 3000
-# What nobody can meet with a few requests made up by chance.
+# Refusals that a few random requests cannot meet.
 RARE = {12, 14, 18, 19}
 
 
@@ -46,7 +46,7 @@ class Registry:
         return self.ended([*words, *vendor], (0, 2))
 
     def replies(self, requests):
-        """What the program replies, in one run for each stretch without an import."""
+        """Returns the program's replies, from one run for each stretch without an import."""
         replies = []
         for is_import, stretch in groupby(requests, lambda it: it["order"] == "import"):
             if is_import:
@@ -57,7 +57,7 @@ class Registry:
         return replies
 
     def send(self, what, requests, replies=None):
-        """Both reply the same, and what was expected, and have the same tables then."""
+        """Checks that both reply the same, and as expected, and then have the same tables."""
         expected = [plain_history.line(self.history.answer(request)) for request in requests]
         for request, plain, given in zip(requests, expected, replies or expected, strict=True):
             if plain != given:
@@ -77,7 +77,7 @@ class Registry:
                     sys.exit(f"{what}: the table {name} is {stored}, where {rows} is expected")
 
     def compare_list(self, what):
-        """The exported list is the plain history's to the byte, and so is what another reader takes from it."""
+        """Checks that the exported list is the plain history's to the byte, and that another reader reads the same in it."""
         lines = self.ended(["export", self.store])
         if lines != self.history.list_lines():
             sys.exit(f"{what}: the list is {lines}, where {self.history.list_lines()} is expected")
@@ -87,7 +87,7 @@ class Registry:
 
 
 class Room:
-    """A folder with a program, for one registry after the other."""
+    """A folder with a program, for one registry after another."""
 
     def __init__(self, usbreg, made):
         self.program, self.folder, self.count = usbreg, made, 0
@@ -117,7 +117,7 @@ def requests_in(path):
 
 
 def all_cases():
-    """The name and the requests of each case."""
+    """Returns the name and the requests of each case."""
     for path in sorted(glob.glob(f"{TOP}/cases/*.requests")):
         yield os.path.splitext(os.path.basename(path))[0], requests_in(path)
 
@@ -129,7 +129,7 @@ def cases(room):
 
 
 def limits(room):
-    """As many vendors, licences and items as there may be, and one more; a registry whose numbers are all fixed."""
+    """Tries the greatest numbers of vendors, licences and items, and one more; and a registry whose numbers are all fixed."""
     full, known = '{"name":"Full","refused":18}', '{"name":"{}Taken","refused":{}}'
     vendors = [request("cora", f"v{it}", "add-vendor", vendor=f"{it:04x}", name=f"Vendor {it}") for it in range(0x3001, 0x3101)]
     again = request("cora", "again", "add-vendor", vendor="3001", name="Vendor")
@@ -154,7 +154,7 @@ def limits(room):
 
 
 class Chance:
-    """Requests of a few callers, keys, organisations, vendors and numbers, so that they clash."""
+    """Random requests of a few callers, keys, organisations, vendors and numbers, so that they clash."""
 
     def __init__(self, seed):
         self.dice = random.Random(seed)
@@ -169,7 +169,7 @@ class Chance:
         return self.one_of({"number": self.number()}, {}, {})
 
     def vendor(self):
-        """A vendor that is there, one that may be, one that never is, or none that is named."""
+        """Returns a vendor that the registry has, one that it may have, one that it never has, or none."""
         return self.one_of({"vendor": "1209"}, {"vendor": "cafe"}, {"vendor": "beef"}, *[{}] * 5)
 
     def org(self):
@@ -210,7 +210,7 @@ class Chance:
 
 
 def made_up(room):
-    """Requests by chance, a fourth of them sent before. Each kind of order is accepted, and each refusal given."""
+    """Makes random requests, a fourth of them repeats. Each kind of order is accepted, and each refusal occurs."""
     registry, chance, sent, replies = room.registry("ann", "0007"), Chance(12), [], []
     while len(sent) < ORDERS_IN_CHANCE:
         again = sent and chance.dice.randrange(4) == 0

@@ -1,7 +1,7 @@
-"""The crates that crates.txt names, and how Rattle is asked to check one of them.
+"""The crates that crates.txt names, and the command by which Rattle checks one of them.
 
-The flags are those that `rt check` passes, which a list of the running processes shows (`rattle check --help` says what
-each is for). A library that the file does not name is the kit's."""
+The flags are those that `rt check` passes, as a list of the running processes shows (`rattle check --help` explains
+them). A library that the file does not name is one of the kit's."""
 
 import os
 import subprocess
@@ -10,7 +10,7 @@ TOP = os.path.dirname(os.path.dirname(os.path.abspath(__file__)))
 
 
 def kit():
-    """The folder of the kit, in which the page lies that `rt doc` names."""
+    """Returns the folder of the kit, which has the page that `rt doc` names."""
     return os.path.dirname(subprocess.run(["rt", "doc"], stdout=subprocess.PIPE, text=True, check=True).stdout.strip())
 
 
@@ -28,7 +28,7 @@ class Crate:
 
     @property
     def library(self):
-        """What a build of it makes for the crates above."""
+        """The library that a build of it makes for the crates above."""
         return f"{self.folder}/out/rlib/{self.name}.rlib"
 
     def is_built(self):
@@ -43,8 +43,7 @@ class Crate:
         return [*found.values()]
 
     def edits(self, top=None):
-        """What lies in its folder of must-fail edits, of this repository or of a copy of its edits, but for files that
-        are there to be read."""
+        """The files in its folder of must-fail edits, of this repository or of a copy of its edits, but not `.md` files."""
         folder = f"{top}/crates/{self.name}/must-fail" if top else f"{self.folder}/must-fail"
         names = sorted(os.listdir(folder)) if os.path.isdir(folder) else []
         return [f"{folder}/{it}" for it in names if not it.endswith(".md")]
@@ -64,7 +63,7 @@ class Crate:
 
 
 def crates_of(top=TOP):
-    """The crates of the repository, by name."""
+    """Returns the crates of the repository, by name."""
     named = {}
     with open(f"{top}/crates.txt", encoding="utf-8") as listed:
         for line in listed:

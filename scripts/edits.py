@@ -1,7 +1,7 @@
 """Must-fail edits, and the functions whose bodies they change.
 
 An edit is a file of lines `file: PATH`, `old: TEXT` and `new: TEXT`; each text is a part of one line, and the old one
-stands in the file exactly once. So an edit changes whole lines, and edits of different lines can be put in together."""
+occurs in the file exactly once. So an edit changes whole lines, and edits of different lines can be applied together."""
 
 import os
 import re
@@ -12,7 +12,7 @@ CYCLE = re.compile(r" *#\[cycle\((\w+)\)\]")
 
 
 class BadEdit(Exception):
-    """Why an edit cannot be tried."""
+    """The reason why an edit cannot be tried."""
 
 
 class Function:
@@ -30,12 +30,12 @@ class Function:
 
     @property
     def closures(self):
-        """How the names begin of the closures in its body."""
+        """The prefix of the names of the closures in its body."""
         return "::".join([*self.module, "fn", *self.inner, ""])
 
     def take_name(self, names):
         """Takes its name from those that a check knows: one of its module, else, since a type may have methods in other
-        modules than its own, one of the same type. Says whether there is such a one."""
+        modules than its own, one of the same type. Returns whether it found one."""
         begins, ends, of_type = ("::".join(it) for it in ([*self.module, ""], ["", self.inner[-1]], ["", *self.inner]))
         others = [it for it in names if it.endswith(ends) and it != self.path]
         fits = [it for it in others if it.startswith(begins)]
@@ -49,12 +49,12 @@ class Function:
         return bool(fits)
 
     def owns(self, path):
-        """Whether what a check prints under this name is the function or a closure in it."""
+        """Returns whether this name in the output of a check is the function or a closure in it."""
         return path == self.path or path.startswith(self.closures)
 
 
 def bracket_end(text):
-    """Where the bracket ends that the text begins with."""
+    """Returns the end of the bracket that the text begins with."""
     depth = 0
     for at, letter in enumerate(text):
         depth += (letter == "<") - (letter == ">")
@@ -64,7 +64,7 @@ def bracket_end(text):
 
 
 def arguments(inside):
-    """The types of a bracket, without lifetimes and type parameters."""
+    """Returns the types in a bracket, without lifetimes and type parameters."""
     parts, depth = [""], 0
     for letter in inside:
         depth += (letter in "<(") - (letter in ">)")
@@ -74,7 +74,8 @@ def arguments(inside):
 
 
 def short(path):
-    """The name of a type or trait in the name of an impl: its last part, and those of its arguments that are types."""
+    """Returns the name of a type or trait in the name of an impl: its last part, and those of its arguments that are
+    types."""
     outer, bracket, inner = re.fullmatch(r"([^<(]*)([<(]?)(.*?)[>)]?", path.strip(" &")).groups()
     parts = arguments(inner) if bracket else []
     own = outer.split("::")[-1].strip() or f"Tuple{len(parts)}"
@@ -82,7 +83,7 @@ def short(path):
 
 
 def block_name(line):
-    """How a check names the impl or trait that begins with this line, if one does: the type, then the trait."""
+    """Returns a check's name for the impl or trait that begins with this line, if one does: the type, then the trait."""
     found = re.match(r" *(?:pub(?:\([a-z]+\))? )?(impl|trait)\b(.*)", line)
     if not found:
         return None
@@ -97,7 +98,7 @@ def block_name(line):
 
 
 def block_above(lines, at, indent):
-    """The name of the impl or trait that the line stands in, if any."""
+    """Returns the name of the impl or trait around the line, if any."""
     while indent and at >= 0:
         text = lines[at]
         if text.strip() and len(text) - len(text.lstrip()) < indent and block_name(text):
@@ -107,7 +108,7 @@ def block_above(lines, at, indent):
 
 
 def extent(lines, at, indent):
-    """The lines, counted from 0, on which the body of the function begins and ends, if it has one of several lines."""
+    """Returns the lines, counted from 0, on which the body of the function begins and ends, if it has several lines."""
     begins = None
     for now in range(at, len(lines)):
         text = lines[now].removeprefix(indent)
@@ -125,13 +126,13 @@ def extent(lines, at, indent):
 
 
 def module_of(crate, path):
-    """The names from the crate down to the module of the source file, as src/a/b.rt is of `crate::a::b`."""
+    """Returns the names from the crate down to the module of the source file: src/a/b.rt is `crate::a::b`."""
     parts = path.removeprefix("src/").removesuffix(".rt").split("/")
     return [crate, *(it for it in parts if it not in ("lib", "main"))]
 
 
 def functions_of(crate, path, text):
-    """The functions with bodies of a source file that `rt fmt` has laid out."""
+    """Returns the functions with bodies of a source file that `rt fmt` has laid out."""
     lines, found = text.split("\n"), []
     for at, line in enumerate(lines):
         header = HEADER.match(line)
@@ -145,7 +146,7 @@ def functions_of(crate, path, text):
 
 
 def cycle_above(lines, at):
-    """The cycle of calls that an attribute above the function names, if one does."""
+    """Returns the cycle of calls that an attribute above the function names, if one does."""
     while at and re.match(r" *(#\[|///)", lines[at - 1]):
         at -= 1
         cycle = CYCLE.match(lines[at])
@@ -155,7 +156,7 @@ def cycle_above(lines, at):
 
 
 def pairs(text):
-    """The triples of a file, an old and a new text that the edit's lines spell."""
+    """Returns the triples of a file, an old and a new text in the edit's lines."""
     path = old = None
     for line in text.split("\n"):
         word, colon, rest = line.partition(":")
@@ -172,7 +173,7 @@ def pairs(text):
 
 
 class Sources:
-    """The source files of a crate, as they stand, and their functions."""
+    """The source files of a crate, as they are, and their functions."""
 
     def __init__(self, crate):
         self.crate, self.texts, self.found = crate, {}, {}
@@ -191,12 +192,12 @@ class Sources:
         return self.found[path]
 
     def around(self, path, line):
-        """The innermost function with this line, counted from 1."""
+        """Returns the innermost function with this line, counted from 1."""
         held = [it for it in self.functions(path) if it.first <= line <= it.last]
         return min(held, key=lambda it: it.last - it.first, default=None)
 
     def users(self, path, line):
-        """The functions of the crate that name the constant or type that the line is a part of, with their files."""
+        """Returns the functions of the crate that name the constant or type of this line, with their files."""
         above = self.text(path).split("\n")[:line]
         named = next((found[1] for found in map(ITEM.match, reversed(above)) if found), None)
         if not named:
@@ -211,18 +212,18 @@ class Sources:
 
 
 def name_of(file):
-    """The name of the edit in this file."""
+    """Returns the name of the edit in this file."""
     return os.path.basename(file).removesuffix(".edit")
 
 
 class Edit:
-    """An edit: the lines that it changes, as file, number and new text, and the functions that it is judged by."""
+    """An edit: the lines that it changes, as file, number and new text, and the functions whose goals decide about it."""
 
     def __init__(self, file, sources):
         self.name = name_of(file)
         self.lines, self.functions, self.is_alone = {}, [], False
         if not os.path.isfile(file) or not file.endswith(".edit"):
-            raise BadEdit("it is no file whose name ends in .edit")
+            raise BadEdit("it is not a file whose name ends in .edit")
         with open(file, encoding="utf-8") as it:
             self.lines = self.changes(it.read(), sources)
         for path, line in sorted(self.lines):
@@ -253,12 +254,12 @@ class Edit:
         return lines
 
     def keys(self):
-        """What no two edits of one check may share: functions, or the cycle of calls that has one proof for several."""
+        """The keys that no two edits of one check may share: functions, or a cycle of calls, which has one proof."""
         return {it.cycle or it.path for _, it in self.functions}
 
 
 def rounds_of(edits):
-    """The edits in as few checks as can be: two of one function apart, and alone what is in no body."""
+    """Returns the edits in as few checks as possible: two of one function apart, and alone an edit outside of bodies."""
     rounds = []
     for edit in edits:
         clash = lambda other: edit.is_alone or other.is_alone or other.keys() & edit.keys()

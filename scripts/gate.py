@@ -1,13 +1,13 @@
 #!/usr/bin/env python3
-"""The gate: the layout of all files; then `rt ci` over a copy of the repository, and beside it the must-fail edits, as
-many in one check as can be, over the libraries that `rt ci` has just proved; then the tests of the store, of the
-server and of the program, compiled with checks and not proved; then the scripts that try the program. Where a file is
-not laid out, which `rt ci` would refuse much later, the gate ends with that.
+"""Runs the gate: the layout of all files; then `rt ci` over a copy of the repository, and beside it the must-fail edits,
+as many in one check as possible, over the libraries that `rt ci` has just proved; then the tests of the store, of the
+server and of the program, compiled with checks and not proved; then the scripts that try the program. If `rt fmt` would
+change a file, which `rt ci` would refuse much later, the gate ends there.
 
-The copy has the files as they stand, committed or not, and lies in a temporary folder, without the edits and without
-the crates of tests that are not proved here. What `rt ci` says of these, and of each edit by itself, `make gate` shows,
-which takes longer. The last line counts what passed and failed over all parts, a script that failed as one; the exit
-status is 0 where nothing failed."""
+The copy has the files as they are, committed or not, in a temporary folder, without the edits and without the crates of
+tests that are not proved here. `make gate` shows what `rt ci` says of these crates, and of each edit by itself; it takes
+longer. The last line counts what passed and failed over all parts, a failed script as one; the exit status is 0 if
+nothing failed."""
 
 import concurrent.futures
 import os
@@ -28,18 +28,18 @@ PROVED = re.compile(r"rt: (\w+) proved\n")
 NAMES = re.compile(r"(rt: )?FAILED: ")
 COUNT = re.compile(r"(\d+) passed, (\d+) failed\n?")
 
-# Crates of tests whose functions hold a registry. To prove a test shows that it keeps to what its calls
-# require and does not overflow; of these it takes longer than the proof of all that they call, so `make gate` does it.
+# Crates of tests whose functions hold a registry. Proving a test shows that it meets what its calls require and does not
+# overflow; for these it takes longer than the proof of all that they call, so only `make gate` does it.
 TRIED = ("registry_store_tests", "registry_desk_tests", "registry_cli_tests")
 
-# How many crates have their edits tried while `rt ci` runs, which leaves about half of four processors idle, and the
-# bytes of memory that have to be free for one more.
+# The number of crates whose edits are tried while `rt ci` runs, which leaves about half of four processors idle, and the
+# bytes of memory that must be free for one more.
 LANES = 2
 ROOM = 8 * 2**30
 
 
 def files():
-    """The files of the repository, as they stand, but those that git ignores."""
+    """Returns the files of the repository, as they are, except for those that git ignores."""
     for folder, below, names in os.walk(TOP):
         below[:] = sorted(set(below) - LEFT_OUT)
         for name in sorted(names):
@@ -53,13 +53,13 @@ def copy(names, to):
 
 
 def available():
-    """The bytes of memory that are free."""
+    """Returns the bytes of free memory."""
     with open("/proc/meminfo", encoding="ascii") as told:
         return next(1024 * int(line.split()[1]) for line in told if line.startswith("MemAvailable:"))
 
 
 class Memory:
-    """What the machine has less of at the peak than when this begins, in a `with`, looked at every second."""
+    """The peak memory that the machine uses in a `with`, above that at its start, sampled every second."""
 
     def __enter__(self):
         self.ended = threading.Event()
@@ -81,8 +81,8 @@ class Memory:
 
 
 class Part:
-    """A part of the gate: a command, and once it has run, how much passed and failed, by its last line and exit status,
-    what failed by name, and the minutes that it took, on the clock and of processor."""
+    """A part of the gate: a command, and once it has run, how many passed and failed, by its last line and exit status,
+    the names of what failed, and the minutes that it took, on the clock and of processor time."""
 
     running, is_over = set(), False
     printing = threading.Lock()
@@ -93,7 +93,7 @@ class Part:
         self.named = []
 
     def run(self, hear=lambda line: None):
-        """Runs it, prints what it prints and gives each line to `hear`."""
+        """Runs it, prints its output and passes each line to `hear`."""
         if self.is_over:
             return self
         self.show(f"== {self.name}\n")
@@ -119,7 +119,7 @@ class Part:
             print(line, end="", flush=True)
 
     def lines(self):
-        """What it prints, line by line."""
+        """Yields its output, line by line."""
         how = {"stdin": subprocess.DEVNULL, "stdout": subprocess.PIPE, "stderr": subprocess.STDOUT}
         # a group of its own, to be ended as a whole, and not a session: Linux shares processors out among sessions
         # first, and `nice` counts only within one
@@ -136,7 +136,7 @@ class Part:
 
 
 class Tried(Part):
-    """A crate of tests that is run and not proved: it passes, or it fails, as one."""
+    """A crate of tests that is run and not proved: it passes or fails as one."""
 
     def __init__(self, crate, top):
         super().__init__(["rt", "try", "--test", "--seconds", "600"], f"{top}/crates/{crate}")
@@ -157,7 +157,7 @@ class Edits:
         self.is_alone = threading.Event()
 
     def hear(self, line):
-        """Has the edits of a crate tried once `rt ci` says that it is proved."""
+        """Starts the trial of a crate's edits once `rt ci` says that the crate is proved."""
         proved = PROVED.fullmatch(line)
         if proved and proved[1] in self.left:
             self.begin(proved[1])
@@ -175,7 +175,7 @@ class Edits:
         return part.run()
 
     def end(self):
-        """Has the others tried too, which says of each that its crate is not proved, and waits for all."""
+        """Starts the other trials too, each of which reports that its crate is not proved, and waits for all."""
         self.is_alone.set()
         for crate in sorted(self.left):
             self.begin(crate)
@@ -198,7 +198,7 @@ def gate(room):
     layout = Part(["scripts/layout.py"], TOP).run()
     if layout.failed:
         return [layout]
-    # so that it is the top of a repository, as `rt ci` wants it, wherever the folder lies
+    # so that it is the top of a repository, as `rt ci` requires, wherever the folder is
     os.makedirs(f"{top}/.git")
     copy([it for it in names if EDITS.match(it)], edits)
     copy([it for it in names if not EDITS.match(it) and it not in tried], top)
@@ -206,7 +206,7 @@ def gate(room):
     with concurrent.futures.ThreadPoolExecutor(LANES) as pool:
         trials = Edits(top, edits, pool)
         parts = [layout, Part(["rt", "ci"], top).run(trials.hear)]
-        # what the scripts leave where they are stopped goes with the copy
+        # what stopped scripts leave is removed with the copy
         os.environ["TMPDIR"] = room
         copy(["crates.txt", *tried], top)
         with concurrent.futures.ThreadPoolExecutor() as side:
@@ -217,7 +217,7 @@ def gate(room):
 
 
 def stop(*_):
-    """Ends the gate and all that it has started."""
+    """Ends the gate and all processes that it has started."""
     Part.is_over = True
     for pid in [*Part.running]:
         os.killpg(pid, signal.SIGTERM)
@@ -225,7 +225,7 @@ def stop(*_):
 
 
 def main():
-    # so that nothing goes on, and the folder is removed, where the gate is ended from outside
+    # so that no process goes on, and the folder is removed, if the gate is ended from outside
     signal.signal(signal.SIGTERM, stop)
     signal.signal(signal.SIGINT, stop)
     begun = time.monotonic()

@@ -1,8 +1,8 @@
 #!/usr/bin/env python3
-"""Names each file that `rt fmt` would lay out in another way. `rt ci` refuses such a file, but only once its crate is
-proved; this takes seconds, so that `make test` begins with it.
+"""Names each file that `rt fmt` would change. `rt ci` refuses such a file, but only once its crate is proved; this takes
+seconds, so `make test` begins with it.
 
-It lays out a copy. The status is 0 where no file is named; `rt fmt` in the crate's folder mends those that are."""
+It lays out a copy. The exit status is 0 if it names no file; `rt fmt` in the crate's folder fixes those that it names."""
 
 import filecmp
 import os
@@ -15,7 +15,7 @@ from crates import TOP, crates_of
 
 
 def named(folder):
-    """The files of a folder, by their paths in it."""
+    """Returns the files of a folder, by their paths in it."""
     return [os.path.relpath(f"{at}/{name}", folder) for at, _, names in os.walk(folder) for name in names]
 
 

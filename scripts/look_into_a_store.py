@@ -1,13 +1,13 @@
 #!/usr/bin/env python3
-"""Looks with SQLite itself into a store that `usbreg` wrote.
+"""Checks with SQLite itself a store that `usbreg` wrote.
 
-A registry is founded in a file by examples/founding.toml, and examples/orders.jsonl, which has all orders of
-request lines, is applied to it. Then SQLite opens the file: the texts of its tables are those of docs/schema.md,
-to the byte, and each statement of examples/orders.rows answers the lines that stand below it there, as
-`sqlite3 -quote` prints them. Each table has a statement, so there are these rows and no others.
+The script founds a registry in a file by examples/founding.toml, and applies examples/orders.jsonl, which has all orders
+of request lines. Then SQLite opens the file: the texts of its tables must be those of docs/schema.md, to the byte, and
+each statement of examples/orders.rows must return the lines below it there, as `sqlite3 -quote` prints them. Each table
+has a statement, so the store has these rows and no others.
 
 Usage: scripts/look_into_a_store.py [PROGRAM [ROWS]], by default the program that `make` builds, and
-examples/orders.rows. The status is 0 where all of this held.
+examples/orders.rows. The exit status is 0 if all of this holds.
 """
 
 import difflib
@@ -22,7 +22,7 @@ OTHERS = "SELECT type, name FROM sqlite_schema WHERE type NOT IN ('table', 'inde
 
 
 def quoted(value):
-    """A value as it stands in a statement."""
+    """Returns a value as a statement writes it."""
     if value is None:
         return "NULL"
     if isinstance(value, str):
@@ -31,25 +31,25 @@ def quoted(value):
 
 
 def asked(connection, statement):
-    """A line for each row, its values with commas between them."""
+    """Returns a line for each row, its values separated by commas."""
     return [",".join(map(quoted, row)) for row in connection.execute(statement)]
 
 
 def same(what, there, wanted):
-    """Ends the script where the lines are not the wanted ones."""
+    """Ends the script if the lines are not the wanted ones."""
     if there != wanted:
         differences = difflib.unified_diff(wanted, there, "wanted", "there", lineterm="")
         sys.exit(f"{what}:\n" + "\n".join(differences))
 
 
 def documented_texts():
-    """The lines of the blocks of SQL in docs/schema.md."""
+    """Returns the lines of the blocks of SQL in docs/schema.md."""
     blocks = re.findall(r"^```sql\n(.*?)^```$", content(f"{TOP}/docs/schema.md").decode(), re.DOTALL | re.MULTILINE)
     return [f"'{text}'" for text in "".join(blocks).splitlines()]
 
 
 def statements(rows):
-    """Each statement with the lines below it."""
+    """Returns each statement with the lines below it."""
     for block in content(rows).decode().strip("\n").split("\n\n"):
         statement, *lines = block.split("\n")
         yield statement, lines

@@ -1,20 +1,20 @@
 #!/usr/bin/env python3
 """Opens stores of the older schemas with `usbreg`, and compares them with the same history founded today.
 
-SQLite makes the stores: by examples/schema1.sql and examples/schema2.sql, whose texts are those of docs/schema.md and
-whose rows are those of a plain history after examples/one_vendor.requests; then by the rows of the cases in `cases/` and
-of requests made up by chance, as far as they name no vendor. Whichever command opens such a store first, it prints what
-it prints of the registry that was founded today by the same requests, and the rows of all tables are the same. Each
-accepted request has its first reply again, and later requests do the same to both.
+SQLite makes the stores: from examples/schema1.sql and examples/schema2.sql, whose texts are those of docs/schema.md and
+whose rows are those of a plain history after examples/one_vendor.requests; then from the rows of the cases in `cases/`
+and of random requests, except for those that name a vendor. Whichever command opens such a store first, it prints what it
+prints for a registry that was founded today by the same requests, and the rows of all tables are the same. Each accepted
+request gets its first reply again, and later requests do the same to both.
 
-A store with many rows is killed at random moments while it is opened. What is left is sound and holds the history in
-the older schema, in the one between, or in the newest; opened again it is as without a stop.
+The program is killed at random moments while it opens a store with many rows. The file that is left is sound and holds
+the history in the older schema, in the one between, or in the newest; opened again it is as without a stop.
 
-A store whose version is not that of its tables, or with other tables, is foreign: its file keeps its bytes, as a store
-of the newest schema does that is opened.
+A store whose version is not that of its tables, or with other tables, is foreign: its file keeps its bytes, and so does a
+store of the newest schema when it is opened.
 
 Usage: scripts/open_older_stores.py [STOPS [PROGRAM]], by default 6 stops from each schema of the program that `make`
-builds. The status is 0 where all of this held."""
+builds. The exit status is 0 if all of this holds."""
 
 import collections
 import copy as copies
@@ -34,13 +34,13 @@ from usbreg import (
 
 REPORTS = ("census", "holders", "petitions")
 LINK = "https://acme.example/"
-# The tables of the newest schema that replace older ones, and how many tables the older schemas have.
+# The tables of the newest schema that replace older ones, and the numbers of tables of the older schemas.
 NEW = {"vendors", "spans3", "entries3", "petitions3"}
 COUNTS = {1: 9, 2: 10}
 
 
 def in_schema(version, tables):
-    """The rows of the same history in an older schema, from those in the newest."""
+    """Returns the rows of the same history in an older schema, from those in the newest."""
     ((_, _, vendor, name),) = tables["meta"]
     spans = [row[1:] for row in tables["spans3"]]
     rows = {it: tables[it] for it in tables if it not in NEW and it != "spans"}
@@ -53,7 +53,7 @@ def in_schema(version, tables):
 
 
 def make(store, version, tables):
-    """Makes a store of an older schema with SQLite, of the rows in the newest one, and gives the file's path."""
+    """Makes a store of an older schema with SQLite, from the rows in the newest one, and returns the file's path."""
     remove(store)
     with opened(store) as connection:
         connection.execute("PRAGMA journal_mode = WAL")
@@ -71,7 +71,7 @@ def in_order(tables):
 
 
 def rows_of(store):
-    """The rows of each table. The script ends where SQLite finds the store unsound."""
+    """Returns the rows of each table. Ends the script if SQLite finds the store unsound."""
     with opened(store) as connection:
         if connection.execute("PRAGMA integrity_check").fetchone() != ("ok",):
             sys.exit(f"{store} is not sound")
@@ -80,19 +80,19 @@ def rows_of(store):
 
 
 def same_rows(what, there, wanted):
-    """Ends the script where the tables, or their rows, are not the wanted ones."""
+    """Ends the script if the tables, or their rows, are not the wanted ones."""
     for name in sorted({*there, *wanted}):
         if there.get(name) != wanted.get(name):
             sys.exit(f"{what}: the table {name} is {str(there.get(name))[:2000]}, where {str(wanted.get(name))[:2000]} is expected")
 
 
 def views(usbreg, store):
-    """The commands that show a store."""
+    """Returns the commands that show a store."""
     return [[usbreg, "export", store], *([usbreg, "report", store, it] for it in REPORTS)]
 
 
 def keeps_bytes(what, store, ran, wanted):
-    """A run ends as wanted, and leaves the file of the store as it was."""
+    """Checks that a run ends as wanted, and leaves the file of the store as it was."""
     before = content(store)
     ended = run(ran)
     if ended != wanted:
@@ -108,13 +108,13 @@ class Stores:
         self.program, self.folder, self.room, self.opened = usbreg, made, Room(usbreg, made), 0
 
     def today(self, what, requests, **founding):
-        """A registry that is founded today, and its accepted requests with their replies."""
+        """Founds a registry today, and returns it and its accepted requests with their replies."""
         registry = self.room.registry(**founding)
         replies = registry.send(what, requests)
         return registry, [it for it in zip(requests, replies) if it[1].startswith('{"done"')]
 
     def open_with(self, what, older, words, wanted, today):
-        """A copy of an older store is opened by a command, twice: it prints what is wanted, and the rows are today's."""
+        """Opens a copy of an older store by a command, twice: checks that it prints the wanted text, and has today's rows."""
         store = copy(older, f"{self.folder}/opened.db")
         words = [store if it == today.store else it for it in words]
         if done(words) != wanted:
@@ -125,7 +125,7 @@ class Stores:
         return store
 
     def opens_as(self, what, version, older, today, accepted, more=()):
-        """Each accepted request has its first reply again; then more requests do what they do to a registry of today."""
+        """Checks that each accepted request gets its first reply again, and that more requests do the same as today."""
         registry = Registry(self.program, older, copies.deepcopy(today.history))
         registry.send(what, [it for it, _ in accepted], [it for _, it in accepted])
         same_rows(f"{what} in schema {version}", rows_of(older), rows_of(today.store))
@@ -141,7 +141,7 @@ class Stores:
 
 
 def later_requests():
-    """Requests that the older schemas did not know, and some on what their stores hold."""
+    """Returns requests that the older schemas did not know, and some about what their stores hold."""
     asked = {"title": "Lamp 3", "site": LINK, "source": LINK}
     return [
         request("cora", "l1", "add-vendor", vendor="cafe", name="Second vendor"),
@@ -163,12 +163,12 @@ def later_requests():
 
 
 def examples(stores):
-    """The stores of the two texts are those of the requests, and open as the same history by whichever command."""
+    """Checks that the stores of the two texts are those of the requests, and open as the same history by any command."""
     requests = requests_in(f"{EXAMPLES}/one_vendor.requests")
     today, accepted = stores.today("the examples", requests)
     if len(accepted) != len(requests):
         sys.exit("a request of one_vendor.requests is refused")
-    # `apply` takes no import: that command has one of its own.
+    # `apply` takes no import, which has a command of its own.
     lines = [it for it in accepted if it[0]["order"] != "import"]
     repeats = write_requests(f"{stores.folder}/repeats.jsonl", [it for it, _ in lines])
     commands = [([stores.program, "apply", today.store, repeats], "".join(f"{it}\n" for _, it in lines).encode())]
@@ -189,7 +189,7 @@ def examples(stores):
 
 
 class OneVendor(Chance):
-    """Requests by chance that the older schemas know."""
+    """Random requests that the older schemas know."""
 
     def vendor(self):
         return {}
@@ -201,7 +201,7 @@ class OneVendor(Chance):
 
 
 def histories(stores):
-    """The cases that the older schemas know, and requests made up by chance."""
+    """Returns the cases that the older schemas know, and random requests."""
     known = [it for it in all_cases() if not any("vendor" in asked or asked["order"] == "add-licence" for asked in it[1])]
     all_histories = [(name, requests, {}) for name, requests in known]
     for seed in (1, 2, 3):
@@ -219,7 +219,7 @@ def histories(stores):
 
 
 def killed(words, seconds):
-    """Runs a command, which is killed after so many seconds: whether it was."""
+    """Runs a command, and kills it after the given seconds. Returns whether it was killed."""
     with subprocess.Popen(words, stdout=subprocess.DEVNULL) as ran:
         try:
             status = ran.wait(seconds)
@@ -232,7 +232,7 @@ def killed(words, seconds):
 
 
 def stops_from(version, stores, today, stops):
-    """Kills the opening of a store with many rows so many times: how often each schema was left, or a log without a schema of its own."""
+    """Kills the opening of a store with many rows the given number of times. Returns how often each schema was left."""
     wanted = {3: rows_of(today)} | {it: in_order(in_schema(it, rows_of(today))) for it in range(version, 3)}
     whole = make(f"{stores.folder}/whole.db", version, wanted[3])
     store = copy(whole, f"{stores.folder}/stopped.db")
@@ -257,7 +257,7 @@ def stops_from(version, stores, today, stops):
 
 
 def stops(stores, count):
-    """A store with 2,000 entries, 7,000 petitions and 513 reserved numbers, founded today and of each older schema."""
+    """Stops the opening of a store with 2,000 entries, 7,000 petitions and 513 reserved numbers, of each older schema."""
     store = found(stores.program, f"{stores.folder}/many.db")
     spans = [request("cora", f"r{it}", "reserve", first=f"{it:04x}", last=f"{it + 1:04x}") for it in range(0x8000, 0x8400, 4)]
     spans.append(request("cora", "r1", "reserve", first="ffff", last="ffff"))
@@ -266,7 +266,7 @@ def stops(stores, count):
 
 
 def foreign_changes(version):
-    """Changes by another program after which a store of this schema is none."""
+    """Returns changes by another program that make it no store of this schema."""
     yield from (f"UPDATE meta SET version = {it}" for it in (-1, 0, 1, 2, 3, 4, 259) if it != version)
     last = {1: "kept", 2: "spans", 3: "petitions3"}[version]
     yield from (f"ALTER TABLE {it} RENAME TO other" for it in ("meta", "orgs", last))
@@ -276,7 +276,7 @@ def foreign_changes(version):
 
 
 def foreign_stores(stores):
-    """Whichever command opens what is no store of a schema, it says so and writes nothing."""
+    """Checks that any command reports a store of no schema, and writes nothing to it."""
     lines = write(f"{stores.folder}/lines.jsonl", content(f"{EXAMPLES}/first.jsonl").decode())
     count = 0
     for version in (1, 2, 3):
@@ -296,7 +296,7 @@ def foreign_stores(stores):
 
 
 def newest(stores):
-    """A store of the newest schema keeps its bytes, whichever command opens it."""
+    """Checks that a store of the newest schema keeps its bytes, whichever command opens it."""
     store = found(stores.program, f"{stores.folder}/newest.db")
     lines = f"{EXAMPLES}/orders.jsonl"
     replies = apply(stores.program, store, lines)

@@ -1,8 +1,8 @@
-"""The rules once more, as plain and slow questions to the list of all accepted requests, the oldest first.
+"""The rules again, as plain and slow questions to the list of all accepted requests, the oldest first.
 
-It shares nothing with the program but `docs/requests.md` and `docs/schema.md`: scripts hold the program's replies and
-tables against it. Numbers are pairs of a vendor ID and a product ID, as integers; a vendor that a request does not name
-is the founding one."""
+It shares only `docs/requests.md` and `docs/schema.md` with the program: scripts compare the program's replies and tables
+with it. Numbers are pairs of a vendor ID and a product ID, as integers; a request that names no vendor means the founding
+one."""
 
 import json
 import tomllib
@@ -29,7 +29,7 @@ TERMS = ("title", "licence", "site", "source")
 
 
 class Refused(Exception):
-    """A check failed: the refusal's number, and its detail where it has one."""
+    """A failed check: the refusal's number, and its detail if it has one."""
 
 
 def check(passes, number, detail=None):
@@ -42,13 +42,13 @@ def hexadecimal(text):
 
 
 def items(text):
-    """The (number, title) pairs of a list of one vendor's devices."""
+    """Returns the (number, title) pairs of a list of one vendor's devices."""
     lines = [line for line in text.splitlines() if line.startswith("\t")]
     return [(int(line[1:5], 16), line[7:]) for line in lines]
 
 
 class History:
-    """A founding, and the accepted requests with what each one did."""
+    """A founding, and the accepted requests with the effect of each."""
 
     def __init__(self, founding):
         with open(founding, "rb") as file:
@@ -65,14 +65,14 @@ class History:
         return hexadecimal(request.get("vendor")) or self.founder
 
     def vendors(self):
-        """The name of each vendor."""
+        """Returns the name of each vendor."""
         return {self.founder: self.founding["name"]} | {int(it["vendor"], 16): it["name"] for it in self.of_order("add-vendor")}
 
     def licences(self):
         return [*self.founding["licences"], *(it["licence"] for it in self.of_order("add-licence"))]
 
     def keeper(self, org):
-        """The caller that enrolled the organisation."""
+        """Returns the caller that enrolled the organisation."""
         return next((it["caller"] for it in self.of_order("enrol") if it["org"] == org), None)
 
     def petition(self, number):
@@ -80,7 +80,7 @@ class History:
         return asked[number - 1] if number <= len(asked) else None
 
     def state(self, number):
-        """The state of a petition."""
+        """Returns the state of a petition."""
         return next((STATES[it["order"]] for it in self.of_order(*STATES) if it["petition"] == number), OPEN)
 
     def open_petitions(self, org):
@@ -88,11 +88,11 @@ class History:
         return [number for number, it in asked if it["org"] == org and self.state(number) == OPEN]
 
     def owner(self, number):
-        """The organisation that the number was first given to."""
+        """Returns the organisation that the number was first given to."""
         return next((it["gives"][number] for it in self.deeds if number in it.get("gives", {})), None)
 
     def is_held(self, number):
-        """Whether the number was given, and not returned since."""
+        """Returns whether the number was given, and not returned since."""
         told = [number in it.get("gives", {}) for it in self.deeds if number in it.get("gives", {}) or number == it.get("returns")]
         return bool(told) and told[-1]
 
@@ -101,7 +101,7 @@ class History:
         return number[0] == self.founder and any(int(span[0], 16) <= number[1] <= int(span[-1], 16) for span in spans)
 
     def is_ordered(self, number):
-        """Whether an order reserved the number, and none released it since."""
+        """Returns whether an order reserved the number, and none released it since."""
         orders = self.of_order("reserve", "release")
         told = [it["order"] for it in orders if it["vid"] == number[0] and int(it["first"], 16) <= number[1] <= int(it["last"], 16)]
         return bool(told) and told[-1] == "reserve"
@@ -113,10 +113,10 @@ class History:
         numbers = ((vid, pid) for pid in range(1, 0x10000))
         return next((it for it in numbers if not self.is_reserved(it) and self.owner(it) is None), None)
 
-    # The answer to a request.
+    # The reply to a request.
 
     def answer(self, request):
-        """The reply to a request. An accepted one joins the history."""
+        """Returns the reply to a request, and adds an accepted one to the history."""
         try:
             deed = self.judged(request)
         except Refused as refused:
@@ -127,7 +127,7 @@ class History:
         return {"done": deed["reply"]}
 
     def judged(self, request):
-        """What the request does, or what it did when it came first. It fails with the first check that does."""
+        """Returns the effect of the request, or that of its first time. Raises the first check that fails."""
         order, form = request["order"], self.canonical(request)
         for deed in self.deeds:
             if (deed["caller"], deed["key"]) == (request["caller"], request["key"]):
@@ -139,7 +139,7 @@ class History:
         return deed | getattr(self, order.replace("-", "_"))(request, deed["vid"])
 
     def canonical(self, request):
-        """The order's canonical form, as `kept` holds it."""
+        """Returns the order's canonical form, as in the table `kept`."""
         texts = [request["order"]]
         for field in FIELDS[request["order"]]:
             if field == "items":
@@ -151,7 +151,7 @@ class History:
         return "\t".join(texts)
 
     def shown(self, number, pid=None):
-        """A number, with its vendor where that is not the founding one."""
+        """Returns the text of a number, with its vendor if that is not the founding one."""
         digits = f"{number[1]:04x}" if pid is None else pid
         return digits if number[0] == self.founder else f"{number[0]:04x}:{digits}"
 
@@ -169,7 +169,7 @@ class History:
         return {"reply": f"amended organisation {request['org']}"}
 
     def check_given(self, number, org):
-        """The organisation may be given the number."""
+        """Checks that the organisation may get the number."""
         owner = self.owner(number)
         check(not self.is_reserved(number), 8)
         check(owner in (None, org), 9, owner)
@@ -226,7 +226,7 @@ class History:
         return {"reply": f"returned {self.shown(number)}", "returns": number}
 
     def numbers(self, request, vid):
-        """The numbers of a span of a vendor, none of them fixed."""
+        """Returns the numbers of a span of a vendor, and checks that none is fixed."""
         check(vid in self.vendors(), 34)
         span = [(vid, pid) for pid in range(int(request["first"], 16), int(request["last"], 16) + 1)]
         check(not any(map(self.is_fixed, span)), 16)
@@ -275,15 +275,15 @@ class History:
     # The list.
 
     def owned(self):
-        """The numbers that have an owner, ascending."""
+        """Returns the numbers with an owner, ascending."""
         return sorted({number for deed in self.deeds for number in deed.get("gives", {})})
 
     def titles(self):
-        """The title of each held number."""
+        """Returns the title of each held number."""
         return {it: self.card(it)[0] for it in self.owned() if self.is_held(it)}
 
     def list_lines(self):
-        """The lines of the list: each vendor with its held numbers."""
+        """Returns the lines of the list: each vendor with its held numbers."""
         titles, lines = self.titles(), ["# List of USB numbers in the syntax of usb.ids", ""]
         for vid, name in sorted(self.vendors().items()):
             lines.append(f"{vid:04x}  {name}")
@@ -293,7 +293,7 @@ class History:
     # The tables.
 
     def card(self, number):
-        """Title, licence, site and source of an owned number, as they were given or amended last."""
+        """Returns title, licence, site and source of an owned number, as they were given or amended last."""
         last = None
         for deed in self.deeds:
             if number in deed.get("titles", {}):
@@ -314,7 +314,7 @@ class History:
         return number, asked["vid"], asked["org"], want, *(asked[field] for field in TERMS), state, granted
 
     def reserved_spans(self):
-        """The maximal spans of numbers that orders reserved."""
+        """Returns the maximal spans of numbers that orders reserved."""
         touched = {(it["vid"], pid) for it in self.of_order("reserve") for pid in range(int(it["first"], 16), int(it["last"], 16) + 1)}
         spans = []
         for vid, pid in sorted(filter(self.is_ordered, touched)):
@@ -325,7 +325,7 @@ class History:
         return list(map(tuple, spans))
 
     def tables(self):
-        """The rows of each table, ascending."""
+        """Returns the rows of each table, ascending."""
         return {
             "meta": [(1, 3, self.founder, self.founding["name"])],
             "curators": sorted((it,) for it in self.founding["curators"]),
@@ -346,5 +346,5 @@ setattr(History, "import", History.import_)
 
 
 def line(reply):
-    """A reply as the program prints it."""
+    """Returns a reply as the program prints it."""
     return json.dumps(reply, sort_keys=True, separators=(",", ":"), ensure_ascii=False)

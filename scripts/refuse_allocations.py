@@ -1,24 +1,23 @@
 #!/usr/bin/env python3
-"""Refuses each allocation of `usbreg` in turn, and looks at what it answers.
+"""Refuses each allocation of `usbreg` in turn, and checks what it replies.
 
-Trials of examples/first.jsonl and of examples/orders.jsonl, which has all orders of request lines, and the
-first of these applied to a store in a file: each run prints the whole answers, or a beginning of them and
-`fault: memory` or `fault: store` with status 1. A store is opened again then, the run goes on with
-`--answered`, and the replies and the tables end as those of a run in which nothing was refused. A store is
-founded in the same way: where that fails it can be founded again, or was founded already, and is whole. The
-commands that show something print the whole of it or a beginning, and change nothing; an import that fails
-is done under its key again, with the same reply and the same tables. A store of an older schema that is opened
-opens again as the same history. Over HTTP an order, an import and a query each have the response that they should have,
-or refusal 31 and the next one is served, or refusal 30 or 31 and the program ends with its fault; sent again to the
-store that is opened anew they have the responses, and the tables are those, of a run in which nothing was refused.
+It runs trials of examples/first.jsonl and of examples/orders.jsonl, which has all orders of request lines, and applies
+the first of these to a store in a file: each run prints the whole replies, or a prefix of them and `fault: memory` or
+`fault: store` with status 1. Then a store is opened again, the run goes on with `--answered`, and the replies and the
+tables are those of a run without a refused allocation. A store is founded in the same way: if that fails it can be founded
+again, or was founded already, and is whole. The commands that show something print the whole of it or a prefix, and change
+nothing; an import that failed is done under its key again, with the same reply and the same tables. A store of an older
+schema opens again as the same history. Over HTTP an order, an import and a query each get the right response, or refusal
+31 and the next one is served, or refusal 30 or 31 and the program ends with its fault; sent again to the store that is
+opened anew they get the responses, and leave the tables, of a run without a refused allocation.
 
-The same with `usbids_bench` and a list that it reads, writes and reads again: it says so, or that there is
-no memory, and never counts other entries or names a fault of a line.
+It does the same with `usbids_bench` and a list that it reads, writes and reads again: it succeeds, or says that memory ran
+out, and never counts other entries or names a fault of a line.
 
-Usage: scripts/refuse_allocations.py [--only PART] [--every N] [PROGRAM [BENCH]], by default all parts with the program that
-`make` builds and the one that `rt run` builds in crates/usbids_bench. PART is trial, which is part of `make test`, or
-found, apply, show, import, serve, open or list; --every N refuses every N-th allocation alone. Wants cc. The status is 0 where
-all of this held. docs/proving.md says how long each part takes."""
+Usage: scripts/refuse_allocations.py [--only PART] [--every N] [PROGRAM [BENCH]], by default all parts with the program
+that `make` builds and the one that `rt run` builds in crates/usbids_bench. PART is trial, which is part of `make test`, or
+found, apply, show, import, serve, open or list; --every N refuses only every N-th allocation. Needs cc. The exit status is
+0 if all of this holds. docs/proving.md says how long each part takes."""
 
 import argparse
 import collections
@@ -32,7 +31,7 @@ from usbreg import EXAMPLES, FOUNDING, apply, content, copy, done, found, older,
 
 FAULTS = {b"fault: memory\n", b"fault: store\n"}
 REPORTS = ("census", "holders", "petitions")
-# One allocation of so many is refused.
+# One allocation of this many is refused.
 EVERY = 1
 LIST = """# a list
 1209  Shared products
@@ -47,7 +46,7 @@ L 0001  Arabic
 
 
 def look(what, ran, wanted):
-    """The whole reply lines of a run that was refused an allocation, or that did without it, and how it ended."""
+    """Returns the whole reply lines of a run that was refused an allocation, or that did without it, and how it ended."""
     status, output, errors = ran
     is_whole = (status, output, errors) == (0, wanted, b"")
     is_cut = status == 1 and wanted.startswith(output) and errors in FAULTS
@@ -57,7 +56,7 @@ def look(what, ran, wanted):
 
 
 def refuse_in_turn(what, count, room, attempt):
-    """Has so many allocations refused in turn, and says how the attempts ended."""
+    """Refuses the given number of allocations in turn, and prints how the attempts ended."""
     numbers = range(1, count + 1, EVERY)
     ended = collections.Counter(each(numbers, room, attempt))
     said = ", ".join(f"{number} {how}" for how, number in sorted(ended.items()))
@@ -65,7 +64,7 @@ def refuse_in_turn(what, count, room, attempt):
 
 
 def refuse_each(what, words, room, shim, attempt, lines=os.devnull):
-    """Refuses the allocations of a command in turn. The words name files that may change."""
+    """Refuses the allocations of a command in turn. The arguments name files that may change."""
     refuse_in_turn(what, asked_in(words, shim, room, lines), room, attempt)
 
 
@@ -113,7 +112,7 @@ def views(usbreg, shim, room, lines):
 
 
 def older_stores(usbreg, shim, room, version):
-    """The first opening of a store of an older schema. Opened again it holds the same history."""
+    """Tries the first opening of a store of an older schema. Opened again it holds the same history."""
     store = older(f"{room}/older{version}.db", version)
     other = [usbreg, "report", copy(store, f"{room}/raised.db"), "census"]
     wanted = done(other)
@@ -168,12 +167,12 @@ def foundings(usbreg, shim, room, lines):
     refuse_each("found", [usbreg, "found", f"{room}/counted.db", FOUNDING], room, shim, attempt)
 
 
-# One port for each folder of attempts, which run one after another.
+# One port per folder of attempts, which run one after another.
 port_of = functools.cache(lambda _: free_port())
 
 
 def served(server, messages):
-    """The responses to the messages, up to the first that none came to, and how the program ended."""
+    """Returns the responses to the messages, up to the first without one, and how the program ended."""
     responses = []
     if server.is_up():
         for message in messages:
@@ -185,7 +184,7 @@ def served(server, messages):
 
 
 def look_served(what, responses, ended, wanted):
-    """How a run ended whose responses are those that are wanted, or refusals 30 and 31, the last one of a fault."""
+    """Returns how a run ended. Its responses must be the wanted ones, or refusals 30 and 31, the last one of a fault."""
     status, output, errors = ended
     faults = [it for it in responses if it in (refused(30), refused(31))]
     strange = [(it, other) for it, other in zip(responses, wanted) if it != other and it not in faults]
@@ -197,7 +196,7 @@ def look_served(what, responses, ended, wanted):
 
 
 def connections(usbreg, shim, room, lines):
-    """An order, an import and a query over HTTP. None has another response where one before it was not acted on."""
+    """Tries an order, an import and a query over HTTP. None gets another response if one before it was not acted on."""
     before, other = (found(usbreg, f"{room}/{it}.db") for it in ("unserved", "served"))
     for store in (before, other):
         apply(usbreg, store, lines)

@@ -1,18 +1,18 @@
 #!/usr/bin/env python3
-"""Runs tests of the crates again, each with one allocation refused after the other, and looks at what they say.
+"""Runs tests of the crates again and again, each time with another allocation refused, and checks what they print.
 
-A test that is refused memory passes, since it did without, or it fails and says so: by an error that is want of
-memory, or since a call told nothing where an answer was wanted. A test that compares another answer than the
-right one fails here: want of memory has changed an answer.
+A test that is refused memory passes, because it did without, or it fails and says so: by an out-of-memory error, or
+because a call returned nothing where a result was expected. A test that compares another result than the right one fails
+here: running out of memory has changed a result.
 
-Of a test that asks for many allocations some hundred are refused, evenly spread, but for two that make the tables and
-each statement on them once; with --all it is each of them.
+For a test that asks for many allocations it refuses some hundred, evenly spread, except for two tests that make the
+tables and each statement on them once; with --all it refuses each allocation.
 
-The tests of the store are proved and built by `make gate` alone. Where they are built, the one on memory is tried too: it
-says by itself which answers are right where memory is short.
+Only `make gate` proves and builds the tests of the store. If they are built, the one on memory is tried too: it checks by
+itself which results are right when memory runs out.
 
 Usage: scripts/refuse_in_tests.py [--all] [PROGRAM..], by default the test programs of these crates, as `rt test` builds
-them. Wants cc. The status is 0 where all of this held."""
+them. Needs cc. The exit status is 0 if all of this holds."""
 
 import itertools
 import os
@@ -27,23 +27,23 @@ STORE = f"{TOP}/crates/registry_store_tests/out/registry_store_tests_tests"
 MOST = 650
 WHOLE = {"lists::a_store_has_what_was_put_in", "lookups::a_request_finds_what_it_needs"}
 
-# `write` takes no memory: what runs short in these tests is the writer that they hand it, which then has a beginning.
+# `write` takes no memory: in these tests the writer that they pass to it runs out of memory, and then has a prefix.
 LEFT_OUT = "writing::"
 
-# The other tests of the store compare what files hold, and take a disk that finds no room for one that stops.
+# The other tests of the store compare what files hold, and treat a disk without memory as one that stops.
 OF_STORE = "memory::"
 
-# How a test ends that was refused memory: by an error, one of its own values among them (a sink over bytes that are
-# not gathered is broken), by what it expected to have memory, or by a comparison.
+# How a test ends that was refused memory: by an error, also one of its own values (a sink that cannot gather its bytes is
+# broken), by an `expect` of memory, or by a comparison.
 ENDS = re.compile(r'^(error|memory): (NoMemory|AllocError|AllocFailed \{ \.\. \}|Broken|"memory")$', re.MULTILINE)
 SIDES = re.compile(r"^  left: (.*)\n right: (.*)$", re.MULTILINE)
 NOTHING = {"None", '""'}
-# A disk that is kept in memory fails where it finds none.
+# A disk in memory fails when memory runs out.
 SHORT = re.compile(r"NoMemory|Err\(Store\)")
 
 
 def says_so(errors):
-    """Whether a failed test says that memory was short: where it compares two texts, in the first line that differs."""
+    """Returns whether a failed test says that memory ran out; if it compares two texts, in the first line that differs."""
     sides = SIDES.search(errors)
     if not sides:
         return bool(ENDS.search(errors))

@@ -1,5 +1,5 @@
-"""What the scripts share that refuse an allocation of a program: a library that is preloaded and refuses the
-allocation with a given number, runs with it, and attempts that run side by side."""
+"""What the scripts that refuse an allocation of a program share: a preloaded library that refuses the allocation with a
+given number, runs with it, and attempts that run side by side."""
 
 import concurrent.futures
 import contextlib
@@ -13,7 +13,7 @@ from usbreg import TOP, content, folder, run
 
 @contextlib.contextmanager
 def refusal():
-    """A folder for files of the run, and the library."""
+    """Yields a folder for files of the run, and the library."""
     if not shutil.which("cc"):
         sys.exit("no C compiler: apt-get install gcc")
     with folder() as room:
@@ -23,25 +23,25 @@ def refusal():
 
 
 def refusing(shim, refused, counted=None):
-    """The variables of a run that is refused the allocation of this number, or none for 0. It says in a file how many
-    it asked for, where one is named."""
+    """Returns the variables of a run that is refused the allocation with this number, or none for 0. If a file is named,
+    the run writes to it how many allocations it asked for."""
     return {"LD_PRELOAD": shim, "REFUSED": str(refused), **({"COUNTED": counted} if counted else {})}
 
 
 def run_refused(words, shim, refused, lines=os.devnull, counted=None):
-    """Status, output and errors of a run that is refused the allocation of this number, or none for 0."""
+    """Returns status, output and errors of a run that is refused the allocation with this number, or none for 0."""
     return run(words, content(lines), refusing(shim, refused, counted))
 
 
 def asked_in(words, shim, room, lines=os.devnull):
-    """How many allocations a run asks for."""
+    """Returns the number of allocations that a run asks for."""
     path = f"{room}/counted"
     run_refused(words, shim, 0, lines, path)
     return int(content(path))
 
 
 def each(numbers, room, attempt):
-    """What the attempts with each number give. They run side by side, each row of them in a folder of its own."""
+    """Returns the results of the attempts with each number. They run side by side, each row of them in its own folder."""
     rows = len(os.sched_getaffinity(0))
 
     def row(first):

@@ -1,9 +1,9 @@
 #!/usr/bin/env python3
 """Runs the example in the help of each command of `usbreg` as it is written, in a new folder that has `examples/` of the
-repository. Each line has to end with status 0, and to say nothing on its standard error. `usbreg serve` is left out of
-its own example, since it ends for nobody.
+repository. Each line must end with status 0, and print nothing on its standard error. `usbreg serve` is left out of its
+own example, since it does not end.
 
-Usage: scripts/run_help_examples.py [PROGRAM], by default the one that `make` builds. The status is 0 where each command
+Usage: scripts/run_help_examples.py [PROGRAM], by default the one that `make` builds. The exit status is 0 if each command
 has an example and all of them ran."""
 
 import os
@@ -16,7 +16,7 @@ ENDLESS = "usbreg serve "
 
 
 def example(text):
-    """The lines of a help text's example."""
+    """Returns the lines of a help text's example."""
     return [line.strip() for line in text.partition("\nExample:\n")[2].splitlines() if line.startswith("  ")]
 
 

@@ -1,8 +1,8 @@
 #!/usr/bin/env python3
 """Runs the examples in docs/http.md as they are written, by `curl`, and compares what each prints.
 
-Usage: scripts/run_http_examples.py [PROGRAM], by default the one that `make` builds. Skipped, and it says so, where curl
-is not installed. The status is 0 where each one printed what the page says."""
+Usage: scripts/run_http_examples.py [PROGRAM], by default the one that `make` builds. If curl is not installed it says so
+and skips them. The exit status is 0 if each one printed what the page says."""
 
 import os
 import re
@@ -16,7 +16,7 @@ PAGE = f"{TOP}/docs/http.md"
 
 
 def examples(page):
-    """The command lines of a page with what each prints, which ends at the next one."""
+    """Returns the command lines of a page with the output of each, which ends at the next one."""
     for block in re.findall(r"^```\n(.*?)^```$", page, re.MULTILINE | re.DOTALL):
         for text in re.split(r"^\$ ", block, flags=re.MULTILINE)[1:]:
             words = re.match(r"(?:.*\\\n)*.*\n", text)[0]
@@ -24,7 +24,7 @@ def examples(page):
 
 
 def run_page(usbreg, room):
-    """Runs the examples of docs/http.md in order, but on a port that is free."""
+    """Runs the examples of docs/http.md in order, on a free port."""
     os.symlink(usbreg, f"{room}/usbreg")
     os.symlink(EXAMPLES, f"{room}/examples")
     count, server = 0, None

@@ -1,12 +1,12 @@
 #!/usr/bin/env python3
-"""Runs examples/nginx.conf as it stands, but for its two ports, in front of `usbreg serve`.
+"""Runs examples/nginx.conf as it is, except for its two ports, in front of `usbreg serve`.
 
-The server gets the name that nginx has authenticated, whatever the client says of itself; no order passes without one.
-Bodies of the greatest sizes pass, and greater ones do not. A client that stops in the middle keeps nobody waiting. The list is
-kept, also while the server is down.
+The server gets the name that nginx has authenticated, whatever name the client sends; no order passes without one.
+Bodies of the greatest sizes pass, and greater ones do not. A client that stops in the middle keeps nobody waiting. The
+gate keeps the list, also while the server is down.
 
-Usage: scripts/serve_behind_nginx.py [PROGRAM], by default the one that `make` builds. Wants nginx, and says that it was
-skipped where it is not installed. The status is 0 where all of this held."""
+Usage: scripts/serve_behind_nginx.py [PROGRAM], by default the one that `make` builds. If nginx is not installed it says
+that it was skipped. The exit status is 0 if all of this holds."""
 
 import base64
 import os
@@ -23,13 +23,13 @@ NAMES = ("ann", "cora")
 
 
 def signed(name, sent, password=None):
-    """The same message with a name and a password."""
+    """Returns the same message with a name and a password."""
     pair = base64.b64encode(f"{name}:{password or name}".encode())
     return sent.replace(b"\r\n", b"\r\nauthorization: Basic " + pair + b"\r\n", 1)
 
 
 class Gate:
-    """What a client gets of the gate: a status and a body. The client asks for the connection to be closed."""
+    """What a client gets from the gate: a status and a body. The client asks for the connection to be closed."""
 
     def __init__(self, port):
         self.port = port
@@ -46,14 +46,14 @@ class Gate:
 
 
 def conf(room, gate, server):
-    """The recipe with these ports, and the names that it lets in."""
+    """Returns the recipe with these ports, and the names that it lets in."""
     text = content(f"{EXAMPLES}/nginx.conf").decode()
     for port, other in ((":8000;", gate), (":8080", server)):
         if port not in text:
             sys.exit(f"examples/nginx.conf has no {port}")
         text = text.replace(port, f":{other}" + port[5:])
     write(f"{room}/users", "".join(f"{name}:{{PLAIN}}{name}\n" for name in NAMES))
-    # where nginx is started by root its workers are another user
+    # if root starts nginx its workers are another user
     os.chmod(room, 0o755)
     return write(f"{room}/nginx.conf", text)
 
@@ -63,13 +63,13 @@ def told(reply):
 
 
 def refusal(number):
-    """Status and body of a refusal."""
+    """Returns the status and the body of a refusal."""
     head, _, body = refused(number).partition(b"\r\n\r\n")
     return int(head.split()[1]), body
 
 
 def names(gate):
-    """Who the server believes a caller to be."""
+    """Checks which caller the server sees."""
     gate.gives("no name", command(ENROL), 401)
     gate.gives("a wrong password", signed("ann", command(ENROL), "cora"), 401)
     gate.gives("no name for a list", post("cora", "i1", b"1209  x\n", "/imports/acme"), 401)
@@ -87,7 +87,7 @@ def names(gate):
 
 
 def sizes(gate):
-    """The greatest bodies pass to the server, and no greater ones; a body in chunks has its length when it gets there."""
+    """Checks that the greatest bodies reach the server, and no greater ones; a body in chunks arrives with its length."""
     body = command(ENROL).partition(b"\r\n\r\n")[2]
     gate.gives("the longest order", signed("ann", post("", "k1", body.ljust(ORDER))), 200, told("enrolled acme"))
     gate.gives("a longer order", signed("ann", post("", "k1", body.ljust(ORDER + 1))), 413)
@@ -100,7 +100,7 @@ def sizes(gate):
 
 
 def slow_clients(gate):
-    """Clients that stop in the middle of a message, while another one is served at once."""
+    """Checks that clients that stop in the middle of a message do not delay another one."""
     half = signed("ann", command(ask("k3")))[:-10]
     stopped = [connected(gate.port) for _ in range(20)]
     for connection in stopped:
@@ -114,7 +114,7 @@ def slow_clients(gate):
 
 
 def the_list(gate, server):
-    """The list is kept, and stays while the server is down."""
+    """Checks that the gate keeps the list, also while the server is down."""
     listed = b"# List of USB numbers in the syntax of usb.ids\n\n1209  Shared products\n\t0011  Lamp\n"
     for what in ("miss", "hit"):
         status, body, lines = gate.ask(get("/list"))

@@ -1,4 +1,4 @@
-"""What the scripts and the benches share that talk HTTP to `usbreg serve`: a process that serves, messages, and the
+"""What the scripts and benchmarks that talk HTTP to `usbreg serve` share: a process that serves, messages, and the
 responses that they must get. Status, name and number of each refusal are those of the table in docs/http.md."""
 
 import contextlib
@@ -14,9 +14,9 @@ import time
 from usbreg import TOP, content
 
 HOST = "127.0.0.1"
-# Ports below those that a system gives to clients, so that no connection takes one while nobody listens on it.
+# Ports below those that the system gives to clients, so that no connection takes one while nobody listens on it.
 PORTS = range(20000, 32768)
-# How long a script waits for a process or for a response, in seconds.
+# The seconds that a script waits for a process or a response.
 PATIENCE = 60
 PHRASES = {
     200: "OK", 400: "Bad Request", 403: "Forbidden", 404: "Not Found", 405: "Method Not Allowed", 409: "Conflict",
@@ -26,7 +26,7 @@ JSON, TEXT = "application/json", "text/plain; charset=utf-8"
 
 
 def free_port():
-    """A port that nobody has."""
+    """Returns a free port."""
     while True:
         port = random.choice(PORTS)
         with socket.socket() as it, contextlib.suppress(OSError):
@@ -35,14 +35,14 @@ def free_port():
 
 
 def listens(port):
-    """Whether a process listens on the port. It is asked of the system, since a connection would count as one."""
+    """Returns whether a process listens on the port. It asks the system, since a connection would count as one served."""
     wanted = f"0100007F:{port:04X}"
     rows = (line.split() for line in content("/proc/net/tcp").decode().splitlines()[1:])
     return any(row[1] == wanted and row[3] == "0A" for row in rows)
 
 
 class Serving:
-    """A process that serves on a port, for a `with`: at its end the process is killed where it still runs."""
+    """A process that serves on a port, for a `with`: at its end the process is killed if it still runs."""
 
     def __init__(self, words, port, env=None, limit=None):
         self.words, self.port = words, port
@@ -57,7 +57,7 @@ class Serving:
         self.process.communicate()
 
     def is_up(self):
-        """Waits until it listens: true. Or until it has ended: false."""
+        """Waits until it listens, and returns true; or until it has ended, and returns false."""
         until = time.monotonic() + PATIENCE
         while time.monotonic() < until:
             if listens(self.port):
@@ -68,13 +68,13 @@ class Serving:
         sys.exit(f"{' '.join(self.words)}: it doesn't listen after {PATIENCE} seconds")
 
     def up(self):
-        """Itself, once it listens. It ends the script where the process ends before."""
+        """Returns itself, once it listens. Ends the script if the process ends before."""
         if not self.is_up():
             sys.exit(f"{' '.join(self.words)}: it ended with {self.ended()}")
         return self
 
     def ended(self):
-        """The status and what was printed, once it ends by itself."""
+        """Returns the exit status and the output, once it ends by itself."""
         try:
             output, errors = self.process.communicate(timeout=PATIENCE)
         except subprocess.TimeoutExpired:
@@ -88,14 +88,14 @@ class Serving:
 
 
 def serving(usbreg, store, count=None, port=None, **how):
-    """`usbreg serve` of a store, of so many connections where a count is given."""
+    """Starts `usbreg serve` on a store, for `count` connections if given."""
     port = port or free_port()
     counted = [] if count is None else ["--count", str(count)]
     return Serving([usbreg, "serve", store, "--port", str(port), *counted], port, **how)
 
 
 def message(method, target, body=None, **fields):
-    """A message. The names of fields have _ in the place of -; a length is added where there is a body."""
+    """Returns a message. The names of fields have _ in place of -; a length is added if it has a body."""
     length = {} if body is None else {"content-length": len(body)}
     named = {name.replace("_", "-"): value for name, value in fields.items()}
     lines = "".join(f"{name}: {value}\r\n" for name, value in ({"host": "localhost"} | named | length).items())
@@ -111,25 +111,25 @@ def post(caller, key, body, target="/commands"):
 
 
 def command(request):
-    """The message of a request line: caller and key are fields of its head."""
+    """Returns the message of a request line: caller and key are fields of its head."""
     order = {name: value for name, value in request.items() if name not in ("caller", "key")}
     return post(request["caller"], request["key"], json.dumps(order, separators=(",", ":")).encode())
 
 
 def connected(port):
-    """A connection whose bytes are sent as they come."""
+    """Opens a connection that sends bytes without delay."""
     connection = socket.create_connection((HOST, port), timeout=PATIENCE)
     connection.setsockopt(socket.IPPROTO_TCP, socket.TCP_NODELAY, 1)
     return connection
 
 
 def read_to_end(connection):
-    """All bytes that come. A reset shows, as an error."""
+    """Returns all bytes that come. A reset is an error."""
     return b"".join(iter(lambda: connection.recv(65536), b""))
 
 
 def exchange(port, sent, last=False):
-    """What comes back for these bytes. Where they are the last the connection is closed behind them."""
+    """Returns the response to these bytes. If they are the last, the connection is closed for writing after them."""
     with connected(port) as connection:
         connection.sendall(sent)
         if last:
@@ -138,7 +138,7 @@ def exchange(port, sent, last=False):
 
 
 def response(body, status=200, kind=JSON, allow=None):
-    """The bytes of a response."""
+    """Returns the bytes of a response."""
     allowed = f"allow: {allow}\r\n" if allow else ""
     head = f"HTTP/1.1 {status} {PHRASES[status]}\r\ncontent-type: {kind}\r\ncontent-length: {len(body)}\r\n{allowed}connection: close\r\n\r\n"
     return head.encode() + body
@@ -149,13 +149,13 @@ def done(text):
 
 
 def refusals():
-    """Name and status of each refusal by its number, as docs/http.md has them."""
+    """Returns the name and the status of each refusal by its number, as in docs/http.md."""
     rows = re.findall(r"^\| (\d+) \| (\w+) \| (\d+) \|", content(f"{TOP}/docs/http.md").decode(), re.MULTILINE)
     return {int(number): (name, int(status)) for number, name, status in rows}
 
 
 def refused(number, detail=None, allow=None):
-    """The response to what is refused."""
+    """Returns the response with a refusal."""
     name, status = refusals()[number]
     told = ({"detail": detail} if detail else {}) | {"name": name, "refused": number}
     return response(json.dumps(told, separators=(",", ":")).encode() + b"\n", status, allow=allow)

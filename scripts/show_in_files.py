@@ -1,8 +1,8 @@
 #!/usr/bin/env python3
-"""Runs the commands of `usbreg` that show something over stores and lists in files, and compares what they print.
+"""Runs exports, reports, imports and look-ups of `usbreg` over stores and lists in files, and compares what they print.
 
-Usage: scripts/show_in_files.py [PROGRAM], by default the one that `make` builds. The status is 0 where every case is as
-it should be."""
+Usage: scripts/show_in_files.py [PROGRAM], by default the one that `make` builds. The exit status is 0 if every case
+passes."""
 
 import json
 import re
@@ -33,12 +33,12 @@ def ask(key, title, **fields):
 
 
 def act(room, store, lines, replies):
-    """The store's registry gives these replies to the lines."""
+    """Checks that the store's registry gives these replies to the lines."""
     room.case(["apply", store, room.file("lines.jsonl", "".join(lines))], output="".join(f'{{"done":"{it}"}}\n' for it in replies))
 
 
 def first(room, name):
-    """The registry after the lines of the first trial."""
+    """Returns the registry after the lines of the first trial."""
     store = room.founded(name)
     act(room, store, content(f"{EXAMPLES}/first.jsonl").decode().splitlines(keepends=True), FIRST)
     return store
@@ -56,7 +56,7 @@ def more_vendors(room, store):
 
 
 def exports(room):
-    """An empty registry, with and without a stamp; the first one; two vendors and a returned number."""
+    """Exports an empty registry, with and without a stamp; the first one; two vendors and a returned number."""
     empty = room.founded("shown")
     room.case(["export", empty], output=HEADER + VENDOR)
     room.case(["export", empty, "--stamp", "2024-01-30 20:34:02"], output=HEADER + STAMP + VENDOR)
@@ -76,7 +76,7 @@ def census(vendor, free, reserved, held, returned):
 
 
 def reports(room):
-    """Of an empty registry, of the first one, after another petition, and of two vendors with a returned number."""
+    """Reports on an empty registry, on the first one, after another petition, and on two vendors with a returned number."""
     empty, store = room.founded("unused"), first(room, "reported")
     for name, text in (("census", census("1209", 65519, 16, 0, 0)), ("holders", ""), ("petitions", "")):
         room.case(["report", empty, name], output=text)
@@ -98,7 +98,8 @@ def reports(room):
 
 
 def imports(room):
-    """Items of each class, again under another key and under the same one; too many; untitled; an export again; several vendors."""
+    """Imports items of each class, again under another key and under the same one; too many; untitled; an export; several
+    vendors."""
     store = first(room, "imported")
     mixed = room.file("mixed.ids", "1209  x\n\t0000  Zero\n\t0001  Fixed\n\t0011  Taken\n\t0012  New board\n\t0012  New board again\n")
 
@@ -156,7 +157,7 @@ def imports(room):
 
 
 def look_ups(room):
-    """The first match of several, no match, a match of a faulty list, and arguments that are no numbers."""
+    """Looks up the first match of several, no match, a match in a faulty list, and arguments that are not numbers."""
     listed, orphan = room.file("other_kinds.ids", LISTED), room.file("orphan.ids", ORPHAN)
     room.case(["lookup", listed, "1209", "0011"], output="Blinker\n")
     room.case(["lookup", listed, "1209", "0012"], 2, errors="not found\n")
@@ -173,8 +174,8 @@ def look_ups(room):
 
 
 def devices(text):
-    """The devices of a list as `lsusb` reads one: a vendor is four digits and two spaces, a device a tab before them.
-    Below an entry of another kind there are none."""
+    """Returns the devices of a list as `lsusb` reads one: a vendor is four digits and two spaces, a device a tab before
+    them. An entry of another kind has no devices."""
     found, vendor = {}, None
     for it in text.split("\n"):
         entry = re.fullmatch(r"(\t?)([0-9a-f]{4})  (.*)", it)
@@ -188,7 +189,7 @@ def devices(text):
 
 
 def second_reader(room):
-    """What another program reads of an export is what a look-up finds in it."""
+    """Checks that another program reads in an export what a look-up finds in it."""
     store = room.founded("read")
     numbers = [f"{number:04x}" for number in range(0x1000, 0x1010)]
     lines = [line("ann", "k0", "enrol", org="acme", title="Acme", site=LINK)]

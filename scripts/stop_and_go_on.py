@@ -1,13 +1,12 @@
 #!/usr/bin/env python3
-"""Kills `usbreg apply` at random moments, and looks at what is left each time.
+"""Kills `usbreg apply` at random moments, and checks what is left each time.
 
-Each time the reply lines that were printed are counted, and a copy of the store is opened: the orders that
-it keeps are the first of the requests, each reply that was printed is kept as it was printed, and at most
-one order more is there. Then the run goes on with `--answered`. In the end replies and tables are those of
-a run that was never stopped.
+Each time it counts the printed reply lines, and opens a copy of the store: the kept orders must be the first of the
+requests, with each printed reply as it was printed, and at most one more. Then the run goes on with `--answered`. In the
+end replies and tables must be those of a run that was never stopped.
 
 Usage: scripts/stop_and_go_on.py [STOPS [PROGRAM]], by default 100 stops of the program that `make` builds.
-The status is 0 where all of this held.
+The exit status is 0 if all of this holds.
 """
 
 import json
@@ -23,7 +22,7 @@ ENROLMENTS = 1500
 
 
 def apply_until(usbreg, store, lines, answered, seconds=None):
-    """The whole reply lines of a run that is killed after so many seconds, and whether it was."""
+    """Returns the whole reply lines of a run that is killed after the given seconds, and whether it was."""
     words = [usbreg, "apply", store, lines, "--answered", str(answered)]
     with tempfile.TemporaryFile() as printed:
         run = subprocess.Popen(words, stdout=printed)
@@ -40,7 +39,7 @@ def apply_until(usbreg, store, lines, answered, seconds=None):
 
 
 def kept(store, room):
-    """The caller, the key and the reply of each order that a copy of the store keeps, in the order of commits."""
+    """Returns the caller, the key and the reply of each order that a copy of the store keeps, in the order of commits."""
     with opened(copy(store, f"{room}/copy.db")) as connection:
         if connection.execute("PRAGMA integrity_check").fetchone() != ("ok",):
             sys.exit("the store that a stop left is not sound")
@@ -48,7 +47,7 @@ def kept(store, room):
 
 
 def look(store, room, asked, replies):
-    """Ends the script where the store is not as it should be after these replies."""
+    """Ends the script if the store is not right after these replies."""
     there = kept(store, room)
     if len(there) not in (len(replies), len(replies) + 1):
         sys.exit(f"{len(replies)} replies were printed, and {len(there)} orders are kept")
@@ -75,7 +74,7 @@ def main():
 
         replies, killed, between = [], 0, 0
         while killed < stops and len(replies) < len(asked):
-            # from within the start, where nothing is acted on, to a few dozen requests further
+            # from the start, before anything is acted on, to a few dozen requests later
             printed, was_killed = apply_until(usbreg, store, lines, len(replies), random.uniform(0, 0.2 + 2 * whole / stops))
             replies += printed
             if was_killed:

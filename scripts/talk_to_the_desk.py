@@ -1,15 +1,15 @@
 #!/usr/bin/env python3
-"""Talks HTTP to `usbreg serve`, as real clients do, and compares what comes back to the byte.
+"""Talks HTTP to `usbreg serve`, as real clients do, and compares the responses to the byte.
 
-Each refusal that the table of statuses in docs/http.md has is met by `curl`, but for those that want a message that
-`curl` does not send. A client of its own sends each byte alone, sends half of a message and closes, sends nothing,
-sends a message and more after it, sends 5 MB that are refused unread, and makes 200 connections one after another. A port that is taken, a count of connections, a store that is open already and a
-file that grows no more end the program as docs/requests.md says. And the program is killed as `kill -9` does it in the
-middle of commands: each one whose response came stands, at most one more does, and in the end the tables are those of
-a run without stops.
+`curl` gets each refusal in the table of statuses in docs/http.md, except for those that need a message that `curl` does
+not send. A client of its own sends each byte alone, sends half of a message and closes, sends nothing, sends a message and
+more after it, sends 5 MB that are refused unread, and makes 200 connections one after another. A port that is taken, a
+count of connections, a store that is already open and a file that can grow no more end the program as docs/requests.md
+says. The script also kills the program as `kill -9` does, in the middle of commands: each command whose response came was
+acted on, at most one more was, and in the end the tables are those of a run without stops.
 
-Usage: scripts/talk_to_the_desk.py [STOPS [PROGRAM]], by default 20 stops of the program that `make` builds. Wants curl:
-where it is not installed only what needs it is skipped, in so many words. The status is 0 where all of this held."""
+Usage: scripts/talk_to_the_desk.py [STOPS [PROGRAM]], by default 20 stops of the program that `make` builds. If curl is not
+installed it says so and skips only what needs it. The exit status is 0 if all of this holds."""
 
 import contextlib
 import itertools
@@ -31,11 +31,11 @@ from usbreg import apply, done as printed, folder, found, program, rounds, run, 
 LINK = "https://acme.example/"
 ENROL = {"caller": "ann", "key": "k1", "order": "enrol", "org": "acme", "title": "Acme Tools", "site": LINK}
 ENROLLED = done("enrolled acme")
-# Refusals that no message alone brings about: the store's, and want of memory.
+# Refusals that no message alone causes: a fault of the store, and out of memory.
 OF_RESOURCES = {30, 31}
-# Most bytes of a message's head, of an order and of a list.
+# The greatest numbers of bytes of a message's head, of an order and of a list.
 HEAD, ORDER, LIST = 8192, 16384, 4194304
-# How many connections are made one after another, and how many organisations enrol, ask and are granted while it is killed.
+# The number of connections made one after another, and of organisations that enrol, ask and are granted during the kills.
 MANY, ROUNDS = 200, 100
 
 
@@ -56,7 +56,7 @@ def ask(key, **fields):
 
 
 class Desk:
-    """A server that messages are sent to, and the refusals that were seen."""
+    """A server, and the refusals that it has sent."""
 
     def __init__(self, server, room):
         self.port, self.room, self.seen = server.port, room, set()
@@ -66,7 +66,7 @@ class Desk:
         same(f"{request}", exchange(self.port, command(request)), wanted)
 
     def curl(self, *words):
-        """What curl gets, head and all."""
+        """Returns what curl gets, with the head."""
         status, output, errors = run(["curl", "-si", "--max-time", "60", *words[:-1], f"127.0.0.1:{self.port}{words[-1]}"])
         if status or errors:
             sys.exit(f"curl {' '.join(words)}: status {status}, {errors!r}")
@@ -86,7 +86,7 @@ class Desk:
         self.refuses(number, *fields(caller, "list"), *more, "--data-binary", f"@{listed}", path, detail=detail)
 
     def refuses_bytes(self, number, sent, last=True, detail=None):
-        """A message that curl doesn't send."""
+        """Sends a message that curl doesn't send, and checks its refusal."""
         self.seen.add(number)
         same(f"{sent[:120]!r}", exchange(self.port, sent, last), refused(number, detail))
 
@@ -96,7 +96,7 @@ def fields(caller, key):
 
 
 def by_rules(desk):
-    """Orders that the rules refuse, in an order in which each can be met."""
+    """Sends orders that the rules refuse, in a sequence in which each refusal can occur."""
     desk.refuses_order(4, ask("k2"))
     desk.send(ENROL, ENROLLED)
     desk.refuses_order(1, asked("k1", "amend-org", org="acme", title="Acme", site=LINK))
@@ -123,7 +123,7 @@ def by_rules(desk):
 
 
 def by_limits(desk):
-    """All numbers reserved, sixteen open petitions, and 256 vendors."""
+    """Tries a vendor without free numbers, sixteen open petitions, and 256 vendors."""
     desk.send(asked("r1", "reserve", "cora", first="0012", last="ffff"), done("reserved 0012-ffff"))
     for number in range(2, 18):
         desk.send(ask(f"a{number}"), done(f"petition {number}"))
@@ -135,7 +135,7 @@ def by_limits(desk):
 
 
 def by_messages(desk):
-    """Messages that are refused before any rule is asked."""
+    """Sends messages that are refused before any rule is checked."""
     enrol = fields("ann", "k9")
     desk.refuses(20, *itertools.chain(*(("-H", f"x-{number}: 1") for number in range(65))), "/list")
     desk.refuses(20, "-H", "x: " + "a" * HEAD, "/list")
@@ -179,7 +179,7 @@ def each_refusal(usbreg, room):
 
 
 def slowly(port, sent):
-    """What comes back where each byte is sent alone."""
+    """Returns the response if each byte is sent alone."""
     with connected(port) as connection:
         for byte in sent:
             connection.send(bytes([byte]))
@@ -187,7 +187,7 @@ def slowly(port, sent):
 
 
 def cut(port):
-    """A message that ends early, at some places of its head and its body, or never begins. No order is acted on."""
+    """Sends messages that end early, at some places of the head and the body, or never begin. No order is acted on."""
     whole = command(ENROL)
     head = whole.index(b"\r\n\r\n") + 4
     for length in (0, 1, 16, head - 1, head, head + 1, len(whole) - 1):
@@ -199,7 +199,7 @@ def cut(port):
 
 
 def silent(port):
-    """A peer that sends nothing, or stops in the middle, is let go without a response, and the next one is served."""
+    """Checks that a peer that sends nothing, or stops in the middle, gets no response, and that the next one is served."""
     for sent in (b"", command(ENROL)[:-1]):
         began = time.monotonic()
         with connected(port) as connection:
@@ -211,7 +211,7 @@ def silent(port):
 
 
 def early(desk):
-    """5 MB that are refused unread, to a client that sends them all before it reads: it gets the whole response."""
+    """Sends 5 MB that are refused unread, all before it reads: it gets the whole response."""
     large = b"x" * 5_000_000
     same("5 MB", exchange(desk.port, post("ann", "k9", large)), refused(22))
     same("5 MB to no path", exchange(desk.port, post("ann", "k9", large, "/none")), refused(24))
@@ -228,7 +228,7 @@ def early(desk):
 
 
 def own_client(usbreg, room):
-    """Messages in many pieces, cut, early, late and many."""
+    """Sends messages in many pieces, cut, early, late and many."""
     store = found(usbreg, f"{room}/pieces.db")
     with serving(usbreg, store).up() as server:
         port = server.port
@@ -255,13 +255,13 @@ LISTED = b"# List of USB numbers in the syntax of usb.ids\n\n1209  Shared produc
 
 
 def no_growth():
-    """A process whose files grow no more: its writes fail, and no signal ends it."""
+    """Makes a process whose files can grow no more: its writes fail, and no signal ends it."""
     signal.signal(signal.SIGXFSZ, signal.SIG_IGN)
     resource.setrlimit(resource.RLIMIT_FSIZE, (1 << 17, 1 << 17))
 
 
 def full(usbreg, room):
-    """A store that fails: its fault is the response and ends the program, and what had a response stands."""
+    """Tries a store that fails: its fault is the response and ends the program, and what got a response is kept."""
     store = found(usbreg, f"{room}/full.db")
     answered = []
     with serving(usbreg, store, limit=no_growth).up() as server:
@@ -281,7 +281,7 @@ def full(usbreg, room):
 
 
 def at_a_terminal(words):
-    """What a program says whose standard error is a terminal."""
+    """Returns what a program prints whose standard error is a terminal."""
     ours, its = os.openpty()
     same("at a terminal", subprocess.run(words, stdout=subprocess.PIPE, stderr=its, check=True, timeout=PATIENCE).stdout, b"")
     os.close(its)
@@ -291,7 +291,7 @@ def at_a_terminal(words):
 
 
 def ends(usbreg, room):
-    """A count of none, a port that is taken, a store that is open already or is not there, and a terminal."""
+    """Tries a count of 0, a port that is taken, a store that is already open or does not exist, and a terminal."""
     store, other = (found(usbreg, f"{room}/{name}.db") for name in ("store", "other"))
     before = tables(store)
     with serving(usbreg, store, count=0) as server:
@@ -312,7 +312,7 @@ def ends(usbreg, room):
 
 
 def bodies(server, requests):
-    """The bodies of the responses to commands that are acted on, up to the first that doesn't come whole."""
+    """Returns the bodies of the responses to commands that are acted on, up to the first that doesn't come whole."""
     for request in requests:
         try:
             head, _, body = exchange(server.port, command(request)).partition(b"\r\n\r\n")
@@ -325,7 +325,7 @@ def bodies(server, requests):
 
 
 def unstopped(usbreg, room, requests):
-    """The bodies of all responses, the seconds that they took, and the store then: that of the same request lines."""
+    """Returns the bodies of all responses, the seconds that they took, and the store then: that of the same lines."""
     store, other = (found(usbreg, f"{room}/{name}.db") for name in ("unstopped", "applied"))
     with serving(usbreg, store, count=len(requests)).up() as server:
         began = time.monotonic()
@@ -338,7 +338,8 @@ def unstopped(usbreg, room, requests):
 
 
 def killed(usbreg, room, stops):
-    """Kills it so many times, opens the store again each time, and goes on from the first command without a response."""
+    """Kills it the given number of times, opens the store again each time, and goes on from the first command without a
+    response."""
     requests = list(rounds(1, ROUNDS))
     wanted, seconds, other = unstopped(usbreg, room, requests)
     store, replies, between = found(usbreg, f"{room}/killed.db"), [], 0

@@ -1,6 +1,6 @@
 #!/usr/bin/env python3
 """Tests of `wrong_bodies.py`, on a small crate that is written into a temporary folder: what is refused, and what must
-not count as refused. Its last line counts them, and the status is 0 where all is as it should be."""
+not count as refused. The last line counts them, and the exit status is 0 if all pass."""
 
 import contextlib
 import io
@@ -102,7 +102,7 @@ pub fn cut_to_nothing(rope: &mut Rope)
 }
 """
 
-# The answer to a goal of the function with the long name.
+# The proof of a goal of the function with the long name.
 LONG = "the_shorter_of_the_lengths_of_two_ropes_that_lie_on_one_cart"
 ANSWERS = f"""use Rattle.std.proofs.Common.{{rules}}
 use Rattle.ropes.proofs.{LONG}.Goals as goal
@@ -111,7 +111,7 @@ pub returns-then-first-second : goal.returns-then-first-second
 returns-then-first-second g c = search rules
 """
 
-# Each edit's old and new text, and what must become of it: refused, or failed with these words.
+# Each edit's old and new text, and its result: refused, or failed with these words.
 EDITS = {
     "cuts_the_rope_shorter": ("self.length = length;", "self.length = length / 2;", "refused"),
     "makes_a_shorter_rope": ("        Rope { length }", "        Rope { length: length / 2 }", "refused"),
@@ -150,7 +150,7 @@ def repository(top):
 
 
 def faults(refused, failed):
-    """What became of an edit, where that is not what must."""
+    """Returns the result of an edit, if it is not the expected one."""
     for name, (_, _, wanted) in EDITS.items():
         why = failed.get(f"ropes/{name}", "")
         is_right = name in refused and not why if wanted == "refused" else name not in refused and wanted in why

@@ -1,9 +1,10 @@
 #!/usr/bin/env bash
-# Runs the scripts that try what was built: cases over stores in files, a plain history beside it, the man page and the
-# examples in the help, what SQLite sees of a store, stores of older schemas, Debian's list of USB numbers, each
-# allocation refused in turn, kills at random moments, and clients that talk HTTP to it, with nginx in front and without.
-# What a script prints is shown only where it fails or says that it was skipped.
-# Wants python3 and cc, and fails where one is missing; with SKIP=1 the scripts are left out.
+# Runs the scripts that try what was built: cases over stores in files, a plain history beside it, the man page, the
+# examples in docstrings and those in the help, what SQLite sees of a store, stores of older schemas, Debian's list of
+# USB numbers, each allocation refused in turn, kills at random moments, and clients that talk HTTP to it, with nginx in
+# front and without.
+# It shows the output of a script only if it fails or says that it was skipped.
+# Needs python3 and cc, and fails if one is missing; with SKIP=1 the scripts are skipped.
 cd "$(dirname "$0")" || exit 1
 if [ "${SKIP:-}" = 1 ]; then
     echo "SKIP=1: the scripts that try the program are left out" >&2
@@ -17,7 +18,7 @@ for needed in python3 cc; do
     fi
 done
 [ "$failed" = 0 ] || exit 1
-for script in apply_in_files.py compare_with_plain_history.py show_in_files.py compare_man_page.py run_help_examples.py look_into_a_store.py open_older_stores.py use_debian_list.py "refuse_allocations.py --only trial" refuse_in_tests.py stop_and_go_on.py run_http_examples.py talk_to_the_desk.py serve_behind_nginx.py; do
+for script in apply_in_files.py compare_with_plain_history.py show_in_files.py compare_man_page.py compare_doc_examples.py run_help_examples.py look_into_a_store.py open_older_stores.py use_debian_list.py "refuse_allocations.py --only trial" refuse_in_tests.py stop_and_go_on.py run_http_examples.py talk_to_the_desk.py serve_behind_nginx.py; do
     # shellcheck disable=SC2086
     if ! said=$(./$script 2>&1); then
         printf 'FAILED: scripts/%s\n%s\n' "$script" "$said" >&2

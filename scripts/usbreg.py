@@ -1,4 +1,4 @@
-"""What the scripts and the benches share: the program and how it is run, stores, their tables, and made-up requests."""
+"""What the scripts and benchmarks share: the program and its runs, stores, their tables, and made-up requests."""
 
 import contextlib
 import json
@@ -17,13 +17,13 @@ ENDINGS = ("", "-wal", "-shm")
 
 
 def folder():
-    """A folder for a `with`, in memory where there is such a one, since each store is synced many times."""
+    """Returns a folder for a `with`, in memory if possible, since each store is synced many times."""
     return tempfile.TemporaryDirectory(dir="/dev/shm" if os.path.isdir("/dev/shm") else None)
 
 
 def program(given=None, crate="registry_cli", name=None):
-    """The path of the given program, or else of usbreg in the variable USBREG, or else of the one that is built in a crate.
-    It ends the script where there is none."""
+    """Returns the path of the given program, else that in the variable USBREG, else that of the one built in a crate. Ends
+    the script if it does not exist."""
     meant = os.environ.get("USBREG") if crate == "registry_cli" else None
     path = os.path.abspath(given or meant or f"{TOP}/crates/{crate}/out/{name or crate}")
     if not os.path.exists(path):
@@ -37,20 +37,20 @@ def content(path):
 
 
 def write(path, text):
-    """Writes a text to a file, and gives the file's path."""
+    """Writes a text to a file, and returns the file's path."""
     with open(path, "w", encoding="utf-8") as file:
         file.write(text)
     return path
 
 
 def run(words, given=b"", env=None):
-    """Status, output and errors of a program that reads the given bytes."""
+    """Returns status, output and errors of a program that reads the given bytes."""
     ran = subprocess.run(words, input=given, capture_output=True, env={**os.environ, **(env or {})}, check=False, timeout=120)
     return ran.returncode, ran.stdout, ran.stderr
 
 
 def done(words):
-    """The output of a program. It ends the script where the program fails or says something on its standard error."""
+    """Returns the output of a program. Ends the script if the program fails or prints to its standard error."""
     status, output, errors = run(words)
     if status or errors:
         sys.exit(f"{' '.join(words)} ended with status {status}: {errors!r}")
@@ -58,26 +58,26 @@ def done(words):
 
 
 def found(usbreg, store, founding=FOUNDING):
-    """Founds a registry in a new file, and gives the file's path."""
+    """Founds a registry in a new file, and returns the file's path."""
     remove(store)
     done([usbreg, "found", store, founding])
     return store
 
 
 def apply(usbreg, store, lines):
-    """The reply lines of a run that all is well with."""
+    """Returns the reply lines of a run, which must succeed."""
     return done([usbreg, "apply", store, lines])
 
 
 def remove(store):
-    """Removes a store, where it is there."""
+    """Removes a store, if it exists."""
     for ending in ENDINGS:
         if os.path.exists(store + ending):
             os.remove(store + ending)
 
 
 def copy(store, other):
-    """Makes the second store what the first one is."""
+    """Copies the first store over the second."""
     remove(other)
     for ending in ENDINGS:
         if os.path.exists(store + ending):
@@ -86,17 +86,17 @@ def copy(store, other):
 
 
 def opened(store):
-    """Another program's connection to the store, for a `with`: at its end it is closed, as sqlite3's own is not."""
+    """Returns another program's connection to the store, for a `with`: it closes at the end, unlike sqlite3's own."""
     return contextlib.closing(sqlite3.connect(store))
 
 
 def older_text(version):
-    """The text that makes a store of an older schema with SQLite."""
+    """Returns the text that makes a store of an older schema with SQLite."""
     return content(f"{EXAMPLES}/schema{version}.sql").decode()
 
 
 def older(store, version):
-    """Makes the store of an older schema that is among the examples in a new file, and gives the file's path."""
+    """Makes the example store of an older schema in a new file, and returns the file's path."""
     remove(store)
     with opened(store) as connection:
         connection.executescript(older_text(version))
@@ -104,14 +104,14 @@ def older(store, version):
 
 
 def tables(store):
-    """All tables and rows, as statements."""
+    """Returns all tables and rows, as statements."""
     with opened(store) as connection:
         return list(connection.iterdump())
 
 
 def rounds(first, last, others=0):
-    """Organisations that each enrol, ask for a number and are granted the least free one: the rounds from the first to
-    the last, over a store that had all rounds before them, and so many petitions more."""
+    """Returns requests of organisations that each enrol, ask for a number and are granted the least free one: the rounds
+    from the first to the last, over a store that has all earlier rounds and `others` more petitions."""
     for number in range(first, last + 1):
         org, site = f"o{number}", f"https://o{number}.example/"
         yield {"caller": "ann", "key": f"e{number}", "order": "enrol", "org": org, "title": f"Workshop {number}", "site": site}
@@ -120,7 +120,7 @@ def rounds(first, last, others=0):
 
 
 def declined(before, count):
-    """So many petitions of the first organisation that are declined, over a store that had so many petitions before."""
+    """Returns requests for `count` declined petitions of the first organisation, over a store that has `before` petitions."""
     site = "https://o1.example/"
     for number in range(before + 1, before + count + 1):
         yield {"caller": "ann", "key": f"p{number}", "order": "ask", "org": "o1", "title": "Lamp", "licence": "MIT", "site": site, "source": site}
@@ -128,5 +128,5 @@ def declined(before, count):
 
 
 def write_requests(path, requests):
-    """Writes the requests to a file, one a line, and gives the file's path."""
+    """Writes the requests to a file, one per line, and returns the file's path."""
     return write(path, "".join(json.dumps(it, separators=(",", ":")) + "\n" for it in requests))

@@ -1,8 +1,8 @@
 #!/usr/bin/env python3
-"""Looks devices up in Debian's list of USB numbers, as `lsusb` reads it, and takes a vendor's devices over from it.
+"""Looks devices up in Debian's list of USB numbers, as `lsusb` reads it, and imports a vendor's devices from it.
 
 Usage: scripts/use_debian_list.py [PROGRAM [LIST]], by default the one that `make` builds, and the list of the package
-usb.ids. The status is 0 where all is as it should be, or where there is no list."""
+usb.ids. The exit status is 0 if all results are right, or if the list does not exist."""
 
 import os
 import sys
@@ -15,7 +15,7 @@ LOOK_UPS = 10
 
 
 def is_title(name):
-    """1 to 200 bytes of UTF-8 without control characters, and no space at an end."""
+    """Returns whether these are 1 to 200 bytes of UTF-8 without control characters, and no space at an end."""
     try:
         text = name.encode("latin-1").decode()
     except UnicodeDecodeError:
@@ -32,7 +32,7 @@ def look_up(usbreg, path, listed):
 
 
 def take_over(usbreg, room, path, listed):
-    """The vendor with the most devices becomes one of a registry, and its devices are imported and exported."""
+    """Adds the vendor with the most devices to a registry, and imports and exports its devices."""
     vendors = [vendor for vendor, _ in listed]
     vendor = max(set(vendors), key=lambda it: (vendors.count(it), it))
     wanted = {it: name for it, name in listed.items() if it[0] == vendor and it[1] != "0000" and is_title(name)}

@@ -1,18 +1,18 @@
 #!/usr/bin/env python3
-"""Tries the must-fail edits of crates, as many in one check as can be: a wrong body may break only the goals of its
-own function, since all others see its contract alone. So each edit is judged by the goals of the functions that it
-changes, and by nothing else that the check says.
+"""Tries the must-fail edits of crates, as many in one check as possible: a wrong body may break only the goals of its
+own function, since all others see only its contract. So each edit is judged by the goals of the functions that it
+changes, and by nothing else that the check prints.
 
-An edit counts as refused where a function that it changes is not proved, and a goal of that function itself failed.
-That it calls one that is not proved says nothing, nor does an answer that names what the edit took away. Two bodies
-of one function are tried in two checks, and alone what is in no body, as a constant is. An edit whose text is gone,
-or that the compiler or the borrow checker refuses for its form, is a bad edit, and the others are tried again
-without it. What is not refused beside others is tried alone.
+An edit counts as refused if a function that it changes is not proved, and a goal of that function itself failed. A call
+of a function that is not proved does not count, nor does a proof that names what the edit removed. Two bodies of one
+function are tried in two checks, and an edit outside of bodies, for example of a constant, is tried alone. An edit whose
+text is gone, or that the compiler or the borrow checker refuses for its form, is a bad edit, and the others are tried
+again without it. An edit that is not refused beside others is tried again alone.
 
 Usage: scripts/wrong_bodies.py [--as-built] [--edits FOLDER] [NAME | NAME/EDIT ..], by default all crates. With
---as-built it takes the libraries that `rt ci` built just before, and leaves out crates that it did not prove; without,
-it runs `rt check` in each crate first, and works over what that kept. With --edits it takes the edits that lie in
-FOLDER/crates/NAME/must-fail. The last line counts the edits, and the exit status is 0 where all were refused."""
+--as-built it uses the libraries that `rt ci` built just before, and skips crates that it did not prove; without, it runs
+`rt check` in each crate first, and uses what that kept. With --edits it takes the edits in
+FOLDER/crates/NAME/must-fail. The last line counts the edits, and the exit status is 0 if all were refused."""
 
 import argparse
 import concurrent.futures
@@ -26,15 +26,15 @@ import tempfile
 from crates import crates_of, kit
 from edits import BadEdit, Edit, Sources, name_of, rounds_of
 
-# How a check is run: what it prints is one text.
+# How to run a check: its output is one text.
 HEARD = {"stdin": subprocess.DEVNULL, "stdout": subprocess.PIPE, "stderr": subprocess.STDOUT, "errors": "replace"}
 
 PARTS = ("src", "specs", "proofs")
 
-# What one check takes at most, in bytes, with room to spare.
+# The most memory that one check takes, in bytes, with room to spare.
 NEED = 3_000_000_000
 
-# Errors of an answers file that follow from another declaration, or from a name that the edited body has no more.
+# Errors of a proof file that follow from another declaration, or from a name that the edited body no longer has.
 FOLLOWS = re.compile(r"has no field|has no `|is not in scope|is no name|was not admitted|depends? on")
 UNCOVERED = "the borrow checker does not cover this function"
 
@@ -58,12 +58,12 @@ class Said:
         self.goals, self.answers, self.rejected = GOAL.findall(text), ANSWER.findall(text), REJECTED.findall(text)
 
     def stands(self, function):
-        """What is said of the function and of the closures in it, where they are not proved."""
+        """Returns what the check says of the function and of the closures in it that are not proved."""
         own = [said for path, said in self.verdicts.items() if function.owns(path)]
         return [it for it in own if it.startswith(("no proof", "not proved"))]
 
     def own_failure(self, path, function):
-        """The goal of the function that failed, in a few words, or None."""
+        """Returns the goal of the function that failed, in a few words, or None."""
         stands = self.stands(function)
         if not stands:
             return None
@@ -76,7 +76,7 @@ class Said:
         return next((it for it in stands if "`search` did not prove" in it), None)
 
     def misfit(self, edit):
-        """Why the edit's text is refused for its form, or None."""
+        """Returns why the edit's text is refused for its form, or None."""
         for whole, path, line in self.rejected:
             if (path, int(line)) in edit.lines:
                 return f"the compiler refuses it: {whole}"
@@ -90,12 +90,12 @@ class Said:
         return None
 
     def refusal(self, edit):
-        """The goal by which the edit is refused, or None."""
+        """Returns the goal by which the edit is refused, or None."""
         return next(filter(None, (self.own_failure(*it) for it in edit.functions)), None)
 
 
 class Trial:
-    """The trial of a crate's edits, in a folder of its own, over the work that each of its checks keeps."""
+    """The trial of a crate's edits, in its own folder, over the work that each of its checks keeps."""
 
     def __init__(self, crate, at, room):
         self.crate, self.at, self.room = crate, at, room
@@ -109,7 +109,7 @@ class Trial:
         print(f"{self.crate.name}/{edit_name}: FAILED: {why[:600]}", flush=True)
 
     def check(self, edits):
-        """What a check says of the functions of these edits, with all of them put in."""
+        """Returns what a check says of the functions of these edits, with all of them applied."""
         copy = f"{self.room}/copy"
         shutil.rmtree(copy, ignore_errors=True)
         for part in PARTS:
@@ -125,14 +125,14 @@ class Trial:
         return said
 
     def rattle(self, names):
-        """What a check of the functions of these names says of the copy."""
+        """Returns what a check of the functions with these names says of the copy."""
         only = [word for it in names for word in ("--only", it)]
         words = [f"{self.at}/bin/rattle", "check", *only, *self.crate.flags(self.at)]
         words += ["--incremental", f"{self.room}/kept"]
         return Said(subprocess.run(words, cwd=f"{self.room}/copy", check=False, **HEARD).stdout, self.crate)
 
     def rename(self, said, functions):
-        """Finds what a check calls a function that it does not know by the name that the source gave it."""
+        """Finds the check's name for a function that it does not know by the name in the source."""
         unknown = UNKNOWN.search(said.text)
         function = functions.get(unknown[1]) if unknown else None
         if not function:
@@ -148,7 +148,7 @@ class Trial:
         return found
 
     def judge(self, edits):
-        """Tries edits in one check, and returns those that were not refused, each with what was said."""
+        """Tries edits in one check, and returns those that were not refused, each with what the check said."""
         left, said = self.fitting(edits)
         if left and not said.has_ended and len(left) > 1:
             half = len(left) // 2
@@ -164,7 +164,7 @@ class Trial:
         return missed
 
     def fitting(self, edits):
-        """Checks edits together, again without those whose form is refused. Returns the others, and what was said."""
+        """Checks edits together, again without those whose form is refused. Returns the others, and what the check said."""
         while True:
             self.tell(f"{len(edits)} wrong bodies in one check" if len(edits) > 1 else f"{edits[0].name} alone")
             said = self.check(edits)
@@ -180,7 +180,7 @@ class Trial:
             edits = left
 
     def read(self, files):
-        """The edits of these files that can be put in."""
+        """Returns the edits of these files that can be applied."""
         sources = Sources(self.crate)
         for file in files:
             try:
@@ -199,14 +199,14 @@ class Trial:
 
     @staticmethod
     def last_words(edit, said):
-        """What the check said of the edited functions, or at its end."""
+        """Returns what the check said of the edited functions, or at its end."""
         owns = [function.owns for _, function in edit.functions]
         verdicts = [f"fn {path}: {it}" for path, it in said.verdicts.items() if any(own(path) for own in owns)]
         return "; ".join(verdicts) if said.has_ended and verdicts else said.text[-400:].strip().replace("\n", " | ")
 
 
 def put_line(file, number, text):
-    """Puts the text in place of the file's line with this number, counted from 1."""
+    """Replaces the file's line with this number, counted from 1, by the text."""
     with open(file, encoding="utf-8") as it:
         lines = it.read().split("\n")
     lines[number - 1] = text
@@ -215,7 +215,7 @@ def put_line(file, number, text):
 
 
 def is_ready(crate, as_built):
-    """Whether the crate is proved, and the libraries below it are built."""
+    """Returns whether the crate is proved, and the libraries below it are built."""
     if as_built:
         return all(it.is_built() for it in [crate, *crate.below()])
     ran = subprocess.run(["rt", "check", "--jobs", "1"], cwd=crate.folder, check=False, **HEARD)
@@ -240,8 +240,8 @@ def try_crate(crate, files, at, as_built):
 
 
 def asked(names, top):
-    """The crates that are asked for, each with the files of its edits, which may lie below another top, those with the
-    most work first."""
+    """Returns the crates to try, each with the files of its edits, which may be below another top, those with the most
+    work first."""
     crates = crates_of()
     found = {}
     for name in names or crates:
@@ -257,7 +257,7 @@ def asked(names, top):
 
 
 def number_in(file, pattern):
-    """The number that the pattern finds in a file of the system, or None."""
+    """Returns the number that the pattern finds in a file of the system, or None."""
     try:
         with open(file, encoding="ascii") as it:
             found = re.search(pattern, it.read())
@@ -267,7 +267,8 @@ def number_in(file, pattern):
 
 
 def lanes():
-    """How many crates to try side by side: one a processor, as many as memory holds, also by the control group."""
+    """Returns how many crates to try side by side: one per processor, as many as memory allows, also in the control
+    group."""
     free = [1024 * number_in("/proc/meminfo", r"MemAvailable:\s+(\d+)")]
     free.append(number_in("/sys/fs/cgroup/memory.max", r"^(\d+)"))
     quota, period = (number_in("/sys/fs/cgroup/cpu.max", it) for it in (r"^(\d+)", r" (\d+)"))

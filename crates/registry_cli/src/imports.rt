@@ -1,21 +1,23 @@
 //! The command that imports a list.
 
 use crate::files::{open_input, open_registry};
-use registry_commands::{BadWord, Failure, Import, close_store, fail, import_list, reject_word};
-use usbids_text::Outlet;
+use byte_streams::Outlet;
+use registry_commands::{
+    BadArgument, Failure, Import, close_store, fail, import_list, reject_argument,
+};
 use usbnum_core::NoMemory;
 
-/// Imports the list in a file into the registry in a file, where the arguments say what is asked for.
+/// Imports the list in a file into the registry in a file, if the arguments are valid.
 pub fn run_import(
     rt: &HostRuntime,
     store: &str,
     list: &str,
-    asked: Result<Result<Import, BadWord>, NoMemory>,
+    asked: Result<Result<Import, BadArgument>, NoMemory>,
 ) -> u8 {
     let mut errors = Outlet::new(rt.stderr());
     let import = match asked {
         Ok(Ok(import)) => import,
-        Ok(Err(word)) => return reject_word(&mut errors, word),
+        Ok(Err(argument)) => return reject_argument(&mut errors, argument),
         Err(NoMemory) => return fail(&mut errors, Failure::Memory),
     };
     let mut registry = match open_registry(rt, store) {

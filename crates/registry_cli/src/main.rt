@@ -8,8 +8,8 @@ mod views;
 
 use files::{run_apply, run_found, run_trial};
 use imports::run_import;
+use registry_arguments::{Command, Usage, command_of};
 use registry_commands::import_of_arguments;
-use registry_words::{Command, Usage, command_of};
 use serving::run_serve;
 use std::io;
 use std::process::ExitCode;
@@ -19,10 +19,10 @@ fn main(rt: HostRuntime) -> ExitCode {
     ExitCode::from(run(&rt))
 }
 
-/// Reads the words, does what they ask for, and answers the status.
+/// Reads the arguments, does what they ask for, and returns the exit status.
 fn run(rt: &HostRuntime) -> u8 {
-    let words = match words(rt) {
-        Ok(words) => words,
+    let arguments = match arguments(rt) {
+        Ok(arguments) => arguments,
         Err(error) if error.kind() == io::ErrorKind::InvalidData => {
             let _ = rt.eprintln("error: invalid UTF-8 was detected in one or more arguments");
             return 2;
@@ -32,17 +32,17 @@ fn run(rt: &HostRuntime) -> u8 {
             return 1;
         }
     };
-    match command_of(rt.alloc(), words.as_slice()) {
+    match command_of(rt.alloc(), arguments.as_slice()) {
         Ok(command) => perform(rt, command),
         Err(usage) => explain(rt, &usage),
     }
 }
 
-fn words(rt: &HostRuntime) -> io::Result<Vec<String>> {
+fn arguments(rt: &HostRuntime) -> io::Result<Vec<String>> {
     Ok(std::env::args(rt)?.collect(rt.alloc())?)
 }
 
-/// Does what the command asks for, and answers the status.
+/// Does what the command asks for, and returns the exit status.
 fn perform(rt: &HostRuntime, command: Command<&str>) -> u8 {
     match command {
         Command::Trial => run_trial(rt),
@@ -70,8 +70,8 @@ fn perform(rt: &HostRuntime, command: Command<&str>) -> u8 {
     }
 }
 
-/// Shows why there is no command, or the help or the version that was asked for, and answers the
-/// status.
+/// Prints why the arguments are refused, or the help or the version that they ask for, and returns
+/// the exit status.
 fn explain(rt: &HostRuntime, usage: &Usage) -> u8 {
     match usage {
         Usage::Refused(error) => {

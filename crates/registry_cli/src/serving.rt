@@ -1,20 +1,21 @@
-//! The command that serves a registry over HTTP: it listens on a port of this machine, and hands on each connection.
+//! The command that serves a registry over HTTP: it listens on a port of this machine.
 
 ghost use Rattle.std.specs.Prelude.{⊤};
 
 use crate::files::open_registry;
+use byte_streams::{Broken, Inlet, Outlet};
 use registry_commands::{close_store, fail, failure_of};
 use registry_desk::{Connections, ServerStop, serve_all};
 use std::io;
 use std::io::{ErrorKind, IsTerminal, Read};
 use std::net::{Ipv4Addr, Shutdown, TcpListener, TcpStream};
 use std::time::{Duration, Instant};
-use usbids_text::{Broken, Inlet, Outlet};
 
-/// How many seconds a peer may take for each read of its message, and for each write of its response.
+/// The seconds that a peer may take for each read of its message, and each write of its response.
 const PEER_SECONDS: u64 = 10;
 
-/// For how many seconds, and how many bytes, what a peer still sends after its response is read.
+/// The limit in seconds for reading what a peer still sends after its response. `REST_BYTES` is the
+/// limit in bytes.
 const REST_SECONDS: u64 = 2;
 
 const REST_BYTES: usize = 16 * 1024 * 1024;
@@ -26,7 +27,8 @@ struct Accepted<'a> {
     listener: &'a TcpListener,
 }
 
-/// A stream whose reads and writes end in time, and whose writes are sent at once; as a reader and a writer.
+/// Returns a reader and a writer of a stream, with time limits, and without a delay of small
+/// writes.
 fn ends_of(stream: TcpStream) -> io::Result<(Inlet<TcpStream>, Outlet<TcpStream>)> {
     let time = Some(Duration::from_secs(PEER_SECONDS));
     stream.set_read_timeout(time)?;
@@ -36,7 +38,7 @@ fn ends_of(stream: TcpStream) -> io::Result<(Inlet<TcpStream>, Outlet<TcpStream>
     Ok((Inlet::new(stream), Outlet::new(writer)))
 }
 
-/// Whether a connection was given up by its peer before it was accepted.
+/// Returns whether the peer gave up a connection before it was accepted.
 fn is_of_peer(error: &io::Error) -> bool {
     matches!(
         error.kind(),
@@ -44,7 +46,7 @@ fn is_of_peer(error: &io::Error) -> bool {
     )
 }
 
-/// Whether bytes lie there that the peer sent behind its message.
+/// Returns whether the peer has sent bytes after its message.
 fn has_more(stream: &TcpStream) -> bool {
     let mut room = [0u8; 1];
     match stream.set_nonblocking(true) {
@@ -53,8 +55,8 @@ fn has_more(stream: &TcpStream) -> bool {
     }
 }
 
-/// Ends the response, and reads what the peer still sends, up to its end or to the bounds, so that no reset takes the
-/// response away.
+/// Ends the response, and reads what the peer still sends, up to its end or to the limits.
+/// Otherwise the kernel resets the connection, and the peer may lose the response.
 fn read_rest(rt: &HostRuntime, mut stream: &TcpStream) -> io::Result<()> {
     stream.set_nonblocking(false)?;
     stream.shutdown(Shutdown::Write)?;
@@ -85,6 +87,8 @@ impl Connections for Accepted<'_> {
 
     ghost closes = { λ _ _ _ _ _. ⊤ };
 
+    ghost fails = { λ _ _. ⊤ };
+
     fn open(&mut self) -> Result<(Inlet<TcpStream>, Outlet<TcpStream>), Broken> {
         for accepted in self.listener.incoming() {
             match accepted {
@@ -106,7 +110,7 @@ impl Connections for Accepted<'_> {
     fn close(&mut self, reader: Inlet<TcpStream>, _writer: Outlet<TcpStream>, status: Option<u16>) {
         let stream = reader.into_inner();
         if let Some(status) = status {
-            // A message with status 200 was read to its end, so its peer has nothing more to send.
+            // A message with status 200 was read to its end, so its peer has no more to send.
             if status != 200 || has_more(&stream) {
                 let _ = read_rest(self.rt, &stream);
             }
@@ -114,20 +118,20 @@ impl Connections for Accepted<'_> {
     }
 }
 
-/// Tells a person at a terminal that it listens.
+/// Prints that the server listens, if the error output is a terminal.
 fn say_listening(rt: &HostRuntime, port: u16) {
     if rt.stderr().is_terminal() {
         let _ = eprintln!(rt; "listening on 127.0.0.1:{port}");
     }
 }
 
-/// Says that the port failed, and returns the status.
+/// Prints that the port failed, and returns the exit status.
 fn fail_socket(rt: &HostRuntime) -> u8 {
     let _ = rt.eprintln("fault: socket");
     1
 }
 
-/// Serves the registry in a file on a port, for so many connections where a count is given.
+/// Serves the registry in a file on a port, for `count` connections if given.
 pub fn run_serve(rt: &HostRuntime, store: &str, port: u16, count: Option<u32>) -> u8 {
     let mut errors = Outlet::new(rt.stderr());
     let mut registry = match open_registry(rt, store) {

@@ -1,20 +1,21 @@
-//! The commands that show something and change nothing: they open what the arguments name, and hand it on.
+//! The commands that only show something: each opens the files that its arguments name.
 
 use crate::files::{open_input, open_registry};
+use byte_streams::Outlet;
 use registry_commands::{
-    BadWord, close_store, export, fail, look_up, reject_word, report, report_named,
+    BadArgument, close_store, export, fail, look_up, reject_argument, report, report_named,
 };
 use registry_wire::stamp_from_text;
-use usbids_text::{Outlet, Stamp};
+use usbids_text::Stamp;
 use usbnum_core::{parse_code, parse_vid};
 
-/// The stamp of a text: none where there is no text, and an error where the text is no stamp.
-fn stamp_of(text: Option<&str>) -> Result<Option<Stamp>, BadWord> {
+/// Returns the stamp of a text, if given, or an error if the text is not a stamp.
+fn stamp_of(text: Option<&str>) -> Result<Option<Stamp>, BadArgument> {
     match text {
         None => Ok(None),
         Some(text) => match stamp_from_text(text.as_bytes()) {
             Some(stamp) => Ok(Some(stamp)),
-            None => Err(BadWord::Stamp),
+            None => Err(BadArgument::Stamp),
         },
     }
 }
@@ -24,7 +25,7 @@ pub fn run_export(rt: &HostRuntime, store: &str, stamp: Option<&str>) -> u8 {
     let mut errors = Outlet::new(rt.stderr());
     let stamp = match stamp_of(stamp) {
         Ok(stamp) => stamp,
-        Err(word) => return reject_word(&mut errors, word),
+        Err(argument) => return reject_argument(&mut errors, argument),
     };
     let mut registry = match open_registry(rt, store) {
         Ok(registry) => registry,
@@ -40,7 +41,7 @@ pub fn run_export(rt: &HostRuntime, store: &str, stamp: Option<&str>) -> u8 {
 pub fn run_report(rt: &HostRuntime, store: &str, name: &str) -> u8 {
     let mut errors = Outlet::new(rt.stderr());
     let Some(name) = report_named(name) else {
-        return reject_word(&mut errors, BadWord::Name);
+        return reject_argument(&mut errors, BadArgument::Name);
     };
     let mut registry = match open_registry(rt, store) {
         Ok(registry) => registry,
@@ -56,10 +57,10 @@ pub fn run_report(rt: &HostRuntime, store: &str, name: &str) -> u8 {
 pub fn run_lookup(rt: &HostRuntime, list: &str, vid: &str, pid: &str) -> u8 {
     let mut errors = Outlet::new(rt.stderr());
     let Some(vendor) = parse_vid(vid.as_bytes()) else {
-        return reject_word(&mut errors, BadWord::Vid);
+        return reject_argument(&mut errors, BadArgument::Vid);
     };
     let Some(code) = parse_code(pid.as_bytes()) else {
-        return reject_word(&mut errors, BadWord::Pid);
+        return reject_argument(&mut errors, BadArgument::Pid);
     };
     let mut source = match open_input(rt, list) {
         Ok(source) => source,

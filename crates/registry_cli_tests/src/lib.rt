@@ -1,4 +1,4 @@
-//! The program's commands by example: their words, what they write, and their status.
+//! The program's commands by example: their arguments, output and exit status.
 #![tactic(auto)]
 
 #[cfg(test)]

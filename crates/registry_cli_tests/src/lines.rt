@@ -1,12 +1,12 @@
-//! Bytes from a source, as requests.
+//! Reads bytes of a source as requests.
 
+use byte_streams::Inlet;
 use registry_commands::{BadLine, InputFault, read_all, requests_in};
 use registry_wire::{Field, WireRefusal};
 use std::io;
 use std::test::Fail;
-use usbids_text::Inlet;
 
-/// A reader of one byte a read, whose reads fail once so many are done.
+/// A reader that gives one byte per read, and fails after `good` reads.
 #[derive(Drop)]
 pub(crate) struct Stumbling<'a> {
     pub(crate) rest: &'a [u8],

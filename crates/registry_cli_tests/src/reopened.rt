@@ -1,6 +1,7 @@
-//! One run of the program after another, over files in memory.
+//! Runs the program twice over the same files in memory.
 
 use crate::shared::{ASK, ASKED, ENROL, ENROLLED, GRANT, GRANTED, joined};
+use byte_streams::{Inlet, Outlet};
 use registry_commands::{apply_and_crash, apply_and_open, apply_lines, trial_founding};
 use registry_store::Registry;
 use sqlite::{Alter, Connection, FileStore, Files, Options};
@@ -8,7 +9,6 @@ use sqlite_disk::{Crash, Disk, Memory};
 use std::alloc::Global;
 use std::process::Abort;
 use std::test::Fail;
-use usbids_text::{Inlet, Outlet};
 
 /// How the first run ends.
 #[derive(Clone, Copy)]
@@ -17,7 +17,7 @@ enum End {
     Crashed,
 }
 
-/// A registry that is founded in files.
+/// Founds a registry in files.
 fn founded_in<D: Disk + Drop>(alloc: Global, files: Files<D>) -> Option<Registry<FileStore<D>>> {
     if !files.may_be_used() {
         return None;
@@ -27,7 +27,8 @@ fn founded_in<D: Disk + Drop>(alloc: Global, files: Files<D>) -> Option<Registry
     Registry::found(alloc, conn, &founding).ok()
 }
 
-/// What lines write over a registry that was opened again, of which the first two are answered.
+/// Acts on lines after the first two, over a registry that was opened again, and returns the
+/// output.
 fn gone_on<S: Alter + Drop>(
     alloc: Global,
     opened: Option<Registry<S>>,
@@ -53,7 +54,7 @@ fn gone_on<S: Alter + Drop>(
     }
 }
 
-/// What two runs write, the second one on what the first one left.
+/// Returns the output of two runs, the second over what the first left.
 fn in_turn<D: Crash + Drop>(
     alloc: Global,
     files: Files<D>,

@@ -1,12 +1,13 @@
-//! Request lines over registries in memory: what is written, and the status, where an input or an output fails.
+//! Request lines over registries in memory: the output and the exit status where an input or an
+//! output fails.
 
 use crate::lines::Stumbling;
 use crate::shared::{ENROL, ENROLLED, joined, tried, wrote};
+use byte_streams::{Inlet, Outlet};
 use registry_commands::{Failure, store_failure, trial, trial_founding};
 use sqlite::{Error, ErrorCode};
 use std::io;
 use std::test::Fail;
-use usbids_text::{Inlet, Outlet};
 
 #[test]
 fn one_line(rt: HostRuntime) -> Result<(), Fail> {
@@ -26,13 +27,13 @@ fn founds_the_trial(rt: HostRuntime) -> Result<(), Fail> {
 }
 
 #[test]
-fn tells_want_of_memory_from_a_failure(rt: HostRuntime) {
+fn tells_out_of_memory_from_a_failure(rt: HostRuntime) {
     let memory = store_failure(Error::SqliteFailure(ErrorCode::OutOfMemory));
     assert_eq!(rt; memory, Failure::Memory);
     assert_eq!(rt; store_failure(Error::InvalidQuery), Failure::Store);
 }
 
-/// A writer of one byte a write, which fails once it has so many.
+/// A writer that takes one byte per write, and fails once it has `most` bytes.
 #[derive(Drop)]
 struct Narrow {
     bytes: Vec<u8>,
@@ -82,11 +83,11 @@ fn an_output_that_fails(rt: HostRuntime) -> Result<(), Fail> {
     Ok(())
 }
 
-// An input that fails at any of its reads is no list of requests: nothing is acted on.
+// Where the input fails nothing is acted on.
 #[test]
 fn an_input_that_fails(rt: HostRuntime) -> Result<(), Fail> {
     let reply = joined(rt.alloc(), &[ENROLLED])?;
-    // A byte a read, and one read more that finds the end.
+    // One byte per read, and one more read that finds the end.
     for good in 0..=109 {
         let written = tried(
             rt.alloc(),

@@ -1,5 +1,6 @@
-//! Lines and replies that the tests share, and what runs over them write.
+//! Lines, replies and runs that the tests share.
 
+use byte_streams::{Inlet, Outlet};
 use registry_commands::{apply_lines, found_registry, trial};
 use registry_store::Registry;
 use sqlite::{Alter, Connection, MemStore};
@@ -7,7 +8,6 @@ use std::alloc::Global;
 use std::io;
 use std::process::Abort;
 use std::test::Fail;
-use usbids_text::{Inlet, Outlet};
 
 pub(crate) const ENROL: &str =
     r#"{"caller":"ann","key":"k1","order":"enrol","org":"acme","title":"Acme Tools","site":"https://acme.example/"}"#;
@@ -24,7 +24,7 @@ pub(crate) const ASKED: &str = r#"{"done":"petition 1"}"#;
 
 pub(crate) const GRANTED: &str = r#"{"done":"granted 0011 to acme by petition 1"}"#;
 
-/// What a command wrote, and its status.
+/// The output of a command, and its exit status.
 #[derive(Drop)]
 pub(crate) struct Written {
     pub(crate) status: u8,
@@ -32,7 +32,7 @@ pub(crate) struct Written {
     pub(crate) errors: Vec<u8>,
 }
 
-/// The lines, each with a line feed.
+/// Returns the lines, each with a line feed.
 pub(crate) fn joined(alloc: Global, lines: &[&str]) -> Result<String, Fail> {
     let mut text = String::new(alloc);
     for line in lines {
@@ -42,7 +42,7 @@ pub(crate) fn joined(alloc: Global, lines: &[&str]) -> Result<String, Fail> {
     Ok(text)
 }
 
-/// A trial over what the reader gives.
+/// Runs a trial over what the reader gives.
 pub(crate) fn tried<R: io::Read + Drop>(alloc: Global, reader: R) -> Written {
     let mut output = Outlet::new(Vec::new(alloc));
     let mut errors = Outlet::new(Vec::new(alloc));
@@ -54,7 +54,7 @@ pub(crate) fn tried<R: io::Read + Drop>(alloc: Global, reader: R) -> Written {
     }
 }
 
-/// A registry in memory that a founding file founded.
+/// Founds a registry in memory by a founding file.
 pub(crate) fn founded<R: AllocGlobal + Abort>(rt: &R, file: &str) -> Registry<MemStore> {
     let conn = Connection::open_in_memory(rt.alloc()).expect(rt, "memory");
     let mut errors = Outlet::new(Vec::new(rt.alloc()));
@@ -75,7 +75,7 @@ pub(crate) fn founded<R: AllocGlobal + Abort>(rt: &R, file: &str) -> Registry<Me
     }
 }
 
-/// The lines over a registry, of which the first are answered.
+/// Acts on the lines after the first `answered` ones, over a registry.
 pub(crate) fn applied<R: AllocGlobal, S: Alter>(
     rt: &R,
     registry: &mut Registry<S>,
@@ -100,7 +100,7 @@ pub(crate) fn applied<R: AllocGlobal, S: Alter>(
     }
 }
 
-/// That a run has this status, and wrote this to the output and that to the errors.
+/// Checks the exit status, the output and the error output of a run.
 pub(crate) fn wrote(rt: &impl Abort, run: &Written, status: u8, output: &str, errors: &str) {
     assert_eq!(rt; run.status, status);
     assert_eq!(rt; run.output.as_slice(), output.as_bytes());

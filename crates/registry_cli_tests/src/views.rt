@@ -1,15 +1,15 @@
-//! What commands show of a registry in memory, what an import does to it, and look-ups.
+//! Exports, reports and imports over a registry in memory, and look-ups.
 
 use crate::shared::{Written, applied, founded, wrote};
+use byte_streams::{Inlet, Outlet};
 use registry_commands::{
-    export, import_list, import_of_arguments, look_up, reject_word, report, report_named,
+    export, import_list, import_of_arguments, look_up, reject_argument, report, report_named,
 };
 use registry_store::Registry;
 use registry_wire::stamp_from_text;
 use sqlite::Alter;
 use std::process::Abort;
 use std::test::Fail;
-use usbids_text::{Inlet, Outlet};
 use usbnum_core::Vid;
 
 const FOUNDING: &str =
@@ -49,11 +49,11 @@ enum Step<'a> {
     Apply(&'a str),
     Export(Option<&'a str>),
     Report(&'a str),
-    /// A list under a key, for `acme`, by `cora`.
+    /// The key and the list; the organisation is `acme`, the caller `cora`.
     Import(&'a str, &'a str),
 }
 
-/// What a command wrote, by its status and its ends.
+/// Returns what a command wrote.
 fn written(status: u8, output: Outlet<Vec<u8>>, errors: Outlet<Vec<u8>>) -> Written {
     Written {
         status,
@@ -122,7 +122,7 @@ fn performed<R: AllocGlobal + Abort, S: Alter>(
     }
 }
 
-/// What commands over one registry write, one after the other.
+/// Performs commands over one registry, one after another, and returns what each wrote.
 fn performed_in_turn<R: AllocGlobal + Abort, S: Alter + Drop>(
     rt: &R,
     mut registry: Registry<S>,
@@ -137,7 +137,8 @@ fn performed_in_turn<R: AllocGlobal + Abort, S: Alter + Drop>(
     all
 }
 
-/// The commands over a new registry end with these statuses, and write this to the output and nothing to the errors.
+/// Checks the exit statuses and outputs of commands over a new registry. Their error outputs must
+/// be empty.
 fn commands_write<R: AllocGlobal + Abort>(rt: &R, steps: &[Step<'_>], wanted: &[(u8, &str)]) {
     let all = performed_in_turn(rt, founded(rt, FOUNDING), steps);
     assert_eq!(rt; all.len(), wanted.len());
@@ -277,11 +278,11 @@ fn an_export_is_imported(rt: HostRuntime) {
     );
 }
 
-/// A list as the usual one is written, with entries of other kinds.
+/// A list like the usual usb.ids, with entries of other kinds.
 const USUAL: &str =
     "# Version: 2024.01.30\n\n1209  Shared products\n\t0011  Blinker\n\nC 00  (Defined at Interface level)\nHID 21  HID\nBIAS 0  Not Applicable\nL 0001  Arabic\n";
 
-/// A list, a device, and the status, the output and the errors of looking it up.
+/// A list, the product ID of a device, and the exit status, output and error output of its look-up.
 const LOOK_UPS: &[(&str, u16, u8, &str, &str)] = &[
     (USUAL, 0x11, 0, "Blinker\n", ""),
     (USUAL, 0x12, 2, "", "not found\n"),
@@ -329,7 +330,8 @@ fn look_ups(rt: HostRuntime) -> Result<(), Fail> {
     Ok(())
 }
 
-/// The caller, the key, the organisation and the vendor of an import, and what is said of the first bad one.
+/// The caller, key, organisation and vendor of an import, and the message for the first invalid
+/// one.
 const BAD_ARGUMENTS: &[(&str, &str, &str, Option<&str>, &str)] = &[
     ("Cora", "", "Acme", Some("0"), "bad word: caller\n"),
     ("cora", "", "Acme", Some("0"), "bad word: key\n"),
@@ -338,14 +340,14 @@ const BAD_ARGUMENTS: &[(&str, &str, &str, Option<&str>, &str)] = &[
 ];
 
 #[test]
-fn the_first_bad_argument_of_an_import_is_told(rt: HostRuntime) {
+fn reports_the_first_bad_argument_of_an_import(rt: HostRuntime) {
     for (caller, key, org, vendor, told) in BAD_ARGUMENTS {
         let word = import_of_arguments(rt.alloc(), caller, key, org, *vendor)
             .expect(&rt, "memory")
             .err()
             .expect(&rt, "a bad argument");
         let mut errors = Outlet::new(Vec::new(rt.alloc()));
-        assert_eq!(rt; reject_word(&mut errors, word), 2);
+        assert_eq!(rt; reject_argument(&mut errors, word), 2);
         assert_eq!(rt; errors.into_inner().as_slice(), told.as_bytes());
     }
 }

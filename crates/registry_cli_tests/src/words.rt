@@ -1,10 +1,10 @@
-//! The words of each command, and the texts of help.
+//! The arguments of each command, and the texts of help.
 
-use registry_words::{Command, Usage, command_of};
+use registry_arguments::{Command, Usage, command_of};
 use std::alloc::{AllocError, Global};
 use std::process::Abort;
 
-/// The words of a command line, the program's name first.
+/// Returns the arguments of a command line, the program's name first.
 fn words(alloc: Global, line: &str) -> Result<Vec<String>, AllocError> {
     let mut words = Vec::new(alloc);
     for word in line.split(' ') {
@@ -82,7 +82,7 @@ fn each_command(rt: HostRuntime) {
     }
 }
 
-/// The text that answers the words instead of a command, and whether it is a fault.
+/// Returns the text that is printed instead of a command, and whether it goes to the error output.
 fn text_of<R: AllocGlobal + Abort>(rt: &R, line: &str) -> (String, bool) {
     let words = words(rt.alloc(), line).expect(rt, "words");
     match command_of(rt.alloc(), words.as_slice()) {

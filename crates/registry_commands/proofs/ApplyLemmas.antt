@@ -4,28 +4,28 @@ use Rattle.std.specs.Prelude.{Result, Ok, Err}
 use Rattle.std.specs.Io.KnownBytes.{Appends, Keeps}
 use Rattle.sqlite.specs.Store.{Ghosts}
 use Rattle.sqlite.specs.State.{HasCleanDisk}
-use Rattle.usbids_text.specs.Ends.{AppendsBeginning, MayGive}
-use Rattle.usbids_text.proofs.EndLemmas.{Appends-nil}
+use Rattle.byte_streams.specs.Streams.{AppendsPrefix, MayGive}
+use Rattle.byte_streams.proofs.StreamLemmas.{appends_nil}
 use Rattle.registry_rules.specs.declared.order.Request.{Request}
 use Rattle.registry_rules.specs.History.{History}
 use Rattle.registry_store.specs.declared.registry.Registry.{Registry}
 use Rattle.registry_store.specs.Promise.{state_of}
 use Rattle.registry_store.specs.Run.{HasAnswered}
-use Rattle.registry_store.proofs.ToLemmas.{between_none, place_left}
+use Rattle.registry_store.proofs.RunToLemmas.{between_none, place_left}
 use Rattle.registry_commands.specs.declared.lines.BadLine.{BadLine}
 use Rattle.registry_commands.specs.declared.messages.Failure.{Failure}
-use Rattle.registry_commands.specs.Failures.{TellsFailure, Told}
+use Rattle.registry_commands.specs.Failures.{PrintsFailure, ErrorOutput}
 use Rattle.registry_commands.specs.Messages.{bad_line_text, exceeds_text, reply_lines}
 use Rattle.registry_commands.specs.Apply.{IsApplied, IsRejected, IsRun, IsStoppedAt, lines_between}
 use Rattle.registry_commands.proofs.FailureLemmas.{tells_more}
 
--- nothing is a beginning of anything
-pub no_beginning : (o : Option (List ℕ)) (bytes : List ℕ) → AppendsBeginning o o bytes
-no_beginning o bytes = record { front = []; rest = bytes; whole = refl; appended = Appends-nil o }
+-- the empty text is a prefix of any text
+pub no_beginning : (o : Option (List ℕ)) (bytes : List ℕ) → AppendsPrefix o o bytes
+no_beginning o bytes = record { front = []; rest = bytes; whole = refl; appended = appends_nil o }
 
-pub Keeps-same : (o : Option (List ℕ)) → Keeps o o
-Keeps-same None = tt
-Keeps-same (Some xs) = refl
+pub keeps_same : (o : Option (List ℕ)) → Keeps o o
+keeps_same None = tt
+keeps_same (Some xs) = refl
 
 pub some_bytes : (o : Option (List ℕ)) → (bytes : List ℕ) × MayGive o bytes
 some_bytes None = ([], tt)
@@ -37,30 +37,30 @@ module _ {S : Type 0} {g : Ghosts S} where
   stopped_before it h rs a out low at clean = record {
     from = omega arith;
     within = low;
-    gained = (out, subst (Appends out out) (sym (ap reply_lines (between_none h rs a low))) (Appends-nil out), no_beginning out (lines_between h rs a (a + 1)), inl (Keeps-same out));
+    gained = (out, subst (Appends out out) (sym (ap reply_lines (between_none h rs a low))) (appends_nil out), no_beginning out (lines_between h rs a (a + 1)), inl (keeps_same out));
     leaves = place_left it h rs a at clean;
     ends = inr at;
   }
 
-  -- ---- all of it
+  -- ---- the whole command
 
   -- a failure before the first request
-  pub fails_before : (OfInput OfOutput : Failure → Type 0) (it : Registry S g) (read : Result (List Request) BadLine) (a : ℕ) (out : Option (List ℕ)) (errors : Told) (status : ℕ)
-      → status ≡ 1 → TellsFailure OfInput errors → IsApplied OfInput OfOutput it it read a out out errors status
-  fails_before OfInput OfOutput it (Err bad) a out errors status one told = record { same = refl; silent = Keeps-same out; told = inr (one, told) }
+  pub fails_before : (OfInput OfOutput : Failure → Type 0) (it : Registry S g) (read : Result (List Request) BadLine) (a : ℕ) (out : Option (List ℕ)) (errors : ErrorOutput) (status : ℕ)
+      → status ≡ 1 → PrintsFailure OfInput errors → IsApplied OfInput OfOutput it it read a out out errors status
+  fails_before OfInput OfOutput it (Err bad) a out errors status one told = record { same = refl; silent = keeps_same out; told = inr (one, told) }
   fails_before OfInput OfOutput it (Ok rs) a out errors status one told = (
-    λ more. record { same = refl; silent = Keeps-same out; told = inr (one, told) },
+    λ more. record { same = refl; silent = keeps_same out; told = inr (one, told) },
     λ within. record {
       statuses = inr one;
       through = λ zero. absurd (omega (arith, one, zero));
       quiet = λ zero. absurd (omega (arith, one, zero));
       stopped = λ _ h at clean. (a, stopped_before it h rs a out within at clean);
-      told = λ _. inl (record { same = refl; silent = Keeps-same out; told = told });
+      told = λ _. inl (record { same = refl; silent = keeps_same out; told = told });
     },
   )
 
   module _ (OfMemory OfInput OfOutput : Failure → Type 0) (more : (failure : Failure) → OfMemory failure → OfInput failure)
-      (it new : Registry S g) (out out_new : Option (List ℕ)) (errors : Told) (status : ℕ) where
+      (it new : Registry S g) (out out_new : Option (List ℕ)) (errors : ErrorOutput) (status : ℕ) where
     rejected_more : (text : List ℕ) → IsRejected OfMemory it new out out_new errors text status → IsRejected OfInput it new out out_new errors text status
     rejected_more text is = record {
       same = is.same;
@@ -80,7 +80,7 @@ module _ {S : Type 0} {g : Ghosts S} where
       ];
     }
 
-    -- the requests were read of an input, which may fail too
+    -- the requests were read from an input, which may fail too
     pub applied_more : (read : Result (List Request) BadLine) (a : ℕ) → IsApplied OfMemory OfOutput it new read a out out_new errors status
         → IsApplied OfInput OfOutput it new read a out out_new errors status
     applied_more (Err bad) a is = rejected_more (bad_line_text bad) is

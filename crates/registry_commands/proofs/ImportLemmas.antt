@@ -1,10 +1,10 @@
--- One request that is acted on, and its reply.
+-- Acting on one request, and its reply.
 use Rattle.std.proofs.Common.{◌≡◌, ◌⊎◌, inl, inr, ℕ, List, [], Option, refl, subst, sym}
 use Rattle.std.specs.Prelude.{true}
 use Rattle.sqlite.specs.Store.{Ghosts}
 use Rattle.sqlite.specs.State.{HasCleanDisk}
-use Rattle.usbids_text.specs.Ends.{AppendsBeginning}
-use Rattle.usbids_text.proofs.EndLemmas.{Appends-nil}
+use Rattle.byte_streams.specs.Streams.{AppendsPrefix}
+use Rattle.byte_streams.proofs.StreamLemmas.{appends_nil}
 use Rattle.registry_rules.specs.declared.order.Request.{Request}
 use Rattle.registry_rules.specs.declared.verdict.Reply.{Reply}
 use Rattle.registry_rules.specs.History.{History}
@@ -13,62 +13,62 @@ use Rattle.registry_tables.specs.Rows.{newest}
 use Rattle.registry_store.specs.declared.fault.Fault.{Fault}
 use Rattle.registry_store.specs.declared.fault.Fault.TheVariants as faults
 use Rattle.registry_store.specs.declared.registry.Registry.{Registry}
-use Rattle.registry_store.specs.Promise.{Leaves, Stands, is_spent, state_of}
+use Rattle.registry_store.specs.Promise.{Leaves, Represents, is_poisoned, state_of}
 use Rattle.registry_store.specs.RunTo.{MayBeActedOn}
-use Rattle.registry_store.proofs.Runs.{leaves_weaker}
+use Rattle.registry_store.proofs.RunLemmas.{leaves_weaker}
 use Rattle.registry_commands.specs.declared.messages.Failure.{Failure}
-use Rattle.registry_commands.specs.declared.messages.Failure.TheVariants.{Store, Memory, Foreign, Taken, Spent, File}
+use Rattle.registry_commands.specs.declared.messages.Failure.TheVariants.{Store, Memory, Foreign, Taken, Poisoned, File}
 use Rattle.registry_commands.specs.Apply.{IsOfRun}
-use Rattle.registry_commands.specs.Failures.{IsOfOutput, Told}
+use Rattle.registry_commands.specs.Failures.{IsOfOutput, ErrorOutput}
 use Rattle.registry_commands.specs.Imports.{GivesReply, IsCut, IsFailed, IsReplied}
 use Rattle.registry_commands.specs.Messages.{failure_of, reply_line}
 
--- nothing is a beginning of anything
-pub nothing_of : (o : Option (List ℕ)) (bytes : List ℕ) → AppendsBeginning o o bytes
-nothing_of o bytes = record { front = []; rest = bytes; whole = refl; appended = Appends-nil o }
+-- the empty text is a prefix of any text
+pub nothing_of : (o : Option (List ℕ)) (bytes : List ℕ) → AppendsPrefix o o bytes
+nothing_of o bytes = record { front = []; rest = bytes; whole = refl; appended = appends_nil o }
 
--- no fault of the registry is the output's
+-- a fault of the registry is not a failure of the output
 pub not_of_output : (n : ℕ) (fault : Fault) → IsOfOutput n n (failure_of fault)
 not_of_output n faults.Store = refl
 not_of_output n faults.NoMemory = refl
 not_of_output n faults.Foreign = refl
 not_of_output n faults.Taken = refl
-not_of_output n faults.Spent = refl
+not_of_output n faults.Poisoned = refl
 
 module _ {S : Type 0} {g : Ghosts S} where
-  -- what a request that is not acted on fails of
-  pub of_act : (it new : Registry S g) (These : History → Type 0) (fault : Fault) → (fault ≡ faults.Spent → is_spent it ≡ true)
+  -- the failures of a request
+  pub of_act : (it new : Registry S g) (These : History → Type 0) (fault : Fault) → (fault ≡ faults.Poisoned → is_poisoned it ≡ true)
       → ((h : History) → These h → HasCleanDisk (state_of new) → (fault ≡ faults.Store) ⊎ (fault ≡ faults.NoMemory)) → IsOfRun it new These (failure_of fault)
-  of_act it new These faults.Store spent kind = tt
-  of_act it new These faults.NoMemory spent kind = tt
-  of_act it new These faults.Foreign spent kind = λ at. elim (kind at.0 at.1 at.2) [ inl e ↦ absurd cc | inr e ↦ absurd cc ]
-  of_act it new These faults.Taken spent kind = λ at. elim (kind at.0 at.1 at.2) [ inl e ↦ absurd cc | inr e ↦ absurd cc ]
-  of_act it new These faults.Spent spent kind = spent refl
+  of_act it new These faults.Store poisoned kind = tt
+  of_act it new These faults.NoMemory poisoned kind = tt
+  of_act it new These faults.Foreign poisoned kind = λ at. elim (kind at.0 at.1 at.2) [ inl e ↦ absurd cc | inr e ↦ absurd cc ]
+  of_act it new These faults.Taken poisoned kind = λ at. elim (kind at.0 at.1 at.2) [ inl e ↦ absurd cc | inr e ↦ absurd cc ]
+  of_act it new These faults.Poisoned poisoned kind = poisoned refl
 
-  -- what a reply that is not written fails of
+  -- the failures of writing a reply
   of_end : (it new : Registry S g) (These : History → Type 0) (failure : Failure) → (failure ≡ Memory) ⊎ (failure ≡ File) → IsOfRun it new These failure
   of_end it new These failure (inl is) = subst (λ (f : Failure). IsOfRun it new These f) (sym is) tt
   of_end it new These failure (inr is) = subst (λ (f : Failure). IsOfRun it new These f) (sym is) tt
 
-  -- a request that was acted on already has the kind of fault that it has the first time
+  -- a request that was acted on before has the same kinds of fault as the first time
   pub kind_of : (it new : Registry S g) (h : History) (r : Request) (fault : Fault)
-      → ((x : History) → Stands it x → HasCleanDisk (state_of new) → (fault ≡ faults.Store) ⊎ (fault ≡ faults.NoMemory))
+      → ((x : History) → Represents it x → HasCleanDisk (state_of new) → (fault ≡ faults.Store) ⊎ (fault ≡ faults.NoMemory))
       → MayBeActedOn it h r → HasCleanDisk (state_of new) → (fault ≡ faults.Store) ⊎ (fault ≡ faults.NoMemory)
   kind_of it new h r fault kind (inl s) clean = kind h s clean
   kind_of it new h r fault kind (inr s) clean = kind (after_one h r) s clean
 
-  -- a reply's line is cut
+  -- only a prefix of a reply's line is written
   cut_at : (new : Registry S g) (h : History) (r : Request) (out out_new : Option (List ℕ)) (reply : Reply)
-      → (reply ≡ answer_one h r) × Stands new (after_one h r) → HasCleanDisk (state_of new) → AppendsBeginning out out_new (reply_line reply) → IsCut new h r out out_new
+      → (reply ≡ answer_one h r) × Represents new (after_one h r) → HasCleanDisk (state_of new) → AppendsPrefix out out_new (reply_line reply) → IsCut new h r out out_new
   cut_at new h r out out_new reply acted clean part = record {
-    gained = subst (λ (x : Reply). AppendsBeginning out out_new (reply_line x)) acted.0 part;
+    gained = subst (λ (x : Reply). AppendsPrefix out out_new (reply_line x)) acted.0 part;
     leaves = leaves_weaker newest (state_of new) (λ y. y ≡ after_one h r) (λ y. (y ≡ h) ⊎ (y ≡ after_one h r)) (λ y e. inr e) (acted.1.at.left clean);
     ends = inr acted.1;
   }
 
-  -- a request has its reply, whose line is written or cut
-  pub replied : (OfOutput : Failure → Type 0) (it new : Registry S g) (r : Request) (out out_new : Option (List ℕ)) (errors : Told) (status : ℕ) (reply : Reply)
-      → ((h : History) → MayBeActedOn it h r → HasCleanDisk (state_of new) → (reply ≡ answer_one h r) × Stands new (after_one h r))
+  -- a request gets its reply, whose line is written whole or in part
+  pub replied : (OfOutput : Failure → Type 0) (it new : Registry S g) (r : Request) (out out_new : Option (List ℕ)) (errors : ErrorOutput) (status : ℕ) (reply : Reply)
+      → ((h : History) → MayBeActedOn it h r → HasCleanDisk (state_of new) → (reply ≡ answer_one h r) × Represents new (after_one h r))
       → IsReplied (λ failure. ((failure ≡ Memory) ⊎ (failure ≡ File)) × OfOutput failure) reply out out_new errors status
       → GivesReply it new r out out_new errors status ⊎ IsFailed OfOutput it new r out out_new errors status
   replied OfOutput it new r out out_new errors status reply acted (inl done) =

@@ -1,4 +1,4 @@
--- What is found again after request lines were acted on.
+-- What is opened after request lines were acted on.
 use Rattle.std.proofs.Common.{◌≡◌, inl, inr, ℕ, ◌+◌, ◌≤◌, List, length, take, Option, Some, None, refl, sym, ap, subst, ◌∙◌, arith}
 use Rattle.std.specs.Prelude.{Result, Ok, Err, IfSome}
 use Rattle.std.proofs.Math.Logic.{∥∥₁_map}
@@ -13,50 +13,50 @@ use Rattle.registry_rules.specs.Run.{Legal, after}
 use Rattle.registry_rules.proofs.RunLemmas.{legal_after}
 use Rattle.registry_tables.specs.Rows.{newest}
 use Rattle.registry_store.specs.declared.registry.Registry.{Registry}
-use Rattle.registry_store.specs.Promise.{Leaves, Stands, state_of}
+use Rattle.registry_store.specs.Promise.{Leaves, Represents, state_of}
 use Rattle.registry_store.specs.Reopen.{IsEither}
 use Rattle.registry_store.specs.Run.{HasAnswered, IsPlace}
-use Rattle.registry_store.proofs.Runs.{leaves_weaker}
-use Rattle.registry_store.proofs.ToLemmas.{between_all}
+use Rattle.registry_store.proofs.RunLemmas.{leaves_weaker}
+use Rattle.registry_store.proofs.RunToLemmas.{between_all}
 use Rattle.registry_commands.specs.declared.lines.BadLine.{BadLine}
 use Rattle.registry_commands.specs.declared.messages.Failure.{Failure}
-use Rattle.registry_commands.specs.Failures.{Told}
+use Rattle.registry_commands.specs.Failures.{ErrorOutput}
 use Rattle.registry_commands.specs.Messages.{reply_lines}
 use Rattle.registry_commands.specs.Apply.{IsApplied, IsRun, lines_between}
 use Rattle.registry_commands.specs.Reopened.{IsReopened, IsReopenedAt}
-use Rattle.registry_commands.proofs.ApplyLemmas.{Keeps-same, no_beginning}
+use Rattle.registry_commands.proofs.ApplyLemmas.{keeps_same, no_beginning}
 
 module _ {S : Type 0} {g : Ghosts S} where
-  -- the registry is opened at one of the histories that the last one left
+  -- the opened registry represents one of the histories that the last one left
   abbrev pub Opens : Registry S g → Registry S g → Type 0
   Opens last it = (h next : History) → Legal h → Legal next → (HasCleanDisk (state_of last) → Leaves newest (state_of last) (IsEither h next))
-      → HasCleanDisk (state_of it) → ∥ ((x : History) × IsEither h next x × Stands it x) ∥₁
+      → HasCleanDisk (state_of it) → ∥ ((x : History) × IsEither h next x × Represents it x) ∥₁
 
-  at_place : (it : Registry S g) (h : History) (rs : List Request) (n : ℕ) (x : History) → IsEither (after h (take n rs)) (after h (take (n + 1) rs)) x → Stands it x → HasAnswered it h rs n
-  at_place it h rs n x (inl e) stands = inl (subst (Stands it) e stands)
+  at_place : (it : Registry S g) (h : History) (rs : List Request) (n : ℕ) (x : History) → IsEither (after h (take n rs)) (after h (take (n + 1) rs)) x → Represents it x → HasAnswered it h rs n
+  at_place it h rs n x (inl e) stands = inl (subst (Represents it) e stands)
   at_place it h rs n x (inr e) stands = elim (cases_lt n (length rs)) [
-    | inl more ↦ inr (more, subst (Stands it) e stands)
-    | inr none ↦ inl (subst (Stands it) (e ∙ ap (after h) (take_all (n + 1) rs (omega (arith, none)) ∙ sym (take_all n rs none))) stands)
+    | inl more ↦ inr (more, subst (Represents it) e stands)
+    | inr none ↦ inl (subst (Represents it) (e ∙ ap (after h) (take_all (n + 1) rs (omega (arith, none)) ∙ sym (take_all n rs none))) stands)
   ]
 
   module _ (first last it : Registry S g) (opens : Opens last it) (before : HasCleanDisk (state_of it) → HasCleanDisk (state_of last)) where
-    -- a registry is opened where it stood
-    stays : (h : History) → Stands last h → HasCleanDisk (state_of it) → ∥ Stands it h ∥₁
+    -- the opened registry represents the history that the last one did
+    stays : (h : History) → Represents last h → HasCleanDisk (state_of it) → ∥ Represents it h ∥₁
     stays h stands clean =
         let legal = stands.counts.legal in
         ∥∥₁_map (opens h h legal legal (λ was. leaves_weaker newest (state_of last) (λ x. x ≡ h) (IsEither h h) (λ x e. inl e) (stands.at.left was)) clean)
-        (λ found. subst (Stands it) (elim found.1 [ inl e ↦ e | inr e ↦ e ]) found.2)
+        (λ found. subst (Represents it) (elim found.1 [ inl e ↦ e | inr e ↦ e ]) found.2)
 
     -- nothing was acted on
-    as_before : last ≡ first → (h : History) → Stands first h → HasCleanDisk (state_of it) → ∥ Stands it h ∥₁
-    as_before same h stands = stays h (subst (λ (x : Registry S g). Stands x h) (sym same) stands)
+    as_before : last ≡ first → (h : History) → Represents first h → HasCleanDisk (state_of it) → ∥ Represents it h ∥₁
+    as_before same h stands = stays h (subst (λ (x : Registry S g). Represents x h) (sym same) stands)
 
     placed : (h : History) (rs : List Request) (n : ℕ) → Legal h → Leaves newest (state_of last) (IsPlace h rs n) → HasCleanDisk (state_of it) → ∥ HasAnswered it h rs n ∥₁
     placed h rs n legal leaves clean =
         ∥∥₁_map (opens (after h (take n rs)) (after h (take (n + 1) rs)) (legal_after h (take n rs) legal) (legal_after h (take (n + 1) rs) legal) (λ _. leaves) clean)
         (λ found. at_place it h rs n found.0 found.1 found.2)
 
-    module _ (OfInput OfOutput : Failure → Type 0) (out out_new : Option (List ℕ)) (errors : Told) (status : ℕ) where
+    module _ (OfInput OfOutput : Failure → Type 0) (out out_new : Option (List ℕ)) (errors : ErrorOutput) (status : ℕ) where
       ran : (rs : List Request) (a : ℕ) → a ≤ length rs → IsRun OfInput OfOutput first last rs a out out_new errors status
           → (h : History) → Legal h → HasAnswered first h rs a → HasCleanDisk (state_of it) → (n : ℕ) × IsReopenedAt it h rs a n out out_new status
       ran rs a within run h legal at clean = elim run.statuses [
@@ -65,7 +65,7 @@ module _ {S : Type 0} {g : Ghosts S} where
             let n = length rs in
             let all : after h rs ≡ after h (take n rs) = ap (after h) (sym (take_all n rs (omega arith))) in
             let leaves : Leaves newest (state_of last) (IsPlace h rs n) =
-            leaves_weaker newest (state_of last) (λ x. x ≡ after h rs) (IsPlace h rs n) (λ x e. inl (e ∙ all)) (through.stands.at.left (before clean)) in (
+            leaves_weaker newest (state_of last) (λ x. x ≡ after h rs) (IsPlace h rs n) (λ x e. inl (e ∙ all)) (through.represents.at.left (before clean)) in (
               n,
               record {
                 from = within;
@@ -75,7 +75,7 @@ module _ {S : Type 0} {g : Ghosts S} where
                   out_new,
                   subst (λ (text : List ℕ). Appends out out_new text) (sym (ap reply_lines (between_all h rs a n refl))) through.gained,
                   no_beginning out_new (lines_between h rs n (n + 1)),
-                  inl (Keeps-same out_new),
+                  inl (keeps_same out_new),
                 );
                 answered = placed h rs n legal leaves clean;
               },
@@ -105,10 +105,10 @@ module _ {S : Type 0} {g : Ghosts S} where
 
   abbrev pub MayOpen : Registry S g → Option (Registry S g) → Type 0
   MayOpen last opened = (h next : History) → Legal h → Legal next → (HasCleanDisk (state_of last) → Leaves newest (state_of last) (IsEither h next))
-      → IfSome opened (λ it. HasCleanDisk (state_of it) → ∥ ((x : History) × IsEither h next x × Stands it x) ∥₁)
+      → IfSome opened (λ it. HasCleanDisk (state_of it) → ∥ ((x : History) × IsEither h next x × Represents it x) ∥₁)
 
-  -- the same of a registry that may be opened
-  pub if_reopened : (OfInput OfOutput : Failure → Type 0) (first last : Registry S g) (read : Result (List Request) BadLine) (a : ℕ) (out out_new : Option (List ℕ)) (errors : Told) (status : ℕ)
+  -- the same if a registry is opened
+  pub if_reopened : (OfInput OfOutput : Failure → Type 0) (first last : Registry S g) (read : Result (List Request) BadLine) (a : ℕ) (out out_new : Option (List ℕ)) (errors : ErrorOutput) (status : ℕ)
       → IsApplied OfInput OfOutput first last read a out out_new errors status
       → (opened : Option (Registry S g)) → MayOpen last opened → IfSome opened (λ it. HasCleanDisk (state_of it) → HasCleanDisk (state_of last))
       → IfSome opened (IsReopened first read a out out_new status)

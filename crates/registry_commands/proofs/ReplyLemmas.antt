@@ -1,10 +1,10 @@
--- A run whose replies an output takes as lines.
+-- Runs that write their replies as lines.
 use Rattle.std.proofs.Common.{◌≡◌, ◌⊎◌, inl, inr, ℕ, true, ◌+◌, List, take, [], ◌∷◌, Option, refl, sym, ap, subst, ◌∙◌, arith}
 use Rattle.std.proofs.lemmas.List.{append-nil}
 use Rattle.std.specs.Io.KnownBytes.{Appends, Keeps}
 use Rattle.sqlite.specs.Store.{Ghosts}
-use Rattle.usbids_text.specs.Ends.{AppendsBeginning}
-use Rattle.usbids_text.proofs.EndLemmas.{Appends-nil, Appends-then}
+use Rattle.byte_streams.specs.Streams.{AppendsPrefix}
+use Rattle.byte_streams.proofs.StreamLemmas.{appends_nil, appends_then}
 use Rattle.registry_rules.specs.declared.order.Request.{Request}
 use Rattle.registry_rules.specs.declared.verdict.Reply.{Reply}
 use Rattle.registry_rules.specs.History.{History}
@@ -12,21 +12,21 @@ use Rattle.registry_rules.specs.Run.{after}
 use Rattle.registry_store.specs.declared.registry.Registry.{Registry}
 use Rattle.registry_store.specs.declared.replies.RunStop.{RunStop}
 use Rattle.registry_store.specs.declared.replies.RunStop.TheVariants as stop
-use Rattle.registry_store.specs.Promise.{Stands, is_spent}
+use Rattle.registry_store.specs.Promise.{Represents, is_poisoned}
 use Rattle.registry_store.specs.RunTo.{HaveTaken, IsCutBy, IsHalted, IsLeftAt}
 use Rattle.registry_commands.specs.declared.replies.ReplyLines.{ReplyLines}
 use Rattle.registry_commands.specs.Messages.{reply_line, reply_lines}
 use Rattle.registry_commands.specs.Apply.{IsStoppedAt, lines_between}
 use Rattle.registry_commands.specs.Replies.{CutsLine, TakesLine}
-use Rattle.registry_commands.proofs.ApplyLemmas.{Keeps-same, no_beginning}
+use Rattle.registry_commands.proofs.ApplyLemmas.{keeps_same, no_beginning}
 
 module _ {S : Type 0} {g : Ghosts S} (it : Registry S g) (h : History) where
-  spent_or_there : (why : RunStop) → IsLeftAt why it h → (is_spent it ≡ true) ⊎ Stands it h
-  spent_or_there (stop.Fault fault) spent = inl spent
-  spent_or_there stop.Cut stands = inr stands
+  poisoned_or_there : (why : RunStop) → IsLeftAt why it h → (is_poisoned it ≡ true) ⊎ Represents it h
+  poisoned_or_there (stop.Fault fault) poisoned = inl poisoned
+  poisoned_or_there stop.Cut stands = inr stands
 
 module _ {W : Type 0} (contents : W → Option (List ℕ)) (failures : W → ℕ) where
-  -- the lines of all these replies are out
+  -- the lines of all these replies are written
   pub record AreOut (old new : ReplyLines W) (replies : List Reply) : Type 0 where
     pub same_output : new.output.ghost_name ≡ old.output.ghost_name
     pub gained : Appends (contents old.output.now) (contents new.output.now) (reply_lines replies)
@@ -34,35 +34,35 @@ module _ {W : Type 0} (contents : W → Option (List ℕ)) (failures : W → ℕ
 
   pub taken_lines : (old new : ReplyLines W) (replies : List Reply) → HaveTaken (TakesLine contents failures) old new replies → AreOut old new replies
   taken_lines old new [] same =
-      subst (λ (k : ReplyLines W). AreOut old k []) (sym same) (record { same_output = refl; gained = Appends-nil (contents old.output.now); kept = refl })
+      subst (λ (k : ReplyLines W). AreOut old k []) (sym same) (record { same_output = refl; gained = appends_nil (contents old.output.now); kept = refl })
   taken_lines old new (reply ∷ replies) taken =
       let rest = taken_lines taken.0 new replies taken.2 in
       record {
         same_output = rest.same_output ∙ taken.1.same_output;
-        gained = Appends-then (contents old.output.now) (contents taken.0.output.now) (contents new.output.now) (reply_line reply) (reply_lines replies) taken.1.gained rest.gained;
+        gained = appends_then (contents old.output.now) (contents taken.0.output.now) (contents new.output.now) (reply_line reply) (reply_lines replies) taken.1.gained rest.gained;
         kept = rest.kept ∙ taken.1.kept;
       }
 
-  -- nothing was given to the output after these replies
+  -- nothing was written after these replies
   pub no_more : (old middle new : ReplyLines W) (replies : List Reply) → HaveTaken (TakesLine contents failures) old middle replies → new ≡ middle
       → (new.output.ghost_name ≡ old.output.ghost_name) × (failures new.output.now ≡ failures old.output.now)
   no_more old middle new replies taken same =
       let out = taken_lines old middle replies taken in
       subst (λ (k : ReplyLines W). (k.output.ghost_name ≡ old.output.ghost_name) × (failures k.output.now ≡ failures old.output.now)) (sym same) (out.same_output, out.kept)
 
-  -- of the next line at most a beginning is out
+  -- at most a prefix of the next line is written
   next_begun : (why : RunStop) (middle new : ReplyLines W) (next : Reply) → IsCutBy (CutsLine contents failures) why middle new next
-      → AppendsBeginning (contents middle.output.now) (contents new.output.now) (reply_line next)
+      → AppendsPrefix (contents middle.output.now) (contents new.output.now) (reply_line next)
   next_begun (stop.Fault fault) middle new next cut =
-      subst (λ (k : ReplyLines W). AppendsBeginning (contents middle.output.now) (contents k.output.now) (reply_line next)) (sym cut.0)
+      subst (λ (k : ReplyLines W). AppendsPrefix (contents middle.output.now) (contents k.output.now) (reply_line next)) (sym cut.0)
       (no_beginning (contents middle.output.now) (reply_line next))
   next_begun stop.Cut middle new next cut = cut.gained
 
-  -- nothing of it is out, or its request is acted on
+  -- nothing of it is written, or its request was acted on
   next_acted : {S : Type 0} {g : Ghosts S} (it : Registry S g) (h : History) (why : RunStop) (middle new : ReplyLines W) (next : Reply) → IsCutBy (CutsLine contents failures) why middle new next
-      → IsLeftAt why it h → Keeps (contents middle.output.now) (contents new.output.now) ⊎ Stands it h
-  next_acted it h (stop.Fault fault) middle new next cut spent =
-      inl (subst (λ (k : ReplyLines W). Keeps (contents middle.output.now) (contents k.output.now)) (sym cut.0) (Keeps-same (contents middle.output.now)))
+      → IsLeftAt why it h → Keeps (contents middle.output.now) (contents new.output.now) ⊎ Represents it h
+  next_acted it h (stop.Fault fault) middle new next cut poisoned =
+      inl (subst (λ (k : ReplyLines W). Keeps (contents middle.output.now) (contents k.output.now)) (sym cut.0) (keeps_same (contents middle.output.now)))
   next_acted it h stop.Cut middle new next cut stands = inr stands
 
   pub stopped_lines : {S : Type 0} {g : Ghosts S} (it : Registry S g) (h : History) (rs : List Request) (a n : ℕ) (old new : ReplyLines W) (why : RunStop)
@@ -76,9 +76,9 @@ module _ {W : Type 0} (contents : W → Option (List ℕ)) (failures : W → ℕ
         gained = (
           contents middle.output.now,
           (taken_lines old middle _ halted.taken).gained,
-          subst (λ (text : List ℕ). AppendsBeginning (contents middle.output.now) (contents new.output.now) text) (sym one) (next_begun why middle new halted.reply.0 halted.reply.2),
+          subst (λ (text : List ℕ). AppendsPrefix (contents middle.output.now) (contents new.output.now) text) (sym one) (next_begun why middle new halted.reply.0 halted.reply.2),
           next_acted it (after h (take (n + 1) rs)) why middle new halted.reply.0 halted.reply.2 halted.ends,
         );
         leaves = halted.leaves;
-        ends = elim (spent_or_there it (after h (take (n + 1) rs)) why halted.ends) [ inl spent ↦ inl spent | inr stands ↦ inr (inr (halted.within, stands)) ];
+        ends = elim (poisoned_or_there it (after h (take (n + 1) rs)) why halted.ends) [ inl poisoned ↦ inl poisoned | inr stands ↦ inr (inr (halted.within, stands)) ];
       }

@@ -1,4 +1,4 @@
--- What reports are made of.
+-- The parts of reports.
 use Rattle.std.proofs.Common.{◌≡◌, ℕ, ◌+◌, ◌<◌, Bool, true, false, List, [], ◌∷◌, ◌++◌, length, take, get_or, refl, sym, ap, subst, ◌∙◌, Result, Ok, Err, OnOk}
 use Rattle.std.specs.Prelude.{map}
 use Rattle.std.proofs.lemmas.List.{map-append}
@@ -10,11 +10,11 @@ use Rattle.registry_rules.specs.Number.{number}
 use Rattle.registry_rules.specs.History.{History}
 use Rattle.registry_rules.specs.Query.{is_reserved}
 use Rattle.registry_rules.specs.declared.record.Vendor.{Vendor}
-use Rattle.registry_reports.proofs.ListLemmas.{Joins, joins-next}
+use Rattle.registry_reports.proofs.ListLemmas.{Joins, joins_next}
 use Rattle.registry_store.specs.declared.fault.Fault.{Fault}
 use Rattle.registry_store.specs.declared.fault.Fault.TheVariants as faults
 use Rattle.registry_store.specs.declared.registry.Registry.{Registry}
-use Rattle.registry_store.specs.Promise.{is_spent}
+use Rattle.registry_store.specs.Promise.{is_poisoned}
 use Rattle.registry_commands.specs.declared.messages.Failure.{Failure}
 use Rattle.registry_commands.specs.declared.messages.Failure.TheVariants.{Memory}
 use Rattle.registry_commands.specs.Messages.{failure_of}
@@ -24,33 +24,28 @@ use Rattle.registry_commands.specs.Shown.{IsOfReading}
 abbrev vids : List Vendor → List ℕ
 vids vendors = map (λ vendor. vendor.vid) vendors
 
-vids-join : Joins vids
-vids-join = record { none = refl; more = λ x xs. refl }
+vids_join : Joins vids
+vids_join = record { none = refl; more = λ x xs. refl }
 
-pub reserved-start : (h : History) (vendors : List Vendor) (pairs : List (ℕ × List Span)) → pairs ≡ [] → AreReserved h (take 0 vendors) pairs
-reserved-start h vendors pairs none = rw none (record { same = refl; each = All-nil (HasReserved h) })
+pub reserved_start : (h : History) (vendors : List Vendor) (pairs : List (ℕ × List Span)) → pairs ≡ [] → AreReserved h (take 0 vendors) pairs
+reserved_start h vendors pairs none = rw none (record { same = refl; each = All-nil (HasReserved h) })
 
-pub reserved-next : (h : History) (vendors : List Vendor) (i : ℕ) (v : Vendor) (old new : List (ℕ × List Span)) (spans : List Span) → i < length vendors → v ≡ get_or vendors i v
+pub reserved_next : (h : History) (vendors : List Vendor) (i : ℕ) (v : Vendor) (old new : List (ℕ × List Span)) (spans : List Span) → i < length vendors → v ≡ get_or vendors i v
     → new ≡ old ++ (v.vid, spans) ∷ [] → ((pid : ℕ) → spans_have spans pid ≡ is_reserved h (number v.vid pid)) → AreReserved h (take i vendors) old → AreReserved h (take (i + 1) vendors) new
-reserved-next h vendors i v old new spans within is put has so_far = rw put (record {
-  same = map-append (λ (pair : ℕ × List Span). pair.0) old ((v.vid, spans) ∷ []) ∙ (ap (λ (l : List ℕ). l ++ v.vid ∷ []) so_far.same ∙ sym (joins-next vids vids-join vendors i v within is));
+reserved_next h vendors i v old new spans within is put has so_far = rw put (record {
+  same = map-append (λ (pair : ℕ × List Span). pair.0) old ((v.vid, spans) ∷ []) ∙ (ap (λ (l : List ℕ). l ++ v.vid ∷ []) so_far.same ∙ sym (joins_next vids vids_join vendors i v within is));
   each = All-push (HasReserved h) old (v.vid, spans) so_far.each has;
 })
 
 module _ {S : Type 0} {g : Ghosts S} where
-  -- a set is not given: the registry was spent, or there was no memory
-  pub of_reserved : (it : Registry S g) (fault : Fault) → (is_spent it ≡ true → fault ≡ faults.Spent) → (is_spent it ≡ false → fault ≡ faults.NoMemory) → IsOfReading it it (failure_of fault)
-  of_reserved it fault spent unspent = go (is_spent it) refl
+  -- the reserved numbers are not returned: the registry was poisoned, or memory ran out
+  pub of_reserved : (it : Registry S g) (fault : Fault) → (is_poisoned it ≡ true → fault ≡ faults.Poisoned) → (is_poisoned it ≡ false → fault ≡ faults.NoMemory) → IsOfReading it it (failure_of fault)
+  of_reserved it fault poisoned not_poisoned = go (is_poisoned it) refl
     where
-      go : (b : Bool) → is_spent it ≡ b → IsOfReading it it (failure_of fault)
-      go true e = subst (λ (f : Fault). IsOfReading it it (failure_of f)) (sym (spent e)) e
-      go false e = subst (λ (f : Fault). IsOfReading it it (failure_of f)) (sym (unspent e)) tt
+      go : (b : Bool) → is_poisoned it ≡ b → IsOfReading it it (failure_of fault)
+      go true e = subst (λ (f : Fault). IsOfReading it it (failure_of f)) (sym (poisoned e)) e
+      go false e = subst (λ (f : Fault). IsOfReading it it (failure_of f)) (sym (not_poisoned e)) tt
 
-  -- reading may want memory
+  -- reading may run out of memory
   pub of_memory : (it new : Registry S g) (failure : Failure) → failure ≡ Memory → IsOfReading it new failure
   of_memory it new failure is = subst (λ (f : Failure). IsOfReading it new f) (sym is) tt
-
--- what holds at Ok has a consequence
-pub on_ok : {A E P Q : Type 0} (r : Result A E) → (P → Q) → OnOk r P → OnOk r Q
-on_ok (Ok x) f p = f p
-on_ok (Err e) f p = p

@@ -1,73 +1,76 @@
--- What is written and what the registry is after request lines were acted on.
+-- What is written, and what the registry represents, after request lines were acted on.
 use Rattle.std.specs.Prelude.{◌≡◌, ◌⊎◌, ◌<◌, ◌≤◌, ◌+◌, ⊤, ℕ, true, List, length, take, drop, Option, Result, Ok, Err}
 use Rattle.std.specs.Io.KnownBytes.{Appends, Keeps}
 use Rattle.sqlite.specs.Store.{Ghosts}
 use Rattle.sqlite.specs.State.{HasCleanDisk}
-use Rattle.usbids_text.specs.Ends.{AppendsBeginning}
+use Rattle.byte_streams.specs.Streams.{AppendsPrefix}
 use Rattle.registry_rules.specs.declared.order.Request.{Request}
 use Rattle.registry_rules.specs.History.{History}
 use Rattle.registry_rules.specs.Run.{after, answers}
 use Rattle.registry_tables.specs.Rows.{newest}
 use Rattle.registry_store.specs.declared.registry.Registry.{Registry}
-use Rattle.registry_store.specs.Promise.{Leaves, Stands, is_spent, state_of}
+use Rattle.registry_store.specs.Promise.{Leaves, Represents, is_poisoned, state_of}
 use Rattle.registry_store.specs.Run.{HasAnswered, IsPlace}
 use Rattle.registry_commands.specs.declared.lines.BadLine.{BadLine}
 use Rattle.registry_commands.specs.declared.messages.Failure.{Failure}
-use Rattle.registry_commands.specs.declared.messages.Failure.TheVariants.{Foreign, Spent, Taken}
-use Rattle.registry_commands.specs.Failures.{Tells, TellsFailure, TellsNothing, Told}
+use Rattle.registry_commands.specs.declared.messages.Failure.TheVariants.{Foreign, Poisoned, Taken}
+use Rattle.registry_commands.specs.Failures.{Prints, PrintsFailure, PrintsNothing, ErrorOutput}
 use Rattle.registry_commands.specs.Messages.{bad_line_text, exceeds_text, reply_lines}
 
--- the reply lines of the requests from one place up to another
+-- the reply lines of the requests after the first a, up to the n-th
 abbrev pub lines_between : History → List Request → ℕ → ℕ → List ℕ
 lines_between h rs a n = reply_lines (drop a (answers h (take n rs)))
 
 module _ {S : Type 0} {g : Ghosts S} where
-  -- What a run over this registry may fail of: Spent only where it was spent before, Foreign and Taken only where it stood at
-  -- none of these histories or the disk isn't clean.
+  -- The failures of a run over this registry: Poisoned only if it was poisoned before, Foreign and Taken only if it
+  -- represented none of these histories or the disk is not clean.
   abbrev pub IsOfRun : Registry S g → Registry S g → (History → Type 0) → Failure → Type 0
-  IsOfRun it new These Spent = is_spent it ≡ true
+  IsOfRun it new These Poisoned = is_poisoned it ≡ true
   IsOfRun it new These Foreign = ¬ ((h : History) × These h × HasCleanDisk (state_of new))
   IsOfRun it new These Taken = ¬ ((h : History) × These h × HasCleanDisk (state_of new))
   IsOfRun it new These _ = ⊤
 
-  -- All requests from this place on are answered: their reply lines are out, and the registry is at the history after them.
+  -- All requests after the first a are answered: their reply lines are written, and the registry represents the history
+  -- after all.
   pub record IsThrough (it : Registry S g) (h : History) (rs : List Request) (a : ℕ) (old new : Option (List ℕ)) : Type 0 where
     pub gained : Appends old new (reply_lines (drop a (answers h rs)))
-    pub stands : Stands it (after h rs)
+    pub represents : Represents it (after h rs)
 
-  -- The run stopped with n requests answered, whose reply lines are out. Of the next line nothing is out; or at most a beginning
-  -- is, and the registry is at the history after its request. A crash leaves these n requests, and at most one more.
+  -- The run stopped with n requests answered, whose reply lines are written. Of the next line either nothing is written, or
+  -- a prefix is and the registry represents the history after its request. A crash leaves these n requests, and at most one
+  -- more.
   pub record IsStoppedAt (it : Registry S g) (h : History) (rs : List Request) (a n : ℕ) (old new : Option (List ℕ)) : Type 0 where
     pub from : a ≤ n
     pub within : n ≤ length rs
-    pub gained : (middle : Option (List ℕ)) × Appends old middle (lines_between h rs a n) × AppendsBeginning middle new (lines_between h rs n (n + 1))
-        × (Keeps middle new ⊎ Stands it (after h (take (n + 1) rs)))
+    pub gained : (middle : Option (List ℕ)) × Appends old middle (lines_between h rs a n) × AppendsPrefix middle new (lines_between h rs n (n + 1))
+        × (Keeps middle new ⊎ Represents it (after h (take (n + 1) rs)))
     pub leaves : Leaves newest (state_of it) (IsPlace h rs n)
-    pub ends : (is_spent it ≡ true) ⊎ HasAnswered it h rs n
+    pub ends : (is_poisoned it ≡ true) ⊎ HasAnswered it h rs n
 
-  -- Nothing was acted on and no reply was written. The errors say why, or that the input failed or there was no memory to say it.
-  pub record IsRejected (OfInput : Failure → Type 0) (it new : Registry S g) (out out_new : Option (List ℕ)) (errors : Told) (text : List ℕ) (status : ℕ) : Type 0 where
+  -- Nothing was acted on and no reply was written. The error output says why, or that the input failed or memory ran out.
+  pub record IsRejected (OfInput : Failure → Type 0) (it new : Registry S g) (out out_new : Option (List ℕ)) (errors : ErrorOutput) (text : List ℕ) (status : ℕ) : Type 0 where
     pub same : new ≡ it
     pub silent : Keeps out out_new
-    pub told : ((status ≡ 2) × Tells errors text) ⊎ ((status ≡ 1) × TellsFailure OfInput errors)
+    pub told : ((status ≡ 2) × Prints errors text) ⊎ ((status ≡ 1) × PrintsFailure OfInput errors)
 
-  -- The input failed, or there was no memory for its requests. Nothing was acted on and no reply was written.
-  pub record IsUnread (OfInput : Failure → Type 0) (it new : Registry S g) (out out_new : Option (List ℕ)) (errors : Told) : Type 0 where
+  -- The input failed, or memory ran out. Nothing was acted on and no reply was written.
+  pub record IsUnread (OfInput : Failure → Type 0) (it new : Registry S g) (out out_new : Option (List ℕ)) (errors : ErrorOutput) : Type 0 where
     pub same : new ≡ it
     pub silent : Keeps out out_new
-    pub told : TellsFailure OfInput errors
+    pub told : PrintsFailure OfInput errors
 
-  -- The requests from this place on were acted on in turn: all of them, or up to a failure.
-  pub record IsRun (OfInput OfOutput : Failure → Type 0) (it new : Registry S g) (rs : List Request) (a : ℕ) (out out_new : Option (List ℕ)) (errors : Told) (status : ℕ) : Type 0 where
+  -- The requests after the first a were acted on in turn: all of them, or up to a failure.
+  pub record IsRun (OfInput OfOutput : Failure → Type 0) (it new : Registry S g) (rs : List Request) (a : ℕ) (out out_new : Option (List ℕ)) (errors : ErrorOutput) (status : ℕ) : Type 0 where
     pub statuses : (status ≡ 0) ⊎ (status ≡ 1)
     pub through : status ≡ 0 → (h : History) → HasAnswered it h rs a → HasCleanDisk (state_of new) → IsThrough new h rs a out out_new
-    pub quiet : status ≡ 0 → TellsNothing errors
+    pub quiet : status ≡ 0 → PrintsNothing errors
     pub stopped : status ≡ 1 → (h : History) → HasAnswered it h rs a → HasCleanDisk (state_of new) → (n : ℕ) × IsStoppedAt new h rs a n out out_new
     pub told : status ≡ 1 → IsUnread OfInput it new out out_new errors
-        ⊎ TellsFailure (λ failure. IsOfRun it new (λ h. HasAnswered it h rs a) failure × OfOutput failure) errors
+        ⊎ PrintsFailure (λ failure. IsOfRun it new (λ h. HasAnswered it h rs a) failure × OfOutput failure) errors
 
-  -- What becomes of the requests that were read, of which the first are answered already, or of a line that is none.
-  abbrev pub IsApplied : (Failure → Type 0) → (Failure → Type 0) → Registry S g → Registry S g → Result (List Request) BadLine → ℕ → Option (List ℕ) → Option (List ℕ) → Told → ℕ → Type 0
+  -- How a command on request lines ends, by the requests that were read, of which the first a were answered before, or by
+  -- the first line that is not a request.
+  abbrev pub IsApplied : (Failure → Type 0) → (Failure → Type 0) → Registry S g → Registry S g → Result (List Request) BadLine → ℕ → Option (List ℕ) → Option (List ℕ) → ErrorOutput → ℕ → Type 0
   IsApplied OfInput OfOutput it new (Err bad) a out out_new errors status = IsRejected OfInput it new out out_new errors (bad_line_text bad) status
   IsApplied OfInput OfOutput it new (Ok rs) a out out_new errors status =
       (length rs < a → IsRejected OfInput it new out out_new errors exceeds_text status)

@@ -1,4 +1,4 @@
--- What becomes of a connection on which a registry is to be founded.
+-- What a founding does to its connection.
 use Rattle.std.specs.Prelude.{◌≡◌, ◌⊎◌, ⊤, ℕ, Result, Ok, Err}
 use Rattle.sqlite.specs.Store.{Ghosts}
 use Rattle.sqlite.specs.State.{HasCleanDisk, Survives}
@@ -12,31 +12,33 @@ use Rattle.registry_wire.specs.declared.refusal.WireRefusal.{WireRefusal}
 use Rattle.registry_wire.specs.Founding.{Founds, Listed}
 use Rattle.registry_commands.specs.declared.messages.Failure.{Failure}
 use Rattle.registry_commands.specs.declared.messages.Failure.TheVariants.{Memory, Store, Taken}
-use Rattle.registry_commands.specs.Failures.{Tells, TellsFailure, TellsNothing, Told}
+use Rattle.registry_commands.specs.Failures.{Prints, PrintsFailure, PrintsNothing, ErrorOutput}
 use Rattle.registry_commands.specs.Messages.{refusal_line}
 
 module _ {S : Type 0} (g : Ghosts S) where
-  -- there was no registry, and now there is this one, with no deed
+  -- the store held no registry, and now holds this one, with no deed
   pub record IsFounded (old new : Held S) (founding : Founding) : Type 0 where
     pub none_before : HasNoMeta (state g old).now
     pub rows : HasCleanDisk (state g new) → IsAt newest (state g new) (founded founding)
 
-  -- What a founding may fail of: Taken only where there was a table meta, and then nothing is changed; never Foreign, Spent or File.
+  -- The failures of a founding: Taken only where the database had a table meta, and then nothing is changed; never Foreign,
+  -- Poisoned or File.
   abbrev pub IsOfFounding : Held S → Held S → Failure → Type 0
   IsOfFounding old new Store = ⊤
   IsOfFounding old new Memory = ⊤
   IsOfFounding old new Taken = (new ≡ old) × ¬ HasNoMeta (state g old).now
   IsOfFounding old new _ = ⊥
 
-  -- A founding was tried. Whatever came of it, a crash leaves what it could leave before or, where no registry was, the whole of this one.
-  pub record IsTriedOn (old new : Held S) (founding : Founding) (errors : Told) (status : ℕ) : Type 0 where
+  -- A founding was tried. Whether it failed or not, a crash leaves what it could leave before or, if the store held no
+  -- registry, the whole new one.
+  pub record IsTriedOn (old new : Held S) (founding : Founding) (errors : ErrorOutput) (status : ℕ) : Type 0 where
     pub survives : Survives (state g old) (state g new) (λ db. HasNoMeta (state g old).now × Rows newest db (founded founding))
-    pub ends : ((status ≡ 0) × IsFounded old new founding × TellsNothing errors) ⊎ ((status ≡ 1) × TellsFailure (IsOfFounding old new) errors)
+    pub ends : ((status ≡ 0) × IsFounded old new founding × PrintsNothing errors) ⊎ ((status ≡ 1) × PrintsFailure (IsOfFounding old new) errors)
 
-  -- what becomes of the connection by what a founding file lists, or by its first fault
-  abbrev pub IsFoundBy : (Failure → Type 0) → Held S → Held S → Result Listed WireRefusal → Told → ℕ → Type 0
+  -- what a founding file does to the connection, by what it lists, or by its first fault
+  abbrev pub IsFoundBy : (Failure → Type 0) → Held S → Held S → Result Listed WireRefusal → ErrorOutput → ℕ → Type 0
   IsFoundBy OfInput old new (Err refusal) errors status =
-      (new ≡ old) × (((status ≡ 2) × Tells errors (refusal_line refusal)) ⊎ ((status ≡ 1) × TellsFailure OfInput errors))
+      (new ≡ old) × (((status ≡ 2) × Prints errors (refusal_line refusal)) ⊎ ((status ≡ 1) × PrintsFailure OfInput errors))
   IsFoundBy OfInput old new (Ok listed) errors status =
-      ((new ≡ old) × (status ≡ 1) × TellsFailure OfInput errors)
+      ((new ≡ old) × (status ≡ 1) × PrintsFailure OfInput errors)
       ⊎ ((founding : Founding) × Founds listed founding × IsTriedOn old new founding errors status)

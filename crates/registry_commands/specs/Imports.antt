@@ -1,4 +1,4 @@
--- What is written and what the registry is after a list was imported.
+-- What is written, and what the registry represents, after a list was imported.
 use Rattle.std.specs.Prelude.{◌≡◌, ◌⊎◌, ◌≤◌, ℕ, true, List, length, Option, Some, None, Result, Ok, Err}
 use Rattle.std.specs.Io.KnownBytes.{Appends, Keeps}
 use Rattle.sqlite.specs.Store.{Ghosts}
@@ -6,7 +6,7 @@ use Rattle.sqlite.specs.State.{HasCleanDisk}
 use Rattle.usbnum_core.specs.Number.{number_of}
 use Rattle.usbnum_core.specs.Text.{IsKey, IsSlug}
 use Rattle.usbids_text.specs.declared.fault.ReadFault.{ReadFault}
-use Rattle.usbids_text.specs.Ends.{AppendsBeginning}
+use Rattle.byte_streams.specs.Streams.{AppendsPrefix}
 use Rattle.usbids_text.specs.Entries.{TopEntry}
 use Rattle.usbids_text.specs.Reading.{Answers}
 use Rattle.registry_rules.specs.declared.order.Request.{Request}
@@ -16,27 +16,27 @@ use Rattle.registry_rules.specs.History.{History}
 use Rattle.registry_rules.specs.Run.{after_one, answer_one}
 use Rattle.registry_tables.specs.Rows.{newest}
 use Rattle.registry_store.specs.declared.registry.Registry.{Registry}
-use Rattle.registry_store.specs.Promise.{Endures, Leaves, Stands, is_spent, state_of}
+use Rattle.registry_store.specs.Promise.{Endures, Leaves, Represents, is_poisoned, state_of}
 use Rattle.registry_store.specs.RunTo.{MayBeActedOn}
 use Rattle.registry_wire.specs.Import.{import_of}
 use Rattle.registry_commands.specs.declared.importing.Import.{Import}
 use Rattle.registry_commands.specs.declared.messages.Failure.{Failure}
-use Rattle.registry_commands.specs.declared.words.BadWord.{BadWord}
-use Rattle.registry_commands.specs.declared.words.BadWord.TheVariants.{Caller, Key, Org, Vendor}
+use Rattle.registry_commands.specs.declared.arguments.BadArgument.{BadArgument}
+use Rattle.registry_commands.specs.declared.arguments.BadArgument.TheVariants.{Caller, Key, Org, Vendor}
 use Rattle.registry_commands.specs.Apply.{IsOfRun}
-use Rattle.registry_commands.specs.Failures.{IsOfMemory, TellsFailure, TellsNothing, Told}
+use Rattle.registry_commands.specs.Failures.{IsOfMemory, PrintsFailure, PrintsNothing, ErrorOutput}
 use Rattle.registry_commands.specs.LookUp.{IsRefused}
 use Rattle.registry_commands.specs.Messages.{reply_line}
 use Rattle.registry_commands.specs.Printed.{IsUnprinted}
 
 -- ---- the arguments
 
--- the vendor that an argument names, if it is given
-abbrev pub named_vendor : Option ℕ → Result (Option ℕ) BadWord
+-- the vendor that an argument names, or the fault of the argument
+abbrev pub named_vendor : Option ℕ → Result (Option ℕ) BadArgument
 named_vendor None = Err Vendor
 named_vendor (Some vid) = Ok (Some vid)
 
-abbrev pub vendor_argument : Option (List ℕ) → Result (Option ℕ) BadWord
+abbrev pub vendor_argument : Option (List ℕ) → Result (Option ℕ) BadArgument
 vendor_argument None = Ok None
 vendor_argument (Some text) = named_vendor (number_of text)
 
@@ -47,8 +47,8 @@ pub record AreOfImport (caller key org : List ℕ) (vendor : Option (List ℕ)) 
   pub org_is : IsSlug org × (import.org ≡ org)
   pub vendor_is : vendor_argument vendor ≡ Ok import.vendor
 
--- the first argument that is none of its kind
-abbrev pub IsFirstBad : List ℕ → List ℕ → List ℕ → Option (List ℕ) → BadWord → Type 0
+-- the first invalid argument, in the order caller, key, organisation, vendor
+abbrev pub IsFirstBad : List ℕ → List ℕ → List ℕ → Option (List ℕ) → BadArgument → Type 0
 IsFirstBad caller key org vendor Caller = ¬ IsSlug caller
 IsFirstBad caller key org vendor Key = IsSlug caller × ¬ IsKey key
 IsFirstBad caller key org vendor Org = IsSlug caller × IsKey key × ¬ IsSlug org
@@ -57,60 +57,61 @@ IsFirstBad caller key org vendor _ = ⊥
 
 -- ---- the reply
 
--- the status that a reply ends with
+-- the exit status for a reply
 abbrev pub status_of : Reply → ℕ
 status_of (Done text) = 0
 status_of (Refused refusal) = 2
 
--- the reply's line is out and the status says whether it is a refusal; or a beginning of it is out, after a failure
-abbrev pub IsReplied : (Failure → Type 0) → Reply → Option (List ℕ) → Option (List ℕ) → Told → ℕ → Type 0
+-- the reply's line is written and the status says whether it is a refusal; or a prefix is written, after a failure
+abbrev pub IsReplied : (Failure → Type 0) → Reply → Option (List ℕ) → Option (List ℕ) → ErrorOutput → ℕ → Type 0
 IsReplied May reply out out_new errors status =
-    ((status ≡ status_of reply) × Appends out out_new (reply_line reply) × TellsNothing errors)
-    ⊎ ((status ≡ 1) × AppendsBeginning out out_new (reply_line reply) × TellsFailure May errors)
+    ((status ≡ status_of reply) × Appends out out_new (reply_line reply) × PrintsNothing errors)
+    ⊎ ((status ≡ 1) × AppendsPrefix out out_new (reply_line reply) × PrintsFailure May errors)
 
--- the request of an import, by the founding vendor and the list
+-- the request of an import, with this founding vendor and this list
 abbrev pub request_of : Import → ℕ → List TopEntry → Request
 request_of import founding doc = import_of import.caller import.key import.org founding import.vendor doc
 
 module _ {S : Type 0} {g : Ghosts S} where
-  -- The request was acted on: its reply's line is out, and the registry stands at the history after it.
-  pub record GivesReply (it new : Registry S g) (r : Request) (out out_new : Option (List ℕ)) (errors : Told) (status : ℕ) : Type 0 where
+  -- The request was acted on: its reply's line is written, and the registry represents the history after it.
+  pub record GivesReply (it new : Registry S g) (r : Request) (out out_new : Option (List ℕ)) (errors : ErrorOutput) (status : ℕ) : Type 0 where
     pub reply : Reply
     pub status_is : status ≡ status_of reply
     pub gained : Appends out out_new (reply_line reply)
-    pub quiet : TellsNothing errors
-    pub answered : (h : History) → MayBeActedOn it h r → HasCleanDisk (state_of new) → (reply ≡ answer_one h r) × Stands new (after_one h r)
+    pub quiet : PrintsNothing errors
+    pub answered : (h : History) → MayBeActedOn it h r → HasCleanDisk (state_of new) → (reply ≡ answer_one h r) × Represents new (after_one h r)
 
-  -- A beginning of the reply's line is out. A crash leaves the history before the request or after it, and the registry is spent or stands after it.
+  -- A prefix of the reply's line is written. A crash leaves the history before the request or after it, and the registry is
+  -- poisoned or represents the history after it.
   pub record IsCut (new : Registry S g) (h : History) (r : Request) (out out_new : Option (List ℕ)) : Type 0 where
-    pub gained : AppendsBeginning out out_new (reply_line (answer_one h r))
+    pub gained : AppendsPrefix out out_new (reply_line (answer_one h r))
     pub leaves : Leaves newest (state_of new) (λ x. (x ≡ h) ⊎ (x ≡ after_one h r))
-    pub ends : (is_spent new ≡ true) ⊎ Stands new (after_one h r)
+    pub ends : (is_poisoned new ≡ true) ⊎ Represents new (after_one h r)
 
   -- The request failed, or the output did.
-  pub record IsFailed (OfOutput : Failure → Type 0) (it new : Registry S g) (r : Request) (out out_new : Option (List ℕ)) (errors : Told) (status : ℕ) : Type 0 where
+  pub record IsFailed (OfOutput : Failure → Type 0) (it new : Registry S g) (r : Request) (out out_new : Option (List ℕ)) (errors : ErrorOutput) (status : ℕ) : Type 0 where
     pub status_is : status ≡ 1
     pub cut : (h : History) → MayBeActedOn it h r → HasCleanDisk (state_of new) → IsCut new h r out out_new
-    pub told : TellsFailure (λ failure. IsOfRun it new (λ h. MayBeActedOn it h r) failure × OfOutput failure) errors
+    pub told : PrintsFailure (λ failure. IsOfRun it new (λ h. MayBeActedOn it h r) failure × OfOutput failure) errors
 
   -- one request was acted on, or stopped by a failure
-  pub record IsActedOn (OfOutput : Failure → Type 0) (it new : Registry S g) (r : Request) (out out_new : Option (List ℕ)) (errors : Told) (status : ℕ) : Type 0 where
+  pub record IsActedOn (OfOutput : Failure → Type 0) (it new : Registry S g) (r : Request) (out out_new : Option (List ℕ)) (errors : ErrorOutput) (status : ℕ) : Type 0 where
     pub ends : GivesReply it new r out out_new errors status ⊎ IsFailed OfOutput it new r out out_new errors status
     pub endures : Endures (state_of it) (state_of new)
 
-  -- there was no memory for the request, and nothing was done
-  abbrev pub IsNotMade : (Failure → Type 0) → Registry S g → Registry S g → Option (List ℕ) → Option (List ℕ) → Told → ℕ → Type 0
+  -- no request was made, after a failure, and nothing was done
+  abbrev pub IsNotMade : (Failure → Type 0) → Registry S g → Registry S g → Option (List ℕ) → Option (List ℕ) → ErrorOutput → ℕ → Type 0
   IsNotMade May it new out out_new errors status = (new ≡ it) × IsUnprinted May out out_new errors status
 
-  -- the request of this list is acted on; or it is told why the bytes are no list, and nothing is done
-  abbrev pub IsImportOf : (Failure → Type 0) → Registry S g → Registry S g → Import → Result (List TopEntry) ReadFault → Option (List ℕ) → Option (List ℕ) → Told → ℕ → Type 0
+  -- the request of this list is acted on; or the error output says why the bytes are not a list, and nothing is done
+  abbrev pub IsImportOf : (Failure → Type 0) → Registry S g → Registry S g → Import → Result (List TopEntry) ReadFault → Option (List ℕ) → Option (List ℕ) → ErrorOutput → ℕ → Type 0
   IsImportOf OfOutput it new import (Ok doc) out out_new errors status =
-      ((r : Request) × ((h : History) → Stands it h → r ≡ request_of import h.founding.vendor doc) × IsActedOn OfOutput it new r out out_new errors status)
+      ((r : Request) × ((h : History) → Represents it h → r ≡ request_of import h.founding.vendor doc) × IsActedOn OfOutput it new r out out_new errors status)
       ⊎ IsNotMade IsOfMemory it new out out_new errors status
   IsImportOf OfOutput it new import (Err fault) out out_new errors status = (new ≡ it) × Keeps out out_new × IsRefused fault errors status
 
-  -- what was read in these bytes is imported; or the input failed, or had more than an input may have, and nothing is done
-  abbrev pub IsImported : (Failure → Type 0) → (Failure → Type 0) → Registry S g → Registry S g → Import → List ℕ → Option (List ℕ) → Option (List ℕ) → Told → ℕ → Type 0
+  -- what was read in these bytes is imported; or the input failed or was too long, and nothing is done
+  abbrev pub IsImported : (Failure → Type 0) → (Failure → Type 0) → Registry S g → Registry S g → Import → List ℕ → Option (List ℕ) → Option (List ℕ) → ErrorOutput → ℕ → Type 0
   IsImported OfInput OfOutput it new import bytes out out_new errors status =
       ((read : Result (List TopEntry) ReadFault) × (length bytes ≤ 4294967295) × Answers bytes read × IsImportOf OfOutput it new import read out out_new errors status)
       ⊎ IsNotMade OfInput it new out out_new errors status

@@ -8,7 +8,7 @@ pub mod Reopened
 pub mod Trial
 pub mod Printed
 pub mod Shown
-pub mod Words
+pub mod Arguments
 pub mod LookUp
 pub mod Reports
 pub mod Imports

@@ -1,4 +1,4 @@
--- The lines of some bytes, and the requests that they are.
+-- The lines of an input, and their requests.
 use Rattle.std.specs.Prelude.{ℕ, ◌+◌, ◌==◌, ◌||◌, Bool, List, [], ◌∷◌, Result, Ok, Err, if◌then◌else◌}
 use Rattle.std.specs.List.{list_all}
 use Rattle.registry_rules.specs.declared.order.Request.{Request}
@@ -6,21 +6,21 @@ use Rattle.registry_wire.specs.declared.refusal.WireRefusal.{WireRefusal}
 use Rattle.registry_wire.specs.Reading.{line_reading}
 use Rattle.registry_commands.specs.declared.lines.BadLine.{BadLine}
 
--- one more byte at the front of the first line
+-- the lines with one more byte at the front of the first
 abbrev pub in_front : ℕ → List (List ℕ) → List (List ℕ)
 in_front b [] = (b ∷ []) ∷ []
 in_front b (line ∷ lines) = (b ∷ line) ∷ lines
 
--- The lines: each ends at its line feed, which isn't kept; a last piece without one is a line too.
+-- The lines: each ends at its line feed, which is not part of it; a last piece without a line feed is a line too.
 unfoldable pub lines_of : List ℕ → List (List ℕ)
 lines_of [] = []
 lines_of (b ∷ bytes) = if b == 10 then [] ∷ lines_of bytes else in_front b (lines_of bytes)
 
--- the line has spaces, tabs and carriage returns alone
+-- the line has only spaces, tabs and carriage returns
 unfoldable pub is_blank : List ℕ → Bool
 is_blank line = list_all (λ b. b == 32 || b == 9 || b == 13) line
 
--- the request of the line with this number, or that the line is none
+-- the request of the line with this number, or the line as a bad one
 abbrev pub numbered : ℕ → Result Request WireRefusal → Result Request BadLine
 numbered number (Ok request) = Ok request
 numbered number (Err refusal) = Err (record { number = number; refusal = refusal })
@@ -31,13 +31,13 @@ with_request (Err bad) rest = Err bad
 with_request (Ok request) (Err bad) = Err bad
 with_request (Ok request) (Ok rest) = Ok (request ∷ rest)
 
--- the requests of the lines that aren't blank, or the first line that is no request; the number is that of the first line
+-- the requests of the lines that are not blank, or the first line that is not a request; number is that of the first line
 unfoldable pub requests_from : ℕ → List (List ℕ) → Result (List Request) BadLine
 requests_from number [] = Ok []
 requests_from number (line ∷ lines) =
     if is_blank line then requests_from (number + 1) lines
     else with_request (numbered number (line_reading line)) (requests_from (number + 1) lines)
 
--- the requests of the bytes in order, or the first line that is no request
+-- the requests of the bytes in order, or the first line that is not a request
 abbrev pub requests_in : List ℕ → Result (List Request) BadLine
 requests_in bytes = requests_from 1 (lines_of bytes)

@@ -1,4 +1,4 @@
--- What the program writes.
+-- What the program prints.
 use Rattle.std.specs.Prelude.{List, [], ◌∷◌, ◌++◌, ℕ, codes}
 use Rattle.std.specs.Fmt.{decimal}
 use Rattle.serde_json.specs.Written.{compact_text}
@@ -11,9 +11,9 @@ use Rattle.registry_commands.specs.declared.input.InputFault.{InputFault}
 use Rattle.registry_commands.specs.declared.input.InputFault.TheVariants as inputs
 use Rattle.registry_commands.specs.declared.lines.BadLine.{BadLine}
 use Rattle.registry_commands.specs.declared.messages.Failure.{Failure}
-use Rattle.registry_commands.specs.declared.messages.Failure.TheVariants.{Store, Memory, Foreign, Taken, Spent, File}
+use Rattle.registry_commands.specs.declared.messages.Failure.TheVariants.{Store, Memory, Foreign, Taken, Poisoned, File}
 
--- a reply as a line of the output
+-- a reply as a line
 unfoldable pub reply_line : Reply → List ℕ
 reply_line reply = compact_text (reply_data reply) ++ codes "\n"
 
@@ -22,36 +22,41 @@ abbrev pub reply_lines : List Reply → List ℕ
 reply_lines [] = []
 reply_lines (reply ∷ replies) = reply_line reply ++ reply_lines replies
 
--- why bytes are no request or no founding, as a line
+-- a line that says why bytes are not a request, a founding file or a list
 unfoldable pub refusal_line : WireRefusal → List ℕ
 refusal_line refusal = compact_text (refusal_data refusal) ++ codes "\n"
 
--- the first line that is no request, and why
+-- the message for the first line that is not a request
 unfoldable pub bad_line_text : BadLine → List ℕ
 bad_line_text bad = codes "line " ++ decimal bad.number ++ codes ": " ++ refusal_line bad.refusal
 
--- more requests are said to be answered than there are
+-- the message if more requests are said to be answered than were read
 abbrev pub exceeds_text : List ℕ
 exceeds_text = codes "answered exceeds requests\n"
 
--- why a command fails
+-- the message for a failure of a command
 abbrev pub failure_line : Failure → List ℕ
 failure_line Store = codes "fault: store\n"
 failure_line Memory = codes "fault: memory\n"
 failure_line Foreign = codes "fault: foreign\n"
 failure_line Taken = codes "fault: taken\n"
-failure_line Spent = codes "fault: spent\n"
+failure_line Poisoned = codes "fault: spent\n"
 failure_line File = codes "fault: file\n"
 
--- the failure that a fault of the registry is
+-- the failure for a fault of the registry
 abbrev pub failure_of : Fault → Failure
 failure_of faults.Store = Store
 failure_of faults.NoMemory = Memory
 failure_of faults.Foreign = Foreign
 failure_of faults.Taken = Taken
-failure_of faults.Spent = Spent
+failure_of faults.Poisoned = Poisoned
 
--- the failure that an input's fault is
+-- the failure for a fault of an input
 abbrev pub input_failure : InputFault → Failure
 input_failure inputs.File = File
 input_failure inputs.NoMemory = Memory
+
+-- why an input cannot be read
+abbrev pub input_fault_text : InputFault → List ℕ
+input_fault_text inputs.File = codes "the input failed or is too long"
+input_fault_text inputs.NoMemory = codes "out of memory"

@@ -1,16 +1,16 @@
--- What a command writes that shows something and changes nothing.
+-- What a command writes if it only shows something.
 use Rattle.std.specs.Prelude.{◌≡◌, ◌⊎◌, ℕ, List, Option}
 use Rattle.std.specs.Io.KnownBytes.{Appends, Keeps}
-use Rattle.usbids_text.specs.Ends.{AppendsBeginning}
+use Rattle.byte_streams.specs.Streams.{AppendsPrefix}
 use Rattle.registry_commands.specs.declared.messages.Failure.{Failure}
-use Rattle.registry_commands.specs.Failures.{TellsFailure, TellsNothing, Told}
+use Rattle.registry_commands.specs.Failures.{PrintsFailure, PrintsNothing, ErrorOutput}
 
--- the text is out and the status is 0; or a beginning of it is out, the output failed, and the status is 1
-abbrev pub IsPrinted : (Failure → Type 0) → List ℕ → Option (List ℕ) → Option (List ℕ) → Told → ℕ → Type 0
+-- the text is written and the status is 0; or a prefix is written, the output failed, and the status is 1
+abbrev pub IsPrinted : (Failure → Type 0) → List ℕ → Option (List ℕ) → Option (List ℕ) → ErrorOutput → ℕ → Type 0
 IsPrinted OfOutput text out out_new errors status =
-    ((status ≡ 0) × Appends out out_new text × TellsNothing errors)
-    ⊎ ((status ≡ 1) × AppendsBeginning out out_new text × TellsFailure OfOutput errors)
+    ((status ≡ 0) × Appends out out_new text × PrintsNothing errors)
+    ⊎ ((status ≡ 1) × AppendsPrefix out out_new text × PrintsFailure OfOutput errors)
 
--- nothing is out and the status is 1, after a failure
-abbrev pub IsUnprinted : (Failure → Type 0) → Option (List ℕ) → Option (List ℕ) → Told → ℕ → Type 0
-IsUnprinted May out out_new errors status = (status ≡ 1) × Keeps out out_new × TellsFailure May errors
+-- nothing is written and the status is 1, after a failure
+abbrev pub IsUnprinted : (Failure → Type 0) → Option (List ℕ) → Option (List ℕ) → ErrorOutput → ℕ → Type 0
+IsUnprinted May out out_new errors status = (status ≡ 1) × Keeps out out_new × PrintsFailure May errors

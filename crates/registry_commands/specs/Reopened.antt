@@ -1,34 +1,35 @@
--- What the next opening of a store finds, after request lines were acted on over it.
+-- What the next opening of a store finds after request lines were acted on.
 use Rattle.std.specs.Prelude.{◌≡◌, ◌⊎◌, ◌<◌, ◌≤◌, ◌+◌, ℕ, List, length, take, Option, Result, Ok, Err}
 use Rattle.std.specs.Io.KnownBytes.{Appends, Keeps}
 use Rattle.sqlite.specs.Store.{Ghosts}
 use Rattle.sqlite.specs.State.{HasCleanDisk}
-use Rattle.usbids_text.specs.Ends.{AppendsBeginning}
+use Rattle.byte_streams.specs.Streams.{AppendsPrefix}
 use Rattle.registry_rules.specs.declared.order.Request.{Request}
 use Rattle.registry_rules.specs.History.{History}
 use Rattle.registry_rules.specs.Run.{Legal, after}
 use Rattle.registry_store.specs.declared.registry.Registry.{Registry}
-use Rattle.registry_store.specs.Promise.{Stands, state_of}
+use Rattle.registry_store.specs.Promise.{Represents, state_of}
 use Rattle.registry_store.specs.Run.{HasAnswered}
 use Rattle.registry_commands.specs.declared.lines.BadLine.{BadLine}
 use Rattle.registry_commands.specs.Apply.{lines_between}
 
 module _ {S : Type 0} {g : Ghosts S} where
-  -- Nothing was acted on and no reply was written: the registry that is opened stands where the first one stood.
+  -- Nothing was acted on and no reply was written: the opened registry represents the history that the first one did.
   abbrev pub IsReopenedAsBefore : Registry S g → Registry S g → Option (List ℕ) → Option (List ℕ) → Type 0
-  IsReopenedAsBefore first it out out_new = Keeps out out_new × ((h : History) → Stands first h → HasCleanDisk (state_of it) → ∥ Stands it h ∥₁)
+  IsReopenedAsBefore first it out out_new = Keeps out out_new × ((h : History) → Represents first h → HasCleanDisk (state_of it) → ∥ Represents it h ∥₁)
 
-  -- The reply lines of the requests up to the n-th are out; at status 0 that is all of them. The registry that is opened has acted
-  -- on these n requests, and on at most one more: on this one where anything of its line is out.
+  -- The reply lines of the requests up to the n-th are written; at status 0 these are all requests. The opened registry has
+  -- acted on these n requests, and on at most one more: on that one if anything of its line is written.
   pub record IsReopenedAt (it : Registry S g) (h : History) (rs : List Request) (a n : ℕ) (out out_new : Option (List ℕ)) (status : ℕ) : Type 0 where
     pub from : a ≤ n
     pub within : n ≤ length rs
     pub whole : status ≡ 0 → n ≡ length rs
-    pub gained : (middle : Option (List ℕ)) × Appends out middle (lines_between h rs a n) × AppendsBeginning middle out_new (lines_between h rs n (n + 1))
-        × (Keeps middle out_new ⊎ ∥ Stands it (after h (take (n + 1) rs)) ∥₁)
+    pub gained : (middle : Option (List ℕ)) × Appends out middle (lines_between h rs a n) × AppendsPrefix middle out_new (lines_between h rs n (n + 1))
+        × (Keeps middle out_new ⊎ ∥ Represents it (after h (take (n + 1) rs)) ∥₁)
     pub answered : ∥ HasAnswered it h rs n ∥₁
 
-  -- what is opened after the requests that were read were acted on over the first registry, of which so many are answered already, or after a line that is none
+  -- the registry that is opened after the first one acted on the requests that were read, of which the first a were answered
+  -- before; or that is opened after a line that is not a request
   abbrev pub IsReopened : Registry S g → Result (List Request) BadLine → ℕ → Option (List ℕ) → Option (List ℕ) → ℕ → Registry S g → Type 0
   IsReopened first (Err bad) a out out_new status it = IsReopenedAsBefore first it out out_new
   IsReopened first (Ok rs) a out out_new status it =

@@ -1,7 +1,7 @@
 -- What an output does with the replies of a run.
 use Rattle.std.specs.Prelude.{◌≡◌, ◌⊎◌, ℕ, List, Option, Some}
 use Rattle.std.specs.Io.KnownBytes.{Appends}
-use Rattle.usbids_text.specs.Ends.{AppendsBeginning}
+use Rattle.byte_streams.specs.Streams.{AppendsPrefix}
 use Rattle.registry_rules.specs.declared.verdict.Reply.{Reply}
 use Rattle.registry_commands.specs.declared.messages.Failure.{Failure}
 use Rattle.registry_commands.specs.declared.messages.Failure.TheVariants.{Memory, File}
@@ -10,16 +10,16 @@ use Rattle.registry_commands.specs.Failures.{IsOfOutput}
 use Rattle.registry_commands.specs.Messages.{reply_line}
 
 module _ {W : Type 0} (contents : W → Option (List ℕ)) (failures : W → ℕ) (old new : ReplyLines W) (reply : Reply) where
-  -- the reply line is out, and the output did not fail
+  -- the reply line is written, and the output did not fail
   pub record TakesLine : Type 0 where
     pub same_output : new.output.ghost_name ≡ old.output.ghost_name
     pub gained : Appends (contents old.output.now) (contents new.output.now) (reply_line reply)
     pub kept : failures new.output.now ≡ failures old.output.now
 
-  -- a beginning of the reply line is out, and the failure is noted
+  -- a prefix of the reply line is written, and the failure is noted
   pub record CutsLine : Type 0 where
     pub same_output : new.output.ghost_name ≡ old.output.ghost_name
-    pub gained : AppendsBeginning (contents old.output.now) (contents new.output.now) (reply_line reply)
+    pub gained : AppendsPrefix (contents old.output.now) (contents new.output.now) (reply_line reply)
     pub failure : Failure
     pub noted : new.failure ≡ Some failure
     pub kind : (failure ≡ Memory) ⊎ (failure ≡ File)

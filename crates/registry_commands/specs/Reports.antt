@@ -1,4 +1,4 @@
--- What a report says of a history.
+-- What a report shows of a history.
 use Rattle.std.specs.Prelude.{◌≡◌, ◌⊎◌, ℕ, List, map, codes, Option, Some, None, if◌then◌else◌}
 use Rattle.std.specs.List.{All}
 use Rattle.std.specs.Str.{bytes_eq}
@@ -20,26 +20,26 @@ use Rattle.registry_store.specs.declared.registry.Registry.{Registry}
 use Rattle.registry_commands.specs.declared.messages.Failure.{Failure}
 use Rattle.registry_commands.specs.declared.reporting.ReportKind.{ReportKind}
 use Rattle.registry_commands.specs.declared.reporting.ReportKind.TheVariants.{Census, Holders, Petitions}
-use Rattle.registry_commands.specs.Failures.{Told}
+use Rattle.registry_commands.specs.Failures.{ErrorOutput}
 use Rattle.registry_commands.specs.Printed.{IsPrinted, IsUnprinted}
 use Rattle.registry_commands.specs.Shown.{Gives, IsLeft, IsOfReading}
 
--- the report of a name
+-- the kind of report with this name
 unfoldable pub report_named : List ℕ → Option ReportKind
 report_named name =
     if bytes_eq name (codes "census") then Some Census
     else (if bytes_eq name (codes "holders") then Some Holders else (if bytes_eq name (codes "petitions") then Some Petitions else None))
 
--- a vendor with its reserved numbers
+-- the spans of the pair are the reserved numbers of its vendor
 abbrev pub HasReserved : History → ℕ × List Span → Type 0
 HasReserved h pair = (pid : ℕ) → spans_have pair.1 pid ≡ is_reserved h (number pair.0 pid)
 
--- each of these vendors with its reserved numbers
+-- the pairs are these vendors, in order, each with its reserved numbers
 pub record AreReserved (h : History) (vendors : List Vendor) (pairs : List (ℕ × List Span)) : Type 0 where
   pub same : map (λ pair. pair.0) pairs ≡ map (λ vendor. vendor.vid) vendors
   pub each : All (HasReserved h) pairs
 
--- the census of all vendors, by their reserved numbers and all numbers with an owner
+-- the text is the census of all vendors, their reserved numbers and all numbers with an owner
 pub record IsCensus (h : History) (text : List ℕ) : Type 0 where
   pub vendors : List Vendor
   pub all_vendors : IsVendorList h vendors
@@ -49,13 +49,13 @@ pub record IsCensus (h : History) (text : List ℕ) : Type 0 where
   pub all_numbers : IsNumberList h numbers
   pub lines : text ≡ census_lines numbers pairs
 
--- the holders of all numbers with an owner
+-- the text is the report on the holders of all numbers with an owner
 pub record IsHoldersReport (h : History) (text : List ℕ) : Type 0 where
   pub numbers : List (Number × Entry)
   pub all_numbers : IsNumberList h numbers
   pub holders : IsHolders numbers text
 
--- the open ones of all petitions
+-- the text is the report on the open petitions
 pub record IsPetitionsReport (h : History) (text : List ℕ) : Type 0 where
   pub petitions : List (ℕ × Petition)
   pub all_petitions : IsPetitionList h petitions
@@ -67,8 +67,8 @@ IsReport Holders h text = IsHoldersReport h text
 IsReport Petitions h text = IsPetitionsReport h text
 
 module _ {S : Type 0} {g : Ghosts S} where
-  -- the report of the history is written; or nothing is written, after a failure
-  pub record IsReported (OfOutput : Failure → Type 0) (it new : Registry S g) (name : ReportKind) (out out_new : Option (List ℕ)) (errors : Told) (status : ℕ) : Type 0 where
+  -- the report on the history is written, whole or in part; or nothing is written, after a failure
+  pub record IsReported (OfOutput : Failure → Type 0) (it new : Registry S g) (name : ReportKind) (out out_new : Option (List ℕ)) (errors : ErrorOutput) (status : ℕ) : Type 0 where
     pub left : IsLeft it new
     pub shown : ((text : List ℕ) × Gives it new (λ h. IsReport name h text) × IsPrinted OfOutput text out out_new errors status)
         ⊎ IsUnprinted (IsOfReading it new) out out_new errors status

@@ -2,7 +2,7 @@
 use Rattle.std.specs.Prelude.{◌≡◌, ◌⊎◌, ℕ, ◌&&◌, ◌+◌, ◌≤◌, length, nat_le, List, [], ◌∷◌, codes, Option, Result, Ok, Err}
 use Rattle.std.specs.Io.KnownBytes.{Appends, Keeps}
 use Rattle.usbnum_core.specs.Spans.{spans_have}
-use Rattle.usbids_text.specs.Ends.{AppendsBeginning}
+use Rattle.byte_streams.specs.Streams.{AppendsPrefix}
 use Rattle.registry_rules.specs.Texts.{AreInOrder}
 use Rattle.registry_rules.specs.declared.founding.Founding.{Founding}
 use Rattle.registry_rules.specs.declared.order.Request.{Request}
@@ -11,7 +11,7 @@ use Rattle.registry_rules.specs.Run.{answers}
 use Rattle.registry_commands.specs.declared.lines.BadLine.{BadLine}
 use Rattle.registry_commands.specs.declared.messages.Failure.{Failure}
 use Rattle.registry_commands.specs.declared.messages.Failure.TheVariants.{Store}
-use Rattle.registry_commands.specs.Failures.{IsOfSoundRun, Tells, TellsFailure, TellsNothing, Told}
+use Rattle.registry_commands.specs.Failures.{IsOfSoundRun, Prints, PrintsFailure, PrintsNothing, ErrorOutput}
 use Rattle.registry_commands.specs.Messages.{bad_line_text, reply_lines}
 use Rattle.registry_commands.specs.Apply.{lines_between}
 
@@ -23,17 +23,17 @@ pub record IsTrial (founding : Founding) : Type 0 where
   pub licences : AreInOrder (codes "MIT" ∷ codes "GPL-3.0-only" ∷ []) founding.licences
   pub fixed : (n : ℕ) → spans_have founding.fixed n ≡ (nat_le 1 n && nat_le n 16)
 
--- all requests were acted on after such a founding, and all reply lines are out
+-- all requests were acted on after such a founding, and all reply lines are written
 pub record IsTried (rs : List Request) (out out_new : Option (List ℕ)) : Type 0 where
   pub founding : Founding
   pub trial : IsTrial founding
   pub gained : Appends out out_new (reply_lines (answers (founded founding) rs))
 
--- a trial failed before any line was acted on: the store, in which the registry is founded, or the input
+-- a failure before any line was acted on: of the store, at the founding, or of the input
 abbrev pub IsOfStart : (Failure → Type 0) → Failure → Type 0
 IsOfStart OfInput failure = (failure ≡ Store) ⊎ OfInput failure
 
--- Some requests were acted on after such a founding. Their reply lines are out, and of the next one at most a beginning.
+-- The first n requests were acted on after such a founding. Their reply lines are written, and at most a prefix of the next.
 pub record IsTriedInPart (rs : List Request) (out out_new : Option (List ℕ)) : Type 0 where
   pub founding : Founding
   pub trial : IsTrial founding
@@ -41,13 +41,13 @@ pub record IsTriedInPart (rs : List Request) (out out_new : Option (List ℕ)) :
   pub within : n ≤ length rs
   pub middle : Option (List ℕ)
   pub whole : Appends out middle (lines_between (founded founding) rs 0 n)
-  pub cut : AppendsBeginning middle out_new (lines_between (founded founding) rs n (n + 1))
+  pub cut : AppendsPrefix middle out_new (lines_between (founded founding) rs n (n + 1))
 
--- What a trial writes, and its status. Its registry stands, so no failure is Foreign, Taken or Spent.
-abbrev pub IsTrialOf : (Failure → Type 0) → (Failure → Type 0) → Result (List Request) BadLine → Option (List ℕ) → Option (List ℕ) → Told → ℕ → Type 0
+-- What a trial writes, and its exit status. Its registry is sound, so no failure is Foreign, Taken or Poisoned.
+abbrev pub IsTrialOf : (Failure → Type 0) → (Failure → Type 0) → Result (List Request) BadLine → Option (List ℕ) → Option (List ℕ) → ErrorOutput → ℕ → Type 0
 IsTrialOf OfInput OfOutput (Err bad) out out_new errors status =
-    Keeps out out_new × (((status ≡ 2) × Tells errors (bad_line_text bad)) ⊎ ((status ≡ 1) × TellsFailure (IsOfStart OfInput) errors))
+    Keeps out out_new × (((status ≡ 2) × Prints errors (bad_line_text bad)) ⊎ ((status ≡ 1) × PrintsFailure (IsOfStart OfInput) errors))
 IsTrialOf OfInput OfOutput (Ok rs) out out_new errors status =
-    ((status ≡ 0) × IsTried rs out out_new × TellsNothing errors)
-    ⊎ ((status ≡ 1) × Keeps out out_new × TellsFailure (IsOfStart OfInput) errors)
-    ⊎ ((status ≡ 1) × IsTriedInPart rs out out_new × TellsFailure (λ failure. IsOfSoundRun failure × OfOutput failure) errors)
+    ((status ≡ 0) × IsTried rs out out_new × PrintsNothing errors)
+    ⊎ ((status ≡ 1) × Keeps out out_new × PrintsFailure (IsOfStart OfInput) errors)
+    ⊎ ((status ≡ 1) × IsTriedInPart rs out out_new × PrintsFailure (λ failure. IsOfSoundRun failure × OfOutput failure) errors)

@@ -1,28 +1,28 @@
-//! Request lines, acted on one after another over a registry.
+//! Acts on request lines over a registry, one after another.
 
 ghost use Rattle.std.specs.Prelude.{◌≡◌, ◌≤◌, ◌⊎◌, ℕ, List, length, IfErr, Ok, OnOk, OnErr};
 ghost use Rattle.sqlite.specs.State.{HasCleanDisk};
-ghost use Rattle.usbids_text.specs.Ends.{MayGive};
+ghost use Rattle.byte_streams.specs.Streams.{MayGive};
 ghost use Rattle.registry_rules.specs.History.{History};
 ghost use Rattle.registry_store.specs.Promise.{Endures, state_of};
 ghost use Rattle.registry_store.specs.Run.{HasAnswered};
 ghost use Rattle.registry_commands.specs.Lines.{requests_in};
 ghost use Rattle.registry_commands.specs.Messages.{bad_line_text};
 ghost use Rattle.registry_commands.specs.Apply.{IsApplied, IsOfRun, IsStoppedAt, IsThrough, IsUnread};
-ghost use Rattle.registry_commands.specs.Failures.{IsOfInput, IsOfMemory, IsOfOutput, IsTooLong, Tells, TellsFailure, told_to};
+ghost use Rattle.registry_commands.specs.Failures.{IsOfInput, IsOfMemory, IsOfOutput, IsTooLong, Prints, PrintsFailure, error_output};
 
 use crate::input::read_all;
 use crate::lines::{BadLine, requests_in};
 use crate::messages::{Failure, bad_line_text, fail, failure_of, input_failure, tell};
 use crate::replies::ReplyLines;
+use byte_streams::{Sink, Source};
 use registry_rules::Request;
 use registry_store::{Registry, RunStop};
 use sqlite::Alter;
 use std::alloc::Global;
-use usbids_text::{Sink, Source};
 
-/// Acts on the requests from the first unanswered one on. The reply to each is written before the
-/// next request is acted on.
+/// Acts on the requests from the first unanswered one on. Writes the reply to each before it acts
+/// on the next one.
 fn write_replies<S: Alter, W: Sink>(
     registry: &mut Registry<S>,
     requests: &[Request],
@@ -49,7 +49,7 @@ fn write_replies<S: Alter, W: Sink>(
     }
 }
 
-/// The same over an output.
+/// Does the same over an output.
 fn answer_from<S: Alter, W: Sink>(
     alloc: Global,
     registry: &mut Registry<S>,
@@ -74,10 +74,10 @@ fn answer_from<S: Alter, W: Sink>(
     write_replies(registry, requests, answered, &mut lines)
 }
 
-/// Tells which line is no request, and answers the status.
+/// Prints which line is not a request, and returns the exit status.
 fn reject_line<E: Sink>(alloc: Global, errors: &mut E, bad: BadLine) -> u8
-    ensures { ((result ≡ 2) × Tells (told_to E.contents E.failures errors.old errors.new) (bad_line_text bad))
-        ⊎ ((result ≡ 1) × TellsFailure IsOfMemory (told_to E.contents E.failures errors.old errors.new)) }
+    ensures { ((result ≡ 2) × Prints (error_output E.contents E.failures errors.old errors.new) (bad_line_text bad))
+        ⊎ ((result ≡ 1) × PrintsFailure IsOfMemory (error_output E.contents E.failures errors.old errors.new)) }
 {
     let Ok(text) = bad_line_text(alloc, bad) else {
         return fail(errors, Failure::Memory);
@@ -86,7 +86,7 @@ fn reject_line<E: Sink>(alloc: Global, errors: &mut E, bad: BadLine) -> u8
     2
 }
 
-/// Acts on requests that were read, but for the first ones, which are answered.
+/// Acts on the requests after the first `answered` ones.
 fn apply_requests<S: Alter, W: Sink, E: Sink>(
     alloc: Global,
     requests: &[Request],
@@ -96,7 +96,7 @@ fn apply_requests<S: Alter, W: Sink, E: Sink>(
     errors: &mut E,
 ) -> u8
     ensures { IsApplied IsOfMemory (IsOfOutput (W.failures output.old) (W.failures output.new)) registry.old registry.new (Ok requests.now) answered
-        (W.contents output.old) (W.contents output.new) (told_to E.contents E.failures errors.old errors.new) result }
+        (W.contents output.old) (W.contents output.new) (error_output E.contents E.failures errors.old errors.new) result }
 {
     if answered > requests.len() as u64 {
         tell(errors, "answered exceeds requests\n");
@@ -118,7 +118,7 @@ fn apply_bytes<S: Alter, W: Sink, E: Sink>(
     errors: &mut E,
 ) -> u8
     ensures { IsApplied IsOfMemory (IsOfOutput (W.failures output.old) (W.failures output.new)) registry.old registry.new (requests_in bytes.now) answered
-        (W.contents output.old) (W.contents output.new) (told_to E.contents E.failures errors.old errors.new) result }
+        (W.contents output.old) (W.contents output.new) (error_output E.contents E.failures errors.old errors.new) result }
 {
     match requests_in(alloc, bytes) {
         Ok(Ok(requests)) => apply_requests(
@@ -134,15 +134,16 @@ fn apply_bytes<S: Alter, W: Sink, E: Sink>(
     }
 }
 
-/// Acts on the requests of all lines of a source, but for the first ones, of which it is said how many
-/// are answered. All lines are read before the first request is acted on, and each reply line is
-/// written before the next request is acted on.
+/// Acts on the requests of all lines of a source, except for the first `answered` ones, which were
+/// answered before. Reads all lines before it acts on the first request, and writes each reply line
+/// before it acts on the next request.
 ///
 /// The status is 0 where all requests were acted on, refused ones too, and all reply lines are
-/// written. It is 2 where a line is no request or fewer requests are there than are answered: then
-/// nothing is acted on, and the errors say why. It is 1 after a failure, which the errors name: of the
-/// source, the registry, the output, or memory. An input of more than 4,294,967,295 bytes is such a
-/// failure, and nothing is acted on. Where the errors fail nothing else changes.
+/// written. It is 2 where a line is not a request, or `answered` exceeds the number of requests:
+/// then nothing is acted on, and the error output says why. It is 1 after a failure of the source,
+/// the registry, the output, or memory, which the error output names. An input of more than
+/// 4,294,967,295 bytes is such a failure, and nothing is acted on. A failure of the error output
+/// changes nothing else.
 pub fn apply_lines<R: Source, S: Alter, W: Sink, E: Sink>(
     alloc: Global,
     source: &mut R,
@@ -153,8 +154,8 @@ pub fn apply_lines<R: Source, S: Alter, W: Sink, E: Sink>(
 ) -> u8
     ensures { (bytes : List ℕ) × MayGive (R.remaining source.old) bytes
         × IsApplied (IsOfInput (R.failures source.old) (R.failures source.new) bytes) (IsOfOutput (W.failures output.old) (W.failures output.new))
-        registry.old registry.new (requests_in bytes) answered (W.contents output.old) (W.contents output.new) (told_to E.contents E.failures errors.old errors.new) result
-        × (IsTooLong bytes → (result ≡ 1) × IsUnread (IsOfInput (R.failures source.old) (R.failures source.new) bytes) registry.old registry.new (W.contents output.old) (W.contents output.new) (told_to E.contents E.failures errors.old errors.new)) }
+        registry.old registry.new (requests_in bytes) answered (W.contents output.old) (W.contents output.new) (error_output E.contents E.failures errors.old errors.new) result
+        × (IsTooLong bytes → (result ≡ 1) × IsUnread (IsOfInput (R.failures source.old) (R.failures source.new) bytes) registry.old registry.new (W.contents output.old) (W.contents output.new) (error_output E.contents E.failures errors.old errors.new)) }
 {
     match read_all(alloc, source) {
         Ok(bytes) => apply_bytes(alloc, bytes.as_slice(), answered, registry, output, errors),

@@ -1,25 +1,25 @@
-//! A registry that is founded on a connection, by a founding file.
+//! Founds a registry on a connection, by a founding file.
 
 ghost use Rattle.std.specs.Prelude.{◌≡◌, ◌⊎◌, ℕ, List};
-ghost use Rattle.usbids_text.specs.Ends.{MayGive};
+ghost use Rattle.byte_streams.specs.Streams.{MayGive};
 ghost use Rattle.registry_wire.specs.Founding.{founding_listed};
-ghost use Rattle.registry_commands.specs.Failures.{IsOfInput, IsOfMemory, IsTooLong, Tells, TellsFailure, told_to};
+ghost use Rattle.registry_commands.specs.Failures.{IsOfInput, IsOfMemory, IsTooLong, Prints, PrintsFailure, error_output};
 ghost use Rattle.registry_commands.specs.Messages.{refusal_line};
 ghost use Rattle.registry_commands.specs.Found.{IsFoundBy, IsTriedOn};
 
 use crate::input::read_all;
 use crate::messages::{Failure, fail, failure_of, input_failure, refusal_line, tell};
+use byte_streams::{Sink, Source};
 use registry_rules::Founding;
 use registry_store::Registry;
 use registry_wire::{WireRefusal, founding_from_toml};
 use sqlite::{Alter, Connection};
 use std::alloc::Global;
-use usbids_text::{Sink, Source};
 
-/// Tells why bytes are no founding file or no list, and answers the status.
+/// Prints why bytes are not a founding file or not a list, and returns the exit status.
 pub(crate) fn reject<E: Sink>(alloc: Global, errors: &mut E, refusal: WireRefusal) -> u8
-    ensures { ((result ≡ 2) × Tells (told_to E.contents E.failures errors.old errors.new) (refusal_line refusal))
-        ⊎ ((result ≡ 1) × TellsFailure IsOfMemory (told_to E.contents E.failures errors.old errors.new)) }
+    ensures { ((result ≡ 2) × Prints (error_output E.contents E.failures errors.old errors.new) (refusal_line refusal))
+        ⊎ ((result ≡ 1) × PrintsFailure IsOfMemory (error_output E.contents E.failures errors.old errors.new)) }
 {
     let Ok(text) = refusal_line(alloc, refusal) else {
         return fail(errors, Failure::Memory);
@@ -28,14 +28,14 @@ pub(crate) fn reject<E: Sink>(alloc: Global, errors: &mut E, refusal: WireRefusa
     2
 }
 
-/// Founds a registry, and hands back the connection with the status.
+/// Founds a registry, and returns the exit status and the connection.
 fn found_with<S: Alter, E: Sink>(
     alloc: Global,
     conn: Connection<S>,
     founding: &Founding,
     errors: &mut E,
 ) -> (u8, Connection<S>)
-    ensures { IsTriedOn S.Store conn result.1 founding.now (told_to E.contents E.failures errors.old errors.new) result.0 }
+    ensures { IsTriedOn S.Store conn result.1 founding.now (error_output E.contents E.failures errors.old errors.new) result.0 }
 {
     match Registry::found(alloc, conn, founding) {
         Ok(registry) => (0, registry.close()),
@@ -43,14 +43,14 @@ fn found_with<S: Alter, E: Sink>(
     }
 }
 
-/// The same by the bytes of a founding file.
+/// Does the same by the bytes of a founding file.
 fn found_by<S: Alter, E: Sink>(
     alloc: Global,
     conn: Connection<S>,
     bytes: &[u8],
     errors: &mut E,
 ) -> (u8, Connection<S>)
-    ensures { IsFoundBy S.Store IsOfMemory conn result.1 (founding_listed bytes.now) (told_to E.contents E.failures errors.old errors.new) result.0 }
+    ensures { IsFoundBy S.Store IsOfMemory conn result.1 (founding_listed bytes.now) (error_output E.contents E.failures errors.old errors.new) result.0 }
 {
     match founding_from_toml(alloc, bytes) {
         Ok(Ok(founding)) => found_with(alloc, conn, &founding, errors),
@@ -59,13 +59,13 @@ fn found_by<S: Alter, E: Sink>(
     }
 }
 
-/// Founds a registry on a connection, by the founding file that a source gives, and hands back the
-/// connection with the status.
+/// Founds a registry on a connection, by the founding file that a source gives, and returns the
+/// exit status and the connection.
 ///
-/// The status is 0 where the registry is founded. It is 2 where the source gives no founding file:
-/// then nothing is changed, and the errors say why. It is 1 after a failure, which the errors name;
-/// one is that the store holds a registry already, which is never replaced, and one that the source
-/// gives more than 4,294,967,295 bytes: then nothing is changed.
+/// The status is 0 where the registry is founded. It is 2 where the input is not a founding file:
+/// then nothing is changed, and the error output says why. It is 1 after a failure, which the error
+/// output names. A store that already holds a registry is such a failure (a registry is never
+/// replaced), and so is an input of more than 4,294,967,295 bytes: both change nothing.
 pub fn found_registry<R: Source, S: Alter, E: Sink>(
     alloc: Global,
     conn: Connection<S>,
@@ -74,8 +74,8 @@ pub fn found_registry<R: Source, S: Alter, E: Sink>(
 ) -> (u8, Connection<S>)
     ensures { (bytes : List ℕ) × MayGive (R.remaining source.old) bytes
         × IsFoundBy S.Store (IsOfInput (R.failures source.old) (R.failures source.new) bytes)
-        conn result.1 (founding_listed bytes) (told_to E.contents E.failures errors.old errors.new) result.0
-        × (IsTooLong bytes → (result.0 ≡ 1) × (result.1 ≡ conn) × TellsFailure (IsOfInput (R.failures source.old) (R.failures source.new) bytes) (told_to E.contents E.failures errors.old errors.new)) }
+        conn result.1 (founding_listed bytes) (error_output E.contents E.failures errors.old errors.new) result.0
+        × (IsTooLong bytes → (result.0 ≡ 1) × (result.1 ≡ conn) × PrintsFailure (IsOfInput (R.failures source.old) (R.failures source.new) bytes) (error_output E.contents E.failures errors.old errors.new)) }
 {
     match read_all(alloc, source) {
         Ok(bytes) => found_by(alloc, conn, bytes.as_slice(), errors),

@@ -1,60 +1,61 @@
-//! A list that is imported.
+//! Imports a list.
 
 ghost use Rattle.std.specs.Prelude.{◌≡◌, ◌⊎◌, ℕ, List, IfOk, MatchResult, Ok, option_copied};
-ghost use Rattle.usbids_text.specs.Ends.{MayGive};
-ghost use Rattle.registry_commands.specs.Failures.{IsOfInput, IsOfOutput, told_to};
+ghost use Rattle.byte_streams.specs.Streams.{MayGive};
+ghost use Rattle.registry_commands.specs.Failures.{IsOfInput, IsOfOutput, error_output};
 ghost use Rattle.registry_commands.specs.Imports.{AreOfImport, IsActedOn, IsFirstBad, IsImportOf, IsImported, IsReplied, status_of};
 
+use crate::arguments::BadArgument;
 use crate::list_input::read_list;
 use crate::looking::put_fault;
 use crate::messages::{Failure, fail, failure_of, put_reply};
-use crate::words::BadWord;
+use byte_streams::{Broken, Sink, Source};
 use registry_rules::{Reply, Request};
 use registry_store::Registry;
 use registry_wire::import_request;
 use sqlite::Alter;
 use std::alloc::Global;
-use usbids_text::{Broken, Document, ReadFault, Sink, Source};
+use usbids_text::{Document, ReadFault};
 use usbnum_core::{Key, NoMemory, Slug, Vid, parse_vid};
 
-/// What an import asks for, but for its list.
+/// What an import asks for, apart from its list.
 #[derive(Debug, Drop)]
 pub struct Import {
-    /// Who asks.
+    /// The caller.
     pub caller: Slug,
     /// The key of the request.
     pub key: Key,
     /// The organisation that gets the numbers.
     pub org: Slug,
-    /// The vendor, where one is named.
+    /// The vendor, if one is named.
     pub vendor: Option<Vid>,
 }
 
-/// The import that the arguments are of, or the first of them that is none of its kind, in the order caller, key,
-/// organisation, vendor.
+/// Returns the import that the arguments ask for, or the first invalid one, in the order caller,
+/// key, organisation, vendor.
 pub fn import_of_arguments(
     alloc: Global,
     caller: &str,
     key: &str,
     org: &str,
     vendor: Option<&str>,
-) -> Result<Result<Import, BadWord>, NoMemory>
+) -> Result<Result<Import, BadArgument>, NoMemory>
     ensures { IfOk result (λ read. MatchResult read (AreOfImport caller.now key.now org.now (option_copied vendor.entry)) (IsFirstBad caller.now key.now org.now (option_copied vendor.entry))) }
 {
     let Some(caller) = Slug::new(alloc, caller.as_bytes())? else {
-        return Ok(Err(BadWord::Caller));
+        return Ok(Err(BadArgument::Caller));
     };
     let Some(key) = Key::new(alloc, key.as_bytes())? else {
-        return Ok(Err(BadWord::Key));
+        return Ok(Err(BadArgument::Key));
     };
     let Some(org) = Slug::new(alloc, org.as_bytes())? else {
-        return Ok(Err(BadWord::Org));
+        return Ok(Err(BadArgument::Org));
     };
     let vendor = match vendor {
         None => None,
         Some(text) => match parse_vid(text.as_bytes()) {
             Some(vid) => Some(vid),
-            None => return Ok(Err(BadWord::Vendor)),
+            None => return Ok(Err(BadArgument::Vendor)),
         },
     };
     Ok(Ok(Import {
@@ -65,7 +66,7 @@ pub fn import_of_arguments(
     }))
 }
 
-/// The status that a reply ends with: 0, or 2 where it is a refusal.
+/// Returns the exit status for a reply: 2 for a refusal, else 0.
 fn status_of(reply: &Reply) -> u8
     ensures { result ≡ status_of reply.now }
 {
@@ -75,10 +76,10 @@ fn status_of(reply: &Reply) -> u8
     }
 }
 
-/// Writes a reply as a line, and returns the status.
+/// Writes a reply as a line, and returns the exit status.
 fn put_status<W: Sink, E: Sink>(alloc: Global, reply: &Reply, output: &mut W, errors: &mut E) -> u8
     ensures { IsReplied (λ failure. ((failure ≡ Failure.Memory) ⊎ (failure ≡ Failure.File)) × IsOfOutput (W.failures output.old) (W.failures output.new) failure) reply.now
-        (W.contents output.old) (W.contents output.new) (told_to E.contents E.failures errors.old errors.new) result }
+        (W.contents output.old) (W.contents output.new) (error_output E.contents E.failures errors.old errors.new) result }
 {
     match put_reply(alloc, output, reply) {
         Ok(()) => status_of(reply),
@@ -86,7 +87,7 @@ fn put_status<W: Sink, E: Sink>(alloc: Global, reply: &Reply, output: &mut W, er
     }
 }
 
-/// Acts on one request, writes its reply as a line, and returns the status.
+/// Acts on one request, writes its reply as a line, and returns the exit status.
 fn act_on<S: Alter, W: Sink, E: Sink>(
     alloc: Global,
     request: &Request,
@@ -95,7 +96,7 @@ fn act_on<S: Alter, W: Sink, E: Sink>(
     errors: &mut E,
 ) -> u8
     ensures { IsActedOn (IsOfOutput (W.failures output.old) (W.failures output.new)) registry.old registry.new request.now
-        (W.contents output.old) (W.contents output.new) (told_to E.contents E.failures errors.old errors.new) result }
+        (W.contents output.old) (W.contents output.new) (error_output E.contents E.failures errors.old errors.new) result }
 {
     match registry.act(request) {
         Ok(reply) => put_status(alloc, &reply, output, errors),
@@ -103,7 +104,7 @@ fn act_on<S: Alter, W: Sink, E: Sink>(
     }
 }
 
-/// Imports a list that was read.
+/// Imports the document of a list.
 fn import_document<S: Alter, W: Sink, E: Sink>(
     alloc: Global,
     import: Import,
@@ -113,7 +114,7 @@ fn import_document<S: Alter, W: Sink, E: Sink>(
     errors: &mut E,
 ) -> u8
     ensures { IsImportOf (IsOfOutput (W.failures output.old) (W.failures output.new)) registry.old registry.new import (Ok list.now)
-        (W.contents output.old) (W.contents output.new) (told_to E.contents E.failures errors.old errors.new) result }
+        (W.contents output.old) (W.contents output.new) (error_output E.contents E.failures errors.old errors.new) result }
 {
     let Import {
         caller,
@@ -128,7 +129,7 @@ fn import_document<S: Alter, W: Sink, E: Sink>(
     }
 }
 
-/// Imports what was read, or tells why it is no list.
+/// Imports what was read, or prints why it is not a list.
 fn import_read<S: Alter, W: Sink, E: Sink>(
     alloc: Global,
     import: Import,
@@ -138,7 +139,7 @@ fn import_read<S: Alter, W: Sink, E: Sink>(
     errors: &mut E,
 ) -> u8
     ensures { IsImportOf (IsOfOutput (W.failures output.old) (W.failures output.new)) registry.old registry.new import read
-        (W.contents output.old) (W.contents output.new) (told_to E.contents E.failures errors.old errors.new) result }
+        (W.contents output.old) (W.contents output.new) (error_output E.contents E.failures errors.old errors.new) result }
 {
     match read {
         Ok(list) => import_document(alloc, import, &list, registry, output, errors),
@@ -146,14 +147,15 @@ fn import_read<S: Alter, W: Sink, E: Sink>(
     }
 }
 
-/// Reads a list, in pieces, and imports for an organisation what it has of a vendor: of the named one, else of the
-/// founding one. It is one request, and its reply is written as a line.
+/// Reads a list in pieces, and imports the numbers of one vendor for an organisation: of the named
+/// vendor, else of the founding vendor. Acts on one request, and writes its reply as a line.
 ///
-/// The status is 0 where the import is done, or was done under this key before. It is 2 where the request is refused,
-/// which its reply says, and where the source gives no list: then nothing is acted on, and the errors say why. It is 1
-/// after a failure, which the errors name: of the source, the registry, the output, or memory. An input of more than
-/// 4,294,967,295 bytes is such a failure, and nothing is acted on. After a failure of the registry a crash leaves the
-/// history before the request or after it, and the same request has the same reply.
+/// The status is 0 where the import is done now, or was done under this key before. It is 2 where
+/// the request is refused, which its reply says, and where the input is not a list: then nothing is
+/// acted on, and the error output says why. It is 1 after a failure of the source, the registry,
+/// the output, or memory, which the error output names. An input of more than 4,294,967,295 bytes
+/// is such a failure, and nothing is acted on. After a failure of the registry a crash leaves the
+/// history before the request or after it, and the same request gets the same reply.
 pub fn import_list<R: Source, S: Alter, W: Sink, E: Sink>(
     alloc: Global,
     source: &mut R,
@@ -164,7 +166,7 @@ pub fn import_list<R: Source, S: Alter, W: Sink, E: Sink>(
 ) -> u8
     ensures { (bytes : List ℕ) × MayGive (R.remaining source.old) bytes
         × IsImported (IsOfInput (R.failures source.old) (R.failures source.new) bytes) (IsOfOutput (W.failures output.old) (W.failures output.new))
-        registry.old registry.new import bytes (W.contents output.old) (W.contents output.new) (told_to E.contents E.failures errors.old errors.new) result }
+        registry.old registry.new import bytes (W.contents output.old) (W.contents output.new) (error_output E.contents E.failures errors.old errors.new) result }
 {
     match read_list(alloc, source) {
         Ok(read) => import_read(alloc, import, read, registry, output, errors),

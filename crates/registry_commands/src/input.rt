@@ -1,28 +1,43 @@
-//! All that comes from a source.
+//! Reads a whole input.
 
-ghost use Rattle.std.specs.Prelude.{Err, ◌≡◌, ◌≤◌, ◌++◌, ℕ, List, length, IfOk, IfErr, OnOk};
+ghost use Rattle.std.specs.Prelude.{Err, Some, ◌≡◌, ◌≤◌, ◌++◌, ℕ, List, length, IfOk, IfErr, OnOk};
 ghost use Rattle.std.specs.Io.KnownBytes.{Consumes, IsAtEnd};
-ghost use Rattle.usbids_text.specs.Ends.{HasFailed, MayGive};
+ghost use Rattle.byte_streams.specs.Streams.{HasFailed, MayGive};
 ghost use Rattle.registry_commands.specs.Failures.{IsOfInput};
-ghost use Rattle.registry_commands.specs.Messages.{input_failure};
+ghost use Rattle.registry_commands.specs.Messages.{input_failure, input_fault_text};
 
+use byte_streams::{Broken, Source};
 use std::alloc::Global;
-use usbids_text::{Broken, Source};
+use std::error::Error;
+use std::fmt;
 
-/// How many bytes an input may have.
+/// The greatest number of bytes that an input may have.
 const MOST: usize = 4_294_967_295;
 
 /// Why an input could not be read.
 #[derive(Clone, Copy, Debug, PartialEq, Eq)]
 pub enum InputFault {
-    /// It failed, or it has more than 4,294,967,295 bytes.
+    /// The source failed, or gives more than 4,294,967,295 bytes.
     File,
-    /// There is no memory for it.
+    /// Out of memory.
     NoMemory,
 }
 
-/// The next bytes of the source behind those that came before, and how many they are: none at the
-/// end alone.
+/// The fault in a few words.
+impl fmt::Display for InputFault {
+    ghost output = { λ fault. Some (input_fault_text fault) };
+
+    fn fmt<W: fmt::Write>(&self, f: &mut fmt::Formatter<W>) -> fmt::Result {
+        f.write_str(match self {
+            InputFault::File => "the input failed or is too long",
+            InputFault::NoMemory => "out of memory",
+        })
+    }
+}
+
+impl Error for InputFault {}
+
+/// Appends the next bytes of the source, and returns their number, which is 0 only at the end.
 fn take_more<R: Source>(source: &mut R, bytes: &mut Vec<u8>) -> Result<usize, InputFault>
     ensures ok { IfOk result (λ n. (more : List ℕ) × (bytes.new.items ≡ bytes.old.items ++ more) × (length more ≡ n)
         × Consumes (R.remaining source.old) (R.remaining source.new) more × (n ≡ 0 → IsAtEnd (R.remaining source.new))
@@ -40,8 +55,8 @@ fn take_more<R: Source>(source: &mut R, bytes: &mut Vec<u8>) -> Result<usize, In
     }
 }
 
-/// All bytes of the source, at most 4,294,967,295. `File` comes only where the source failed during
-/// this call or has more than that, and `NoMemory` only where it did not fail.
+/// Reads all bytes of the source, at most 4,294,967,295. Returns `File` only where the source
+/// failed during this call or gives more bytes, and `NoMemory` only where it did not fail.
 pub fn read_all<R: Source>(alloc: Global, source: &mut R) -> Result<Vec<u8>, InputFault>
     ensures ok { IfOk result (λ v. MayGive (R.remaining source.old) v.items × (length v.items ≤ 4294967295)) }
     ensures kept { OnOk result (R.failures source.new ≡ R.failures source.old) }

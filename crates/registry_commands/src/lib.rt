@@ -1,8 +1,9 @@
-//! The commands of `usbreg`, over any store and any ends: request lines are read and acted on, replies
-//! and failures are written, and the status is answered.
+//! The commands of `usbreg`, over any store and any streams. Each writes to an output and an error
+//! output, and returns the exit status.
 #![tactic(auto)]
 
 mod apply;
+mod arguments;
 mod closing;
 mod exporting;
 mod found;
@@ -18,9 +19,9 @@ mod reopening;
 mod replies;
 mod reporting;
 mod trials;
-mod words;
 
 pub use apply::apply_lines;
+pub use arguments::{BadArgument, reject_argument};
 pub use closing::close_store;
 pub use exporting::{document_of, export};
 pub use found::found_registry;
@@ -32,4 +33,3 @@ pub use messages::{Failure, fail, failure_of, store_failure};
 pub use reopening::{apply_and_crash, apply_and_open};
 pub use reporting::{ReportKind, report, report_named, report_of};
 pub use trials::{trial, trial_founding};
-pub use words::{BadWord, reject_word};

@@ -1,4 +1,4 @@
-//! The lines of some bytes, and the requests that they are.
+//! Splits bytes into lines, and reads each line as a request.
 
 ghost use Rattle.std.specs.Prelude.{◌≡◌, ◌==◌, ◌<◌, ◌∷◌, length, position, IfOk, MatchResult, Ok, Err};
 ghost use Rattle.registry_commands.specs.Lines.{is_blank, lines_of, requests_in};
@@ -8,21 +8,23 @@ use registry_wire::{WireRefusal, line_request};
 use std::alloc::Global;
 use usbnum_core::NoMemory;
 
-/// A line that is no request, by its number from 1 over all lines, the blank ones too.
+/// A line that is not a request.
 #[derive(Clone, Copy, Debug, PartialEq, Eq)]
 pub struct BadLine {
+    /// The number of the line, from 1. Blank lines count too.
     pub number: u64,
+    /// Why it is refused.
     pub refusal: WireRefusal,
 }
 
-/// Where the first line ends at a line feed.
+/// Returns the index of the first line feed.
 fn line_feed(bytes: &[u8]) -> Option<usize>
     ensures { result ≡ position (λ b. b == 10) bytes.now }
 {
     bytes.iter().position(|b| *b == b'\n')
 }
 
-/// The first line, and what follows its line feed.
+/// Returns the first line, and the bytes after its line feed.
 fn first_line(bytes: &[u8]) -> (&[u8], &[u8])
     requires { 0 < length bytes.now }
     ensures lines { lines_of bytes.now ≡ result.0.now ∷ lines_of result.1.now }
@@ -34,7 +36,7 @@ fn first_line(bytes: &[u8]) -> (&[u8], &[u8])
     }
 }
 
-/// Whether the line has spaces, tabs and carriage returns alone.
+/// Returns whether the line has only spaces, tabs and carriage returns.
 #[tactic(auto, unfolding(crate::specs::Lines::is_blank))]
 fn is_blank(line: &[u8]) -> bool
     ensures { result ≡ is_blank line.now }
@@ -43,7 +45,8 @@ fn is_blank(line: &[u8]) -> bool
         .all(|b| *b == b' ' || *b == b'\t' || *b == b'\r')
 }
 
-/// The requests of the lines that aren't blank, in order, or the first line that is no request.
+/// Returns the requests of the lines that are not blank, in order, or the first line that is not a
+/// request.
 pub fn requests_in(alloc: Global, bytes: &[u8]) -> Result<Result<Vec<Request>, BadLine>, NoMemory>
     ensures { IfOk result (λ read. MatchResult read (λ v. requests_in bytes.now ≡ Ok v.items) (λ bad. requests_in bytes.now ≡ Err bad)) }
 {

@@ -1,14 +1,15 @@
-//! A list that is read in pieces.
+//! Reads a list in pieces.
 
 ghost use Rattle.std.specs.Prelude.{◌≡◌, ◌⊎◌, ◌<◌, ◌≤◌, ℕ, List, length, IfOk, OnOk, OnErr};
-ghost use Rattle.usbids_text.specs.Ends.{HasFailed, MayGive};
+ghost use Rattle.byte_streams.specs.Streams.{HasFailed, MayGive};
 ghost use Rattle.usbids_text.specs.Reading.{Answers};
 
+use byte_streams::{Broken, Source};
 use std::alloc::Global;
-use usbids_text::{Broken, Document, ReadFault, Reader, Source, feed_all};
+use usbids_text::{Document, ReadFault, Reader, feed_all};
 
-/// The document that all bytes of the source spell, or why they spell none. They are read in pieces, and are at most
-/// 4,294,967,295. `Broken` comes only where the source failed or has more.
+/// Reads a list of at most 4,294,967,295 bytes in pieces, and returns its document, or the fault in
+/// it. Returns `Broken` only where the source failed or gives more bytes.
 pub(crate) fn read_list<R: Source>(
     alloc: Global,
     source: &mut R,

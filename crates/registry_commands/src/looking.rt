@@ -1,16 +1,17 @@
-//! A device that is looked up in a list.
+//! Looks a device up in a list.
 
 ghost use Rattle.std.specs.Prelude.{◌≡◌, ◌++◌, ◌∷◌, [], ℕ, List, IfOk};
-ghost use Rattle.usbids_text.specs.Ends.{MayGive};
-ghost use Rattle.registry_commands.specs.Failures.{IsOfInput, IsOfOutput, told_to};
+ghost use Rattle.byte_streams.specs.Streams.{MayGive};
+ghost use Rattle.registry_commands.specs.Failures.{IsOfInput, IsOfOutput, error_output};
 ghost use Rattle.registry_commands.specs.LookUp.{IsAnswered, IsLookedUp, IsMatched, IsNamed, IsRefused};
 
 use crate::found::reject;
 use crate::messages::{Failure, fail, tell};
 use crate::printing::print;
+use byte_streams::{Broken, Sink, Source};
 use registry_wire::WireRefusal;
 use std::alloc::Global;
-use usbids_text::{Broken, Name, ReadFault, Scan, Sink, Source, feed_all};
+use usbids_text::{Name, ReadFault, Scan, feed_all};
 use usbnum_core::{NoMemory, Vid};
 
 fn name_line(alloc: Global, name: &Name) -> Result<Vec<u8>, NoMemory>
@@ -21,10 +22,10 @@ fn name_line(alloc: Global, name: &Name) -> Result<Vec<u8>, NoMemory>
     Ok(line)
 }
 
-/// Writes the name as a line, and answers the status.
+/// Writes the name as a line, and returns the exit status.
 fn put_name<W: Sink, E: Sink>(alloc: Global, name: &Name, output: &mut W, errors: &mut E) -> u8
     ensures { IsNamed (IsOfOutput (W.failures output.old) (W.failures output.new)) name.now
-        (W.contents output.old) (W.contents output.new) (told_to E.contents E.failures errors.old errors.new) result }
+        (W.contents output.old) (W.contents output.new) (error_output E.contents E.failures errors.old errors.new) result }
 {
     match name_line(alloc, name) {
         Ok(line) => print(output, errors, line.as_slice()),
@@ -32,9 +33,9 @@ fn put_name<W: Sink, E: Sink>(alloc: Global, name: &Name, output: &mut W, errors
     }
 }
 
-/// Tells why the bytes are no list, and returns the status.
+/// Prints why the bytes are not a list, and returns the exit status.
 pub(crate) fn put_fault<E: Sink>(alloc: Global, fault: ReadFault, errors: &mut E) -> u8
-    ensures { IsRefused fault (told_to E.contents E.failures errors.old errors.new) result }
+    ensures { IsRefused fault (error_output E.contents E.failures errors.old errors.new) result }
 {
     match fault {
         ReadFault::Line(fault) => reject(alloc, errors, WireRefusal::BadList(fault)),
@@ -42,7 +43,7 @@ pub(crate) fn put_fault<E: Sink>(alloc: Global, fault: ReadFault, errors: &mut E
     }
 }
 
-/// Writes the name that was found, or that none was, and answers the status.
+/// Writes the name that was found, or prints `not found`, and returns the exit status.
 fn put_found<W: Sink, E: Sink>(
     alloc: Global,
     found: Option<Name>,
@@ -50,7 +51,7 @@ fn put_found<W: Sink, E: Sink>(
     errors: &mut E,
 ) -> u8
     ensures { IsMatched (IsOfOutput (W.failures output.old) (W.failures output.new)) found
-        (W.contents output.old) (W.contents output.new) (told_to E.contents E.failures errors.old errors.new) result }
+        (W.contents output.old) (W.contents output.new) (error_output E.contents E.failures errors.old errors.new) result }
 {
     match found {
         Some(name) => put_name(alloc, &name, output, errors),
@@ -61,7 +62,7 @@ fn put_found<W: Sink, E: Sink>(
     }
 }
 
-/// Writes what was found, or why nothing was, and answers the status.
+/// Writes what was found, or prints why the bytes are not a list, and returns the exit status.
 fn put_answer<W: Sink, E: Sink>(
     alloc: Global,
     found: Result<Option<Name>, ReadFault>,
@@ -69,7 +70,7 @@ fn put_answer<W: Sink, E: Sink>(
     errors: &mut E,
 ) -> u8
     ensures { IsAnswered (IsOfOutput (W.failures output.old) (W.failures output.new)) found
-        (W.contents output.old) (W.contents output.new) (told_to E.contents E.failures errors.old errors.new) result }
+        (W.contents output.old) (W.contents output.new) (error_output E.contents E.failures errors.old errors.new) result }
 {
     match found {
         Ok(found) => put_found(alloc, found, output, errors),
@@ -77,12 +78,13 @@ fn put_answer<W: Sink, E: Sink>(
     }
 }
 
-/// Writes the name of the first device with this code, in the order of the list, under a vendor of this number, as a
-/// line. The list is read once, in pieces, and no document is made of it.
+/// Writes the name of the first device with this code, in the order of the list, under a vendor
+/// with this number, as a line. Reads the list once, in pieces, and builds no document.
 ///
-/// The status is 0 where the name is written. It is 2 where there is no such device, or where the source gives no list:
-/// the errors say which. It is 1 after a failure, which the errors name: of the source, the output, or memory. An input
-/// of more than 4,294,967,295 bytes is such a failure.
+/// The status is 0 where the name is written. It is 2 where the list has no such device, or the
+/// input is not a list: the error output says which. It is 1 after a failure of the source, the
+/// output, or memory, which the error output names. An input of more than 4,294,967,295 bytes is
+/// such a failure.
 pub fn look_up<R: Source, W: Sink, E: Sink>(
     alloc: Global,
     source: &mut R,
@@ -93,7 +95,7 @@ pub fn look_up<R: Source, W: Sink, E: Sink>(
 ) -> u8
     ensures { (bytes : List ℕ) × MayGive (R.remaining source.old) bytes
         × IsLookedUp (IsOfInput (R.failures source.old) (R.failures source.new) bytes) (IsOfOutput (W.failures output.old) (W.failures output.new))
-        (record { vendor = vendor; code = code }) bytes (W.contents output.old) (W.contents output.new) (told_to E.contents E.failures errors.old errors.new) result }
+        (record { vendor = vendor; code = code }) bytes (W.contents output.old) (W.contents output.new) (error_output E.contents E.failures errors.old errors.new) result }
 {
     let mut scan = Scan::new(alloc, vendor, code);
     let mut room = [0u8; 32768];

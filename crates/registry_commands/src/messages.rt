@@ -1,20 +1,20 @@
-//! What the program writes: replies, and why it rejects an input or fails.
+//! What the program prints: replies, and why it rejects an input or fails.
 
 ghost use Rattle.std.specs.Prelude.{◌≡◌, ◌≢◌, ◌⊎◌, ℕ, IfErr, IfOk, OnOk, OnErr};
 ghost use Rattle.std.specs.String.{string_bytes};
 ghost use Rattle.std.specs.Io.KnownBytes.{Appends};
-ghost use Rattle.usbids_text.specs.Ends.{AppendsBeginning};
-ghost use Rattle.registry_commands.specs.Failures.{IsOfOutput, Tells, told_to};
+ghost use Rattle.byte_streams.specs.Streams.{AppendsPrefix};
+ghost use Rattle.registry_commands.specs.Failures.{IsOfOutput, Prints, error_output};
 ghost use Rattle.registry_commands.specs.Messages.{bad_line_text, failure_line, failure_of, input_failure, refusal_line, reply_line};
 
 use crate::input::InputFault;
 use crate::lines::BadLine;
+use byte_streams::{Broken, Sink, put_all};
 use registry_rules::Reply;
 use registry_store::Fault;
 use registry_wire::{WireRefusal, refusal_json, reply_json};
 use sqlite::{Error, ErrorCode};
 use std::alloc::Global;
-use usbids_text::{Broken, Sink, put_all};
 use usbnum_core::NoMemory;
 
 /// Why a command fails.
@@ -22,14 +22,14 @@ use usbnum_core::NoMemory;
 pub enum Failure {
     /// The store refused or failed.
     Store,
-    /// There is no memory for something that is needed.
+    /// Out of memory.
     Memory,
     /// The store holds no registry.
     Foreign,
-    /// The store holds a registry already.
+    /// The store already holds a registry.
     Taken,
-    /// The registry had a fault before.
-    Spent,
+    /// The registry is poisoned: it had a fault before.
+    Poisoned,
     /// An input or the output failed.
     File,
 }
@@ -38,7 +38,7 @@ impl Failure {
     ghost use Rattle.std.specs.Prelude.{◌≡◌};
     ghost use Rattle.registry_commands.specs.Messages.{failure_line};
 
-    /// What the user is told, as a line.
+    /// Returns the message for this failure, as a line.
     pub fn line(self) -> &'static str
         ensures { result.now ≡ failure_line self }
     {
@@ -47,13 +47,13 @@ impl Failure {
             Failure::Memory => "fault: memory\n",
             Failure::Foreign => "fault: foreign\n",
             Failure::Taken => "fault: taken\n",
-            Failure::Spent => "fault: spent\n",
+            Failure::Poisoned => "fault: spent\n",
             Failure::File => "fault: file\n",
         }
     }
 }
 
-/// The failure that a fault of the registry is.
+/// Returns the failure for a fault of the registry.
 pub fn failure_of(fault: Fault) -> Failure
     ensures { result ≡ failure_of fault }
 {
@@ -62,11 +62,33 @@ pub fn failure_of(fault: Fault) -> Failure
         Fault::NoMemory => Failure::Memory,
         Fault::Foreign => Failure::Foreign,
         Fault::Taken => Failure::Taken,
-        Fault::Spent => Failure::Spent,
+        Fault::Poisoned => Failure::Poisoned,
     }
 }
 
-/// The failure that an error of the store is: want of memory where it says so.
+impl From<Fault> for Failure {
+    ghost use Rattle.std.specs.Prelude.{◌≡◌};
+    ghost use Rattle.registry_commands.specs.Messages.{failure_of};
+
+    ghost from_gives = { λ fault failure. failure ≡ failure_of fault };
+
+    fn from(fault: Fault) -> Failure {
+        failure_of(fault)
+    }
+}
+
+impl From<NoMemory> for Failure {
+    ghost use Rattle.std.specs.Prelude.{◌≡◌};
+    ghost use Rattle.registry_commands.specs.declared.messages.Failure.TheVariants.{Memory};
+
+    ghost from_gives = { λ _ failure. failure ≡ Memory };
+
+    fn from(_error: NoMemory) -> Failure {
+        Failure::Memory
+    }
+}
+
+/// Returns the failure for an error of the store: `Memory` where it is out of memory, else `Store`.
 pub fn store_failure(error: Error) -> Failure
     ensures { ((result ≡ Failure.Memory) × (error ≡ Error.SqliteFailure ErrorCode.OutOfMemory))
         ⊎ ((result ≡ Failure.Store) × (error ≢ Error.SqliteFailure ErrorCode.OutOfMemory)) }
@@ -77,7 +99,7 @@ pub fn store_failure(error: Error) -> Failure
     }
 }
 
-/// The failure that an input's is.
+/// Returns the failure for a fault of an input.
 pub(crate) fn input_failure(fault: InputFault) -> Failure
     ensures { result ≡ input_failure fault }
 {
@@ -87,7 +109,7 @@ pub(crate) fn input_failure(fault: InputFault) -> Failure
     }
 }
 
-/// A reply as a line of the output.
+/// Returns a reply as a line.
 #[tactic(auto, unfolding(crate::specs::Messages::reply_line))]
 fn reply_line(alloc: Global, reply: &Reply) -> Result<String, NoMemory>
     ensures { IfOk result (λ line. string_bytes line ≡ reply_line reply.now) }
@@ -97,7 +119,7 @@ fn reply_line(alloc: Global, reply: &Reply) -> Result<String, NoMemory>
     Ok(line)
 }
 
-/// Why bytes are no request or no founding, as a line.
+/// Returns a line that says why bytes are not a request, a founding file or a list.
 #[tactic(auto, unfolding(crate::specs::Messages::refusal_line))]
 pub(crate) fn refusal_line(alloc: Global, refusal: WireRefusal) -> Result<String, NoMemory>
     ensures { IfOk result (λ line. string_bytes line ≡ refusal_line refusal) }
@@ -107,7 +129,7 @@ pub(crate) fn refusal_line(alloc: Global, refusal: WireRefusal) -> Result<String
     Ok(line)
 }
 
-/// The line that is no request, by its number, and why.
+/// Returns a line that says which line is not a request, and why.
 #[tactic(auto, unfolding(crate::specs::Messages::bad_line_text))]
 pub(crate) fn bad_line_text(alloc: Global, bad: BadLine) -> Result<String, NoMemory>
     ensures { IfOk result (λ text. string_bytes text ≡ bad_line_text bad) }
@@ -117,9 +139,9 @@ pub(crate) fn bad_line_text(alloc: Global, bad: BadLine) -> Result<String, NoMem
     Ok(format!(in alloc; "line {number}: {line}")?)
 }
 
-/// Writes to the errors: all of the text, or a beginning of it where they fail.
+/// Writes a text to the error output: all of it, or a prefix where the error output fails.
 pub(crate) fn tell<E: Sink>(errors: &mut E, text: &str)
-    ensures told { Tells (told_to E.contents E.failures errors.old errors.new) text.now }
+    ensures told { Prints (error_output E.contents E.failures errors.old errors.new) text.now }
 {
     match put_all(errors, text.as_bytes()) {
         Ok(()) => {}
@@ -127,11 +149,11 @@ pub(crate) fn tell<E: Sink>(errors: &mut E, text: &str)
     }
 }
 
-/// Tells why the command fails, and answers the status. The errors get the whole line, or a
-/// beginning of it where they fail.
+/// Prints why the command fails, and returns the exit status. The error output gets the whole line,
+/// or a prefix of it where it fails.
 pub fn fail<E: Sink>(errors: &mut E, failure: Failure) -> u8
     ensures status { result ≡ 1 }
-    ensures told { Tells (told_to E.contents E.failures errors.old errors.new) (failure_line failure) }
+    ensures told { Prints (error_output E.contents E.failures errors.old errors.new) (failure_line failure) }
 {
     tell(errors, failure.line());
     1
@@ -139,15 +161,15 @@ pub fn fail<E: Sink>(errors: &mut E, failure: Failure) -> u8
 
 /// Writes a reply as a line.
 ///
-/// The failure is `File` where the output failed, and else `Memory`. Either way a beginning of the
-/// line was written.
+/// Returns `File` where the output failed, else `Memory`. Either way a prefix of the line, perhaps
+/// an empty one, was written.
 pub(crate) fn put_reply<W: Sink>(
     alloc: Global,
     output: &mut W,
     reply: &Reply,
 ) -> Result<(), Failure>
     ensures ok { OnOk result (Appends (W.contents output.old) (W.contents output.new) (reply_line reply.now)) }
-    ensures err { OnErr result (AppendsBeginning (W.contents output.old) (W.contents output.new) (reply_line reply.now)) }
+    ensures err { OnErr result (AppendsPrefix (W.contents output.old) (W.contents output.new) (reply_line reply.now)) }
     ensures kept { OnOk result (W.failures output.new ≡ W.failures output.old) }
     ensures failure { IfErr result (λ failure. ((failure ≡ Failure.Memory) ⊎ (failure ≡ Failure.File)) × IsOfOutput (W.failures output.old) (W.failures output.new) failure) }
 {

@@ -1,15 +1,16 @@
-//! Texts that are written to the output.
+//! Writes texts to the output.
 
-ghost use Rattle.registry_commands.specs.Failures.{IsOfOutput, told_to};
+ghost use Rattle.registry_commands.specs.Failures.{IsOfOutput, error_output};
 ghost use Rattle.registry_commands.specs.Printed.{IsPrinted};
 
 use crate::messages::{Failure, fail};
-use usbids_text::{Broken, Sink, put_all};
+use byte_streams::{Broken, Sink, put_all};
 
-/// Writes a text, and answers the status: 0, or 1 where the output failed, which the errors name.
+/// Writes a text to the output, and returns the exit status: 0, or 1 where the output failed, which
+/// the error output says.
 pub(crate) fn print<W: Sink, E: Sink>(output: &mut W, errors: &mut E, text: &[u8]) -> u8
     ensures { IsPrinted (IsOfOutput (W.failures output.old) (W.failures output.new)) text.now
-        (W.contents output.old) (W.contents output.new) (told_to E.contents E.failures errors.old errors.new) result }
+        (W.contents output.old) (W.contents output.new) (error_output E.contents E.failures errors.old errors.new) result }
 {
     match put_all(output, text) {
         Ok(()) => 0,

@@ -1,54 +1,45 @@
-//! The lists of a registry, of which a command shows something.
+//! Reads the lists of a registry for a command that shows them.
 
 ghost use Rattle.std.specs.Prelude.{IfErr, IfOk};
 ghost use Rattle.sqlite.specs.State.{HasCleanDisk};
 ghost use Rattle.registry_rules.specs.History.{History};
 ghost use Rattle.registry_tables.specs.Lists.{IsNumberList, IsPetitionList, IsVendorList};
-ghost use Rattle.registry_store.specs.Promise.{Stands, state_of};
+ghost use Rattle.registry_store.specs.Promise.{Represents, state_of};
 ghost use Rattle.registry_commands.specs.Shown.{IsLeft, IsOfReading};
 
-use crate::messages::{Failure, failure_of};
+use crate::messages::Failure;
 use registry_rules::{Entry, Petition, Vendor};
 use registry_store::Registry;
 use sqlite::Alter;
 use usbnum_core::Number;
 
-/// All vendors of the registry, by their numbers.
+/// Returns all vendors of the registry, by number.
 pub(crate) fn vendors_of<S: Alter>(registry: &mut Registry<S>) -> Result<Vec<Vendor>, Failure>
-    ensures answered { (h : History) → Stands registry.old h → HasCleanDisk (state_of registry.new) → IfOk result (λ list. IsVendorList h list.items) }
+    ensures answered { (h : History) → Represents registry.old h → HasCleanDisk (state_of registry.new) → IfOk result (λ list. IsVendorList h list.items) }
     ensures failure { IfErr result (IsOfReading registry.old registry.new) }
     ensures left { IsLeft registry.old registry.new }
 {
-    match registry.vendors() {
-        Ok(vendors) => Ok(vendors),
-        Err(fault) => Err(failure_of(fault)),
-    }
+    Ok(registry.vendors()?)
 }
 
-/// All numbers that have an owner, by vendor and then by product.
+/// Returns all numbers that have an owner, by vendor and then by product.
 pub(crate) fn numbers_of<S: Alter>(
     registry: &mut Registry<S>,
 ) -> Result<Vec<(Number, Entry)>, Failure>
-    ensures answered { (h : History) → Stands registry.old h → HasCleanDisk (state_of registry.new) → IfOk result (λ list. IsNumberList h list.items) }
+    ensures answered { (h : History) → Represents registry.old h → HasCleanDisk (state_of registry.new) → IfOk result (λ list. IsNumberList h list.items) }
     ensures failure { IfErr result (IsOfReading registry.old registry.new) }
     ensures left { IsLeft registry.old registry.new }
 {
-    match registry.numbers() {
-        Ok(numbers) => Ok(numbers),
-        Err(fault) => Err(failure_of(fault)),
-    }
+    Ok(registry.numbers()?)
 }
 
-/// All petitions, by their numbers.
+/// Returns all petitions, by number.
 pub(crate) fn petitions_of<S: Alter>(
     registry: &mut Registry<S>,
 ) -> Result<Vec<(u32, Petition)>, Failure>
-    ensures answered { (h : History) → Stands registry.old h → HasCleanDisk (state_of registry.new) → IfOk result (λ list. IsPetitionList h list.items) }
+    ensures answered { (h : History) → Represents registry.old h → HasCleanDisk (state_of registry.new) → IfOk result (λ list. IsPetitionList h list.items) }
     ensures failure { IfErr result (IsOfReading registry.old registry.new) }
     ensures left { IsLeft registry.old registry.new }
 {
-    match registry.petitions() {
-        Ok(petitions) => Ok(petitions),
-        Err(fault) => Err(failure_of(fault)),
-    }
+    Ok(registry.petitions()?)
 }

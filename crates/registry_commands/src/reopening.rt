@@ -1,22 +1,24 @@
-//! From one run of the program to the next.
+//! Acts on request lines and opens the store again, as two runs of the program do.
 
 ghost use Rattle.std.specs.Prelude.{ℕ, List, IfSome};
-ghost use Rattle.usbids_text.specs.Ends.{MayGive};
+ghost use Rattle.byte_streams.specs.Streams.{MayGive};
 ghost use Rattle.registry_commands.specs.Lines.{requests_in};
 ghost use Rattle.registry_commands.specs.Reopened.{IsReopened};
 
 use crate::apply::apply_lines;
 use crate::closing::close_store;
+use byte_streams::{Sink, Source};
 use registry_store::{Registry, crash_and_open, open_files};
 use sqlite::{FileStore, Options};
 use sqlite_disk::{Crash, Disk};
 use std::alloc::Global;
-use usbids_text::{Sink, Source};
 
-/// Acts on request lines as `apply_lines` does, lets go of the store as `close_store` does, and opens its files again.
+/// Acts on request lines as `apply_lines` does, ends the use of the store as `close_store` does,
+/// and opens its files again.
 ///
-/// Whatever the status, what is opened has acted on a beginning of the requests, which holds every one whose reply line
-/// is out, and at most one more. None is opened where closing or opening fails.
+/// Whatever the status, the opened registry has acted on a prefix of the requests: on every request
+/// whose reply line is written, and on at most one more. Returns no registry where closing or
+/// opening fails.
 pub fn apply_and_open<R: Source, D: Disk + Drop, W: Sink, E: Sink>(
     alloc: Global,
     source: &mut R,
@@ -41,7 +43,7 @@ pub fn apply_and_open<R: Source, D: Disk + Drop, W: Sink, E: Sink>(
     (status, open_files(alloc, files, options))
 }
 
-/// The same with a crash of both disks in place of the close.
+/// Does the same, but crashes both disks instead of closing the store.
 pub fn apply_and_crash<R: Source, D: Crash + Drop, W: Sink, E: Sink>(
     alloc: Global,
     source: &mut R,

@@ -1,14 +1,14 @@
-//! The replies of a run as lines of an output.
+//! Writes the replies of a run as lines of an output.
 
 ghost use Rattle.registry_commands.specs.Replies.{CutsLine, TakesLine};
 
 use crate::messages::{Failure, put_reply};
+use byte_streams::Sink;
 use registry_rules::Reply;
 use registry_store::{Cut, Replies};
 use std::alloc::Global;
-use usbids_text::Sink;
 
-/// An output that takes the replies of a run as lines, and why it took no more.
+/// An output that takes the replies of a run as lines, and the failure that stopped it.
 #[derive(Drop)]
 pub(crate) struct ReplyLines<'a, W> {
     pub(crate) alloc: Global,

@@ -1,4 +1,4 @@
-//! The reports on a registry.
+//! Reports on a registry.
 
 ghost use Rattle.std.specs.Prelude.{◌≡◌, ◌++◌, ◌∷◌, [], ℕ, List, IfErr, IfOk, OnOk, string_bytes};
 ghost use Rattle.sqlite.specs.State.{HasCleanDisk};
@@ -8,34 +8,34 @@ ghost use Rattle.registry_rules.specs.History.{History};
 ghost use Rattle.registry_rules.specs.Number.{number};
 ghost use Rattle.registry_rules.specs.Query.{is_reserved};
 ghost use Rattle.registry_tables.specs.Lists.{IsNumberList, IsPetitionList, IsVendorList};
-ghost use Rattle.registry_store.specs.Promise.{Stands, state_of};
-ghost use Rattle.registry_commands.specs.Failures.{IsOfOutput, told_to};
+ghost use Rattle.registry_store.specs.Promise.{Represents, state_of};
+ghost use Rattle.registry_commands.specs.Failures.{IsOfOutput, error_output};
 ghost use Rattle.registry_commands.specs.Reports.{AreReserved, IsCensus, IsHoldersReport, IsPetitionsReport, IsReport, IsReported, report_named};
 ghost use Rattle.registry_commands.specs.Shown.{IsLeft, IsOfReading};
 
-use crate::messages::{Failure, fail, failure_of};
+use crate::messages::{Failure, fail};
 use crate::printing::print;
 use crate::reading::{numbers_of, petitions_of, vendors_of};
+use byte_streams::Sink;
 use registry_reports::{census, holders, open_petitions};
 use registry_rules::{Entry, Petition, Vendor};
 use registry_store::Registry;
 use sqlite::Alter;
 use std::alloc::Global;
-use usbids_text::Sink;
-use usbnum_core::{NoMemory, Number, Spans, Vid};
+use usbnum_core::{Number, Spans, Vid};
 
 /// A kind of report on a registry.
 #[derive(Clone, Copy, Debug, PartialEq, Eq)]
 pub enum ReportKind {
-    /// How many numbers of each vendor are free, reserved, held and returned.
+    /// For each vendor, how many numbers are free, reserved, held and returned.
     Census,
-    /// How many numbers each organisation holds, and how many it returned.
+    /// For each organisation, how many numbers it holds and how many it returned.
     Holders,
     /// The open petitions.
     Petitions,
 }
 
-/// The report of this name, or None where there is none.
+/// Returns the kind of report with this name, or None.
 #[tactic(auto, unfolding(crate::specs::Reports::report_named))]
 pub fn report_named(name: &str) -> Option<ReportKind>
     ensures { result ≡ report_named name.now }
@@ -51,18 +51,15 @@ pub fn report_named(name: &str) -> Option<ReportKind>
     }
 }
 
-/// The reserved numbers of a vendor.
+/// Returns the reserved numbers of a vendor.
 fn reserved_under<S: Alter>(registry: &Registry<S>, vid: Vid) -> Result<Spans, Failure>
-    ensures answered { (h : History) → Stands registry.now h → IfOk result (λ spans. (pid : ℕ) → spans_have spans pid ≡ is_reserved h (number vid pid)) }
+    ensures answered { (h : History) → Represents registry.now h → IfOk result (λ spans. (pid : ℕ) → spans_have spans pid ≡ is_reserved h (number vid pid)) }
     ensures failure { IfErr result (IsOfReading registry.now registry.now) }
 {
-    match registry.reserved(vid) {
-        Ok(spans) => Ok(spans),
-        Err(fault) => Err(failure_of(fault)),
-    }
+    Ok(registry.reserved(vid)?)
 }
 
-/// Puts a vendor with a set of numbers behind the others.
+/// Appends a vendor with a set of numbers.
 fn put_pair(pairs: &mut Vec<(Vid, Spans)>, vid: Vid, spans: Spans) -> Result<(), Failure>
     ensures put { OnOk result (pairs.new.items ≡ pairs.old.items ++ (vid, spans) ∷ []) }
     ensures failure { IfErr result (λ failure. failure ≡ Failure.Memory) }
@@ -73,13 +70,13 @@ fn put_pair(pairs: &mut Vec<(Vid, Spans)>, vid: Vid, spans: Spans) -> Result<(),
     }
 }
 
-/// Puts a vendor with its reserved numbers behind the others.
+/// Appends a vendor with its reserved numbers.
 fn put_reserved<S: Alter>(
     registry: &Registry<S>,
     pairs: &mut Vec<(Vid, Spans)>,
     vid: Vid,
 ) -> Result<(), Failure>
-    ensures put { (h : History) → Stands registry.now h → OnOk result ((spans : List Span) × (pairs.new.items ≡ pairs.old.items ++ (vid, spans) ∷ [])
+    ensures put { (h : History) → Represents registry.now h → OnOk result ((spans : List Span) × (pairs.new.items ≡ pairs.old.items ++ (vid, spans) ∷ [])
         × ((pid : ℕ) → spans_have spans pid ≡ is_reserved h (number vid pid))) }
     ensures failure { IfErr result (IsOfReading registry.now registry.now) }
 {
@@ -89,13 +86,13 @@ fn put_reserved<S: Alter>(
     }
 }
 
-/// Each vendor with its reserved numbers.
+/// Returns each vendor with its reserved numbers.
 fn reserved_of<S: Alter>(
     alloc: Global,
     registry: &Registry<S>,
     vendors: &[Vendor],
 ) -> Result<Vec<(Vid, Spans)>, Failure>
-    ensures answered { (h : History) → Stands registry.now h → IfOk result (λ pairs. AreReserved h vendors.now pairs.items) }
+    ensures answered { (h : History) → Represents registry.now h → IfOk result (λ pairs. AreReserved h vendors.now pairs.items) }
     ensures failure { IfErr result (IsOfReading registry.now registry.now) }
 {
     let mut pairs = Vec::new(alloc);
@@ -108,7 +105,7 @@ fn reserved_of<S: Alter>(
     Ok(pairs)
 }
 
-/// The census of these lists.
+/// Returns the census of these lists.
 fn counted(
     alloc: Global,
     pairs: &[(Vid, Spans)],
@@ -118,20 +115,17 @@ fn counted(
         → IfOk result (λ text. IsCensus h (string_bytes text)) }
     ensures failure { IfErr result (λ failure. failure ≡ Failure.Memory) }
 {
-    match census(alloc, pairs, numbers) {
-        Ok(text) => Ok(text),
-        Err(NoMemory) => Err(Failure::Memory),
-    }
+    Ok(census(alloc, pairs, numbers)?)
 }
 
-/// The census of all vendors and these numbers.
+/// Returns the census of these vendors and numbers, which are all.
 fn census_with<S: Alter>(
     alloc: Global,
     registry: &Registry<S>,
     vendors: &[Vendor],
     numbers: &[(Number, Entry)],
 ) -> Result<String, Failure>
-    ensures answered { (h : History) → Stands registry.now h → IsVendorList h vendors.now → IsNumberList h numbers.now → IfOk result (λ text. IsCensus h (string_bytes text)) }
+    ensures answered { (h : History) → Represents registry.now h → IsVendorList h vendors.now → IsNumberList h numbers.now → IfOk result (λ text. IsCensus h (string_bytes text)) }
     ensures failure { IfErr result (IsOfReading registry.now registry.now) }
 {
     match reserved_of(alloc, registry, vendors) {
@@ -140,13 +134,13 @@ fn census_with<S: Alter>(
     }
 }
 
-/// The census of these vendors, which are all.
+/// Returns the census of these vendors, which are all.
 fn census_under<S: Alter>(
     alloc: Global,
     registry: &mut Registry<S>,
     vendors: &[Vendor],
 ) -> Result<String, Failure>
-    ensures answered { (h : History) → Stands registry.old h → HasCleanDisk (state_of registry.new) → IsVendorList h vendors.now → IfOk result (λ text. IsCensus h (string_bytes text)) }
+    ensures answered { (h : History) → Represents registry.old h → HasCleanDisk (state_of registry.new) → IsVendorList h vendors.now → IfOk result (λ text. IsCensus h (string_bytes text)) }
     ensures failure { IfErr result (IsOfReading registry.old registry.new) }
     ensures left { IsLeft registry.old registry.new }
 {
@@ -157,7 +151,7 @@ fn census_under<S: Alter>(
 }
 
 fn census_of<S: Alter>(alloc: Global, registry: &mut Registry<S>) -> Result<String, Failure>
-    ensures answered { (h : History) → Stands registry.old h → HasCleanDisk (state_of registry.new) → IfOk result (λ text. IsCensus h (string_bytes text)) }
+    ensures answered { (h : History) → Represents registry.old h → HasCleanDisk (state_of registry.new) → IfOk result (λ text. IsCensus h (string_bytes text)) }
     ensures failure { IfErr result (IsOfReading registry.old registry.new) }
     ensures left { IsLeft registry.old registry.new }
 {
@@ -167,19 +161,16 @@ fn census_of<S: Alter>(alloc: Global, registry: &mut Registry<S>) -> Result<Stri
     }
 }
 
-/// The holders of these numbers.
+/// Returns the report on the holders of these numbers.
 fn held_by(alloc: Global, numbers: &[(Number, Entry)]) -> Result<String, Failure>
     ensures answered { (h : History) → IsNumberList h numbers.now → IfOk result (λ text. IsHoldersReport h (string_bytes text)) }
     ensures failure { IfErr result (λ failure. failure ≡ Failure.Memory) }
 {
-    match holders(alloc, numbers) {
-        Ok(text) => Ok(text),
-        Err(NoMemory) => Err(Failure::Memory),
-    }
+    Ok(holders(alloc, numbers)?)
 }
 
 fn holders_of<S: Alter>(alloc: Global, registry: &mut Registry<S>) -> Result<String, Failure>
-    ensures answered { (h : History) → Stands registry.old h → HasCleanDisk (state_of registry.new) → IfOk result (λ text. IsHoldersReport h (string_bytes text)) }
+    ensures answered { (h : History) → Represents registry.old h → HasCleanDisk (state_of registry.new) → IfOk result (λ text. IsHoldersReport h (string_bytes text)) }
     ensures failure { IfErr result (IsOfReading registry.old registry.new) }
     ensures left { IsLeft registry.old registry.new }
 {
@@ -189,19 +180,16 @@ fn holders_of<S: Alter>(alloc: Global, registry: &mut Registry<S>) -> Result<Str
     }
 }
 
-/// The open ones of these petitions, in a registry with this founding vendor.
+/// Returns the report on the open ones of these petitions, in a registry with this founding vendor.
 fn open_ones(alloc: Global, founding: Vid, petitions: &[(u32, Petition)]) -> Result<String, Failure>
     ensures answered { (h : History) → founding ≡ h.founding.vendor → IsPetitionList h petitions.now → IfOk result (λ text. IsPetitionsReport h (string_bytes text)) }
     ensures failure { IfErr result (λ failure. failure ≡ Failure.Memory) }
 {
-    match open_petitions(alloc, founding, petitions) {
-        Ok(text) => Ok(text),
-        Err(NoMemory) => Err(Failure::Memory),
-    }
+    Ok(open_petitions(alloc, founding, petitions)?)
 }
 
 fn open_ones_of<S: Alter>(alloc: Global, registry: &mut Registry<S>) -> Result<String, Failure>
-    ensures answered { (h : History) → Stands registry.old h → HasCleanDisk (state_of registry.new) → IfOk result (λ text. IsPetitionsReport h (string_bytes text)) }
+    ensures answered { (h : History) → Represents registry.old h → HasCleanDisk (state_of registry.new) → IfOk result (λ text. IsPetitionsReport h (string_bytes text)) }
     ensures failure { IfErr result (IsOfReading registry.old registry.new) }
     ensures left { IsLeft registry.old registry.new }
 {
@@ -212,15 +200,15 @@ fn open_ones_of<S: Alter>(alloc: Global, registry: &mut Registry<S>) -> Result<S
     }
 }
 
-/// The text of a report on the registry. Nothing is changed.
+/// Returns the text of a report on the registry. Changes nothing.
 ///
-/// It fails where the registry does, or where memory is short.
+/// Fails where the registry fails or memory runs out.
 pub fn report_of<S: Alter>(
     alloc: Global,
     registry: &mut Registry<S>,
     name: ReportKind,
 ) -> Result<String, Failure>
-    ensures answered { (h : History) → Stands registry.old h → HasCleanDisk (state_of registry.new) → IfOk result (λ text. IsReport name h (string_bytes text)) }
+    ensures answered { (h : History) → Represents registry.old h → HasCleanDisk (state_of registry.new) → IfOk result (λ text. IsReport name h (string_bytes text)) }
     ensures failure { IfErr result (IsOfReading registry.old registry.new) }
     ensures left { IsLeft registry.old registry.new }
 {
@@ -231,10 +219,11 @@ pub fn report_of<S: Alter>(
     }
 }
 
-/// Writes a report on the registry. Nothing is changed.
+/// Writes a report on the registry. Changes nothing.
 ///
-/// The status is 0 where the whole report is written. It is 1 after a failure, which the errors name: of the registry or
-/// memory, and then nothing is written, or of the output, which took a beginning of the report.
+/// The status is 0 where the whole report is written. It is 1 after a failure, which the error
+/// output names. After a failure of the registry or of memory nothing is written; after a failure
+/// of the output a prefix of the report is.
 pub fn report<S: Alter, W: Sink, E: Sink>(
     alloc: Global,
     registry: &mut Registry<S>,
@@ -243,7 +232,7 @@ pub fn report<S: Alter, W: Sink, E: Sink>(
     errors: &mut E,
 ) -> u8
     ensures { IsReported (IsOfOutput (W.failures output.old) (W.failures output.new)) registry.old registry.new name
-        (W.contents output.old) (W.contents output.new) (told_to E.contents E.failures errors.old errors.new) result }
+        (W.contents output.old) (W.contents output.new) (error_output E.contents E.failures errors.old errors.new) result }
 {
     match report_of(alloc, registry, name) {
         Ok(text) => print(output, errors, text.as_bytes()),

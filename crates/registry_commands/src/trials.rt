@@ -1,27 +1,27 @@
-//! A registry in memory, founded anew each time.
+//! Runs request lines over a registry in memory, founded anew each time.
 
 ghost use Rattle.std.specs.Prelude.{◌≡◌, ◌⊎◌, ◌&&◌, ◌∷◌, [], ℕ, List, nat_le, codes, IfErr, IfOk};
 ghost use Rattle.std.specs.Io.KnownBytes.{Keeps};
-ghost use Rattle.usbids_text.specs.Ends.{MayGive};
+ghost use Rattle.byte_streams.specs.Streams.{MayGive};
 ghost use Rattle.usbnum_core.specs.Spans.{spans_have};
 ghost use Rattle.registry_rules.specs.Texts.{AreInOrder};
 ghost use Rattle.registry_rules.specs.declared.founding.Founding.{Founding};
 ghost use Rattle.registry_rules.specs.History.{founded};
-ghost use Rattle.registry_store.specs.Promise.{Stands};
-ghost use Rattle.registry_commands.specs.Failures.{IsOfInput, IsOfOutput, IsTooLong, TellsFailure, told_to};
+ghost use Rattle.registry_store.specs.Promise.{Represents};
+ghost use Rattle.registry_commands.specs.Failures.{IsOfInput, IsOfOutput, IsTooLong, PrintsFailure, error_output};
 ghost use Rattle.registry_commands.specs.Lines.{requests_in};
 ghost use Rattle.registry_commands.specs.Trial.{IsOfStart, IsTrial, IsTrialOf};
 
 use crate::apply::apply_lines;
 use crate::messages::{Failure, fail, failure_of};
+use byte_streams::{Sink, Source};
 use registry_rules::{Curators, Founding, Licences};
 use registry_store::Registry;
 use sqlite::{Connection, MemStore};
 use std::alloc::Global;
-use usbids_text::{Sink, Source};
 use usbnum_core::{NoMemory, Pid, Span, Spans, Text, TextRule, Vid};
 
-/// One of the trial's texts, all of which keep to their rules.
+/// Returns one of the trial's texts, which all obey their rules.
 fn text<R: TextRule>(alloc: Global, text: &str) -> Result<Text<R>, NoMemory>
     ensures { IfOk result (λ own. own ≡ text.now) }
 {
@@ -65,7 +65,7 @@ fn fixed(alloc: Global) -> Result<Spans, NoMemory>
     Ok(fixed)
 }
 
-/// What the registry of a trial is founded with.
+/// Returns the founding of a trial.
 pub fn trial_founding(alloc: Global) -> Result<Founding, NoMemory>
     ensures { IfOk result IsTrial }
 {
@@ -83,7 +83,7 @@ pub fn trial_founding(alloc: Global) -> Result<Founding, NoMemory>
 
 /// Founds the registry of a trial in memory.
 fn found_trial(alloc: Global) -> Result<Registry<MemStore>, Failure>
-    ensures ok { IfOk result (λ it. (founding : Founding) × IsTrial founding × Stands it (founded founding)) }
+    ensures ok { IfOk result (λ it. (founding : Founding) × IsTrial founding × Represents it (founded founding)) }
     ensures err { IfErr result (λ failure. (failure ≡ Failure.Store) ⊎ (failure ≡ Failure.Memory)) }
 {
     let Ok(founding) = trial_founding(alloc) else {
@@ -101,8 +101,8 @@ fn found_trial(alloc: Global) -> Result<Registry<MemStore>, Failure>
     }
 }
 
-/// Founds a registry in memory, acts on the request lines of a source, as `apply_lines` does, and
-/// answers its status. The registry is gone afterwards.
+/// Founds a registry in memory, acts on the request lines of a source as `apply_lines` does, and
+/// returns the exit status. The registry is gone afterwards.
 pub fn trial<R: Source, W: Sink, E: Sink>(
     alloc: Global,
     source: &mut R,
@@ -111,8 +111,8 @@ pub fn trial<R: Source, W: Sink, E: Sink>(
 ) -> u8
     ensures { (bytes : List ℕ) × MayGive (R.remaining source.old) bytes
         × IsTrialOf (IsOfInput (R.failures source.old) (R.failures source.new) bytes) (IsOfOutput (W.failures output.old) (W.failures output.new))
-        (requests_in bytes) (W.contents output.old) (W.contents output.new) (told_to E.contents E.failures errors.old errors.new) result
-        × (IsTooLong bytes → (result ≡ 1) × Keeps (W.contents output.old) (W.contents output.new) × TellsFailure (IsOfStart (IsOfInput (R.failures source.old) (R.failures source.new) bytes)) (told_to E.contents E.failures errors.old errors.new)) }
+        (requests_in bytes) (W.contents output.old) (W.contents output.new) (error_output E.contents E.failures errors.old errors.new) result
+        × (IsTooLong bytes → (result ≡ 1) × Keeps (W.contents output.old) (W.contents output.new) × PrintsFailure (IsOfStart (IsOfInput (R.failures source.old) (R.failures source.new) bytes)) (error_output E.contents E.failures errors.old errors.new)) }
 {
     let mut registry = match found_trial(alloc) {
         Ok(registry) => registry,

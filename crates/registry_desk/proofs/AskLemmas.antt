@@ -1,28 +1,28 @@
--- What is left where a registry stands at one of two histories.
+-- What a crash leaves if a registry represents one of two histories.
 use Rattle.std.proofs.Common.{◌⊎◌, inl, inr}
 use Rattle.sqlite.specs.Store.{Ghosts}
 use Rattle.sqlite.specs.State.{HasCleanDisk}
 use Rattle.registry_rules.specs.History.{History}
 use Rattle.registry_store.specs.declared.registry.Registry.{Registry as TheRegistry}
-use Rattle.registry_store.specs.Promise.{Stands, state_of}
+use Rattle.registry_store.specs.Promise.{Represents, state_of}
 use Rattle.registry_desk.specs.declared.fault.DeskFault.{DeskFault}
 use Rattle.registry_desk.specs.declared.fault.DeskFault.TheVariants.{NoMemory, Registry}
 use Rattle.registry_desk.specs.Acting.{EndsAt, IsLeftAt}
 
 module _ {S : Type 0} {g : Ghosts S} where
-  pub ends_either : (fault : DeskFault) (it : TheRegistry S g) (h next : History) → Stands it h ⊎ Stands it next → EndsAt fault it h next
+  pub ends_either : (fault : DeskFault) (it : TheRegistry S g) (h next : History) → Represents it h ⊎ Represents it next → EndsAt fault it h next
   ends_either NoMemory it h next stands = stands
   ends_either (Registry fault) it h next stands = inr stands
 
-  -- a registry that stands leaves what it stands at, first of two
-  pub left_first : (fault : DeskFault) (it : TheRegistry S g) (h next : History) → Stands it h → HasCleanDisk (state_of it) → IsLeftAt fault it h next
+  -- a crash leaves the history that the registry represents: the first of two
+  pub left_first : (fault : DeskFault) (it : TheRegistry S g) (h next : History) → Represents it h → HasCleanDisk (state_of it) → IsLeftAt fault it h next
   left_first fault it h next stands clean = record {
     leaves = λ db may. let l = stands.at.left clean db may in (l.0, inl l.1, l.2);
     ends = ends_either fault it h next (inl stands);
   }
 
-  -- or second
-  pub left_second : (fault : DeskFault) (it : TheRegistry S g) (h next : History) → Stands it next → HasCleanDisk (state_of it) → IsLeftAt fault it h next
+  -- or the second
+  pub left_second : (fault : DeskFault) (it : TheRegistry S g) (h next : History) → Represents it next → HasCleanDisk (state_of it) → IsLeftAt fault it h next
   left_second fault it h next stands clean = record {
     leaves = λ db may. let l = stands.at.left clean db may in (l.0, inr l.1, l.2);
     ends = ends_either fault it h next (inr stands);

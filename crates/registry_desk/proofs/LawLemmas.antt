@@ -1,4 +1,4 @@
--- A message has one response.
+-- A history has one response to a message.
 use Rattle.std.proofs.Common.{◌≡◌, ℕ, Bool, not, ◌&&◌, List, [], ◌∷◌, ◌++◌, Some, None, refl, sym, ap, subst, ◌∙◌}
 use Rattle.std.specs.Prelude.{map, Ok, Err, is_none, bytes_eq}
 use Rattle.std.specs.Cmp.Lexicographic.{slice_cmp}
@@ -21,7 +21,7 @@ use Rattle.registry_rules.proofs.OpenLemmas.{count_alike}
 use Rattle.registry_reports.specs.Census.{census_lines, census_of, free_count, held_count, returned_count, reserved_count, holds, listed}
 use Rattle.registry_reports.specs.Holders.{IsHolders, holder_lines}
 use Rattle.registry_reports.specs.Petitions.{petition_lines}
-use Rattle.registry_reports.proofs.OneLemmas.{one-list, one}
+use Rattle.registry_reports.proofs.UniqueLemmas.{list_is_one, one}
 use Rattle.registry_tables.specs.Lists.{IsPetitionList, IsVendorList}
 use Rattle.registry_tables.proofs.AscendLemmas.{one_order}
 use Rattle.registry_tables.proofs.ViewLemmas.{same_bytes}
@@ -39,11 +39,11 @@ use Rattle.registry_desk.proofs.OnceLemmas.{one_number_list}
 
 one_vendor_list : (h : History) (a b : List Vendor) → IsVendorList h a → IsVendorList h b → a ≡ b
 one_vendor_list h a b is_a is_b =
-    one-list (λ (v : Vendor). v.vid) a b (sorted_from_strictly_increasing _ is_a.ascend) (sorted_from_strictly_increasing _ is_b.ascend) (λ vid. is_a.each vid ∙ sym (is_b.each vid))
+    list_is_one (λ (v : Vendor). v.vid) a b (sorted_from_strictly_increasing _ is_a.ascend) (sorted_from_strictly_increasing _ is_b.ascend) (λ vid. is_a.each vid ∙ sym (is_b.each vid))
 
 one_petition_list : (h : History) (a b : List (ℕ × Petition)) → IsPetitionList h a → IsPetitionList h b → a ≡ b
 one_petition_list h a b is_a is_b =
-    one-list (λ (p : ℕ × Petition). p.0) a b (sorted_from_strictly_increasing _ is_a.ascend) (sorted_from_strictly_increasing _ is_b.ascend) (λ i. is_a.each i ∙ sym (is_b.each i))
+    list_is_one (λ (p : ℕ × Petition). p.0) a b (sorted_from_strictly_increasing _ is_a.ascend) (sorted_from_strictly_increasing _ is_b.ascend) (λ i. is_a.each i ∙ sym (is_b.each i))
 
 -- ---- reports
 

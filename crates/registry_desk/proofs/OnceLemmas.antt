@@ -1,4 +1,4 @@
--- Lists that ascend by a key and find the same are one.
+-- Two lists that ascend by a key, and give the same under each key, are equal.
 use Rattle.std.proofs.Common.{◌≡◌, ℕ, Bool, true, false, List, [], ◌∷◌, Option, Some, None, find, Ordering, Less, Equal, Greater, is_eq, refl, sym, ap, subst, ◌∙◌, arith}
 use Rattle.std.specs.Ordering.{nat_cmp, ordering_reverse}
 use Rattle.std.specs.List.{AllByRecursion}

@@ -1,4 +1,4 @@
--- What serving one message comes to.
+-- Serving one message.
 use Rattle.std.proofs.Common.{sym, ◌≡◌, inl, inr, ℕ, List, refl, ap, ◌∙◌}
 use Rattle.std.specs.Prelude.{Some, ◌≢◌, Result, Ok, Err, IfOk, IfErr, IsOk}
 use Rattle.sqlite.specs.Store.{Ghosts}
@@ -6,7 +6,7 @@ use Rattle.sqlite.specs.State.{HasCleanDisk}
 use Rattle.registry_rules.specs.History.{History}
 use Rattle.registry_store.specs.declared.registry.Registry.{Registry as TheRegistry}
 use Rattle.registry_store.specs.declared.fault.Fault.TheVariants as faults
-use Rattle.registry_store.specs.Promise.{Stands, state_of}
+use Rattle.registry_store.specs.Promise.{Represents, state_of}
 use Rattle.registry_http.specs.declared.response.Response.{Response}
 use Rattle.registry_http.specs.declared.refusal.HttpRefusal.{HttpRefusal}
 use Rattle.registry_http.specs.declared.message.Message.{Message}
@@ -17,7 +17,7 @@ use Rattle.registry_desk.specs.declared.fault.DeskFault.{DeskFault}
 use Rattle.registry_desk.specs.declared.fault.DeskFault.TheVariants.{NoMemory, Registry}
 use Rattle.registry_desk.specs.declared.serve.Served.{Served}
 use Rattle.registry_desk.specs.Faults.{unavailable_of}
-use Rattle.registry_desk.specs.Acting.{IsResponse, after_message, IsOfStanding, IsLeftAt}
+use Rattle.registry_desk.specs.Acting.{IsResponse, after_message, IsOfSoundRegistry, IsLeftAt}
 use Rattle.registry_desk.specs.Serving.{IsTold, IsServed, answered, given_up}
 use Rattle.registry_desk.proofs.AskLemmas.{left_first, left_second}
 
@@ -27,8 +27,8 @@ unfolding refusal_response json_response
 status_31 = refl
 
 module _ {S : Type 0} {g : Ghosts S} where
-  -- memory was short before the message was read
-  pub served_early : (it : TheRegistry S g) (h : History) (bytes : List ℕ) → Stands it h → HasCleanDisk (state_of it)
+  -- memory ran out before the message was read
+  pub served_early : (it : TheRegistry S g) (h : History) (bytes : List ℕ) → Represents it h → HasCleanDisk (state_of it)
       → IsServed it h bytes (response_bytes (unavailable_response (unavailable_of NoMemory))) (given_up NoMemory)
   served_early it h bytes stands clean = inr (record {
     fault = NoMemory;
@@ -40,10 +40,10 @@ module _ {S : Type 0} {g : Ghosts S} where
     left = left_first NoMemory it h h stands clean;
   })
 
-  -- the message was read, and its response was sent, or 31 in its place
+  -- the message was read, and its response was sent, or refusal 31 in its place
   sent_then : (new : TheRegistry S g) (h : History) (bytes text : List ℕ) (served : Served) (said : Result Message HttpRefusal) (response written : Response)
       → Says h.founding.vendor bytes said → HasCleanDisk (state_of new)
-      → IsResponse h said response × Stands new (after_message h said)
+      → IsResponse h said response × Represents new (after_message h said)
       → IsInPlaceOf written response → text ≡ response_bytes written → served ≡ answered written → IsServed new h bytes text served
   sent_then new h bytes text served said response written says clean ok (inl same) text_is served_is = inl (record {
     said = said;
@@ -52,7 +52,7 @@ module _ {S : Type 0} {g : Ghosts S} where
     is = ok.0;
     text_is = text_is ∙ ap response_bytes same;
     served_is = served_is ∙ ap answered same;
-    stands = ok.1;
+    represents = ok.1;
   })
   sent_then new h bytes text served said response written says clean ok (inr short) text_is served_is = inr (record {
     fault = NoMemory;
@@ -64,11 +64,11 @@ module _ {S : Type 0} {g : Ghosts S} where
     left = left_second NoMemory new h (after_message h said) ok.1 clean;
   })
 
-  -- the message was read, and this was done
+  -- the message was read and acted on
   pub served_then : (new : TheRegistry S g) (h : History) (bytes text : List ℕ) (served : Served) (said : Result Message HttpRefusal) (done : Result Response DeskFault)
       → Says h.founding.vendor bytes said → HasCleanDisk (state_of new)
-      → IfOk done (λ response. IsResponse h said response × Stands new (after_message h said))
-      → IfErr done (λ fault. IsOfStanding fault × IsLeftAt fault new h (after_message h said))
+      → IfOk done (λ response. IsResponse h said response × Represents new (after_message h said))
+      → IfErr done (λ fault. IsOfSoundRegistry fault × IsLeftAt fault new h (after_message h said))
       → IfErr done (λ fault. fault ≢ NoMemory → IsOk said)
       → IsTold done text served → IsServed new h bytes text served
   served_then new h bytes text served said (Ok response) says clean ok err asked told = sent_then new h bytes text served said response told.0 says clean ok told.1 told.2 told.3
@@ -82,8 +82,8 @@ module _ {S : Type 0} {g : Ghosts S} where
     left = err.1;
   })
 
--- only a spent registry is told of as spent
-pub tells_spent : (done : Result Response DeskFault) (text : List ℕ) (served : Served) → IsTold done text served → served.fault ≡ Some faults.Spent → done ≡ Err (Registry faults.Spent)
-tells_spent (Ok response) text served told spent = let none = sym (ap (λ (s : Served). s.fault) told.3) ∙ spent in absurd cc
-tells_spent (Err NoMemory) text served told spent = let none = sym (ap (λ (s : Served). s.fault) told.1) ∙ spent in absurd cc
-tells_spent (Err (Registry fault)) text served told spent = let same = sym (ap (λ (s : Served). s.fault) told.1) ∙ spent in cc
+-- what was served has the fault Poisoned only if that was the fault of the registry
+pub tells_poisoned : (done : Result Response DeskFault) (text : List ℕ) (served : Served) → IsTold done text served → served.fault ≡ Some faults.Poisoned → done ≡ Err (Registry faults.Poisoned)
+tells_poisoned (Ok response) text served told poisoned = let none = sym (ap (λ (s : Served). s.fault) told.3) ∙ poisoned in absurd cc
+tells_poisoned (Err NoMemory) text served told poisoned = let none = sym (ap (λ (s : Served). s.fault) told.1) ∙ poisoned in absurd cc
+tells_poisoned (Err (Registry fault)) text served told poisoned = let same = sym (ap (λ (s : Served). s.fault) told.1) ∙ poisoned in cc

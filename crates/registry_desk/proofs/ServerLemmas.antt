@@ -1,4 +1,4 @@
--- One connection after another.
+-- Serving one connection after another.
 use Rattle.std.proofs.Common.{◌≡◌, ◌⊎◌, inl, inr, ℕ, ◌+◌, ◌<◌, ◌≤◌, List, [], ◌∷◌, ◌++◌, length, refl, sym, ap, subst, ◌∙◌, arith, length-append}
 use Rattle.std.specs.Prelude.{Option, Some, None, Result, Ok, Err, OnOk}
 use Rattle.sqlite.specs.Store.{Ghosts}
@@ -7,20 +7,20 @@ use Rattle.registry_rules.specs.History.{History}
 use Rattle.registry_store.specs.declared.fault.Fault.{Fault}
 use Rattle.registry_store.specs.declared.registry.Registry.{Registry as TheRegistry}
 use Rattle.registry_tables.specs.Rows.{newest}
-use Rattle.registry_store.specs.Promise.{Stands, Leaves, state_of}
+use Rattle.registry_store.specs.Promise.{Represents, Leaves, state_of}
 use Rattle.registry_http.specs.Responses.{response_bytes, unavailable_response}
 use Rattle.registry_desk.specs.declared.fault.DeskFault.{DeskFault}
 use Rattle.registry_desk.specs.declared.fault.DeskFault.TheVariants.{NoMemory, Registry}
 use Rattle.registry_desk.specs.declared.serve.Served.{Served}
 use Rattle.registry_desk.specs.declared.serve.Exchange.{Exchange}
 use Rattle.registry_desk.specs.Faults.{fault_of, unavailable_of}
-use Rattle.registry_desk.specs.Acting.{after_message, IsOfStanding, IsLeftAt}
+use Rattle.registry_desk.specs.Acting.{after_message, IsOfSoundRegistry, IsLeftAt}
 use Rattle.registry_desk.specs.Serving.{IsNext, IsServed}
 use Rattle.registry_desk.specs.declared.server.ServerStop.{ServerStop}
 use Rattle.registry_desk.specs.declared.server.ServerStop.TheVariants as stops
-use Rattle.registry_desk.specs.Server.{Visit, IsVisit, HaveVisited, IsTurn, Turns, Represents, IsHalted, EndsVisit, EndsServing, IsLeftAfter, IfVisited, fault_in}
+use Rattle.registry_desk.specs.Server.{Visit, IsVisit, HaveVisited, IsTurn, Turns, RepresentsAfter, IsHalted, EndsVisit, EndsServing, IsLeftAfter, EndsAt, IfVisited, fault_in}
 
--- one connection more
+-- one more connection
 pub visited_more : {C R W : Type 0} (opens : C → C → R → W → Type 0) (closes : C → C → R → W → Option ℕ → Type 0) (remaining : R → Option (List ℕ)) (contents : W → Option (List ℕ)) (failures : W → ℕ)
     (old middle new : C) (visits : List Visit) (visit : Visit) → HaveVisited opens closes remaining contents failures old middle visits
     → IsVisit opens closes remaining contents failures middle new visit → HaveVisited opens closes remaining contents failures old new (visits ++ visit ∷ [])
@@ -29,53 +29,53 @@ visited_more opens closes remaining contents failures old middle new [] visit sa
 visited_more opens closes remaining contents failures old middle new (first ∷ visits) visit before one =
     (before.0, before.1, visited_more opens closes remaining contents failures before.0 middle new visits visit before.2 one)
 
--- one turn more
+-- one more turn
 pub turns_more : (h middle next : History) (visits : List Visit) (visit : Visit) → Turns h visits middle → IsTurn middle visit next → Turns h (visits ++ visit ∷ []) next
 turns_more h middle next [] visit same one = (next, subst (λ x. IsTurn x visit next) same one, refl)
 turns_more h middle next (first ∷ visits) visit before one = (before.0, before.1, turns_more before.0 middle next visits visit before.2 one)
 
 module _ {S : Type 0} {g : Ghosts S} where
-  -- what was served where memory alone was short, by where the registry stands
+  -- serving a message for which memory ran out, by the history that the registry represents
   short_turn : (new : TheRegistry S g) (h : History) (bytes text : List ℕ) (exchange : Exchange) (next : History)
-      → text ≡ response_bytes (unavailable_response (unavailable_of NoMemory)) → IsNext h bytes NoMemory next → Stands new h ⊎ Stands new next
+      → text ≡ response_bytes (unavailable_response (unavailable_of NoMemory)) → IsNext h bytes NoMemory next → Represents new h ⊎ Represents new next
       → EndsVisit new h (record { bytes = bytes; text = text; end = Ok exchange }) None
   short_turn new h bytes text exchange next text_is next_is (inl stands) = (h, inr (text_is, inl (refl, refl)), stands)
   short_turn new h bytes text exchange next text_is next_is (inr stands) = (next, inr (text_is, next_is), stands)
 
   given_up_visit : (new : TheRegistry S g) (h : History) (bytes text : List ℕ) (exchange : Exchange) (fault : DeskFault) (next : History)
-      → IsOfStanding fault → text ≡ response_bytes (unavailable_response (unavailable_of fault)) → IsNext h bytes fault next → IsLeftAt fault new h next
+      → IsOfSoundRegistry fault → text ≡ response_bytes (unavailable_response (unavailable_of fault)) → IsNext h bytes fault next → IsLeftAt fault new h next
       → EndsVisit new h (record { bytes = bytes; text = text; end = Ok exchange }) (fault_of fault)
   given_up_visit new h bytes text exchange NoMemory next kind text_is next_is left = short_turn new h bytes text exchange next text_is next_is left.ends
   given_up_visit new h bytes text exchange (Registry fault) next kind text_is next_is left =
       record { kind = kind; text_is = text_is; next = next; next_is = next_is; left = left }
 
-  -- what was served is a visit
+  -- serving a message is a visit
   pub served_visit : (new : TheRegistry S g) (h : History) (bytes text : List ℕ) (exchange : Exchange) (served : Served) → exchange.fault ≡ served.fault
       → IsServed new h bytes text served → EndsVisit new h (record { bytes = bytes; text = text; end = Ok exchange }) exchange.fault
   served_visit new h bytes text exchange served same (inl it) =
       subst (λ (f : Option Fault). EndsVisit new h (record { bytes = bytes; text = text; end = Ok exchange }) f) (sym (same ∙ ap (λ (s : Served). s.fault) it.served_is)) (
         after_message h it.said,
         inl (record { said = it.said; says = it.says; response = it.response; is = it.is; text_is = it.text_is; next_is = refl }),
-        it.stands,
+        it.represents,
       )
   served_visit new h bytes text exchange served same (inr it) =
       subst (λ (f : Option Fault). EndsVisit new h (record { bytes = bytes; text = text; end = Ok exchange }) f) (sym (same ∙ ap (λ (s : Served). s.fault) it.served_is))
       (given_up_visit new h bytes text exchange it.fault it.next it.kind it.text_is it.next_is it.left)
 
-  -- the history after one connection more
-  pub represents_more : (mid new : TheRegistry S g) (h : History) (visits : List Visit) (visit : Visit) → Represents mid h visits
-      → ((x : History) → Stands mid x → EndsVisit new x visit None) → Represents new h (visits ++ visit ∷ [])
+  -- the history after one more connection
+  pub represents_more : (mid new : TheRegistry S g) (h : History) (visits : List Visit) (visit : Visit) → RepresentsAfter mid h visits
+      → ((x : History) → Represents mid x → EndsVisit new x visit None) → RepresentsAfter new h (visits ++ visit ∷ [])
   represents_more mid new h visits visit before one =
       let it = one before.0 before.2 in
       (it.0, turns_more h before.0 it.0 visits visit before.1 it.1, it.2)
 
-  -- the fault at one connection more
-  pub halted_more : (mid new : TheRegistry S g) (h : History) (visits : List Visit) (visit : Visit) (fault : Fault) → Represents mid h visits
-      → ((x : History) → Stands mid x → EndsVisit new x visit (Some fault)) → IsHalted new h (visits ++ visit ∷ []) fault
+  -- the fault at one more connection
+  pub halted_more : (mid new : TheRegistry S g) (h : History) (visits : List Visit) (visit : Visit) (fault : Fault) → RepresentsAfter mid h visits
+      → ((x : History) → Represents mid x → EndsVisit new x visit (Some fault)) → IsHalted new h (visits ++ visit ∷ []) fault
   halted_more mid new h visits visit fault before one =
       record { before = visits; last = visit; all = refl; middle = before.0; turns = before.1; halted = one before.0 before.2 }
 
-  -- and what a crash leaves then
+  -- what a crash leaves then
   pub with_crash : (it : TheRegistry S g) (h : History) (visits : List Visit) (fault : Option Fault) → EndsServing it h visits fault → HasCleanDisk (state_of it)
       → EndsServing it h visits fault × Leaves newest (state_of it) (IsLeftAfter h visits)
   with_crash it h visits None ends clean = (
@@ -106,30 +106,30 @@ module _ {S : Type 0} {g : Ghosts S} where
 pub length_more : (visits : List Visit) (visit : Visit) (n : ℕ) → length visits ≡ n → length (visits ++ visit ∷ []) ≡ n + 1
 length_more visits visit n is = length-append visits (visit ∷ []) ∙ ap (λ (k : ℕ). k + 1) is
 
-module _ {S C R W : Type 0} {g : Ghosts S} (opens : C → C → R → W → Type 0) (closes : C → C → R → W → Option ℕ → Type 0) (remaining : R → Option (List ℕ)) (contents : W → Option (List ℕ)) (failures : W → ℕ) where
+module _ {S C R W : Type 0} {g : Ghosts S} (opens : C → C → R → W → Type 0) (closes : C → C → R → W → Option ℕ → Type 0) (remaining : R → Option (List ℕ)) (contents : W → Option (List ℕ)) (failures : W → ℕ) (fails : C → C → Type 0) where
   abbrev Ends : C → C → TheRegistry S g → TheRegistry S g → ℕ → Result (Unit {0}) ServerStop → Type 0
   Ends old new first last count result = (visits : List Visit) × (middle : C)
       × HaveVisited opens closes remaining contents failures old middle visits
-      × IfVisited result (new ≡ middle)
+      × EndsAt fails middle new result
       × (length visits ≤ count) × OnOk result (length visits ≡ count)
-      × ((h : History) → Stands first h → HasCleanDisk (state_of last) → EndsServing last h visits (fault_in result) × Leaves newest (state_of last) (IsLeftAfter h visits))
+      × ((h : History) → Represents first h → HasCleanDisk (state_of last) → EndsServing last h visits (fault_in result) × Leaves newest (state_of last) (IsLeftAfter h visits))
 
-  -- a server stops at a connection that does not come, or at a fault
+  -- a server stops when no more connections come, or at a fault
   pub stops_at : (old middle new : C) (first mid last : TheRegistry S g) (count : ℕ) (visits : List Visit) (stop : ServerStop)
       → HaveVisited opens closes remaining contents failures old middle visits → length visits < count
       → (HasCleanDisk (state_of last) → HasCleanDisk (state_of mid))
-      → ((h : History) → Stands first h → HasCleanDisk (state_of mid) → Represents mid h visits)
+      → ((h : History) → Represents first h → HasCleanDisk (state_of mid) → RepresentsAfter mid h visits)
       → IfVisited (Err stop) ((visit : Visit) × IsVisit opens closes remaining contents failures middle new visit
-      × ((h : History) → Stands mid h → HasCleanDisk (state_of last) → EndsVisit last h visit (fault_in (Err stop))))
-      → (stop ≡ stops.Connections → last ≡ mid) → Ends old new first last count (Err stop)
+      × ((h : History) → Represents mid h → HasCleanDisk (state_of last) → EndsVisit last h visit (fault_in (Err stop))))
+      → (stop ≡ stops.Connections → fails middle new × (last ≡ mid)) → Ends old new first last count (Err stop)
   stops_at old middle new first mid last count visits stops.Connections before less early so_far came none = (
     visits,
     middle,
     before,
-    tt,
+    (none refl).0,
     omega (arith, less),
     tt,
-    λ h stands clean. with_crash last h visits None (subst (λ it. Represents it h visits) (sym (none refl)) (so_far h stands (early clean))) clean,
+    λ h stands clean. with_crash last h visits None (subst (λ it. RepresentsAfter it h visits) (sym (none refl).1) (so_far h stands (early clean))) clean,
   )
   stops_at old middle new first mid last count visits (stops.Registry fault) before less early so_far came none =
       let longer = length_more visits came.0 (length visits) refl in (
@@ -145,9 +145,9 @@ module _ {S C R W : Type 0} {g : Ghosts S} (opens : C → C → R → W → Type
   pub stopped_at : (result : Result (Unit {0}) ServerStop) (stop : ServerStop) → result ≡ Err stop → (old middle new : C) (first mid last : TheRegistry S g) (count : ℕ) (visits : List Visit)
       → HaveVisited opens closes remaining contents failures old middle visits → length visits < count
       → (HasCleanDisk (state_of last) → HasCleanDisk (state_of mid))
-      → ((h : History) → Stands first h → HasCleanDisk (state_of mid) → Represents mid h visits)
+      → ((h : History) → Represents first h → HasCleanDisk (state_of mid) → RepresentsAfter mid h visits)
       → IfVisited (Err stop) ((visit : Visit) × IsVisit opens closes remaining contents failures middle new visit
-      × ((h : History) → Stands mid h → HasCleanDisk (state_of last) → EndsVisit last h visit (fault_in (Err stop))))
-      → (stop ≡ stops.Connections → last ≡ mid) → Ends old new first last count result
+      × ((h : History) → Represents mid h → HasCleanDisk (state_of last) → EndsVisit last h visit (fault_in (Err stop))))
+      → (stop ≡ stops.Connections → fails middle new × (last ≡ mid)) → Ends old new first last count result
   stopped_at result stop is old middle new first mid last count visits before less early so_far came none =
       subst (λ (r : Result (Unit {0}) ServerStop). Ends old new first last count r) (sym is) (stops_at old middle new first mid last count visits stop before less early so_far came none)

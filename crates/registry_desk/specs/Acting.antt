@@ -6,7 +6,7 @@ use Rattle.usbids_text.specs.Writing.{written}
 use Rattle.registry_rules.specs.History.{History}
 use Rattle.registry_rules.specs.Number.{number}
 use Rattle.registry_rules.specs.Query.{is_reserved, has_vendor, org_of, petition_of}
-use Rattle.registry_rules.specs.Rows.{entry_of}
+use Rattle.registry_rules.specs.Records.{entry_of}
 use Rattle.registry_rules.specs.Run.{after_one, answer_one}
 use Rattle.registry_rules.specs.declared.refusal.Refusal.TheVariants.{NoVendor}
 use Rattle.registry_rules.specs.declared.verdict.Reply.TheVariants.{Refused}
@@ -14,7 +14,7 @@ use Rattle.registry_reports.specs.History.{IsListing}
 use Rattle.registry_tables.specs.Rows.{newest}
 use Rattle.registry_store.specs.declared.fault.Fault.TheVariants as faults
 use Rattle.registry_store.specs.declared.registry.Registry.{Registry as TheRegistry}
-use Rattle.registry_store.specs.Promise.{Leaves, Stands, is_spent, state_of}
+use Rattle.registry_store.specs.Promise.{Leaves, Represents, is_poisoned, state_of}
 use Rattle.registry_commands.specs.Reports.{IsReport}
 use Rattle.registry_commands.specs.declared.reporting.ReportKind.{ReportKind}
 use Rattle.registry_commands.specs.declared.reporting.ReportKind.TheVariants as kinds
@@ -31,12 +31,12 @@ use Rattle.registry_http.specs.Resources.{number_response, org_response, petitio
 use Rattle.registry_desk.specs.declared.fault.DeskFault.{DeskFault}
 use Rattle.registry_desk.specs.declared.fault.DeskFault.TheVariants.{Registry, NoMemory}
 
--- a number of a vendor that is named: refusal 34 where there is no such vendor
+-- a number of a vendor that the query names; refusal 34 if the registry has no such vendor
 abbrev pub vendor_number_at : History → ℕ → ℕ → Response
 vendor_number_at h vid pid =
     if has_vendor h vid then number_response (Some vid) pid (is_reserved h (number vid pid)) (entry_of h (number vid pid)) else reply_response (Refused NoVendor)
 
--- the list of the numbers that are held, without a stamp
+-- the response has the list of the held numbers, without a stamp
 abbrev pub IsListResponse : History → Response → Type 0
 IsListResponse h response = (doc : List TopEntry) × IsListing h doc × (response ≡ text_response (written doc None))
 
@@ -48,7 +48,7 @@ kind_of reports.Petitions = kinds.Petitions
 abbrev pub IsReportResponse : History → Report → Response → Type 0
 IsReportResponse h report response = (text : List ℕ) × IsReport (kind_of report) h text × (response ≡ text_response text)
 
--- the response to a query; a number without a vendor is of the founding one
+-- the response to a query; a number without a vendor is one of the founding vendor
 abbrev pub IsQueryResponse : History → Query → Response → Type 0
 IsQueryResponse h queries.List response = IsListResponse h response
 IsQueryResponse h (queries.Number None pid) response =
@@ -58,38 +58,40 @@ IsQueryResponse h (queries.Org org) response = response ≡ org_response (org_of
 IsQueryResponse h (queries.Petition id) response = response ≡ petition_response h.founding.vendor id (petition_of h id)
 IsQueryResponse h (queries.Report report) response = IsReportResponse h report response
 
--- the response of the registry of a history to what a message says
+-- the response to what a message says, over a history
 abbrev pub IsResponse : History → Result Message HttpRefusal → Response → Type 0
 IsResponse h (Err refusal) response = response ≡ refusal_response refusal
 IsResponse h (Ok (messages.Query query)) response = IsQueryResponse h query response
 IsResponse h (Ok (messages.Request request)) response = response ≡ reply_response (answer_one h request)
 
--- and the history after it
+-- the history after a message
 abbrev pub after_message : History → Result Message HttpRefusal → History
 after_message h (Err refusal) = h
 after_message h (Ok (messages.Query query)) = h
 after_message h (Ok (messages.Request request)) = after_one h request
 
--- which faults a registry that stands may have, over a clean disk
-abbrev pub IsOfStanding : DeskFault → Type 0
-IsOfStanding NoMemory = ⊤
-IsOfStanding (Registry faults.Store) = ⊤
-IsOfStanding (Registry faults.NoMemory) = ⊤
-IsOfStanding (Registry faults.Foreign) = ⊥
-IsOfStanding (Registry faults.Taken) = ⊥
-IsOfStanding (Registry faults.Spent) = ⊥
+-- the faults that a sound registry may have over a clean disk
+abbrev pub IsOfSoundRegistry : DeskFault → Type 0
+IsOfSoundRegistry NoMemory = ⊤
+IsOfSoundRegistry (Registry faults.Store) = ⊤
+IsOfSoundRegistry (Registry faults.NoMemory) = ⊤
+IsOfSoundRegistry (Registry faults.Foreign) = ⊥
+IsOfSoundRegistry (Registry faults.Taken) = ⊥
+IsOfSoundRegistry (Registry faults.Poisoned) = ⊥
 
 -- one of the two histories
 abbrev pub IsEither : History → History → History → Type 0
 IsEither h next x = (x ≡ h) ⊎ (x ≡ next)
 
 module _ {S : Type 0} {g : Ghosts S} where
-  -- want of memory alone spends no registry
+  -- after a fault of the registry it is poisoned or represents one of the two histories; memory that runs out elsewhere does
+  -- not poison it
   abbrev pub EndsAt : DeskFault → TheRegistry S g → History → History → Type 0
-  EndsAt NoMemory it h next = Stands it h ⊎ Stands it next
-  EndsAt (Registry fault) it h next = (is_spent it ≡ true) ⊎ (Stands it h ⊎ Stands it next)
+  EndsAt NoMemory it h next = Represents it h ⊎ Represents it next
+  EndsAt (Registry fault) it h next = (is_poisoned it ≡ true) ⊎ (Represents it h ⊎ Represents it next)
 
-  -- A message got no response of its own. The store leaves the one history or the other, and a registry that is not spent stands at one of them.
+  -- A message got refusal 30 or 31. A crash leaves one history or the other, and a registry that is not poisoned represents
+  -- one of them.
   pub record IsLeftAt (fault : DeskFault) (it : TheRegistry S g) (h next : History) : Type 0 where
     pub leaves : Leaves newest (state_of it) (IsEither h next)
     pub ends : EndsAt fault it h next

@@ -1,33 +1,48 @@
--- What is sent where the registry has a fault or memory is short.
-use Rattle.std.specs.Prelude.{Option, Some, None}
+-- What is sent where the registry has a fault or memory runs out.
+use Rattle.std.specs.Prelude.{ℕ, List, codes, Option, Some, None}
 use Rattle.registry_store.specs.declared.fault.Fault.{Fault}
 use Rattle.registry_store.specs.declared.fault.Fault.TheVariants as faults
 use Rattle.registry_commands.specs.declared.messages.Failure.{Failure}
 use Rattle.registry_commands.specs.declared.messages.Failure.TheVariants as failures
 use Rattle.registry_http.specs.declared.unavailable.Unavailable.{Unavailable}
 use Rattle.registry_http.specs.declared.unavailable.Unavailable.TheVariants as unavailable
+use Rattle.registry_store.specs.Faults as store_faults
+use Rattle.registry_desk.specs.declared.serve.PeerFault.{PeerFault}
+use Rattle.registry_desk.specs.declared.serve.PeerFault.TheVariants as peers
+use Rattle.registry_desk.specs.declared.server.ServerStop.{ServerStop}
+use Rattle.registry_desk.specs.declared.server.ServerStop.TheVariants as stops
 use Rattle.registry_desk.specs.declared.fault.DeskFault.{DeskFault}
 use Rattle.registry_desk.specs.declared.fault.DeskFault.TheVariants.{Registry, NoMemory}
 
--- want of memory is refusal 31, any other fault is 30
+-- the refusal for a fault: 31 when out of memory, 30 for any other
 abbrev pub unavailable_of : DeskFault → Unavailable
 unavailable_of NoMemory = unavailable.NoMemory
 unavailable_of (Registry faults.NoMemory) = unavailable.NoMemory
 unavailable_of (Registry faults.Store) = unavailable.StoreFault
 unavailable_of (Registry faults.Foreign) = unavailable.StoreFault
 unavailable_of (Registry faults.Taken) = unavailable.StoreFault
-unavailable_of (Registry faults.Spent) = unavailable.StoreFault
+unavailable_of (Registry faults.Poisoned) = unavailable.StoreFault
 
--- the registry's fault behind it
+-- the fault of the registry behind this one
 abbrev pub fault_of : DeskFault → Option Fault
 fault_of (Registry fault) = Some fault
 fault_of NoMemory = None
 
--- the fault that a failure of a list or a report is; those have no input and no output that could fail
+-- the fault for a failure of a list or a report, which have no input and no output that could fail
 abbrev pub failed_by : Failure → DeskFault
 failed_by failures.Memory = NoMemory
 failed_by failures.Store = Registry faults.Store
 failed_by failures.File = Registry faults.Store
 failed_by failures.Foreign = Registry faults.Foreign
 failed_by failures.Taken = Registry faults.Taken
-failed_by failures.Spent = Registry faults.Spent
+failed_by failures.Poisoned = Registry faults.Poisoned
+
+-- why a connection is given up
+abbrev pub peer_fault_text : PeerFault → List ℕ
+peer_fault_text peers.Read = codes "the message could not be read"
+peer_fault_text peers.Write = codes "the response could not be written"
+
+-- why a server stops
+abbrev pub server_stop_text : ServerStop → List ℕ
+server_stop_text stops.Connections = codes "no connection can come"
+server_stop_text (stops.Registry fault) = store_faults.fault_text fault

@@ -1,38 +1,39 @@
--- What a server makes of one connection after another.
+-- What a server does with one connection after another.
 --
--- A message has its response over the history before it, and the history after it is that of the next message. Two connections
--- differ: that whose reader failed, which has no message, and that which got refusal 31 for want of memory, whose message may
--- have been acted on.
+-- A message gets its response over the history before it, and the next message starts from the history after it. Two kinds
+-- of connections differ: one whose reader failed has no message, and one that got refusal 31 because memory ran out has a
+-- message that may have been acted on.
 use Rattle.std.specs.Prelude.{◌≡◌, ◌⊎◌, ⊤, ℕ, List, [], ◌∷◌, ◌++◌, Option, Some, None, Result, Ok, Err}
 use Rattle.sqlite.specs.Store.{Ghosts}
-use Rattle.usbids_text.specs.Ends.{MayGive, Writes}
+use Rattle.byte_streams.specs.Streams.{MayGive, Writes}
 use Rattle.registry_rules.specs.History.{History}
 use Rattle.registry_store.specs.declared.fault.Fault.{Fault}
 use Rattle.registry_store.specs.declared.registry.Registry.{Registry as TheRegistry}
-use Rattle.registry_store.specs.Promise.{Stands}
+use Rattle.registry_store.specs.Promise.{Represents}
 use Rattle.registry_http.specs.declared.response.Response.{Response}
 use Rattle.registry_http.specs.declared.refusal.HttpRefusal.{HttpRefusal}
 use Rattle.registry_http.specs.declared.message.Message.{Message}
 use Rattle.registry_http.specs.Responses.{response_bytes, unavailable_response}
 use Rattle.registry_http.specs.Messages.{Says}
-use Rattle.usbids_text.specs.declared.ends.Broken.{Broken}
+use Rattle.byte_streams.specs.declared.streams.Broken.{Broken}
 use Rattle.registry_desk.specs.declared.fault.DeskFault.TheVariants.{Registry, NoMemory}
 use Rattle.registry_desk.specs.declared.serve.Exchange.{Exchange}
 use Rattle.registry_desk.specs.declared.server.ServerStop.{ServerStop}
 use Rattle.registry_desk.specs.declared.server.ServerStop.TheVariants as stops
 use Rattle.registry_desk.specs.Faults.{unavailable_of}
-use Rattle.registry_desk.specs.Acting.{IsResponse, after_message, IsOfStanding, IsEither, IsLeftAt}
+use Rattle.registry_desk.specs.Acting.{IsResponse, after_message, IsOfSoundRegistry, IsEither, IsLeftAt}
 use Rattle.registry_desk.specs.Serving.{IsNext}
 
 -- ---- connections
 
--- one connection: all bytes that its reader would give, the text that was to be written for them, and how its serving ended; an error says that its reader failed
+-- one connection: all bytes that its reader would give, the text that was to be written for them, and how serving it ended;
+-- an error means that its reader failed
 pub record Visit : Type 0 where
   pub bytes : List ℕ
   pub text : List ℕ
   pub end : Result Exchange Broken
 
--- the status that was written, where a response was written whole
+-- the status of the response, if it was written whole
 abbrev pub status_in : Result ℕ Broken → Option ℕ
 status_in (Ok status) = Some status
 status_in (Err broken) = None
@@ -41,7 +42,7 @@ abbrev pub status_of : Result Exchange Broken → Option ℕ
 status_of (Ok exchange) = status_in exchange.sent
 status_of (Err broken) = None
 
--- all of the text was written, or the writer failed; where the reader failed nothing was
+-- all of the text was written, or the writer failed; nothing was written if the reader failed
 abbrev pub IsWritten : {W : Type 0} → (W → Option (List ℕ)) → (W → ℕ) → W → W → Visit → Type 0
 IsWritten contents failures old new visit = WrittenAt visit.end
   where
@@ -64,14 +65,14 @@ module _ {C R W : Type 0} (opens : C → C → R → W → Type 0) (closes : C �
     pub status_is : status ≡ status_of visit.end
     pub closes_with : closes opened new reader_new writer_new status
 
-  -- the same of connections one after another
+  -- these connections were served so, one after another
   abbrev pub HaveVisited : C → C → List Visit → Type 0
   HaveVisited old new [] = new ≡ old
   HaveVisited old new (visit ∷ visits) = (middle : C) × IsVisit old middle visit × HaveVisited middle new visits
 
 -- ---- histories
 
--- the text is the response to all bytes over the history, and the next history is that after the message
+-- the text is the response to all bytes over the history, and the next history is the one after the message
 pub record IsResponded (h : History) (bytes text : List ℕ) (next : History) : Type 0 where
   pub said : Result Message HttpRefusal
   pub says : Says h.founding.vendor bytes said
@@ -80,7 +81,7 @@ pub record IsResponded (h : History) (bytes text : List ℕ) (next : History) : 
   pub text_is : text ≡ response_bytes response
   pub next_is : next ≡ after_message h said
 
--- from one history to the next
+-- one connection leads from the history h to the next one
 abbrev pub IsTurn : History → Visit → History → Type 0
 IsTurn h visit next = TurnAt visit.end
   where
@@ -89,7 +90,7 @@ IsTurn h visit next = TurnAt visit.end
         ⊎ ((visit.text ≡ response_bytes (unavailable_response (unavailable_of NoMemory))) × IsNext h visit.bytes NoMemory next)
     TurnAt (Err broken) = next ≡ h
 
--- from the first history to the last, message by message
+-- connections lead from the first history to the last, one after another
 abbrev pub Turns : History → List Visit → History → Type 0
 Turns h [] next = next ≡ h
 Turns h (visit ∷ visits) next = (middle : History) × IsTurn h visit middle × Turns middle visits next
@@ -97,19 +98,20 @@ Turns h (visit ∷ visits) next = (middle : History) × IsTurn h visit middle ×
 -- ---- the registry
 
 module _ {S : Type 0} {g : Ghosts S} where
-  -- the registry stands at the history after the messages of all these connections, in their order
-  abbrev pub Represents : TheRegistry S g → History → List Visit → Type 0
-  Represents it h visits = (next : History) × Turns h visits next × Stands it next
+  -- the registry represents the history after the messages of all these connections, in their order
+  abbrev pub RepresentsAfter : TheRegistry S g → History → List Visit → Type 0
+  RepresentsAfter it h visits = (next : History) × Turns h visits next × Represents it next
 
-  -- The registry had a fault at this connection. A crash leaves the history with or without its message.
+  -- The registry had a fault at this connection. A crash leaves the history before its message or after it.
   pub record IsHaltedAt (it : TheRegistry S g) (h : History) (visit : Visit) (fault : Fault) : Type 0 where
-    pub kind : IsOfStanding (Registry fault)
+    pub kind : IsOfSoundRegistry (Registry fault)
     pub text_is : visit.text ≡ response_bytes (unavailable_response (unavailable_of (Registry fault)))
     pub next : History
     pub next_is : IsNext h visit.bytes (Registry fault) next
     pub left : IsLeftAt (Registry fault) it h next
 
-  -- The same of the last of these connections: all messages before it are in the history that a crash leaves, and at most its own besides.
+  -- The registry had a fault at the last of these connections: a crash leaves the history after all messages before it, or
+  -- after its own.
   pub record IsHalted (it : TheRegistry S g) (h : History) (visits : List Visit) (fault : Fault) : Type 0 where
     pub before : List Visit
     pub last : Visit
@@ -118,26 +120,33 @@ module _ {S : Type 0} {g : Ghosts S} where
     pub turns : Turns h before middle
     pub halted : IsHaltedAt it middle last fault
 
-  -- one connection, without a fault of the registry or with one
+  -- how serving one connection ends, without a fault of the registry or with one
   abbrev pub EndsVisit : TheRegistry S g → History → Visit → Option Fault → Type 0
-  EndsVisit it h visit None = (next : History) × IsTurn h visit next × Stands it next
+  EndsVisit it h visit None = (next : History) × IsTurn h visit next × Represents it next
   EndsVisit it h visit (Some fault) = IsHaltedAt it h visit fault
 
--- the registry's fault that stopped a server
+-- the fault of the registry that stopped a server
 abbrev pub fault_in : Result (Unit {0}) ServerStop → Option Fault
 fault_in (Ok done) = None
 fault_in (Err stops.Connections) = None
 fault_in (Err (stops.Registry fault)) = Some fault
 
--- where a connection came, this holds
+-- this holds if a connection came
 abbrev pub IfVisited : Result (Unit {0}) ServerStop → Type 0 → Type 0
 IfVisited (Ok done) P = P
 IfVisited (Err stops.Connections) P = ⊤
 IfVisited (Err (stops.Registry fault)) P = P
 
+-- the connections are as the last one left them, or no further one could come
+abbrev pub EndsAt : {C : Type 0} → (C → C → Type 0) → C → C → Result (Unit {0}) ServerStop → Type 0
+EndsAt fails middle new (Ok done) = new ≡ middle
+EndsAt fails middle new (Err stops.Connections) = fails middle new
+EndsAt fails middle new (Err (stops.Registry fault)) = new ≡ middle
+
 -- ---- crashes
 
--- The last of these connections got refusal 30 or 31 for a fault of the registry: the history after all messages before it, with or without its own.
+-- The last of these connections got refusal 30 or 31 for a fault of the registry: this is the history after all messages
+-- before it, or after its own.
 pub record IsCutShort (h : History) (visits : List Visit) (x : History) : Type 0 where
   pub before : List Visit
   pub last : Visit
@@ -150,11 +159,13 @@ pub record IsCutShort (h : History) (visits : List Visit) (x : History) : Type 0
   pub next_is : IsNext middle last.bytes (Registry fault) next
   pub is : IsEither middle next x
 
--- What a crash leaves: the history after the messages of all these connections, or of all but the last one, where the registry had a fault at that. So it holds each message whose response was written whole. It also holds one that was acted on while its writer failed, and may hold one that got 31.
+-- What a crash leaves: the history after the messages of all these connections, or of all but the last one, if the registry
+-- had a fault there. So it holds each message whose response was written whole. It also holds a message that was acted on
+-- while its writer failed, and may hold one that got refusal 31.
 abbrev pub IsLeftAfter : History → List Visit → History → Type 0
 IsLeftAfter h visits x = Turns h visits x ⊎ IsCutShort h visits x
 
 module _ {S : Type 0} {g : Ghosts S} where
   abbrev pub EndsServing : TheRegistry S g → History → List Visit → Option Fault → Type 0
-  EndsServing it h visits None = Represents it h visits
+  EndsServing it h visits None = RepresentsAfter it h visits
   EndsServing it h visits (Some fault) = IsHalted it h visits fault

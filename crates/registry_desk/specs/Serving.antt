@@ -1,9 +1,9 @@
--- What serving one message comes to.
+-- What serving one message writes, and what the registry then represents.
 use Rattle.std.specs.Prelude.{◌≡◌, ◌≢◌, ◌⊎◌, ℕ, List, None, Result, Ok, Err, IsOk, IfOk}
 use Rattle.sqlite.specs.Store.{Ghosts}
 use Rattle.registry_rules.specs.History.{History}
 use Rattle.registry_store.specs.declared.registry.Registry.{Registry as TheRegistry}
-use Rattle.registry_store.specs.Promise.{Stands}
+use Rattle.registry_store.specs.Promise.{Represents}
 use Rattle.registry_http.specs.declared.response.Response.{Response}
 use Rattle.registry_http.specs.declared.refusal.HttpRefusal.{HttpRefusal}
 use Rattle.registry_http.specs.declared.message.Message.{Message}
@@ -14,38 +14,39 @@ use Rattle.registry_desk.specs.declared.fault.DeskFault.TheVariants.{NoMemory}
 use Rattle.registry_desk.specs.declared.serve.Served.{Served}
 use Rattle.registry_desk.specs.declared.serve.Exchange.{Exchange}
 use Rattle.registry_desk.specs.Faults.{unavailable_of, fault_of}
-use Rattle.registry_desk.specs.Acting.{IsResponse, after_message, IsOfStanding, IsLeftAt}
+use Rattle.registry_desk.specs.Acting.{IsResponse, after_message, IsOfSoundRegistry, IsLeftAt}
 
--- a response was sent
+-- this response was sent
 abbrev pub answered : Response → Served
 answered response = record { status = response.status; fault = None }
 
--- 503 was sent
+-- refusal 30 or 31 was sent, with status 503
 abbrev pub given_up : DeskFault → Served
 given_up fault = record { status = 503; fault = fault_of fault }
 
--- What is written for a response: the response, or 31 where there is no memory for its head.
+-- What is written for a response: the response, or refusal 31 if memory runs out for its head.
 abbrev pub IsSent : Response → List ℕ → Served → Type 0
 IsSent response text served = (written : Response) × IsInPlaceOf written response × (text ≡ response_bytes written) × (served ≡ answered written)
 
--- What is written for what was done: a response, or 30 or 31.
+-- What is written for what was done: a response, or refusal 30 or 31.
 abbrev pub IsTold : Result Response DeskFault → List ℕ → Served → Type 0
 IsTold (Ok response) text served = IsSent response text served
 IsTold (Err fault) text served = (text ≡ response_bytes (unavailable_response (unavailable_of fault))) × (served ≡ given_up fault)
 
--- The exchange has the fault, and the status where all was written.
+-- The exchange has this fault, and this status if all was written.
 pub record IsOfServed (exchange : Exchange) (served : Served) : Type 0 where
   pub fault : exchange.fault ≡ served.fault
   pub status : IfOk exchange.sent (λ status. status ≡ served.status)
 
--- the history that a registry may stand at besides h: the one after the message, or h itself where memory was short before the message was read
+-- the history that a registry may represent besides h: the one after the message, or h itself if memory ran out before the
+-- message was read
 abbrev pub IsNext : History → List ℕ → DeskFault → History → Type 0
 IsNext h bytes fault next =
     ((fault ≡ NoMemory) × (next ≡ h))
     ⊎ ((said : Result Message HttpRefusal) × Says h.founding.vendor bytes said × (next ≡ after_message h said) × (fault ≢ NoMemory → IsOk said))
 
 module _ {S : Type 0} {g : Ghosts S} where
-  -- the text is a response to all bytes, and the registry stands after the message
+  -- the text is the response to all bytes, and the registry represents the history after the message
   pub record IsAnswered (new : TheRegistry S g) (h : History) (bytes text : List ℕ) (served : Served) : Type 0 where
     pub said : Result Message HttpRefusal
     pub says : Says h.founding.vendor bytes said
@@ -53,12 +54,12 @@ module _ {S : Type 0} {g : Ghosts S} where
     pub is : IsResponse h said response
     pub text_is : text ≡ response_bytes response
     pub served_is : served ≡ answered response
-    pub stands : Stands new (after_message h said)
+    pub represents : Represents new (after_message h said)
 
-  -- the text is 30 or 31, and what is left is of h or of the history after the message
+  -- the text is refusal 30 or 31, and a crash leaves h or the history after the message
   pub record IsGivenUp (new : TheRegistry S g) (h : History) (bytes text : List ℕ) (served : Served) : Type 0 where
     pub fault : DeskFault
-    pub kind : IsOfStanding fault
+    pub kind : IsOfSoundRegistry fault
     pub text_is : text ≡ response_bytes (unavailable_response (unavailable_of fault))
     pub served_is : served ≡ given_up fault
     pub next : History

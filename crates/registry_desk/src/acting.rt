@@ -1,14 +1,14 @@
-//! A message over a registry: a query is answered, an order is acted on.
+//! Answers a query from a registry, or acts on an order.
 
 ghost use Rattle.std.specs.Prelude.{◌≡◌, ◌≢◌, true, Err, IfOk, IfErr, OnOk, OnErr, IsOk};
 ghost use Rattle.sqlite.specs.State.{HasCleanDisk};
 ghost use Rattle.registry_rules.specs.History.{History};
 ghost use Rattle.registry_rules.specs.Run.{after_one, answer_one};
-ghost use Rattle.registry_store.specs.Promise.{Stands, Endures, is_spent, state_of};
+ghost use Rattle.registry_store.specs.Promise.{Represents, Endures, is_poisoned, state_of};
 ghost use Rattle.registry_store.specs.declared.fault.Fault.TheVariants as faults;
 ghost use Rattle.registry_desk.specs.declared.fault.DeskFault.TheVariants as desk_faults;
 ghost use Rattle.registry_http.specs.Responses.{refusal_response, reply_response};
-ghost use Rattle.registry_desk.specs.Acting.{IsResponse, after_message, IsOfStanding, IsLeftAt};
+ghost use Rattle.registry_desk.specs.Acting.{IsResponse, after_message, IsOfSoundRegistry, IsLeftAt};
 
 use crate::fault::DeskFault;
 use crate::queries::ask;
@@ -17,53 +17,44 @@ use registry_rules::Request;
 use registry_store::Registry;
 use sqlite::Alter;
 use std::alloc::Global;
-use usbnum_core::NoMemory;
 
-/// Acts on an order.
+/// Acts on an order, and returns the response.
 fn act_on<S: Alter>(
     alloc: Global,
     registry: &mut Registry<S>,
     request: &Request,
 ) -> Result<Response, DeskFault>
-    ensures answered { (h : History) → Stands registry.old h → HasCleanDisk (state_of registry.new)
-        → IfOk result (λ response. (response ≡ reply_response (answer_one h request.now)) × Stands registry.new (after_one h request.now)) }
-    ensures left { (h : History) → Stands registry.old h → HasCleanDisk (state_of registry.new)
-        → IfErr result (λ fault. IsOfStanding fault × IsLeftAt fault registry.new h (after_one h request.now)) }
-    ensures only_spent { result ≡ Err (desk_faults.Registry faults.Spent) → is_spent registry.old ≡ true }
+    ensures answered { (h : History) → Represents registry.old h → HasCleanDisk (state_of registry.new)
+        → IfOk result (λ response. (response ≡ reply_response (answer_one h request.now)) × Represents registry.new (after_one h request.now)) }
+    ensures left { (h : History) → Represents registry.old h → HasCleanDisk (state_of registry.new)
+        → IfErr result (λ fault. IsOfSoundRegistry fault × IsLeftAt fault registry.new h (after_one h request.now)) }
+    ensures only_poisoned { result ≡ Err (desk_faults.Registry faults.Poisoned) → is_poisoned registry.old ≡ true }
     ensures endures { Endures (state_of registry.old) (state_of registry.new) }
 {
-    match registry.act(request) {
-        Ok(reply) => match reply_response(alloc, &reply) {
-            Ok(response) => Ok(response),
-            Err(NoMemory) => Err(DeskFault::NoMemory),
-        },
-        Err(fault) => Err(DeskFault::Registry(fault)),
-    }
+    let reply = registry.act(request)?;
+    Ok(reply_response(alloc, &reply)?)
 }
 
-/// The response to a message that is refused.
+/// Returns the response to a message that is refused.
 fn refuse(alloc: Global, refusal: HttpRefusal) -> Result<Response, DeskFault>
     ensures ok { IfOk result (λ response. response ≡ refusal_response refusal) }
     ensures err { IfErr result (λ fault. fault ≡ desk_faults.NoMemory) }
 {
-    match refusal_response(alloc, refusal) {
-        Ok(response) => Ok(response),
-        Err(NoMemory) => Err(DeskFault::NoMemory),
-    }
+    Ok(refusal_response(alloc, refusal)?)
 }
 
-/// The response to what a message says.
+/// Acts on what a message says, and returns the response.
 pub(crate) fn response_to<S: Alter>(
     alloc: Global,
     registry: &mut Registry<S>,
     said: Result<Message, HttpRefusal>,
 ) -> Result<Response, DeskFault>
-    ensures answered { (h : History) → Stands registry.old h → HasCleanDisk (state_of registry.new)
-        → IfOk result (λ response. IsResponse h said response × Stands registry.new (after_message h said)) }
-    ensures left { (h : History) → Stands registry.old h → HasCleanDisk (state_of registry.new)
-        → IfErr result (λ fault. IsOfStanding fault × IsLeftAt fault registry.new h (after_message h said)) }
+    ensures answered { (h : History) → Represents registry.old h → HasCleanDisk (state_of registry.new)
+        → IfOk result (λ response. IsResponse h said response × Represents registry.new (after_message h said)) }
+    ensures left { (h : History) → Represents registry.old h → HasCleanDisk (state_of registry.new)
+        → IfErr result (λ fault. IsOfSoundRegistry fault × IsLeftAt fault registry.new h (after_message h said)) }
     ensures asked { IfErr result (λ fault. fault ≢ desk_faults.NoMemory → IsOk said) }
-    ensures only_spent { result ≡ Err (desk_faults.Registry faults.Spent) → is_spent registry.old ≡ true }
+    ensures only_poisoned { result ≡ Err (desk_faults.Registry faults.Poisoned) → is_poisoned registry.old ≡ true }
     ensures endures { Endures (state_of registry.old) (state_of registry.new) }
 {
     match said {

@@ -1,22 +1,40 @@
-//! Why a message has no response of its own: the registry has a fault, or memory is short.
+//! Why a message gets refusal 30 or 31: the registry has a fault, or memory runs out.
 
 ghost use Rattle.std.specs.Prelude.{◌≡◌};
+ghost use Rattle.registry_desk.specs.declared.fault.DeskFault.TheVariants.{Registry, NoMemory as OutOfMemory};
 ghost use Rattle.registry_desk.specs.Faults.{unavailable_of, fault_of, failed_by};
 
 use registry_commands::Failure;
 use registry_http::Unavailable;
 use registry_store::Fault;
+use usbnum_core::NoMemory;
 
-/// Why a message has no response of its own.
+/// Why a message gets refusal 30 or 31 instead of a response of its own.
 #[derive(Clone, Copy, Debug, Drop, PartialEq, Eq)]
 pub(crate) enum DeskFault {
     /// The registry had a fault.
     Registry(Fault),
-    /// Memory is short for the message or its response.
+    /// Out of memory for the message or its response.
     NoMemory,
 }
 
-/// The refusal that is sent then: 31 for want of memory, 30 for any other fault.
+impl From<Fault> for DeskFault {
+    ghost from_gives = { λ fault gives. gives ≡ Registry fault };
+
+    fn from(fault: Fault) -> DeskFault {
+        DeskFault::Registry(fault)
+    }
+}
+
+impl From<NoMemory> for DeskFault {
+    ghost from_gives = { λ _ gives. gives ≡ OutOfMemory };
+
+    fn from(_error: NoMemory) -> DeskFault {
+        DeskFault::NoMemory
+    }
+}
+
+/// Returns the refusal for a fault: 31 when out of memory, 30 for any other.
 pub(crate) fn unavailable_of(fault: DeskFault) -> Unavailable
     ensures { result ≡ unavailable_of fault }
 {
@@ -26,11 +44,11 @@ pub(crate) fn unavailable_of(fault: DeskFault) -> Unavailable
         DeskFault::Registry(Fault::Store) => Unavailable::StoreFault,
         DeskFault::Registry(Fault::Foreign) => Unavailable::StoreFault,
         DeskFault::Registry(Fault::Taken) => Unavailable::StoreFault,
-        DeskFault::Registry(Fault::Spent) => Unavailable::StoreFault,
+        DeskFault::Registry(Fault::Poisoned) => Unavailable::StoreFault,
     }
 }
 
-/// The registry's fault behind it, where there is one.
+/// Returns the fault of the registry behind this one, if any.
 pub(crate) fn fault_of(fault: DeskFault) -> Option<Fault>
     ensures { result ≡ fault_of fault }
 {
@@ -40,7 +58,7 @@ pub(crate) fn fault_of(fault: DeskFault) -> Option<Fault>
     }
 }
 
-/// The fault that a failure of a list or a report is.
+/// Returns the fault for a failure of a list or a report.
 pub(crate) fn failed_by(failure: Failure) -> DeskFault
     ensures { result ≡ failed_by failure }
 {
@@ -50,6 +68,6 @@ pub(crate) fn failed_by(failure: Failure) -> DeskFault
         Failure::File => DeskFault::Registry(Fault::Store),
         Failure::Foreign => DeskFault::Registry(Fault::Foreign),
         Failure::Taken => DeskFault::Registry(Fault::Taken),
-        Failure::Spent => DeskFault::Registry(Fault::Spent),
+        Failure::Poisoned => DeskFault::Registry(Fault::Poisoned),
     }
 }

@@ -2,8 +2,9 @@
 
 ghost use Rattle.registry_desk.specs.Acting.{HasOneResponse};
 
-/// A history has one response to what a message says. With `registry_http::says_one_thing` the response follows from the
-/// history and the bytes alone, however they were cut.
+/// Proves that a history has one response to what a message says. With
+/// `registry_http::says_one_thing` the response follows from the history and the bytes alone,
+/// however they were cut.
 pub fn has_one_response()
     ensures { HasOneResponse }
 {}

@@ -1,5 +1,5 @@
-//! One message of HTTP, read from a source, acted on by a registry, and its response written to a sink; and the server
-//! that does so for one connection after another.
+//! Serves a registry over HTTP. `serve_one` reads one message from a source, acts on it and writes
+//! the response to a sink; `serve_all` does so for one connection after another.
 #![tactic(auto)]
 
 mod acting;

@@ -1,4 +1,4 @@
-//! Queries: one function for each kind, from a registry to the response.
+//! Answers queries from a registry, with one function for each kind.
 
 ghost use Rattle.std.specs.Prelude.{◌≡◌, true, None, Err, IfOk, IfErr};
 ghost use Rattle.sqlite.specs.State.{HasCleanDisk};
@@ -6,18 +6,19 @@ ghost use Rattle.usbids_text.specs.Writing.{written};
 ghost use Rattle.registry_rules.specs.History.{History};
 ghost use Rattle.registry_rules.specs.Number.{number};
 ghost use Rattle.registry_rules.specs.Query.{is_reserved, has_vendor, org_of, petition_of};
-ghost use Rattle.registry_rules.specs.Rows.{entry_of};
+ghost use Rattle.registry_rules.specs.Records.{entry_of};
 ghost use Rattle.registry_rules.specs.declared.verdict.Reply.TheVariants as replies;
 ghost use Rattle.registry_rules.specs.declared.refusal.Refusal.TheVariants as rule_refusals;
-ghost use Rattle.registry_store.specs.Promise.{Stands, is_spent, state_of};
+ghost use Rattle.registry_store.specs.Promise.{Represents, is_poisoned, state_of};
 ghost use Rattle.registry_store.specs.declared.fault.Fault.TheVariants as faults;
 ghost use Rattle.registry_commands.specs.Shown.{IsLeft};
 ghost use Rattle.registry_http.specs.Responses.{reply_response, text_response};
 ghost use Rattle.registry_http.specs.Resources.{number_response, org_response, petition_response};
 ghost use Rattle.registry_desk.specs.declared.fault.DeskFault.TheVariants as desk_faults;
-ghost use Rattle.registry_desk.specs.Acting.{IsListResponse, IsQueryResponse, IsReportResponse, IsOfStanding, kind_of, vendor_number_at};
+ghost use Rattle.registry_desk.specs.Acting.{IsListResponse, IsQueryResponse, IsReportResponse, IsOfSoundRegistry, kind_of, vendor_number_at};
 
 use crate::fault::{DeskFault, failed_by};
+use byte_streams::Outlet;
 use registry_commands::{ReportKind, document_of, report_of};
 use registry_http::{
     Query, Report, Response, number_response, org_response, petition_response, reply_response,
@@ -27,10 +28,10 @@ use registry_rules::{Refusal, Reply};
 use registry_store::Registry;
 use sqlite::Alter;
 use std::alloc::Global;
-use usbids_text::{Document, Outlet, WriteFault, write};
-use usbnum_core::{NoMemory, Number, Pid, Slug, Vid};
+use usbids_text::{Document, WriteFault, write};
+use usbnum_core::{Number, Pid, Slug, Vid};
 
-/// Asks for a number of a vendor, which the response names if it is to.
+/// Looks up a number of a vendor. The response names `vendor`, if given.
 fn ask_number<S: Alter>(
     alloc: Global,
     registry: &mut Registry<S>,
@@ -38,95 +39,75 @@ fn ask_number<S: Alter>(
     vid: Vid,
     pid: Pid,
 ) -> Result<Response, DeskFault>
-    ensures answered { (h : History) → Stands registry.old h → HasCleanDisk (state_of registry.new) → IfOk result (λ response. response ≡ number_response vendor pid (is_reserved h (number vid pid)) (entry_of h (number vid pid))) }
-    ensures kind { (h : History) → Stands registry.old h → HasCleanDisk (state_of registry.new) → IfErr result IsOfStanding }
+    ensures answered { (h : History) → Represents registry.old h → HasCleanDisk (state_of registry.new) → IfOk result (λ response. response ≡ number_response vendor pid (is_reserved h (number vid pid)) (entry_of h (number vid pid))) }
+    ensures kind { (h : History) → Represents registry.old h → HasCleanDisk (state_of registry.new) → IfErr result IsOfSoundRegistry }
     ensures left { IsLeft registry.old registry.new }
-    ensures only_spent { result ≡ Err (desk_faults.Registry faults.Spent) → is_spent registry.old ≡ true }
+    ensures only_poisoned { result ≡ Err (desk_faults.Registry faults.Poisoned) → is_poisoned registry.old ≡ true }
 {
-    let reserved = match registry.is_reserved(Number { vid, pid }) {
-        Ok(reserved) => reserved,
-        Err(fault) => return Err(DeskFault::Registry(fault)),
-    };
-    match registry.entry(Number { vid, pid }) {
-        Ok(entry) => match number_response(alloc, vendor, pid, reserved, entry.as_ref()) {
-            Ok(response) => Ok(response),
-            Err(NoMemory) => Err(DeskFault::NoMemory),
-        },
-        Err(fault) => Err(DeskFault::Registry(fault)),
-    }
+    let reserved = registry.is_reserved(Number { vid, pid })?;
+    let entry = registry.entry(Number { vid, pid })?;
+    Ok(number_response(alloc, vendor, pid, reserved, entry.as_ref())?)
 }
 
 fn no_vendor(alloc: Global) -> Result<Response, DeskFault>
     ensures ok { IfOk result (λ response. response ≡ reply_response (replies.Refused rule_refusals.NoVendor)) }
     ensures err { IfErr result (λ fault. fault ≡ desk_faults.NoMemory) }
 {
-    match reply_response(alloc, &Reply::Refused(Refusal::NoVendor)) {
-        Ok(response) => Ok(response),
-        Err(NoMemory) => Err(DeskFault::NoMemory),
-    }
+    Ok(reply_response(alloc, &Reply::Refused(Refusal::NoVendor))?)
 }
 
-/// Asks for a number of a vendor that is named; refusal 34 where there is no such vendor.
+/// Looks up a number of a vendor that the query names. Returns refusal 34 if the registry has no
+/// such vendor.
 fn ask_vendor_number<S: Alter>(
     alloc: Global,
     registry: &mut Registry<S>,
     vid: Vid,
     pid: Pid,
 ) -> Result<Response, DeskFault>
-    ensures answered { (h : History) → Stands registry.old h → HasCleanDisk (state_of registry.new) → IfOk result (λ response. response ≡ vendor_number_at h vid pid) }
-    ensures kind { (h : History) → Stands registry.old h → HasCleanDisk (state_of registry.new) → IfErr result IsOfStanding }
+    ensures answered { (h : History) → Represents registry.old h → HasCleanDisk (state_of registry.new) → IfOk result (λ response. response ≡ vendor_number_at h vid pid) }
+    ensures kind { (h : History) → Represents registry.old h → HasCleanDisk (state_of registry.new) → IfErr result IsOfSoundRegistry }
     ensures left { IsLeft registry.old registry.new }
-    ensures only_spent { result ≡ Err (desk_faults.Registry faults.Spent) → is_spent registry.old ≡ true }
+    ensures only_poisoned { result ≡ Err (desk_faults.Registry faults.Poisoned) → is_poisoned registry.old ≡ true }
 {
-    match registry.has_vendor(vid) {
-        Ok(true) => ask_number(alloc, registry, Some(vid), vid, pid),
-        Ok(false) => no_vendor(alloc),
-        Err(fault) => Err(DeskFault::Registry(fault)),
+    if registry.has_vendor(vid)? {
+        ask_number(alloc, registry, Some(vid), vid, pid)
+    } else {
+        no_vendor(alloc)
     }
 }
 
-/// Asks for an organisation.
+/// Looks up an organisation.
 fn ask_org<S: Alter>(
     alloc: Global,
     registry: &mut Registry<S>,
     slug: &Slug,
 ) -> Result<Response, DeskFault>
-    ensures answered { (h : History) → Stands registry.old h → HasCleanDisk (state_of registry.new) → IfOk result (λ response. response ≡ org_response (org_of h slug.now)) }
-    ensures kind { (h : History) → Stands registry.old h → HasCleanDisk (state_of registry.new) → IfErr result IsOfStanding }
+    ensures answered { (h : History) → Represents registry.old h → HasCleanDisk (state_of registry.new) → IfOk result (λ response. response ≡ org_response (org_of h slug.now)) }
+    ensures kind { (h : History) → Represents registry.old h → HasCleanDisk (state_of registry.new) → IfErr result IsOfSoundRegistry }
     ensures left { IsLeft registry.old registry.new }
-    ensures only_spent { result ≡ Err (desk_faults.Registry faults.Spent) → is_spent registry.old ≡ true }
+    ensures only_poisoned { result ≡ Err (desk_faults.Registry faults.Poisoned) → is_poisoned registry.old ≡ true }
 {
-    match registry.org(slug) {
-        Ok(org) => match org_response(alloc, org.as_ref()) {
-            Ok(response) => Ok(response),
-            Err(NoMemory) => Err(DeskFault::NoMemory),
-        },
-        Err(fault) => Err(DeskFault::Registry(fault)),
-    }
+    let org = registry.org(slug)?;
+    Ok(org_response(alloc, org.as_ref())?)
 }
 
-/// Asks for a petition.
+/// Looks up a petition.
 fn ask_petition<S: Alter>(
     alloc: Global,
     registry: &mut Registry<S>,
     id: u32,
 ) -> Result<Response, DeskFault>
-    ensures answered { (h : History) → Stands registry.old h → HasCleanDisk (state_of registry.new) → IfOk result (λ response. response ≡ petition_response h.founding.vendor id (petition_of h id)) }
-    ensures kind { (h : History) → Stands registry.old h → HasCleanDisk (state_of registry.new) → IfErr result IsOfStanding }
+    ensures answered { (h : History) → Represents registry.old h → HasCleanDisk (state_of registry.new) → IfOk result (λ response. response ≡ petition_response h.founding.vendor id (petition_of h id)) }
+    ensures kind { (h : History) → Represents registry.old h → HasCleanDisk (state_of registry.new) → IfErr result IsOfSoundRegistry }
     ensures left { IsLeft registry.old registry.new }
-    ensures only_spent { result ≡ Err (desk_faults.Registry faults.Spent) → is_spent registry.old ≡ true }
+    ensures only_poisoned { result ≡ Err (desk_faults.Registry faults.Poisoned) → is_poisoned registry.old ≡ true }
 {
     let founding = registry.founding().vendor;
-    match registry.petition(id) {
-        Ok(petition) => match petition_response(alloc, founding, id, petition.as_ref()) {
-            Ok(response) => Ok(response),
-            Err(NoMemory) => Err(DeskFault::NoMemory),
-        },
-        Err(fault) => Err(DeskFault::Registry(fault)),
-    }
+    let petition = registry.petition(id)?;
+    Ok(petition_response(alloc, founding, id, petition.as_ref())?)
 }
 
-/// The response of a list: the document as it is written, without a stamp.
+/// Returns the response with the text of the document, without a stamp.
 fn list_response(alloc: Global, document: &Document) -> Result<Response, DeskFault>
     ensures ok { IfOk result (λ response. response ≡ text_response (written document.now None)) }
     ensures err { IfErr result (λ fault. fault ≡ desk_faults.NoMemory) }
@@ -138,12 +119,12 @@ fn list_response(alloc: Global, document: &Document) -> Result<Response, DeskFau
     }
 }
 
-/// Asks for the list of the numbers that are held.
+/// Returns the response with the list of the held numbers.
 fn ask_list<S: Alter>(alloc: Global, registry: &mut Registry<S>) -> Result<Response, DeskFault>
-    ensures answered { (h : History) → Stands registry.old h → HasCleanDisk (state_of registry.new) → IfOk result (IsListResponse h) }
-    ensures kind { (h : History) → Stands registry.old h → HasCleanDisk (state_of registry.new) → IfErr result IsOfStanding }
+    ensures answered { (h : History) → Represents registry.old h → HasCleanDisk (state_of registry.new) → IfOk result (IsListResponse h) }
+    ensures kind { (h : History) → Represents registry.old h → HasCleanDisk (state_of registry.new) → IfErr result IsOfSoundRegistry }
     ensures left { IsLeft registry.old registry.new }
-    ensures only_spent { result ≡ Err (desk_faults.Registry faults.Spent) → is_spent registry.old ≡ true }
+    ensures only_poisoned { result ≡ Err (desk_faults.Registry faults.Poisoned) → is_poisoned registry.old ≡ true }
 {
     match document_of(alloc, registry) {
         Ok(document) => list_response(alloc, &document),
@@ -161,16 +142,16 @@ fn kind_of(report: Report) -> ReportKind
     }
 }
 
-/// Asks for a report.
+/// Returns the response with a report.
 fn ask_report<S: Alter>(
     alloc: Global,
     registry: &mut Registry<S>,
     report: Report,
 ) -> Result<Response, DeskFault>
-    ensures answered { (h : History) → Stands registry.old h → HasCleanDisk (state_of registry.new) → IfOk result (IsReportResponse h report) }
-    ensures kind { (h : History) → Stands registry.old h → HasCleanDisk (state_of registry.new) → IfErr result IsOfStanding }
+    ensures answered { (h : History) → Represents registry.old h → HasCleanDisk (state_of registry.new) → IfOk result (IsReportResponse h report) }
+    ensures kind { (h : History) → Represents registry.old h → HasCleanDisk (state_of registry.new) → IfErr result IsOfSoundRegistry }
     ensures left { IsLeft registry.old registry.new }
-    ensures only_spent { result ≡ Err (desk_faults.Registry faults.Spent) → is_spent registry.old ≡ true }
+    ensures only_poisoned { result ≡ Err (desk_faults.Registry faults.Poisoned) → is_poisoned registry.old ≡ true }
 {
     match report_of(alloc, registry, kind_of(report)) {
         Ok(text) => Ok(text_response(text.into_bytes())),
@@ -178,16 +159,16 @@ fn ask_report<S: Alter>(
     }
 }
 
-/// The response to a query.
+/// Returns the response to a query.
 pub(crate) fn ask<S: Alter>(
     alloc: Global,
     registry: &mut Registry<S>,
     query: &Query,
 ) -> Result<Response, DeskFault>
-    ensures answered { (h : History) → Stands registry.old h → HasCleanDisk (state_of registry.new) → IfOk result (IsQueryResponse h query.now) }
-    ensures kind { (h : History) → Stands registry.old h → HasCleanDisk (state_of registry.new) → IfErr result IsOfStanding }
+    ensures answered { (h : History) → Represents registry.old h → HasCleanDisk (state_of registry.new) → IfOk result (IsQueryResponse h query.now) }
+    ensures kind { (h : History) → Represents registry.old h → HasCleanDisk (state_of registry.new) → IfErr result IsOfSoundRegistry }
     ensures left { IsLeft registry.old registry.new }
-    ensures only_spent { result ≡ Err (desk_faults.Registry faults.Spent) → is_spent registry.old ≡ true }
+    ensures only_poisoned { result ≡ Err (desk_faults.Registry faults.Poisoned) → is_poisoned registry.old ≡ true }
 {
     match query {
         Query::Number { vendor, pid } => match vendor {

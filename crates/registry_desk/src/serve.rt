@@ -1,34 +1,36 @@
-//! One message: read, acted on, and its response written.
+//! Serves one message: reads it, acts on it, and writes its response.
 
 ghost use Rattle.std.specs.Prelude.{◌≡◌, ◌≢◌, ◌⊎◌, true, ℕ, List, Option, Err, Some, IfOk, OnErr};
 ghost use Rattle.sqlite.specs.State.{HasCleanDisk};
-ghost use Rattle.usbids_text.specs.Ends.{HasFailed, MayGive, Writes};
+ghost use Rattle.byte_streams.specs.Streams.{HasFailed, MayGive, Writes};
 ghost use Rattle.registry_rules.specs.History.{History};
-ghost use Rattle.registry_store.specs.Promise.{Stands, Endures, is_spent, state_of};
+ghost use Rattle.registry_store.specs.Promise.{Represents, Endures, is_poisoned, state_of};
 ghost use Rattle.registry_store.specs.declared.fault.Fault.TheVariants as faults;
 ghost use Rattle.registry_http.specs.Responses.{response_bytes, unavailable_response};
 ghost use Rattle.registry_desk.specs.declared.serve.Served.{Served};
-ghost use Rattle.registry_desk.specs.Faults.{unavailable_of};
+ghost use Rattle.registry_desk.specs.Faults.{unavailable_of, peer_fault_text};
 ghost use Rattle.registry_desk.specs.Serving.{IsOfServed, IsSent, IsTold, IsServed, given_up};
 
 use crate::acting::response_to;
 use crate::fault::{DeskFault, fault_of, unavailable_of};
+use byte_streams::{Broken, Sink, Source};
 use registry_http::{InputFault, Response, read_message, write_response, write_unavailable};
 use registry_store::{Fault, Registry};
 use sqlite::Alter;
 use std::alloc::Global;
-use usbids_text::{Broken, Sink, Source};
+use std::error::Error;
+use std::fmt;
 
-/// What was sent.
+/// The response that was sent.
 #[derive(Clone, Copy, Debug, Drop, PartialEq, Eq)]
 pub struct Served {
     /// The status of the response.
     pub status: u16,
-    /// The registry's fault behind a 503. A 503 without one is for want of memory alone.
+    /// The registry's fault behind a 503. A 503 without one says that memory ran out.
     pub fault: Option<Fault>,
 }
 
-/// Why a connection is given up.
+/// The end of a connection that failed.
 #[derive(Clone, Copy, Debug, PartialEq, Eq)]
 pub enum PeerFault {
     /// The source failed.
@@ -37,7 +39,21 @@ pub enum PeerFault {
     Write,
 }
 
-/// The registry's fault behind what was to be sent, and the status where all of it was written.
+/// The fault in a few words.
+impl fmt::Display for PeerFault {
+    ghost output = { λ fault. Some (peer_fault_text fault) };
+
+    fn fmt<W: fmt::Write>(&self, f: &mut fmt::Formatter<W>) -> fmt::Result {
+        f.write_str(match self {
+            PeerFault::Read => "the message could not be read",
+            PeerFault::Write => "the response could not be written",
+        })
+    }
+}
+
+impl Error for PeerFault {}
+
+/// The registry's fault behind a response, and the status where the response was written whole.
 #[derive(Clone, Copy, Debug, Drop, PartialEq, Eq)]
 pub(crate) struct Exchange {
     pub(crate) fault: Option<Fault>,
@@ -65,7 +81,7 @@ fn send_response<W: Sink>(alloc: Global, sink: &mut W, response: &Response) -> E
     Exchange { fault: None, sent }
 }
 
-/// Writes the response of what was done.
+/// Writes the response, or refusal 30 or 31 for a fault.
 fn send<W: Sink>(alloc: Global, sink: &mut W, done: Result<Response, DeskFault>) -> Exchange
     ensures told { (text : List ℕ) × (served : Served) × IsTold done text served
         × Writes (W.contents sink.old) (W.contents sink.new) (W.failures sink.old) (W.failures sink.new) result.sent text × IsOfServed result served }
@@ -78,7 +94,8 @@ fn send<W: Sink>(alloc: Global, sink: &mut W, done: Result<Response, DeskFault>)
 
 /// Reads one message from the source, acts on it, and writes its response to the sink.
 ///
-/// `Broken` comes only where the source failed in this call: then nothing is written and nothing was acted on.
+/// Returns `Broken` only where the source failed in this call: then nothing is written and nothing
+/// was acted on.
 pub(crate) fn serve_message<R: Source, W: Sink, S: Alter>(
     alloc: Global,
     source: &mut R,
@@ -88,8 +105,8 @@ pub(crate) fn serve_message<R: Source, W: Sink, S: Alter>(
     ensures served { (bytes : List ℕ) × MayGive (R.remaining source.old) bytes × IfOk result (λ exchange. (text : List ℕ) × (served : Served)
         × Writes (W.contents sink.old) (W.contents sink.new) (W.failures sink.old) (W.failures sink.new) exchange.sent text
         × IsOfServed exchange served
-        × ((h : History) → Stands registry.old h → HasCleanDisk (state_of registry.new) → IsServed registry.new h bytes text served)) }
-    ensures spent { IfOk result (λ exchange. exchange.fault ≡ Some faults.Spent → is_spent registry.old ≡ true) }
+        × ((h : History) → Represents registry.old h → HasCleanDisk (state_of registry.new) → IsServed registry.new h bytes text served)) }
+    ensures poisoned { IfOk result (λ exchange. exchange.fault ≡ Some faults.Poisoned → is_poisoned registry.old ≡ true) }
     ensures read { OnErr result (HasFailed (R.failures source.old) (R.failures source.new) × (sink.new ≡ sink.old) × (registry.new ≡ registry.old)) }
     ensures endures { Endures (state_of registry.old) (state_of registry.new) }
 {
@@ -104,7 +121,7 @@ pub(crate) fn serve_message<R: Source, W: Sink, S: Alter>(
     }
 }
 
-/// What is told of an exchange.
+/// Returns what was sent, or `Write` where the sink failed.
 fn served_of(exchange: Exchange) -> Result<Served, PeerFault>
     ensures written { (old : Option (List ℕ)) (new : Option (List ℕ)) (failures : ℕ) (failures_new : ℕ) (text : List ℕ) → Writes old new failures failures_new exchange.sent text → Writes old new failures failures_new result text }
     ensures ok { (served : Served) → IsOfServed exchange served → IfOk result (λ it. it ≡ served) }
@@ -121,12 +138,13 @@ fn served_of(exchange: Exchange) -> Result<Served, PeerFault>
 
 /// Reads one message from the source, acts on it, and writes its response to the sink.
 ///
-/// `Read` comes only where the source failed in this call: then nothing is written and nothing was acted on. `Write`
-/// comes only where the sink failed: then a beginning of the response was written, and an order may have been acted on.
-/// Its repeat under its key has the same reply.
+/// Returns `Read` only where the source failed in this call: then nothing is written and nothing
+/// was acted on. Returns `Write` only where the sink failed: then a prefix of the response was
+/// written, and an order may have been acted on; sent again under its key it gets the same reply.
 ///
-/// The message takes at most 8,192 bytes of memory for its head, and 16,384 for the body of an order in JSON besides the
-/// request itself; a list that is imported takes that of its document. Refusals 30 and 31 take none.
+/// A message needs at most 8,192 bytes of memory for its head, and an order in JSON at most 16,384
+/// for its body besides the request itself; an imported list needs the memory of its document.
+/// Refusals 30 and 31 need none.
 pub fn serve_one<R: Source, W: Sink, S: Alter>(
     alloc: Global,
     source: &mut R,
@@ -136,8 +154,8 @@ pub fn serve_one<R: Source, W: Sink, S: Alter>(
     ensures served { (bytes : List ℕ) × MayGive (R.remaining source.old) bytes × (text : List ℕ) × (served : Served)
         × ((result ≡ Err PeerFault.Read) ⊎ (Writes (W.contents sink.old) (W.contents sink.new) (W.failures sink.old) (W.failures sink.new) result text
         × IfOk result (λ it. it ≡ served)
-        × ((h : History) → Stands registry.old h → HasCleanDisk (state_of registry.new) → IsServed registry.new h bytes text served))) }
-    ensures spent { IfOk result (λ it. it.fault ≡ Some faults.Spent → is_spent registry.old ≡ true) }
+        × ((h : History) → Represents registry.old h → HasCleanDisk (state_of registry.new) → IsServed registry.new h bytes text served))) }
+    ensures poisoned { IfOk result (λ it. it.fault ≡ Some faults.Poisoned → is_poisoned registry.old ≡ true) }
     ensures read { result ≡ Err PeerFault.Read → HasFailed (R.failures source.old) (R.failures source.new) × (sink.new ≡ sink.old) × (registry.new ≡ registry.old) }
     ensures endures { Endures (state_of registry.old) (state_of registry.new) }
 {

@@ -1,40 +1,53 @@
-//! The server: one connection after another, over one registry.
+//! The server: it serves one connection after another over one registry.
 
-ghost use Rattle.std.specs.Prelude.{◌≡◌, ◌≤◌, ℕ, List, Option, length, IfOk, OnOk, Err};
+ghost use Rattle.std.specs.Prelude.{◌≡◌, ◌≤◌, ℕ, List, Option, Some, length, IfOk, IfErr, OnOk, Err};
 ghost use Rattle.sqlite.specs.State.{HasCleanDisk};
-ghost use Rattle.usbids_text.specs.Ends.{MayGive};
+ghost use Rattle.byte_streams.specs.Streams.{MayGive};
 ghost use Rattle.registry_rules.specs.History.{History};
 ghost use Rattle.registry_tables.specs.Rows.{newest};
-ghost use Rattle.registry_store.specs.Promise.{Stands, Endures, Leaves, state_of};
-ghost use Rattle.registry_desk.specs.Server.{Visit, IsVisit, IsWritten, HaveVisited, EndsVisit, EndsServing, IsLeftAfter, IfVisited, fault_in, status_in, status_of};
+ghost use Rattle.registry_store.specs.Promise.{Represents, Endures, Leaves, state_of};
+ghost use Rattle.registry_desk.specs.Faults.{server_stop_text};
+ghost use Rattle.registry_desk.specs.Server.{Visit, IsVisit, IsWritten, HaveVisited, EndsVisit, EndsServing, IsLeftAfter, EndsAt, IfVisited, fault_in, status_in, status_of};
 
 use crate::serve::serve_message;
+use byte_streams::{Broken, Sink, Source};
 use registry_store::{Fault, Registry};
 use sqlite::Alter;
 use std::alloc::Global;
-use usbids_text::{Broken, Sink, Source};
+use std::error::Error;
+use std::fmt;
 
-/// Where connections come from, one after another.
+/// A source of connections, one after another.
 pub trait Connections {
-    /// What the message of a connection is read from.
+    /// The source of a connection's message.
     type Reader: Source + Drop;
 
-    /// What its response is written to.
+    /// The sink of its response.
     type Writer: Sink + Drop;
 
     /// The next connection was opened, with this reader and this writer.
     ghost opens: { Self → Self → Self.Reader → Self.Writer → Type 0 };
 
-    /// The connection was closed, with its reader and its writer as serving left them, and this status.
+    /// The connection was closed, with its reader and its writer as serving left them, and this
+    /// status.
     ghost closes: { Self → Self → Self.Reader → Self.Writer → Option ℕ → Type 0 };
 
-    /// Waits for the next connection. `Broken` says that none can come.
-    fn open(&mut self) -> Result<(Self::Reader, Self::Writer), Broken>
-        ensures { IfOk result (λ ends. opens self.old self.new ends.0 ends.1) };
+    /// No further connection can come.
+    ghost fails: { Self → Self → Type 0 };
 
-    /// Closes a connection whose message is served, with the status of its response, or `None` where its peer failed.
+    /// Waits for the next connection.
     ///
-    /// A message that is refused before its end leaves bytes unread.
+    /// # Errors
+    ///
+    /// `Broken` if no further connection can come.
+    fn open(&mut self) -> Result<(Self::Reader, Self::Writer), Broken>
+        ensures opened { IfOk result (λ ends. opens self.old self.new ends.0 ends.1) }
+        ensures failed { IfErr result (λ _. fails self.old self.new) };
+
+    /// Closes a connection whose message was served, with the status of its response, or `None`
+    /// where its peer failed.
+    ///
+    /// A message that was refused before its end leaves bytes unread.
     fn close(&mut self, reader: Self::Reader, writer: Self::Writer, status: Option<u16>)
         ensures { closes self.old self.new reader writer status };
 }
@@ -42,13 +55,28 @@ pub trait Connections {
 /// Why a server stops before its last connection.
 #[derive(Clone, Copy, Debug, Drop, PartialEq, Eq)]
 pub enum ServerStop {
-    /// No connection can come.
+    /// No more connections can come.
     Connections,
     /// The registry had a fault at the last connection.
     Registry(Fault),
 }
 
-/// What the serving of one connection came to: the registry's fault, and the status where a response was written whole.
+/// The reason in a few words.
+impl fmt::Display for ServerStop {
+    ghost output = { λ stop. Some (server_stop_text stop) };
+
+    fn fmt<W: fmt::Write>(&self, f: &mut fmt::Formatter<W>) -> fmt::Result {
+        match self {
+            ServerStop::Connections => f.write_str("no connection can come"),
+            ServerStop::Registry(fault) => write!(f, "{fault}"),
+        }
+    }
+}
+
+impl Error for ServerStop {}
+
+/// The result of serving one connection: the registry's fault, if any, and the status where a
+/// response was written whole.
 #[derive(Clone, Copy, Debug, Drop, PartialEq, Eq)]
 struct Outcome {
     fault: Option<Fault>,
@@ -74,7 +102,7 @@ fn serve_between<R: Source, W: Sink, S: Alter>(
     ensures served { (visit : Visit) × MayGive (R.remaining reader.old) visit.bytes
         × IsWritten W.contents W.failures writer.old writer.new visit
         × (result.status ≡ status_of visit.end)
-        × ((h : History) → Stands registry.old h → HasCleanDisk (state_of registry.new) → EndsVisit registry.new h visit result.fault) }
+        × ((h : History) → Represents registry.old h → HasCleanDisk (state_of registry.new) → EndsVisit registry.new h visit result.fault) }
     ensures endures { Endures (state_of registry.old) (state_of registry.new) }
 {
     match serve_message(alloc, reader, writer, registry) {
@@ -91,8 +119,9 @@ fn serve_between<R: Source, W: Sink, S: Alter>(
 
 /// Opens the next connection, serves its message, and closes it.
 ///
-/// `ServerStop::Registry` comes where the registry had a fault, whether its response was written or the peer was gone. A peer's
-/// fault alone, and a 503 for want of memory alone, are no stop.
+/// Returns `ServerStop::Registry` where the registry had a fault, whether the response was written
+/// or the peer was gone. A peer's fault, or a 503 because memory ran out outside the registry, is
+/// not an error.
 pub fn serve_next<C: Connections, S: Alter>(
     alloc: Global,
     connections: &mut C,
@@ -100,8 +129,8 @@ pub fn serve_next<C: Connections, S: Alter>(
 ) -> Result<(), ServerStop>
     ensures visited { IfVisited result ((visit : Visit)
         × IsVisit C.opens C.closes C.Reader.remaining C.Writer.contents C.Writer.failures connections.old connections.new visit
-        × ((h : History) → Stands registry.old h → HasCleanDisk (state_of registry.new) → EndsVisit registry.new h visit (fault_in result))) }
-    ensures none { result ≡ Err ServerStop.Connections → registry.new ≡ registry.old }
+        × ((h : History) → Represents registry.old h → HasCleanDisk (state_of registry.new) → EndsVisit registry.new h visit (fault_in result))) }
+    ensures none { result ≡ Err ServerStop.Connections → C.fails connections.old connections.new × (registry.new ≡ registry.old) }
     ensures endures { Endures (state_of registry.old) (state_of registry.new) }
 {
     match connections.open() {
@@ -118,11 +147,13 @@ pub fn serve_next<C: Connections, S: Alter>(
     }
 }
 
-/// Serves connections one after another, at most so many, up to the first fault of the registry.
+/// Serves at most `count` connections, one after another, up to the first fault of the registry.
 ///
-/// Of a registry that stands at a history, each message has its response over the history before it, and the registry then
-/// stands at the history after all of them, in order. A crash leaves the history after all of them too, and where the registry
-/// had a fault at the last one, with that one or without. So it holds each message whose response was written whole.
+/// Over a registry that represents a history, each message gets its response over the history
+/// before it, and the registry then represents the history after all messages, in order. A crash
+/// leaves the history after the messages of all connections, or, where the registry had a fault at
+/// the last one, perhaps of all but that one. So it holds each message whose response was written
+/// whole.
 pub fn serve_all<C: Connections, S: Alter>(
     alloc: Global,
     connections: &mut C,
@@ -131,9 +162,9 @@ pub fn serve_all<C: Connections, S: Alter>(
 ) -> Result<(), ServerStop>
     ensures served { (visits : List Visit) × (middle : C)
         × HaveVisited C.opens C.closes C.Reader.remaining C.Writer.contents C.Writer.failures connections.old middle visits
-        × IfVisited result (connections.new ≡ middle)
+        × EndsAt C.fails middle connections.new result
         × (length visits ≤ count) × OnOk result (length visits ≡ count)
-        × ((h : History) → Stands registry.old h → HasCleanDisk (state_of registry.new) → EndsServing registry.new h visits (fault_in result) × Leaves newest (state_of registry.new) (IsLeftAfter h visits)) }
+        × ((h : History) → Represents registry.old h → HasCleanDisk (state_of registry.new) → EndsServing registry.new h visits (fault_in result) × Leaves newest (state_of registry.new) (IsLeftAfter h visits)) }
     ensures endures { Endures (state_of registry.old) (state_of registry.new) }
 {
     for _ in 0..count {

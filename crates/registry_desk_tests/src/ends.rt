@@ -1,13 +1,13 @@
 //! A registry in memory, and readers and writers of bytes.
 
+use byte_streams::{Broken, Inlet, Outlet, Sink, Source};
 use registry_commands::trial_founding;
 use registry_desk::{PeerFault, Served, serve_one};
 use registry_store::Registry;
 use sqlite::{Connection, MemStore};
 use std::alloc::Global;
-use usbids_text::{Broken, Inlet, Outlet, Sink, Source};
 
-/// Gives one byte a read, and fails at each read past the last.
+/// A source that gives one byte per read, and fails after the last.
 #[derive(Drop)]
 pub(crate) struct Drip<'a> {
     pub(crate) bytes: &'a [u8],
@@ -33,7 +33,7 @@ impl<'a> Source for Drip<'a> {
     }
 }
 
-/// Takes so many bytes, and then fails.
+/// A sink that takes `room` bytes, and then fails.
 #[derive(Drop)]
 pub(crate) struct Brim {
     pub(crate) bytes: Vec<u8>,
@@ -88,15 +88,19 @@ fn shown(alloc: Global, served: Result<Served, PeerFault>, bytes: Vec<u8>) -> St
     }
 }
 
-/// What is written for a message that is read whole at once.
-pub(crate) fn told(alloc: Global, registry: &mut Registry<MemStore>, message: &[u8]) -> String {
+/// Returns what is written for a message that is read whole at once.
+pub(crate) fn response_text(
+    alloc: Global,
+    registry: &mut Registry<MemStore>,
+    message: &[u8],
+) -> String {
     let mut source = Inlet::new(message);
     let mut sink = Outlet::new(Vec::new(alloc));
     let served = serve_one(alloc, &mut source, &mut sink, registry);
     shown(alloc, served, sink.into_inner())
 }
 
-/// The same of a message that comes byte by byte from a reader that fails after it.
+/// Does the same for a message that comes byte by byte from a reader that fails after it.
 pub(crate) fn dripped(alloc: Global, registry: &mut Registry<MemStore>, message: &[u8]) -> String {
     let mut source = Drip {
         bytes: message,

@@ -1,4 +1,5 @@
-//! The desk by example, over memory: messages and their responses byte by byte, and the server over connections in memory.
+//! The desk by example, over memory: messages and their responses byte by byte, and the server over
+//! connections in memory.
 #![tactic(auto)]
 
 #[cfg(test)]

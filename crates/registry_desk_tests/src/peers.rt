@@ -1,15 +1,15 @@
 //! Peers that fail: a reader after each byte of an order, a writer after each byte of its response.
 
-use crate::ends::{Brim, Drip, ENROL, ENROLLED, founded, told};
+use crate::ends::{Brim, Drip, ENROL, ENROLLED, founded, response_text};
+use byte_streams::{Inlet, Outlet};
 use registry_desk::{PeerFault, serve_one};
 use registry_store::Registry;
 use sqlite::MemStore;
 use std::alloc::Global;
 use std::process::Abort;
 use std::test::Fail;
-use usbids_text::{Inlet, Outlet};
 
-/// Nothing is written where the reader fails.
+/// Checks that nothing is written where the reader fails.
 fn expect_readers(rt: &impl Abort, alloc: Global, registry: &mut Registry<MemStore>) {
     for count in 0..ENROL.len() {
         let mut source = Drip {
@@ -24,7 +24,7 @@ fn expect_readers(rt: &impl Abort, alloc: Global, registry: &mut Registry<MemSto
     }
 }
 
-/// A prefix of the response is written where the writer fails.
+/// Checks that a prefix of the response is written where the writer fails.
 fn expect_writers(rt: &impl Abort, alloc: Global, registry: &mut Registry<MemStore>) {
     for room in 0..ENROLLED.len() {
         let mut source = Inlet::new(ENROL);
@@ -47,12 +47,15 @@ fn peers_that_fail(rt: HostRuntime) -> Result<(), Fail> {
     };
     expect_readers(&rt, alloc, &mut registry);
     assert!(rt;
-        told(alloc, &mut registry, b"GET /orgs/acme HTTP/1.1\r\n\r\n")
+        response_text(alloc, &mut registry, b"GET /orgs/acme HTTP/1.1\r\n\r\n")
             .as_str()
             .ends_with("{\"name\":\"NoOrg\",\"refused\":4}\n")
     );
     expect_writers(&rt, alloc, &mut registry);
-    assert_eq!(rt; told(alloc, &mut registry, ENROL).as_str(), ENROLLED);
+    assert_eq!(rt;
+        response_text(alloc, &mut registry, ENROL).as_str(),
+        ENROLLED
+    );
     drop(registry.close().into_store());
     Ok(())
 }

@@ -1,12 +1,12 @@
 //! The server over connections in memory.
 
 use crate::ends::{ENROL, ENROLLED, founded, text};
+use byte_streams::{Broken, Inlet, Outlet};
 use registry_desk::{Connections, ServerStop, serve_all};
 use std::alloc::Global;
 use std::test::Fail;
-use usbids_text::{Broken, Inlet, Outlet};
 
-/// Messages, one a connection, and what was written for the last, with its status.
+/// Messages, one per connection, and the bytes and the status of the last response.
 #[derive(Drop)]
 struct Messages<'a> {
     alloc: Global,
@@ -26,6 +26,8 @@ impl<'a> Connections for Messages<'a> {
     ghost opens = { λ _ _ _ _. ⊤ };
 
     ghost closes = { λ _ _ _ _ _. ⊤ };
+
+    ghost fails = { λ _ _. ⊤ };
 
     fn open(&mut self) -> Result<(Inlet<&'a [u8]>, Outlet<Vec<u8>>), Broken> {
         if self.opened >= self.messages.len() {

@@ -11,10 +11,10 @@ both : (a b : Bool) → (a && b) ≡ true → (a ≡ true) × (b ≡ true)
 both true b e = (refl, e)
 both false b e = absurd cc
 
-pub IsAscii-from_small : (bytes : List ℕ) → list_all is_ascii bytes ≡ true → IsAscii bytes
-IsAscii-from_small [] e i = omega arith
-IsAscii-from_small (b ∷ bytes) e zero = ltb-true b 128 (both (is_ascii b) (list_all is_ascii bytes) e).0
-IsAscii-from_small (b ∷ bytes) e (suc i) = IsAscii-from_small bytes (both (is_ascii b) (list_all is_ascii bytes) e).1 i
+pub is_ascii_from_small : (bytes : List ℕ) → list_all is_ascii bytes ≡ true → IsAscii bytes
+is_ascii_from_small [] e i = omega arith
+is_ascii_from_small (b ∷ bytes) e zero = ltb-true b 128 (both (is_ascii b) (list_all is_ascii bytes) e).0
+is_ascii_from_small (b ∷ bytes) e (suc i) = is_ascii_from_small bytes (both (is_ascii b) (list_all is_ascii bytes) e).1 i
 
-pub IsUtf8-from_small : (bytes : List ℕ) → list_all is_ascii bytes ≡ true → IsUtf8 bytes
-IsUtf8-from_small bytes e = IsUtf8-from_ascii bytes (IsAscii-from_small bytes e)
+pub is_utf8_from_small : (bytes : List ℕ) → list_all is_ascii bytes ≡ true → IsUtf8 bytes
+is_utf8_from_small bytes e = IsUtf8-from_ascii bytes (is_ascii_from_small bytes e)

@@ -1,13 +1,13 @@
--- A body that is whole, and one that ends early.
+-- A complete body, and a body that ends early.
 use Rattle.std.proofs.Common.{◌≡◌, ℕ, ◌+◌, ◌-◌, ◌≤◌, Bool, true, false, inl, inr, List, [], ◌∷◌, ◌++◌, length, take, drop, Option, refl, sym, ap, subst, ◌∙◌, append_assoc, arith, length-append}
 use Rattle.std.specs.Prelude.{nat_le, IfOk, Result, Ok, Err, min, if◌then◌else◌}
 use Rattle.std.specs.Io.KnownBytes.{Consumes, IsAtEnd}
 use Rattle.std.proofs.lemmas.Bool.{leb-true, le-leb, leb-false, cases_Bool, cases_lt}
 use Rattle.std.proofs.lemmas.List.{append-nil, take-append-le, drop-append-le, take_all, length-drop}
-use Rattle.usbids_text.specs.Ends.{MayGive}
+use Rattle.byte_streams.specs.Streams.{MayGive}
 use Rattle.usbids_text.specs.declared.reader.Reader.{Reader}
-use Rattle.usbids_text.specs.Readers.{Stands}
-use Rattle.usbids_text.proofs.EndLemmas.{all_of, all_at_end}
+use Rattle.usbids_text.specs.Readers.{WasFed}
+use Rattle.byte_streams.proofs.StreamLemmas.{all_of, all_at_end}
 use Rattle.registry_wire.specs.declared.refusal.WireRefusal.{WireRefusal}
 use Rattle.registry_wire.specs.declared.refusal.WireRefusal.TheVariants.{ShortBody}
 use Rattle.registry_http.specs.Bodies.{body_in, IsHeld, IsFed}
@@ -57,7 +57,7 @@ no_bytes [] e = refl
 no_bytes (x ∷ xs) e = absurd (omega (arith, e))
 
 pub fed_body : (a b : Option (List ℕ)) (come more : List ℕ) (count first : ℕ) (whole : Bool) (reader : Reader) → first ≡ min (length come) count → Consumes a b more → length more ≤ count - first
-    → whole ≡ nat_le (count - first) (length more) → (whole ≡ false → IsAtEnd b) → Stands reader (take first come ++ more) → (rest : List ℕ) × MayGive a rest × IsFed whole reader count (come ++ rest)
+    → whole ≡ nat_le (count - first) (length more) → (whole ≡ false → IsAtEnd b) → WasFed reader (take first come ++ more) → (rest : List ℕ) × MayGive a rest × IsFed whole reader count (come ++ rest)
 fed_body a b come more count first true reader is took most test end stands =
     let all = all_of a b more took in
     let came = leb-true (count - first) (length more) (sym test) in
@@ -71,14 +71,14 @@ fed_body a b come more count first true reader is took most test end stands =
             (
               come ++ more,
               ap (body_in count) (sym (append_assoc come more all.0)) ∙ (body_whole count (come ++ more) all.0 (omega (arith, size)) ∙ ap (λ (t : List ℕ). Ok t) (take_all count (come ++ more) (omega (arith, size)))),
-              subst (Stands reader) kept stands,
+              subst (WasFed reader) kept stands,
             ),
           )
       | inr most_come ↦
           let one : first ≡ count = omega (arith, is) in
           let none : more ≡ [] = no_bytes more (omega (arith, one)) in
           let kept : take first come ++ more ≡ take count come = ap (λ (t : List ℕ). take first come ++ t) none ∙ (append-nil (take first come) ∙ ap (λ (n : ℕ). take n come) one) in
-          (more ++ all.0, all.1, (take count come, body_whole count come (more ++ all.0) most_come, subst (Stands reader) kept stands))
+          (more ++ all.0, all.1, (take count come, body_whole count come (more ++ all.0) most_come, subst (WasFed reader) kept stands))
     ]
 fed_body a b come more count first false reader is took most test end stands =
     let above = leb-false (count - first) (length more) (sym test) in
@@ -92,9 +92,9 @@ pub held_body_of : {E : Type 0} (a b : Option (List ℕ)) (old new : List ℕ) (
 held_body_of a b old new start count wanted (Err e) within is ok = tt
 held_body_of a b old new start count wanted (Ok whole) within is ok = held_body a b old ok.0 new start count wanted whole within is ok.1 ok.2 ok.3 ok.4
 
-pub fed_body_of : {E : Type 0} (a b : Option (List ℕ)) (come : List ℕ) (count first : ℕ) (reader fed : Reader) (result : Result Bool E) → first ≡ min (length come) count → Stands reader (take first come)
+pub fed_body_of : {E : Type 0} (a b : Option (List ℕ)) (come : List ℕ) (count first : ℕ) (reader fed : Reader) (result : Result Bool E) → first ≡ min (length come) count → WasFed reader (take first come)
     → IfOk result (λ whole. (more : List ℕ) × Consumes a b more × (length more ≤ count - first) × (whole ≡ nat_le (count - first) (length more)) × (whole ≡ false → IsAtEnd b)
-    × ((t : List ℕ) → Stands reader t → Stands fed (t ++ more)))
+    × ((t : List ℕ) → WasFed reader t → WasFed fed (t ++ more)))
     → IfOk result (λ whole. (rest : List ℕ) × MayGive a rest × IsFed whole fed count (come ++ rest))
 fed_body_of a b come count first reader fed (Err e) is stands ok = tt
 fed_body_of a b come count first reader fed (Ok whole) is stands ok = fed_body a b come ok.0 count first whole fed is ok.1 ok.2 ok.3 ok.4 (ok.5 (take first come) stands)

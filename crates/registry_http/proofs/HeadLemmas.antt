@@ -1,4 +1,4 @@
--- What the bytes read so far say of all bytes that the source gives.
+-- All bytes that the source gives, from the bytes read so far.
 use Rattle.std.proofs.Common.{◌≡◌, ℕ, ◌≤◌, List, [], ◌++◌, length, take, drop, Option, Some, None, refl, sym, ap, ◌∙◌, append_assoc, arith, length-append}
 use Rattle.std.specs.Io.KnownBytes.{Consumes, IsAtEnd}
 use Rattle.std.proofs.lemmas.List.{append-nil, take-append-le, take-append-drop, length-map, length-take}
@@ -7,34 +7,34 @@ use Rattle.httparse.specs.declared.spans.HeaderSpan.{HeaderSpan}
 use Rattle.httparse.specs.declared.spans.RequestSpans.{RequestSpans}
 use Rattle.httparse.specs.Grammar.{RequestHead, HasNoRequest, print_request}
 use Rattle.httparse.specs.Spans.{IsRequestAt, IsRequestWithin, RequestOverflows}
-use Rattle.usbids_text.specs.Ends.{MayGive}
+use Rattle.byte_streams.specs.Streams.{MayGive}
 use Rattle.registry_http.specs.Heads.{HasHead, HasNoHead}
 
-pub Consumes-none : (o : Option (List ℕ)) → Consumes o o []
-Consumes-none None = tt
-Consumes-none (Some xs) = refl
+pub consumes_none : (o : Option (List ℕ)) → Consumes o o []
+consumes_none None = tt
+consumes_none (Some xs) = refl
 
-pub Consumes-then : (a b c : Option (List ℕ)) (x y : List ℕ) → Consumes a b x → Consumes b c y → Consumes a c (x ++ y)
-Consumes-then None b c x y p q = tt
-Consumes-then (Some xs) None c x y p q = absurd p
-Consumes-then (Some xs) (Some ys) None x y p q = absurd q
-Consumes-then (Some xs) (Some ys) (Some zs) x y p q = p ∙ ap (λ (t : List ℕ). x ++ t) q ∙ sym (append_assoc x y zs)
+pub consumes_then : (a b c : Option (List ℕ)) (x y : List ℕ) → Consumes a b x → Consumes b c y → Consumes a c (x ++ y)
+consumes_then None b c x y p q = tt
+consumes_then (Some xs) None c x y p q = absurd p
+consumes_then (Some xs) (Some ys) None x y p q = absurd q
+consumes_then (Some xs) (Some ys) (Some zs) x y p q = p ∙ ap (λ (t : List ℕ). x ++ t) q ∙ sym (append_assoc x y zs)
 
--- all that the source would give begins with what it gave
+-- the bytes of a source begin with those that it gave
 pub all_of : (a b : Option (List ℕ)) (x : List ℕ) → Consumes a b x → (more : List ℕ) × MayGive a (x ++ more)
 all_of None b x p = ([], tt)
 all_of (Some xs) None x p = absurd p
 all_of (Some xs) (Some ys) x p = (ys, sym p)
 
--- at its end it has given all
+-- at its end a source has given all of its bytes
 pub all_at_end : (a b : Option (List ℕ)) (x : List ℕ) → Consumes a b x → IsAtEnd b → MayGive a x
 all_at_end None b x p e = tt
 all_at_end (Some xs) None x p e = absurd p
 all_at_end (Some xs) (Some ys) x p e = sym (append-nil x) ∙ ap (λ (t : List ℕ). x ++ t) (sym e) ∙ sym p
 
-pub HasNoRequest-nil : HasNoRequest []
+pub has_no_request_nil : HasNoRequest []
 unfolding print_request
-HasNoRequest-nil h rest reads = let e = ap length reads.1 in absurd (omega (arith, simp length-append at e))
+has_no_request_nil h rest reads = let e = ap length reads.1 in absurd (omega (arith, simp length-append at e))
 
 pub no_head_overflow : (buf more : List ℕ) (room : ℕ) → 64 ≤ room → RequestOverflows room buf → HasNoHead (buf ++ more)
 no_head_overflow buf more room wide over h rest has = let few = has.few in let many = over more h rest has.reads in absurd (omega arith)
@@ -58,5 +58,5 @@ whole_head buf spans r h small room within at =
     let counted : length h.fields ≤ length spans = omega (arith, simp (length-map, length-take) at lens, length-take r.headers spans) in
     record { reads = at.reads; short = omega arith; few = omega arith }
 
-pub HasHead-append : (buf : List ℕ) (h : RequestHead) (rest more : List ℕ) → HasHead buf h rest → HasHead (buf ++ more) h (rest ++ more)
-HasHead-append buf h rest more has = record { reads = (has.reads.0, ap (λ (t : List ℕ). t ++ more) has.reads.1 ∙ append_assoc (print_request h) rest more); short = has.short; few = has.few }
+pub has_head_append : (buf : List ℕ) (h : RequestHead) (rest more : List ℕ) → HasHead buf h rest → HasHead (buf ++ more) h (rest ++ more)
+has_head_append buf h rest more has = record { reads = (has.reads.0, ap (λ (t : List ℕ). t ++ more) has.reads.1 ∙ append_assoc (print_request h) rest more); short = has.short; few = has.few }

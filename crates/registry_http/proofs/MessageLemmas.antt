@@ -1,19 +1,19 @@
--- What a message says is determined by its bytes.
+-- The bytes of a message determine its query, request or refusal.
 use Rattle.std.proofs.Common.{◌≡◌, ℕ, List, [], ◌++◌, Option, Some, None, inl, inr, refl, sym, ap, subst, ◌∙◌}
 use Rattle.std.specs.Prelude.{Result, Ok, Err, IfOk, map, take, drop}
 use Rattle.httparse.specs.declared.spans.HeaderSpan.{HeaderSpan}
 use Rattle.httparse.specs.declared.spans.RequestSpans.{RequestSpans}
 use Rattle.httparse.specs.Spans.{IsRequestAt, span_bytes, header_bytes}
-use Rattle.registry_http.proofs.HeadLemmas.{HasHead-append}
+use Rattle.registry_http.proofs.HeadLemmas.{has_head_append}
 use Rattle.std.specs.Io.KnownBytes.{Consumes}
 use Rattle.httparse.specs.Grammar.{RequestHead}
 use Rattle.httparse.proofs.GrammarLemmas.{request_unique}
-use Rattle.usbids_text.specs.Ends.{MayGive}
+use Rattle.byte_streams.specs.Streams.{MayGive}
 use Rattle.usbids_text.specs.Entries.{TopEntry}
 use Rattle.usbids_text.specs.declared.line.Why.{Why}
 use Rattle.usbids_text.specs.Cut.{lines}
-use Rattle.usbids_text.proofs.InnerLemmas.{lines-inner}
-use Rattle.usbids_text.proofs.UniqueLemmas.{one-spelt, one-fault, never-both}
+use Rattle.usbids_text.proofs.InnerLemmas.{lines_inner}
+use Rattle.usbids_text.proofs.UniqueLemmas.{one_spelt, fault_is_one, not_both_at_once}
 use Rattle.registry_rules.specs.declared.order.Request.{Request}
 use Rattle.registry_wire.specs.Import.{import_of}
 use Rattle.registry_wire.specs.declared.refusal.WireRefusal.{WireRefusal}
@@ -34,7 +34,7 @@ pub gives_some : (o : Option (List ℕ)) → (rest : List ℕ) × MayGive o rest
 gives_some None = ([], tt)
 gives_some (Some known) = (known, refl)
 
--- what it gave, and what it may give from there on
+-- the bytes that a source gave, and those that it may give then
 pub gives_after : (a b : Option (List ℕ)) (x rest : List ℕ) → Consumes a b x → MayGive b rest → MayGive a (x ++ rest)
 gives_after None b x rest took may = tt
 gives_after (Some xs) None x rest took may = absurd took
@@ -47,11 +47,11 @@ bad_list n why = Err (BadList (record { line = n; why = why }))
 one_list : (founding : ℕ) (caller key org : List ℕ) (vendor : Option ℕ) (body : List ℕ) (a b : Result Request WireRefusal)
     → ListSays founding caller key org vendor body a → ListSays founding caller key org vendor body b → a ≡ b
 one_list founding caller key org vendor body a b (inl x) (inl y) =
-    x.2 ∙ (ap (λ (list : List TopEntry). Ok (import_of caller key org founding vendor list)) (one-spelt (lines body) x.0 y.0 x.1 y.1) ∙ sym y.2)
-one_list founding caller key org vendor body a b (inl x) (inr y) = absurd (never-both (lines body) x.0 y.0 y.1 x.1 y.2)
-one_list founding caller key org vendor body a b (inr x) (inl y) = absurd (never-both (lines body) y.0 x.0 x.1 y.1 x.2)
+    x.2 ∙ (ap (λ (list : List TopEntry). Ok (import_of caller key org founding vendor list)) (one_spelt (lines body) x.0 y.0 x.1 y.1) ∙ sym y.2)
+one_list founding caller key org vendor body a b (inl x) (inr y) = absurd (not_both_at_once (lines body) x.0 y.0 y.1 x.1 y.2)
+one_list founding caller key org vendor body a b (inr x) (inl y) = absurd (not_both_at_once (lines body) y.0 x.0 x.1 y.1 x.2)
 one_list founding caller key org vendor body a b (inr x) (inr y) =
-    let same = one-fault (lines body) x.0 y.0 x.1 y.1 (lines-inner body) x.2 y.2 in
+    let same = fault_is_one (lines body) x.0 y.0 x.1 y.1 (lines_inner body) x.2 y.2 in
     x.3 ∙ (ap (λ (n : ℕ). bad_list n x.1) same.0 ∙ (ap (λ (why : Why). bad_list y.0 why) same.1 ∙ sym y.3))
 
 one_whole_body : (founding : ℕ) (endpoint : Endpoint) (caller key body : List ℕ) (a b : Result Request WireRefusal)
@@ -83,7 +83,7 @@ head_at_spans : (buf : List ℕ) (spans : List HeaderSpan) (r : RequestSpans) (h
     → head_in (span_bytes buf r.method) (span_bytes buf r.path) (map (header_bytes buf) (take r.headers spans)) ≡ head_of h
 head_at_spans buf spans r h at = rw (at.method, at.path, at.fields) refl
 
--- the head was read, and what it calls for is known of all that follows it
+-- from the head and all bytes after it to the whole message
 pub says_after_head : {E : Type 0} (a b : Option (List ℕ)) (founding : ℕ) (buf : List ℕ) (spans : List HeaderSpan) (r : RequestSpans) (h : RequestHead) (result : Result (Result Message HttpRefusal) E)
     → HasHead buf h (drop r.len buf) → IsRequestAt buf spans r h → Consumes a b buf
     → IfOk result (λ said. (rest : List ℕ) × MayGive b rest × HeadSays founding (head_in (span_bytes buf r.method) (span_bytes buf r.path) (map (header_bytes buf) (take r.headers spans))) (drop r.len buf ++ rest) said)
@@ -95,7 +95,7 @@ says_after_head a b founding buf spans r h (Ok said) has at took ok = (
   inr (
     h,
     drop r.len buf ++ ok.0,
-    HasHead-append buf h (drop r.len buf) ok.0 has,
+    has_head_append buf h (drop r.len buf) ok.0 has,
     subst (λ (head_says : Result Head HttpRefusal). HeadSays founding head_says (drop r.len buf ++ ok.0) said) (head_at_spans buf spans r h at) ok.2,
   ),
 )

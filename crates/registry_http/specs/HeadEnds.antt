@@ -1,4 +1,4 @@
--- How reading a head ends.
+-- The result of reading a head.
 use Rattle.std.specs.Prelude.{⊤}
 use Rattle.httparse.specs.declared.spans.RequestSpans.{RequestSpans}
 use Rattle.registry_http.specs.declared.head.HeadEnd.{HeadEnd}

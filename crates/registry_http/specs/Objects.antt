@@ -1,12 +1,12 @@
--- JSON objects, member by member. An object has its members in the order of their keys' bytes, whatever came first.
+-- JSON objects, member by member. The members are in the order of their keys' bytes, not in the order of insertion.
 use Rattle.std.specs.Prelude.{ℕ, List, Option, Some, None}
 use Rattle.serde_json.specs.Data.{Members, string, put}
 
--- the members, with a text at the key
+-- puts a text at the key
 abbrev pub put_text : List ℕ → List ℕ → Members → Members
 put_text key text members = put key (string text) members
 
--- the members, with a text at the key if there is one
+-- puts a text at the key, if there is a text
 abbrev pub put_if : List ℕ → Option (List ℕ) → Members → Members
 put_if key None members = members
 put_if key (Some text) members = put_text key text members

@@ -1,4 +1,4 @@
--- What the head of a message asks for.
+-- The query or order that the head of a message asks for.
 use Rattle.std.specs.Prelude.{ℕ, List, map, bytes_eq, codes, nat_le, Bool, Option, None, option_and_then, Result, Ok, Err, if◌then◌else◌}
 use Rattle.std.specs.List.{list_any}
 use Rattle.httparse.specs.Grammar.{RequestHead}
@@ -24,7 +24,7 @@ use Rattle.registry_http.specs.declared.reading.Head.TheVariants as heads
 abbrev pub Fields : Type 0
 Fields = List (List ℕ × List ℕ)
 
--- whether there is a field of this name
+-- whether a field has this name
 abbrev pub has_field : List ℕ → Fields → Bool
 has_field name fields = list_any (λ field. is_named name field.0) fields
 
@@ -32,11 +32,11 @@ has_field name fields = list_any (λ field. is_named name field.0) fields
 abbrev pub length_in : Fields → Option ℕ
 length_in fields = if has_field (codes "transfer-encoding") fields then None else option_and_then length_of (only (values_of (codes "content-length") fields))
 
--- the value of the only field that a header names
+-- the value of the only field with the name of this header
 abbrev pub header_in : Header → Fields → Option (List ℕ)
 header_in header fields = only (values_of (header_name header) fields)
 
--- the most bytes of a body
+-- the most bytes that a body may have
 abbrev pub limit_of : Endpoint → ℕ
 limit_of endpoints.Commands = 16384
 limit_of (endpoints.Imports org vendor) = 4194304
@@ -44,7 +44,7 @@ limit_of (endpoints.Imports org vendor) = 4194304
 abbrev pub within : ℕ → ℕ → Result ℕ HttpRefusal
 within most length = if nat_le length most then Ok length else Err (Wire TooLarge)
 
--- an order: its length (21, 22), then its caller, then its key (26)
+-- an order: checks its length (21, 22), then its caller, then its key (26)
 unfoldable pub order_head : Endpoint → Fields → Result Head HttpRefusal
 order_head endpoint fields = do
   wanted ← present BadLength (length_in fields)
@@ -57,12 +57,12 @@ unfoldable pub head_for : Route → List ℕ → Fields → Result Head HttpRefu
 head_for (Get query) method fields = if bytes_eq method (codes "GET") then Ok (heads.Query query) else Err (WrongMethod allowed.Get)
 head_for (Post endpoint) method fields = if bytes_eq method (codes "POST") then order_head endpoint fields else Err (WrongMethod allowed.Post)
 
--- the path first (24), then the method (25), then what an order needs
+-- checks the path (24), then the method (25), then the parts of an order
 unfoldable pub head_in : List ℕ → List ℕ → Fields → Result Head HttpRefusal
 head_in method target fields = do
   route ← present NoRoute (route_of target)
   head_for route method fields
 
--- what a head asks for, or its first fault
+-- the query or order that a head asks for, or its first fault
 abbrev pub head_of : RequestHead → Result Head HttpRefusal
 head_of head = head_in head.method head.target (map name_and_value head.fields)

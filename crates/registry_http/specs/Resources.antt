@@ -15,7 +15,7 @@ use Rattle.registry_http.specs.declared.response.Response.{Response}
 use Rattle.registry_http.specs.Objects.{put_text, put_if}
 use Rattle.registry_http.specs.Responses.{json_response, reply_response}
 
--- 200, with these members
+-- status 200, with an object of these members
 unfoldable pub found_response : Members → Response
 found_response members = json_response 200 None (compact_text (object members))
 
@@ -31,7 +31,7 @@ put_terms_if (Some terms) members = put_terms terms members
 abbrev pub held_text : Bool → List ℕ
 held_text held = if held then codes "held" else codes "returned"
 
--- its owner and card; the terms are left out where it has none
+-- its owner and card, without terms if the card has none
 unfoldable pub put_entry : Entry → Members → Members
 put_entry entry members =
     put_terms_if entry.card.terms (put_text (codes "org") entry.org (put_text (codes "title") entry.card.title (put_text (codes "state") (held_text entry.held) members)))
@@ -40,11 +40,11 @@ abbrev pub put_owned : Option Entry → Members → Members
 put_owned None members = put_text (codes "state") (codes "free") members
 put_owned (Some entry) members = put_entry entry members
 
--- the first state that holds: reserved, held or returned, free
+-- the first of these states that applies: reserved, held or returned, free
 abbrev pub put_state : Bool → Option Entry → Members → Members
 put_state reserved entry members = if reserved then put_text (codes "state") (codes "reserved") members else put_owned entry members
 
--- a number of a vendor, which is named where the query named it
+-- a number, with its vendor if the query names one
 unfoldable pub number_members : Option ℕ → ℕ → Bool → Option Entry → Members
 number_members vendor pid reserved entry =
     put_state reserved entry (put_text (codes "number") (digits_of pid) (put_if (codes "vendor") (option_map digits_of vendor) no_members))
@@ -57,7 +57,7 @@ number_response vendor pid reserved entry = found_response (number_members vendo
 unfoldable pub org_members : Org → Members
 org_members org = put_text (codes "keeper") org.keeper (put_text (codes "org") org.slug (put_text (codes "site") org.site (put_text (codes "title") org.title no_members)))
 
--- refusal 4 where there is none
+-- refusal 4 if there is no such organisation
 abbrev pub org_response : Option Org → Response
 org_response None = reply_response (Refused NoOrg)
 org_response (Some org) = found_response (org_members org)
@@ -76,11 +76,11 @@ granted_of (Granted pid) = Some pid
 granted_of Declined = None
 granted_of Withdrawn = None
 
--- the vendor, where it isn't the founding one
+-- the vendor, if it is not the founding one
 abbrev pub other_vendor : ℕ → ℕ → Option ℕ
 other_vendor founding vid = if vid == founding then None else Some vid
 
--- what every petition has
+-- the members of every petition
 unfoldable pub put_asked : ℕ → Petition → Members → Members
 put_asked id petition members =
     put_terms petition.terms
@@ -89,7 +89,7 @@ put_asked id petition members =
     (put_text (codes "state") (state_text petition.state)
     (put_text (codes "title") petition.title members))))
 
--- the numbers that it wants and was granted
+-- the vendor, the wanted number and the granted number
 unfoldable pub put_numbers : ℕ → Petition → Members → Members
 put_numbers founding petition members =
     put_if (codes "granted") (option_map digits_of (granted_of petition.state))
@@ -99,7 +99,7 @@ put_numbers founding petition members =
 unfoldable pub petition_members : ℕ → ℕ → Petition → Members
 petition_members founding id petition = put_numbers founding petition (put_asked id petition no_members)
 
--- refusal 6 where there is none
+-- refusal 6 if there is no such petition
 abbrev pub petition_response : ℕ → ℕ → Option Petition → Response
 petition_response founding id None = reply_response (Refused NoPetition)
 petition_response founding id (Some petition) = found_response (petition_members founding id petition)

@@ -22,14 +22,14 @@ use Rattle.registry_http.specs.Statuses.{status_of, reply_status}
 abbrev pub crlf : List ℕ
 crlf = 13 ∷ 10 ∷ []
 
--- the text with a field line at its end
+-- appends a field line
 unfoldable pub with_field : List ℕ → List ℕ → List ℕ → List ℕ
 with_field text name value = text ++ (name ++ (codes ": " ++ (value ++ crlf)))
 
 unfoldable pub phrase_of : ℕ → List ℕ
 phrase_of status = unwrap_or (reason_phrase status) []
 
--- HTTP/1.1 200 OK
+-- for example `HTTP/1.1 200 OK`
 unfoldable pub status_line : ℕ → List ℕ
 status_line status = codes "HTTP/1.1 " ++ (decimal status ++ (codes " " ++ (phrase_of status ++ crlf)))
 
@@ -41,12 +41,12 @@ abbrev pub allow_text : Allow → List ℕ
 allow_text Get = codes "GET"
 allow_text Post = codes "POST"
 
--- for a wrong method, the one that is allowed
+-- appends the allowed method, if the message has a wrong one
 abbrev pub with_allow : List ℕ → Option Allow → List ℕ
 with_allow text None = text
 with_allow text (Some allow) = with_field text (codes "allow") (allow_text allow)
 
--- the head of a response whose body has so many bytes
+-- the head of a response whose body has `count` bytes
 unfoldable pub head_text : ℕ → ContentType → ℕ → Option Allow → List ℕ
 head_text status content_type count allow =
     with_field (with_allow (with_field (with_field (status_line status) (codes "content-type") (content_type_text content_type)) (codes "content-length") (decimal count)) allow) (codes "connection") (codes "close") ++ crlf
@@ -59,7 +59,7 @@ response_head response = head_text response.status response.content_type (length
 unfoldable pub response_bytes : Response → List ℕ
 response_bytes response = response_head response ++ response.body
 
--- a response of JSON, which ends in a line feed
+-- a JSON response, which ends in a line feed
 unfoldable pub json_response : ℕ → Option Allow → List ℕ → Response
 json_response status allow text = record { status = status; content_type = Json; allow = allow; body = text ++ 10 ∷ [] }
 
@@ -75,7 +75,7 @@ refusal_response refusal = json_response (status_of (wire_refusal refusal)) (all
 unfoldable pub text_response : List ℕ → Response
 text_response bytes = record { status = 200; content_type = Text; allow = None; body = bytes }
 
--- ---- where the registry cannot be asked
+-- ---- if the registry cannot be asked
 
 abbrev pub unavailable_response : Unavailable → Response
 unavailable_response StoreFault = refusal_response (Wire refusals.StoreFault)
@@ -87,6 +87,6 @@ store_fault_bytes = response_bytes (unavailable_response StoreFault)
 unfoldable pub no_memory_bytes : List ℕ
 no_memory_bytes = response_bytes (unavailable_response NoMemory)
 
--- the response itself, or that there is no memory for its head
+-- the response itself, or the refusal that memory ran out for its head
 abbrev pub IsInPlaceOf : Response → Response → Type 0
 IsInPlaceOf written response = (written ≡ response) ⊎ (written ≡ unavailable_response NoMemory)

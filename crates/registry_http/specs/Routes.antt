@@ -1,4 +1,4 @@
--- The paths that are served, and what a path asks for.
+-- The served paths, and the query or endpoint of each.
 use Rattle.std.specs.Prelude.{ℕ, ◌≡◌, ◌==◌, nat_lt, List, [], ◌∷◌, length, take, position, unwrap_or, bytes_eq, codes, Bool, false, Option, Some, None, option_and_then, option_map, Result, Ok, Err, if◌then◌else◌}
 use Rattle.std.specs.List.{list_all}
 use Rattle.matchit.specs.Rows.{RowsOf}
@@ -27,11 +27,11 @@ abbrev pub with_read : Result Scan InsertError → Template → Templates → Te
 with_read (Ok s) value old = placed (s.pattern, route_from s value) old
 with_read (Err e) value old = old
 
--- the paths that are served, with one more
+-- adds a served path
 unfoldable pub with_template : List ℕ → Template → Templates → Templates
 with_template text value old = with_read (parse_route text) value old
 
--- the paths that are served
+-- the served paths
 unfoldable pub templates : Templates
 templates =
     with_template (codes "/reports/{name}") at.Reports
@@ -44,7 +44,7 @@ templates =
     (with_template (codes "/imports/{org}") at.Imports
     (with_template (codes "/commands") at.Commands []))))))))
 
--- the next of the parts that are left
+-- the next of the remaining parts
 abbrev pub NextPart : List (List ℕ × List ℕ) → Option (List ℕ) → List (List ℕ × List ℕ) → Type 0
 NextPart old None new = old ≡ []
 NextPart old (Some part) new = (name : List ℕ) × (old ≡ (name, part) ∷ new)
@@ -57,11 +57,11 @@ abbrev pub tail_parts : List (List ℕ × List ℕ) → List (List ℕ × List �
 tail_parts [] = []
 tail_parts (p ∷ rest) = rest
 
--- the first two of the parts that a path has for its template
+-- the first two parts of a path
 abbrev pub first_two : List (List ℕ × List ℕ) → Option (List ℕ) × Option (List ℕ)
 first_two parts = (head_part parts, head_part (tail_parts parts))
 
--- a petition's number: 1 to 4,294,967,295 in decimal, without leading zeros
+-- the number of a petition: 1 to 4,294,967,295 in decimal, without leading zeros
 abbrev pub starts_with_zero : List ℕ → Bool
 starts_with_zero [] = false
 starts_with_zero (b ∷ bytes) = b == 48
@@ -100,7 +100,7 @@ petition_route part = option_map (λ id. Get (queries.Petition id)) (option_and_
 unfoldable pub report_route : Option (List ℕ) → Option Route
 report_route part = option_map (λ report. Get (queries.Report report)) (option_and_then report_of part)
 
--- what a path asks for that fits a template with these parts
+-- the route of a path with this template and these parts
 abbrev pub route_for : Template → Option (List ℕ) → Option (List ℕ) → Option Route
 route_for at.Commands one two = Some (Post endpoints.Commands)
 route_for at.Imports one two = import_route one
@@ -118,7 +118,7 @@ parts_of path template = walk template.pattern template.text path template.names
 abbrev pub route_at : List ℕ → RouteOf Template → Option Route
 route_at path template = route_for template.value (first_two (parts_of path template)).0 (first_two (parts_of path template)).1
 
--- what a path asks for, if it is served
+-- the route of a path, if it is served
 unfoldable pub found_in : List ℕ → Option Route
 found_in path = option_and_then (route_at path) (first templates path)
 
@@ -138,6 +138,6 @@ path_of target = take (path_end target) target
 abbrev pub ascii_path : List ℕ → Option (List ℕ)
 ascii_path path = if list_all is_ascii path then Some path else None
 
--- what a target asks for; no path that is served has a byte past ASCII
+-- the route of a target; served paths have only ASCII bytes
 unfoldable pub route_of : List ℕ → Option Route
 route_of target = option_and_then found_in (ascii_path (path_of target))

@@ -7,7 +7,7 @@ use Rattle.registry_rules.specs.declared.verdict.Reply.TheVariants.{Done, Refuse
 use Rattle.registry_wire.specs.declared.refusal.WireRefusal.{WireRefusal}
 use Rattle.registry_wire.specs.declared.refusal.WireRefusal.TheVariants.{BadHead, BadLength, TooLarge, ShortBody, NoRoute, WrongMethod, BadHeader, BadJson, BadField, BadList, StoreFault, NoMemory, BadFounding}
 
--- the status of a refusal of the message itself
+-- the status of a refusal before the rules
 abbrev pub status_of : WireRefusal → ℕ
 status_of BadHead = 400
 status_of BadLength = 411
@@ -23,7 +23,7 @@ status_of StoreFault = 503
 status_of NoMemory = 503
 status_of (BadFounding fault) = 422
 
--- the status of a refusal of the rules
+-- the status of a refusal by the rules
 abbrev pub rule_status : Refusal → ℕ
 rule_status rules.KeyReused = 409
 rule_status rules.NotCurator = 403

@@ -1,16 +1,17 @@
-//! The body of a message, behind its head.
+//! Reads the body of a message, after its head.
 
 ghost use Rattle.std.specs.Prelude.{Err, ◌≡◌, ◌≤◌, ◌<◌, ◌+◌, ◌++◌, [], true, false, ℕ, List, length, drop, nat_le, IfOk, OnOk};
 ghost use Rattle.std.specs.Io.KnownBytes.{Consumes, IsAtEnd};
-ghost use Rattle.usbids_text.specs.Ends.{HasFailed, MayGive};
-ghost use Rattle.usbids_text.specs.Readers.{Stands};
+ghost use Rattle.byte_streams.specs.Streams.{HasFailed, MayGive};
+ghost use Rattle.usbids_text.specs.Readers.{WasFed};
 ghost use Rattle.registry_http.specs.Bodies.{IsHeld, IsFed};
 
 use crate::head::{InputFault, take_more};
-use usbids_text::{Broken, Reader, Source};
+use byte_streams::{Broken, Source};
+use usbids_text::Reader;
 
-/// Reads until the buffer has so many bytes, and says whether it has: else the source is at its end. No read begins
-/// where it has them already.
+/// Reads until the buffer has `wanted` bytes, and returns whether it has them. If not, the source
+/// is at its end. Does not read if the buffer has them already.
 fn read_up_to<R: Source>(
     source: &mut R,
     buffer: &mut Vec<u8>,
@@ -31,7 +32,8 @@ fn read_up_to<R: Source>(
     Ok(true)
 }
 
-/// Reads the rest of a body of so many bytes that begins at this place of the buffer, and says whether it is whole.
+/// Reads the rest of a body of `count` bytes that begins at `start` in the buffer, and returns
+/// whether the body is complete.
 pub(crate) fn read_body<R: Source>(
     source: &mut R,
     buffer: &mut Vec<u8>,
@@ -49,7 +51,8 @@ pub(crate) fn read_body<R: Source>(
     read_up_to(source, buffer, start.saturating_add(count))
 }
 
-/// Feeds the reader the next bytes of the source, at most so many, and says how many they are: none at the end alone.
+/// Feeds the reader at most `most` further bytes of the source, and returns their number, which is
+/// 0 only at the end.
 fn feed_more<R: Source>(
     source: &mut R,
     reader: &mut Reader,
@@ -58,7 +61,7 @@ fn feed_more<R: Source>(
     requires { 0 < most }
     ensures ok { IfOk result (λ n. (more : List ℕ) × (length more ≡ n) × (n ≤ most)
         × Consumes (R.remaining source.old) (R.remaining source.new) more × (n ≡ 0 → IsAtEnd (R.remaining source.new))
-        × ((t : List ℕ) → Stands reader.old t → Stands reader.new (t ++ more))) }
+        × ((t : List ℕ) → WasFed reader.old t → WasFed reader.new (t ++ more))) }
     ensures kept { OnOk result (R.failures source.new ≡ R.failures source.old) }
     ensures broken { result ≡ Err InputFault.Broken → HasFailed (R.failures source.old) (R.failures source.new) }
 {
@@ -73,7 +76,8 @@ fn feed_more<R: Source>(
     }
 }
 
-/// Feeds the reader the next so many bytes of the source, and says whether they came: else the source is at its end.
+/// Feeds the reader the next `wanted` bytes of the source, and returns whether all came. If not,
+/// the source is at its end.
 fn feed_from<R: Source>(
     source: &mut R,
     reader: &mut Reader,
@@ -81,7 +85,7 @@ fn feed_from<R: Source>(
 ) -> Result<bool, InputFault>
     ensures ok { IfOk result (λ whole. (more : List ℕ) × Consumes (R.remaining source.old) (R.remaining source.new) more
         × (length more ≤ wanted) × (whole ≡ nat_le wanted (length more)) × (whole ≡ false → IsAtEnd (R.remaining source.new))
-        × ((t : List ℕ) → Stands reader.old t → Stands reader.new (t ++ more))) }
+        × ((t : List ℕ) → WasFed reader.old t → WasFed reader.new (t ++ more))) }
     ensures kept { OnOk result (R.failures source.new ≡ R.failures source.old) }
     ensures broken { result ≡ Err InputFault.Broken → HasFailed (R.failures source.old) (R.failures source.new) }
 {
@@ -96,14 +100,15 @@ fn feed_from<R: Source>(
     Ok(true)
 }
 
-/// Feeds the reader a body of so many bytes, of which the first have come already, and says whether it is whole.
+/// Feeds the reader a body of `count` bytes, which begins with those in `come`, and returns whether
+/// the body is complete.
 pub(crate) fn feed_body<R: Source>(
     source: &mut R,
     reader: &mut Reader,
     come: &[u8],
     count: usize,
 ) -> Result<bool, InputFault>
-    requires { Stands reader.old [] }
+    requires { WasFed reader.old [] }
     ensures ok { IfOk result (λ whole. (rest : List ℕ) × MayGive (R.remaining source.old) rest × IsFed whole reader.new count (come.now ++ rest)) }
     ensures kept { OnOk result (R.failures source.new ≡ R.failures source.old) }
     ensures broken { result ≡ Err InputFault.Broken → HasFailed (R.failures source.old) (R.failures source.new) }

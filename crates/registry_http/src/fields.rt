@@ -1,4 +1,4 @@
-//! The fields of a head.
+//! Finds and reads the fields of a head.
 
 ghost use Rattle.std.specs.Prelude.{◌≡◌, ◌≤◌, true, All, length, map, option_copied};
 ghost use Rattle.httparse.specs.Spans.{IsHeaderWithin, header_bytes};
@@ -13,7 +13,8 @@ fn is_named(name: &[u8], other: &[u8]) -> bool
     other.eq_ignore_ascii_case(name)
 }
 
-/// The value of the only field of this name; `None` where there is none, or more than one.
+/// Returns the value of the only field with this name, or `None` if there is no field or more than
+/// one.
 pub(crate) fn only_value<'b>(
     buffer: &'b [u8],
     spans: &[HeaderSpan],
@@ -34,7 +35,7 @@ pub(crate) fn only_value<'b>(
     found
 }
 
-/// Whether there is a field of this name.
+/// Returns whether a field has this name.
 pub(crate) fn has_field(buffer: &[u8], spans: &[HeaderSpan], name: &[u8]) -> bool
     requires { All (IsHeaderWithin (length buffer.now)) spans.now }
     ensures { result ≡ list_any (λ field. is_named name.now field.0) (map (header_bytes buffer.now) spans.now) }
@@ -59,7 +60,7 @@ fn are_digits(bytes: &[u8]) -> bool
     bytes.iter().all(|b| is_digit(*b))
 }
 
-/// The number that at most ten digits write.
+/// Returns the value of at most ten digits.
 fn number_of(digits: &[u8]) -> u64
     requires few { length digits.now ≤ 10 }
     requires digits { list_all is_digit digits.now ≡ true }
@@ -72,7 +73,7 @@ fn number_of(digits: &[u8]) -> u64
     number
 }
 
-/// The number that one to ten digits write, and nothing else.
+/// Returns the value of one to ten digits, or None for any other text.
 pub(crate) fn length_of(text: &[u8]) -> Option<u64>
     ensures { result ≡ length_of text.now }
 {

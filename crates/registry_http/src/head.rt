@@ -1,37 +1,54 @@
-//! The head of a message, among the bytes that come.
+//! Reads the head of a message.
 
-ghost use Rattle.std.specs.Prelude.{Err, ◌≡◌, ◌≤◌, ◌<◌, ℕ, List, [], ◌++◌, length, drop, IfOk, OnOk};
+ghost use Rattle.std.specs.Prelude.{Err, Some, ◌≡◌, ◌≤◌, ◌<◌, ℕ, List, [], ◌++◌, length, drop, IfOk, OnOk};
 ghost use Rattle.std.specs.Io.KnownBytes.{Consumes, IsAtEnd};
 ghost use Rattle.httparse.specs.Spans.{IsRequestAt, IsRequestWithin};
 ghost use Rattle.httparse.specs.Grammar.{RequestHead};
-ghost use Rattle.usbids_text.specs.Ends.{MayGive, HasFailed};
+ghost use Rattle.byte_streams.specs.Streams.{MayGive, HasFailed};
 ghost use Rattle.registry_http.specs.Heads.{HasHead, HasNoHead};
 ghost use Rattle.registry_http.specs.HeadEnds.{IfWhole, OnMissing};
+ghost use Rattle.registry_http.specs.Refusals.{input_fault_text};
 
+use byte_streams::{Broken, Source};
 use httparse::Status;
 use httparse::spans::{HeaderSpan, RequestSpans, parse_request};
-use usbids_text::{Broken, Source};
+use std::error::Error;
+use std::fmt;
 
-/// How reading a head ended.
+/// The result of reading a head.
 #[derive(Clone, Copy, Debug)]
 pub(crate) enum HeadEnd {
-    /// It lies at the front of what was read.
+    /// The bytes read begin with a head.
     Whole(RequestSpans),
-    /// Whatever follows, there is none.
+    /// The message has no valid head, whatever follows.
     Missing,
 }
 
-/// Why a message could not be read.
+/// The reason why a message could not be read.
 #[derive(Clone, Copy, Debug, PartialEq, Eq)]
 pub enum InputFault {
     /// The source failed.
     Broken,
-    /// There is no memory for it.
+    /// Out of memory.
     NoMemory,
 }
 
-/// The next bytes of the source behind those that came before, at most so many, and how many they are: none at
-/// the end alone.
+/// The fault in a few words.
+impl fmt::Display for InputFault {
+    ghost output = { λ fault. Some (input_fault_text fault) };
+
+    fn fmt<W: fmt::Write>(&self, f: &mut fmt::Formatter<W>) -> fmt::Result {
+        f.write_str(match self {
+            InputFault::Broken => "the source failed",
+            InputFault::NoMemory => "out of memory",
+        })
+    }
+}
+
+impl Error for InputFault {}
+
+/// Appends at most `most` further bytes of the source to the buffer, and returns their number,
+/// which is 0 only at the end.
 pub(crate) fn take_more<R: Source>(
     source: &mut R,
     buffer: &mut Vec<u8>,
@@ -54,7 +71,8 @@ pub(crate) fn take_more<R: Source>(
     }
 }
 
-/// Reads until a whole head of at most 64 fields has come in at most 8,192 bytes, or none can come.
+/// Reads until the buffer has a complete head, of at most 64 fields and 8,192 bytes, or cannot have
+/// one.
 pub(crate) fn read_head<R: Source>(
     source: &mut R,
     buffer: &mut Vec<u8>,

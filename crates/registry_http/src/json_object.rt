@@ -1,4 +1,4 @@
-//! JSON objects of texts and whole numbers, made member by member.
+//! Makes JSON objects of texts and whole numbers, member by member.
 
 ghost use Rattle.std.specs.Prelude.{◌≡◌, false, IfOk, OnOk, option_copied, string_bytes};
 ghost use Rattle.serde_json.specs.Data.{string, number, unsigned, object, put};
@@ -43,7 +43,7 @@ pub(crate) fn put_text(
     put(alloc, members, key, value)
 }
 
-/// Puts a text at a key, where there is one.
+/// Puts a text at a key, if there is a text.
 pub(crate) fn put_if(
     alloc: Global,
     members: &mut Map<String, Value>,
@@ -84,7 +84,7 @@ fn object_value(members: Map<String, Value>) -> Value
     Value::Object(members)
 }
 
-/// The text of an object.
+/// Returns the text of an object.
 pub(crate) fn object_text(alloc: Global, members: Map<String, Value>) -> Result<String, NoMemory>
     requires { members_have_float (members_view members.entries) ≡ false }
     ensures { IfOk result (λ text. string_bytes text ≡ compact_text (object (members_view members.entries))) }

@@ -1,4 +1,4 @@
-//! Messages of HTTP: what all bytes of one say to a registry, and the bytes of a response. No store is asked here.
+//! Reads HTTP messages to a registry and writes the responses. Does not use a store.
 #![tactic(auto)]
 
 mod body;
@@ -9,13 +9,13 @@ mod message;
 mod parts;
 mod reading;
 mod refusal;
+mod rejection;
 mod resources;
 mod response;
 mod response_head;
 mod route;
 mod routes;
 mod status;
-mod stop;
 mod unavailable;
 mod write;
 

@@ -1,7 +1,7 @@
-//! What a message says, of all bytes that come.
+//! Reads a message as a query or a request.
 
 ghost use Rattle.std.specs.Prelude.{Ok, Err, Result, ◌≡◌, ◌≤◌, ◌<◌, ◌++◌, ℕ, List, length, drop, take, map, IfOk, OnOk};
-ghost use Rattle.usbids_text.specs.Ends.{HasFailed, MayGive};
+ghost use Rattle.byte_streams.specs.Streams.{HasFailed, MayGive};
 ghost use Rattle.httparse.specs.Spans.{IsRequestWithin, span_bytes, header_bytes};
 ghost use Rattle.registry_wire.specs.Reading.{body_reading};
 ghost use Rattle.registry_wire.specs.declared.refusal.WireRefusal.{WireRefusal};
@@ -17,23 +17,24 @@ use crate::body::{feed_body, read_body};
 use crate::head::{HeadEnd, InputFault, read_head};
 use crate::reading::{Head, OrderHead, head_in};
 use crate::refusal::HttpRefusal;
+use crate::rejection::Rejection;
 use crate::route::{Endpoint, Query};
-use crate::stop::Stop;
+use byte_streams::Source;
 use httparse::spans::{EMPTY_HEADER_SPAN, HeaderSpan, RequestSpans};
 use registry_rules::Request;
 use registry_wire::{WireRefusal, import_request, request_from_json};
 use std::alloc::Global;
-use usbids_text::{Reader, Source};
+use usbids_text::Reader;
 use usbnum_core::{Key, NoMemory, Slug, Vid};
 
-/// What a message says that has no fault.
+/// The query or request of a message without a fault.
 #[derive(Drop)]
 pub enum Message {
     Query(Query),
     Request(Request),
 }
 
-/// The request of a body of JSON.
+/// Reads the request in a body of JSON.
 fn command_in(
     alloc: Global,
     caller: Slug,
@@ -49,7 +50,7 @@ fn command_in(
     }
 }
 
-/// The request of the list that a reader was fed, or that the list ended early.
+/// Returns the request to import the list that the reader was fed, or a refusal.
 fn import_in(
     alloc: Global,
     founding: Vid,
@@ -76,7 +77,8 @@ fn import_in(
     }
 }
 
-/// The request of a list of so many bytes, of which the first have come.
+/// Reads a list of `count` bytes, which begins with those in `come`, and returns the request to
+/// import it, or a refusal.
 fn read_import<R: Source>(
     alloc: Global,
     source: &mut R,
@@ -99,7 +101,7 @@ fn read_import<R: Source>(
     }
 }
 
-/// The request of a body of JSON of so many bytes, of which the first lie in the buffer from this place on.
+/// Reads the request in a body of JSON of `count` bytes, which begins at `start` in the buffer.
 fn read_command<R: Source>(
     alloc: Global,
     source: &mut R,
@@ -123,7 +125,7 @@ fn read_command<R: Source>(
     }
 }
 
-/// The request of an order whose head has come, of whose body the first bytes lie in the buffer from this place on.
+/// Reads the request of an order with this head, whose body begins at `start` in the buffer.
 fn read_order<R: Source>(
     alloc: Global,
     source: &mut R,
@@ -163,7 +165,7 @@ fn read_order<R: Source>(
     }
 }
 
-/// What a head asks for that lies at the front of the buffer.
+/// Returns the query or order that the head in the buffer asks for, or a refusal.
 fn head_at(
     alloc: Global,
     buffer: &[u8],
@@ -182,12 +184,12 @@ fn head_at(
         &spans[..head.headers],
     ) {
         Ok(call) => Ok(Ok(call)),
-        Err(Stop::Refused(refusal)) => Ok(Err(refusal)),
-        Err(Stop::OutOfMemory) => Err(InputFault::NoMemory),
+        Err(Rejection::Refused(refusal)) => Ok(Err(refusal)),
+        Err(Rejection::OutOfMemory) => Err(InputFault::NoMemory),
     }
 }
 
-/// What a message says whose head has come, of whose body the first bytes lie in the buffer from this place on.
+/// Reads the rest of a message with this head, whose body begins at `start` in the buffer.
 fn read_rest<R: Source>(
     alloc: Global,
     source: &mut R,
@@ -212,7 +214,7 @@ fn read_rest<R: Source>(
     }
 }
 
-/// What a message says whose head lies at the front of the buffer.
+/// Reads the rest of a message whose head is at the front of the buffer.
 fn read_after_head<R: Source>(
     alloc: Global,
     source: &mut R,
@@ -235,13 +237,15 @@ fn read_after_head<R: Source>(
     }
 }
 
-/// Reads one message, and gives what it says to a registry whose founding vendor this is: a query, a request, or the
-/// refusal of its first fault. No read begins once the bytes that were read decide that.
+/// Reads one message to a registry with this founding vendor. Returns a query, a request, or the
+/// refusal of the first fault. Reads no further once the bytes read decide the result.
 ///
-/// The message takes at most 8,192 bytes of memory for its head, and 16,384 for the body of an order in JSON besides
-/// the request itself. A list that is imported is read in pieces, and takes the memory of its document.
+/// A message needs at most 8,192 bytes of memory for its head and 16,384 for the body of an order
+/// in JSON, besides the request itself. An imported list is read in pieces and needs the memory of
+/// its document.
 ///
-/// `Broken` comes only where the source failed in this call, and `NoMemory` only where memory is short.
+/// Returns `Broken` only if the source failed during this call, and `NoMemory` only when it runs
+/// out of memory.
 pub fn read_message<R: Source>(
     alloc: Global,
     source: &mut R,
@@ -262,7 +266,7 @@ pub fn read_message<R: Source>(
     }
 }
 
-/// The law of one meaning: all bytes of a message say one thing, however they were cut.
+/// The bytes of a message have one meaning, however they are cut into pieces.
 pub fn says_one_thing()
     ensures { (founding : ℕ) (bytes : List ℕ) (a b : Result Message HttpRefusal) → Says founding bytes a → Says founding bytes b → a ≡ b }
 {}

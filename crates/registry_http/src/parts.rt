@@ -1,4 +1,4 @@
-//! The parts of a path, read as values: what a path asks for whose template is known.
+//! Reads the parts of a path with a known template as values.
 
 ghost use Rattle.std.specs.Prelude.{◌≡◌, IfOk, option_copied};
 ghost use Rattle.registry_wire.specs.Kinds.{slug_of};
@@ -9,7 +9,7 @@ use crate::route::{Endpoint, Query, Report, Route};
 use std::alloc::Global;
 use usbnum_core::{NoMemory, Slug, parse_pid, parse_vid};
 
-/// The slug that a part is.
+/// Reads a part as a slug.
 #[tactic(auto, unfolding(registry_wire::specs::Kinds::slug_of))]
 pub(crate) fn slug_of(alloc: Global, text: &[u8]) -> Result<Option<Slug>, NoMemory>
     ensures { IfOk result (λ found. found ≡ slug_of text.now) }

@@ -1,4 +1,4 @@
-//! What the head of a message asks for.
+//! Reads the head of a message as a query or an order.
 
 ghost use Rattle.std.specs.Prelude.{◌≡◌, All, IfOk, length, map, option_and_then, bytes_eq};
 ghost use Rattle.httparse.specs.Spans.{IsHeaderWithin, header_bytes};
@@ -11,24 +11,28 @@ ghost use Rattle.registry_wire.specs.declared.refusal.Header.TheVariants as head
 use crate::fields::{has_field, length_of, only_value};
 use crate::parts::slug_of;
 use crate::refusal::{Allow, HttpRefusal};
+use crate::rejection::Rejection;
 use crate::route::{Endpoint, Query, Route};
 use crate::routes::route_of;
-use crate::stop::Stop;
 use httparse::spans::HeaderSpan;
 use registry_wire::{Header, WireRefusal};
 use std::alloc::Global;
 use usbnum_core::{Key, NoMemory, Slug};
 
-/// The head of an order: where it is sent, how many bytes its body has, its caller and its key.
+/// The head of an order.
 #[derive(Drop)]
 pub(crate) struct OrderHead {
+    /// The endpoint to which it is sent.
     pub endpoint: Endpoint,
+    /// The length of its body, in bytes.
     pub length: u32,
+    /// The caller of the request.
     pub caller: Slug,
+    /// The key of the request.
     pub key: Key,
 }
 
-/// What a head asks for: a query, or that an order is read behind it.
+/// The meaning of a head: a query, or an order whose body follows.
 #[derive(Drop)]
 pub(crate) enum Head {
     Query(Query),
@@ -54,40 +58,40 @@ fn limit_of(endpoint: &Endpoint) -> u32
     }
 }
 
-fn within(most: u32, length: u64) -> Result<u32, Stop>
+fn within(most: u32, length: u64) -> Result<u32, Rejection>
     ensures { Gives result (within most length) }
 {
     if length <= u64::from(most) {
         Ok(length as u32)
     } else {
-        Err(Stop::Refused(HttpRefusal::Wire(WireRefusal::TooLarge)))
+        Err(Rejection::Refused(HttpRefusal::Wire(WireRefusal::TooLarge)))
     }
 }
 
-fn length_at(buffer: &[u8], spans: &[HeaderSpan]) -> Result<u64, Stop>
+fn length_at(buffer: &[u8], spans: &[HeaderSpan]) -> Result<u64, Rejection>
     requires { All (IsHeaderWithin (length buffer.now)) spans.now }
     ensures { Gives result (present refusals.BadLength (length_in (map (header_bytes buffer.now) spans.now))) }
 {
     match length_in(buffer, spans) {
         Some(length) => Ok(length),
-        None => Err(Stop::Refused(HttpRefusal::Wire(WireRefusal::BadLength))),
+        None => Err(Rejection::Refused(HttpRefusal::Wire(WireRefusal::BadLength))),
     }
 }
 
-fn caller_at(alloc: Global, buffer: &[u8], spans: &[HeaderSpan]) -> Result<Slug, Stop>
+fn caller_at(alloc: Global, buffer: &[u8], spans: &[HeaderSpan]) -> Result<Slug, Rejection>
     requires { All (IsHeaderWithin (length buffer.now)) spans.now }
     ensures { Gives result (present (refusals.BadHeader headers.Caller) (option_and_then slug_of (header_in headers.Caller (map (header_bytes buffer.now) spans.now)))) }
 {
     let Some(text) = only_value(buffer, spans, Header::Caller.name().as_bytes()) else {
-        return Err(Stop::Refused(HttpRefusal::Wire(WireRefusal::BadHeader(Header::Caller))));
+        return Err(Rejection::Refused(HttpRefusal::Wire(WireRefusal::BadHeader(Header::Caller))));
     };
     match slug_of(alloc, text)? {
         Some(caller) => Ok(caller),
-        None => Err(Stop::Refused(HttpRefusal::Wire(WireRefusal::BadHeader(Header::Caller)))),
+        None => Err(Rejection::Refused(HttpRefusal::Wire(WireRefusal::BadHeader(Header::Caller)))),
     }
 }
 
-/// The key that a text is.
+/// Reads a text as a key.
 #[tactic(auto, unfolding(registry_wire::specs::Kinds::key_of))]
 fn key_of(alloc: Global, text: &[u8]) -> Result<Option<Key>, NoMemory>
     ensures { IfOk result (λ found. found ≡ key_of text.now) }
@@ -95,16 +99,16 @@ fn key_of(alloc: Global, text: &[u8]) -> Result<Option<Key>, NoMemory>
     Key::new(alloc, text)
 }
 
-fn key_at(alloc: Global, buffer: &[u8], spans: &[HeaderSpan]) -> Result<Key, Stop>
+fn key_at(alloc: Global, buffer: &[u8], spans: &[HeaderSpan]) -> Result<Key, Rejection>
     requires { All (IsHeaderWithin (length buffer.now)) spans.now }
     ensures { Gives result (present (refusals.BadHeader headers.Key) (option_and_then key_of (header_in headers.Key (map (header_bytes buffer.now) spans.now)))) }
 {
     let Some(text) = only_value(buffer, spans, Header::Key.name().as_bytes()) else {
-        return Err(Stop::Refused(HttpRefusal::Wire(WireRefusal::BadHeader(Header::Key))));
+        return Err(Rejection::Refused(HttpRefusal::Wire(WireRefusal::BadHeader(Header::Key))));
     };
     match key_of(alloc, text)? {
         Some(key) => Ok(key),
-        None => Err(Stop::Refused(HttpRefusal::Wire(WireRefusal::BadHeader(Header::Key)))),
+        None => Err(Rejection::Refused(HttpRefusal::Wire(WireRefusal::BadHeader(Header::Key)))),
     }
 }
 
@@ -114,7 +118,7 @@ fn order_head(
     endpoint: Endpoint,
     buffer: &[u8],
     spans: &[HeaderSpan],
-) -> Result<Head, Stop>
+) -> Result<Head, Rejection>
     requires { All (IsHeaderWithin (length buffer.now)) spans.now }
     ensures { Gives result (order_head endpoint (map (header_bytes buffer.now) spans.now)) }
 {
@@ -143,7 +147,7 @@ fn head_for(
     method: &[u8],
     buffer: &[u8],
     spans: &[HeaderSpan],
-) -> Result<Head, Stop>
+) -> Result<Head, Rejection>
     requires { All (IsHeaderWithin (length buffer.now)) spans.now }
     ensures { Gives result (head_for route method.now (map (header_bytes buffer.now) spans.now)) }
 {
@@ -152,20 +156,20 @@ fn head_for(
             if is_method("GET", method) {
                 Ok(Head::Query(query))
             } else {
-                Err(Stop::Refused(HttpRefusal::WrongMethod(Allow::Get)))
+                Err(Rejection::Refused(HttpRefusal::WrongMethod(Allow::Get)))
             }
         }
         Route::Post(endpoint) => {
             if is_method("POST", method) {
                 order_head(alloc, endpoint, buffer, spans)
             } else {
-                Err(Stop::Refused(HttpRefusal::WrongMethod(Allow::Post)))
+                Err(Rejection::Refused(HttpRefusal::WrongMethod(Allow::Post)))
             }
         }
     }
 }
 
-/// What a head with this method, target and fields asks for, or its first fault.
+/// Returns the query or order that this method, target and fields ask for, or the first fault.
 #[tactic(auto, unfolding(crate::specs::Reading::head_in))]
 pub(crate) fn head_in(
     alloc: Global,
@@ -173,12 +177,12 @@ pub(crate) fn head_in(
     target: &[u8],
     buffer: &[u8],
     spans: &[HeaderSpan],
-) -> Result<Head, Stop>
+) -> Result<Head, Rejection>
     requires { All (IsHeaderWithin (length buffer.now)) spans.now }
     ensures { Gives result (head_in method.now target.now (map (header_bytes buffer.now) spans.now)) }
 {
     match route_of(alloc, target)? {
         Some(route) => head_for(alloc, route, method, buffer, spans),
-        None => Err(Stop::Refused(HttpRefusal::Wire(WireRefusal::NoRoute))),
+        None => Err(Rejection::Refused(HttpRefusal::Wire(WireRefusal::NoRoute))),
     }
 }

@@ -1,6 +1,12 @@
-//! Why a message is refused before the registry is asked.
+//! The reasons why a message is refused before the registry is asked.
+
+ghost use Rattle.std.specs.Prelude.{Some};
+ghost use Rattle.registry_wire.specs.Replies.{refusal_text};
+ghost use Rattle.registry_http.specs.Refusals.{wire_refusal};
 
 use registry_wire::WireRefusal;
+use std::error::Error;
+use std::fmt;
 
 /// The method that a path allows.
 #[derive(Clone, Copy, Debug, PartialEq, Eq)]
@@ -9,12 +15,12 @@ pub enum Allow {
     Post,
 }
 
-/// Why a message is refused before the registry is asked.
+/// The reasons why a message is refused before the registry is asked.
 #[derive(Clone, Copy, Debug, PartialEq, Eq)]
 pub enum HttpRefusal {
-    /// A refusal that needs no more said.
+    /// A refusal without further details.
     Wire(WireRefusal),
-    /// Its path is served by this method alone.
+    /// The path is served only with this method.
     WrongMethod(Allow),
 }
 
@@ -22,7 +28,7 @@ impl HttpRefusal {
     ghost use Rattle.std.specs.Prelude.{◌≡◌};
     ghost use Rattle.registry_http.specs.Refusals.{wire_refusal, allow_of};
 
-    /// The refusal that is told.
+    /// Returns the refusal for the response.
     pub(crate) fn wire(self) -> WireRefusal
         ensures { result ≡ wire_refusal self }
     {
@@ -32,7 +38,7 @@ impl HttpRefusal {
         }
     }
 
-    /// The method that is allowed, where that is why.
+    /// Returns the allowed method, if the message has a wrong one.
     pub(crate) fn allow(self) -> Option<Allow>
         ensures { result ≡ allow_of self }
     {
@@ -42,3 +48,14 @@ impl HttpRefusal {
         }
     }
 }
+
+/// The text of its `WireRefusal`.
+impl fmt::Display for HttpRefusal {
+    ghost output = { λ refusal. Some (refusal_text (wire_refusal refusal)) };
+
+    fn fmt<W: fmt::Write>(&self, f: &mut fmt::Formatter<W>) -> fmt::Result {
+        write!(f, "{}", self.wire())
+    }
+}
+
+impl Error for HttpRefusal {}

@@ -119,7 +119,7 @@ fn put_state(
     }
 }
 
-/// A response of status 200 with an object.
+/// Makes a response of status 200 with an object.
 #[tactic(auto, unfolding(crate::specs::Resources::found_response))]
 fn found_response(alloc: Global, members: Map<String, Value>) -> Result<Response, NoMemory>
     requires { members_have_float (members_view members.entries) ≡ false }
@@ -129,8 +129,8 @@ fn found_response(alloc: Global, members: Map<String, Value>) -> Result<Response
     json_response(StatusCode::OK, None, text)
 }
 
-/// The response to a query for a product number: whether it is reserved, held, returned or free, and its
-/// owner and card where it has one. A vendor is named in it where the query named it.
+/// Makes the response to a query for a product ID: whether it is reserved, held, returned or free,
+/// and its owner and card if it has an entry. It names the vendor if the query does.
 #[tactic(auto, unfolding(crate::specs::Resources::number_response, crate::specs::Resources::number_members))]
 pub fn number_response(
     alloc: Global,
@@ -160,7 +160,8 @@ fn found_org(alloc: Global, org: &Org) -> Result<Response, NoMemory>
     found_response(alloc, members)
 }
 
-/// The response to a query for an organisation; refusal 4 where there is none.
+/// Makes the response to a query for an organisation, or refusal 4 if there is no such
+/// organisation.
 pub fn org_response(alloc: Global, org: Option<&Org>) -> Result<Response, NoMemory>
     ensures { IfOk result (λ response. response ≡ org_response (option_copied org.entry)) }
 {
@@ -248,7 +249,8 @@ fn found_petition(
     found_response(alloc, members)
 }
 
-/// The response to a query for a petition, to a registry whose founding vendor this is; refusal 6 where there is none.
+/// Makes the response to a query for a petition to a registry with this founding vendor, or refusal
+/// 6 if there is no such petition.
 pub fn petition_response(
     alloc: Global,
     founding: Vid,

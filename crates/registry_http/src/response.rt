@@ -47,17 +47,20 @@ impl Body {
     }
 }
 
-/// What is sent back for a message.
+/// The response to a message.
 #[derive(Drop)]
 pub struct Response {
+    /// The status code.
     pub status: StatusCode,
+    /// The media type of the body.
     pub content_type: ContentType,
-    /// Of a wrong method, the one that the path allows.
+    /// The method that the path allows, if the message has a wrong one.
     pub allow: Option<Allow>,
+    /// The body.
     pub body: Body,
 }
 
-/// A response of JSON, whose body is the text and a line feed.
+/// Makes a JSON response, whose body is the text and a line feed.
 #[tactic(auto, unfolding(crate::specs::Responses::json_response))]
 pub(crate) fn json_response(
     status: StatusCode,
@@ -76,7 +79,7 @@ pub(crate) fn json_response(
     })
 }
 
-/// The response to an order: the reply of the rules, with its status.
+/// Makes the response to a request: the reply of the rules, with its status.
 #[tactic(auto, unfolding(crate::specs::Responses::reply_response))]
 pub fn reply_response(alloc: Global, reply: &Reply) -> Result<Response, NoMemory>
     ensures { IfOk result (λ response. response ≡ reply_response reply.now) }
@@ -85,7 +88,7 @@ pub fn reply_response(alloc: Global, reply: &Reply) -> Result<Response, NoMemory
     json_response(reply_status(reply), None, text)
 }
 
-/// The response to a message that is refused before the registry is asked.
+/// Makes the response to a message that is refused before the registry is asked.
 #[tactic(auto, unfolding(crate::specs::Responses::refusal_response))]
 pub fn refusal_response(alloc: Global, refusal: HttpRefusal) -> Result<Response, NoMemory>
     ensures { IfOk result (λ response. response ≡ refusal_response refusal) }
@@ -94,7 +97,7 @@ pub fn refusal_response(alloc: Global, refusal: HttpRefusal) -> Result<Response,
     json_response(status_of(refusal.wire()), refusal.allow(), text)
 }
 
-/// The response of a list or a report: its bytes as they are.
+/// Makes the response with a list or a report, whose bytes are unchanged.
 #[tactic(auto, unfolding(crate::specs::Responses::text_response))]
 pub fn text_response(bytes: Vec<u8>) -> Response
     ensures { result ≡ text_response bytes.items }

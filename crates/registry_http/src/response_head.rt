@@ -1,4 +1,4 @@
-//! The head of a response, as text.
+//! Writes the head of a response as text.
 
 ghost use Rattle.std.specs.Prelude.{◌≡◌, ◌++◌, IfOk, OnOk, decimal, string_bytes};
 ghost use Rattle.registry_http.specs.Responses.{crlf, with_field, with_allow, phrase_of, status_line, content_type_text, allow_text, head_text, response_head};
@@ -80,7 +80,7 @@ fn digits_of(alloc: Global, number: usize) -> Result<String, NoMemory>
     Ok(number.to_string(alloc)?)
 }
 
-/// The head of a response with a body of so many bytes.
+/// Returns the head of a response with a body of `count` bytes.
 #[tactic(auto, unfolding(crate::specs::Responses::head_text))]
 fn head_text(
     alloc: Global,
@@ -101,7 +101,7 @@ fn head_text(
     Ok(text)
 }
 
-/// The head of a response.
+/// Returns the head of a response.
 pub(crate) fn response_head(alloc: Global, response: &Response) -> Result<String, NoMemory>
     ensures { IfOk result (λ s. string_bytes s ≡ response_head response.now) }
 {

@@ -1,4 +1,4 @@
-//! What a path asks for.
+//! Routes: the query or endpoint of a path.
 
 use usbnum_core::{Pid, Slug, Vid};
 
@@ -10,27 +10,28 @@ pub enum Report {
     Petitions,
 }
 
-/// What is asked of the registry without changing it.
+/// A query to the registry, which does not change it.
 #[derive(Drop)]
 pub enum Query {
     List,
-    /// A product number, of the founding vendor where no vendor is named.
+    /// A product ID, under the founding vendor if no vendor is named.
     Number { vendor: Option<Vid>, pid: Pid },
     Org(Slug),
     Petition(u32),
     Report(Report),
 }
 
-/// Where an order is sent.
+/// The endpoint to which an order is sent.
 #[derive(Drop)]
 pub(crate) enum Endpoint {
     /// An order in JSON.
     Commands,
-    /// A list whose numbers are imported for an organisation, under the founding vendor where none is named.
+    /// A list whose numbers are imported for an organisation, under the founding vendor if no
+    /// vendor is named.
     Imports { org: Slug, vendor: Option<Vid> },
 }
 
-/// What a path asks for: by GET a query, by POST an order.
+/// The route of a path: a query by GET, or an order by POST.
 #[derive(Drop)]
 pub(crate) enum Route {
     Get(Query),

@@ -1,4 +1,4 @@
-//! The paths that are served, and what the target of a message asks for.
+//! The served paths, and the route of a message's target.
 
 ghost use Rattle.std.specs.Prelude.{◌≡◌, ◌≤◌, All, OnOk, IfOk, option_copied, length, position};
 ghost use Rattle.std.specs.Str.{IsAscii, IsUtf8};
@@ -15,7 +15,7 @@ use matchit::{Params, ParamsIter, Router};
 use std::alloc::Global;
 use usbnum_core::NoMemory;
 
-/// A path that is served, whose parts are still to be read.
+/// A served path, before its parts are read.
 #[derive(Clone, Copy, Debug, PartialEq, Eq)]
 pub(crate) enum Template {
     Commands,
@@ -39,7 +39,7 @@ fn add(router: &mut Router<Template>, text: &str, template: Template) -> Result<
     }
 }
 
-/// The paths that are served.
+/// Makes a router of the served paths.
 #[tactic(auto, unfolding(crate::specs::Routes::templates))]
 fn templates(alloc: Global) -> Result<Router<Template>, NoMemory>
     ensures { IfOk result (λ r. r ≡ templates) }
@@ -57,7 +57,7 @@ fn templates(alloc: Global) -> Result<Router<Template>, NoMemory>
     Ok(router)
 }
 
-/// The next part of a path.
+/// Returns the next part of a path.
 fn next_part<'v>(params: &mut ParamsIter<'_, '_, 'v>) -> Option<&'v str>
     requires { All (λ p. IsUtf8 p.1) params.old }
     ensures { NextPart params.old (option_copied result) params.new }
@@ -68,7 +68,7 @@ fn next_part<'v>(params: &mut ParamsIter<'_, '_, 'v>) -> Option<&'v str>
     }
 }
 
-/// The first two parts of a path.
+/// Returns the first two parts of a path.
 fn first_two<'v>(params: &Params<'_, 'v>) -> (Option<&'v str>, Option<&'v str>)
     requires { IsAscii params.now.path.now }
     ensures { (option_copied result.0, option_copied result.1)
@@ -102,7 +102,7 @@ fn route_for(
     }
 }
 
-/// What an ASCII path asks for, if it is served.
+/// Returns the route of an ASCII path, if it is served.
 #[tactic(auto, unfolding(crate::specs::Routes::found_in))]
 fn found_in(alloc: Global, router: &Router<Template>, path: &str) -> Result<Option<Route>, NoMemory>
     requires whole { router.now ≡ templates }
@@ -141,14 +141,14 @@ fn path_end(target: &[u8]) -> usize
     }
 }
 
-/// The target up to its first question mark.
+/// Returns the target up to its first question mark.
 fn path_of(target: &[u8]) -> &[u8]
     ensures { result.now ≡ path_of target.now }
 {
     &target[..path_end(target)]
 }
 
-/// A path of ASCII bytes alone.
+/// Returns the path as text, if all its bytes are ASCII.
 fn ascii_path(path: &[u8]) -> Option<&str>
     ensures { option_copied result ≡ ascii_path path.now }
 {
@@ -161,7 +161,7 @@ fn ascii_path(path: &[u8]) -> Option<&str>
     }
 }
 
-/// What the target of a message asks for, if it is served.
+/// Returns the route of a message's target, if it is served.
 #[tactic(auto, unfolding(crate::specs::Routes::route_of))]
 pub(crate) fn route_of(alloc: Global, target: &[u8]) -> Result<Option<Route>, NoMemory>
     ensures { IfOk result (λ found. found ≡ route_of target.now) }

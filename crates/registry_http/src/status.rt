@@ -7,7 +7,7 @@ use http::StatusCode;
 use registry_rules::{Refusal, Reply};
 use registry_wire::WireRefusal;
 
-/// The status of a refusal of the rules.
+/// Returns the status of a refusal by the rules.
 fn rule_status(refusal: &Refusal) -> StatusCode
     ensures { result ≡ rule_status refusal.now }
 {
@@ -19,7 +19,7 @@ fn rule_status(refusal: &Refusal) -> StatusCode
     }
 }
 
-/// The status of a reply.
+/// Returns the status of a reply.
 pub(crate) fn reply_status(reply: &Reply) -> StatusCode
     ensures { result ≡ reply_status reply.now }
 {
@@ -29,7 +29,7 @@ pub(crate) fn reply_status(reply: &Reply) -> StatusCode
     }
 }
 
-/// The status of a refusal of the message itself.
+/// Returns the status of a refusal before the rules.
 pub(crate) fn status_of(refusal: WireRefusal) -> StatusCode
     ensures { result ≡ status_of refusal }
 {

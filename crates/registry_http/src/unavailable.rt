@@ -1,14 +1,14 @@
-//! The responses of status 503. They are there already, and take no memory.
+//! The responses of status 503. They are constants, so they need no memory.
 
 ghost use Rattle.std.specs.Prelude.{◌≡◌};
 ghost use Rattle.registry_http.specs.Responses.{response_bytes, unavailable_response, no_memory_bytes, store_fault_bytes};
 
-/// Why the registry cannot be asked.
+/// The reason why the registry cannot be asked.
 #[derive(Clone, Copy, Debug, PartialEq, Eq)]
 pub enum Unavailable {
     /// The store failed.
     StoreFault,
-    /// Memory is short.
+    /// Out of memory.
     NoMemory,
 }
 
@@ -24,7 +24,7 @@ fn store_fault_text() -> &'static str
     "HTTP/1.1 503 Service Unavailable\r\ncontent-type: application/json\r\ncontent-length: 35\r\nconnection: close\r\n\r\n{\"name\":\"StoreFault\",\"refused\":30}\n"
 }
 
-/// The whole response.
+/// Returns the whole response.
 #[tactic(auto, unfolding(crate::specs::Responses::no_memory_bytes, crate::specs::Responses::store_fault_bytes))]
 pub(crate) fn unavailable_text(why: Unavailable) -> &'static str
     ensures { result.now ≡ response_bytes (unavailable_response why) }

@@ -1,15 +1,15 @@
-//! Responses, written to a sink.
+//! Writes responses to a sink.
 
 ghost use Rattle.std.specs.Prelude.{◌≡◌, ◌++◌, IfOk};
-ghost use Rattle.usbids_text.specs.Ends.{Writes};
+ghost use Rattle.byte_streams.specs.Streams.{Writes};
 ghost use Rattle.registry_http.specs.declared.response.Response.{Response as TheResponse};
 ghost use Rattle.registry_http.specs.Responses.{response_head, response_bytes, unavailable_response, IsInPlaceOf};
 
 use crate::response::Response;
 use crate::response_head::response_head;
 use crate::unavailable::{Unavailable, unavailable_text};
+use byte_streams::{Broken, Sink, put_all};
 use std::alloc::Global;
-use usbids_text::{Broken, Sink, put_all};
 use usbnum_core::NoMemory;
 
 /// Writes a head and then a body.
@@ -34,9 +34,11 @@ fn put_response<W: Sink>(sink: &mut W, head: &str, response: &Response) -> Resul
     }
 }
 
-/// Writes a response, and gives its status. Where there is no memory for its head, it is refusal 31 that is written.
+/// Writes a response and returns its status. If memory runs out for its head, writes refusal 31
+/// instead.
 ///
-/// `Broken` comes only where the sink failed in this call: a beginning of the response was written.
+/// Returns `Broken` only if the sink failed during this call, after it took a prefix of the
+/// response.
 pub fn write_response<W: Sink>(
     alloc: Global,
     sink: &mut W,
@@ -52,9 +54,10 @@ pub fn write_response<W: Sink>(
     }
 }
 
-/// Writes refusal 30 or 31, and gives its status. It takes no memory.
+/// Writes refusal 30 or 31 and returns its status. Allocates no memory.
 ///
-/// `Broken` comes only where the sink failed in this call: a beginning of the response was written.
+/// Returns `Broken` only if the sink failed during this call, after it took a prefix of the
+/// response.
 pub fn write_unavailable<W: Sink>(sink: &mut W, why: Unavailable) -> Result<u16, Broken>
     ensures writes { Writes (W.contents sink.old) (W.contents sink.new) (W.failures sink.old) (W.failures sink.new) result (response_bytes (unavailable_response why)) }
     ensures status { IfOk result (λ status. status ≡ 503) }

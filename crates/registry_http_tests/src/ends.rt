@@ -1,14 +1,14 @@
-//! A reader and a writer that fail, and what a message is read as.
+//! A source and a sink that fail, and the result of reading a message.
 
+use byte_streams::{Broken, Outlet, Sink, Source};
 use registry_http::{
     InputFault, Message, Query, Report, read_message, refusal_response, write_response,
 };
 use registry_rules::{Request, request_bytes};
 use std::alloc::Global;
-use usbids_text::{Broken, Outlet, Sink, Source};
 use usbnum_core::{NoMemory, Vid, parse_vid};
 
-/// Gives one byte a read, and fails at each read past the last.
+/// A source that gives one byte per read, and fails at each read after the last byte.
 #[derive(Drop)]
 pub(crate) struct Drip<'a> {
     pub(crate) bytes: &'a [u8],
@@ -34,7 +34,7 @@ impl<'a> Source for Drip<'a> {
     }
 }
 
-/// Takes so many bytes, and then fails.
+/// A sink that takes `room` bytes and then fails.
 #[derive(Drop)]
 pub(crate) struct Brim {
     pub(crate) bytes: Vec<u8>,
@@ -86,12 +86,12 @@ fn query_text(alloc: Global, query: &Query) -> Result<String, NoMemory> {
     })
 }
 
-/// The caller, the key and the order's spelling, with tabs between them.
+/// Returns the caller, the key and the order's canonical form, with tabs between them.
 fn request_text(alloc: Global, request: &Request) -> Result<String, NoMemory> {
     let (caller, key) = (request.caller.as_str(), request.key.as_str());
-    let spelling = request_bytes(alloc, request)?;
+    let form = request_bytes(alloc, request)?;
     let mut bytes = format!(in alloc; "{caller}\t{key}\t")?.into_bytes();
-    bytes.extend_from_slice(spelling.as_bytes())?;
+    bytes.extend_from_slice(form.as_bytes())?;
     Ok(text(alloc, bytes))
 }
 
@@ -102,7 +102,7 @@ pub(crate) fn text(alloc: Global, bytes: Vec<u8>) -> String {
     }
 }
 
-/// What a message is read as: a query, a request, or the response to its first fault.
+/// Reads a message, and returns the query, the request, or the response to the first fault.
 pub(crate) fn read<R: Source>(alloc: Global, source: &mut R) -> Result<String, NoMemory> {
     let Some(founding) = founding() else {
         return Ok(String::new(alloc));

@@ -1,11 +1,13 @@
+//! Messages with a fault, and the response to the first fault of each.
+
 use crate::ends::{Drip, read};
+use byte_streams::Inlet;
 use std::alloc::Global;
 use std::process::Abort;
 use std::test::Fail;
-use usbids_text::Inlet;
 use usbnum_core::NoMemory;
 
-// The first line and the body of each refusal.
+// The status and the body of each refusal.
 const BAD_HEAD: (&str, &str) = ("400 Bad Request", r#"{"name":"BadHead","refused":20}"#);
 
 const BAD_LENGTH: (&str, &str) = (
@@ -136,7 +138,7 @@ const FAULTS: [(&str, (&str, &str)); 38] = [
     ),
 ];
 
-/// The whole response of a refusal that is no wrong method.
+/// Returns the whole response for a refusal, except for a wrong method.
 fn response_text(alloc: Global, refusal: (&str, &str)) -> Result<String, NoMemory> {
     let (status, body) = refusal;
     let count = body.len().saturating_add(1);
@@ -169,7 +171,7 @@ fn expect_rows(
 }
 
 #[test]
-fn tells_the_first_fault(rt: HostRuntime) -> Result<(), Fail> {
+fn reports_the_first_fault(rt: HostRuntime) -> Result<(), Fail> {
     expect_rows(&rt, rt.alloc(), &FAULTS)?;
     Ok(())
 }
@@ -206,12 +208,12 @@ fn expect_broken(rt: &impl Abort, alloc: Global) -> Result<(), NoMemory> {
 }
 
 #[test]
-fn a_reader_that_fails_is_told(rt: HostRuntime) -> Result<(), Fail> {
+fn reports_a_failed_reader(rt: HostRuntime) -> Result<(), Fail> {
     expect_broken(&rt, rt.alloc())?;
     Ok(())
 }
 
-// A head of so many fields, each of two bytes and its line's end.
+// Returns a head of `count` fields, each of two bytes and its line end.
 fn fields(alloc: Global, count: u32) -> Result<String, NoMemory> {
     let mut text = String::from_str(alloc, "GET /nowhere HTTP/1.1\r\n")?;
     for _ in 0..count {
@@ -221,7 +223,7 @@ fn fields(alloc: Global, count: u32) -> Result<String, NoMemory> {
     Ok(text)
 }
 
-// A head of so many bytes, with a long field.
+// Returns a head of `count` bytes, with a long field.
 fn long_head(alloc: Global, count: u32) -> Result<String, NoMemory> {
     let mut text = String::from_str(alloc, "GET /nowhere HTTP/1.1\r\na:")?;
     for _ in 29..count {
@@ -246,7 +248,7 @@ fn a_head_has_limits(rt: HostRuntime) -> Result<(), Fail> {
 }
 
 #[test]
-fn a_faulty_head_is_told_at_once(rt: HostRuntime) -> Result<(), Fail> {
+fn reports_a_faulty_head_at_once(rt: HostRuntime) -> Result<(), Fail> {
     let alloc = rt.alloc();
     let mut source = Drip {
         bytes: b"POST /x HTTP/1.1\r\n\r\n",

@@ -1,4 +1,5 @@
-//! Messages and responses by example, over memory: what no clause says, and the bytes of a peer that means no good.
+//! Tests of messages and responses in memory: what no contract says, and the bytes of a hostile
+//! peer.
 #![tactic(auto)]
 
 #[cfg(test)]

@@ -1,8 +1,10 @@
+//! Messages without a fault, and the query or request of each.
+
 use crate::ends::{Drip, read};
+use byte_streams::Inlet;
 use std::alloc::Global;
 use std::process::Abort;
 use std::test::Fail;
-use usbids_text::Inlet;
 use usbnum_core::NoMemory;
 
 const GOOD: [(&str, &str); 19] = [
@@ -84,7 +86,8 @@ fn says_what_its_bytes_say(rt: HostRuntime) -> Result<(), Fail> {
     Ok(())
 }
 
-// A message is read byte by byte, and nothing is read past it: the next read would fail.
+// Reads messages byte by byte, and checks that nothing after them is read: the next read would
+// fail.
 fn expect_no_read_past(rt: &impl Abort, alloc: Global) -> Result<(), NoMemory> {
     for (message, wanted) in GOOD {
         let mut source = Drip {

@@ -1,16 +1,19 @@
+//! Values, and the whole response for each.
+
 use crate::ends::{Brim, read, text};
+use byte_streams::{Broken, Inlet, Outlet};
 use registry_http::{
     Response, Unavailable, number_response, org_response, petition_response, reply_response,
     text_response, write_response, write_unavailable,
 };
-use registry_rules::{Card, Entry, Org, Petition, PetitionState, Refusal, Reply, Terms, Text};
+use registry_rules::{Card, Entry, Org, Petition, PetitionState, Refusal, Reply, ReplyText, Terms};
 use std::alloc::Global;
 use std::process::Abort;
 use std::test::Fail;
-use usbids_text::{Broken, Inlet, Outlet};
 use usbnum_core::{Link, NoMemory, Pid, Slug, Title, Vid, parse_pid, parse_vid};
 
-// The bytes that are written. The status that is given is the one in their first line.
+// Writes a response and returns its bytes. Checks that the returned status is the one in the first
+// line.
 fn written(rt: &impl Abort, alloc: Global, response: &Response) -> Result<String, NoMemory> {
     let mut sink = Outlet::new(Vec::new(alloc));
     match write_response(alloc, &mut sink, response) {
@@ -58,7 +61,7 @@ fn pid(rt: &impl Abort, text: &[u8]) -> Pid {
     parse_pid(text).expect(rt, "a product ID")
 }
 
-// What is written of a response that is JSON.
+// Returns the bytes of a JSON response.
 fn json(alloc: Global, status: &str, body: &str) -> Result<String, NoMemory> {
     let count = body.len().saturating_add(1);
     Ok(format!(in alloc;
@@ -255,7 +258,7 @@ fn petitions(rt: HostRuntime) -> Result<(), Fail> {
 }
 
 fn expect_replies(rt: &impl Abort, alloc: Global) -> Result<(), NoMemory> {
-    let done = Reply::Done(Text::new(String::from_str(alloc, "enrolled acme")?));
+    let done = Reply::Done(ReplyText::new(String::from_str(alloc, "enrolled acme")?));
     expect(
         rt,
         alloc,
@@ -349,7 +352,7 @@ fn expect_unavailable(
 }
 
 #[test]
-fn tells_why_nothing_is_asked(rt: HostRuntime) -> Result<(), Fail> {
+fn responds_with_the_reason(rt: HostRuntime) -> Result<(), Fail> {
     let alloc = rt.alloc();
     expect_unavailable(
         &rt,
@@ -366,8 +369,8 @@ fn tells_why_nothing_is_asked(rt: HostRuntime) -> Result<(), Fail> {
     Ok(())
 }
 
-// A writer that takes so many bytes of a response and then fails has a beginning of it.
-fn expect_beginnings(rt: &impl Abort, alloc: Global) -> Result<(), NoMemory> {
+// Checks that a sink that takes some bytes of a response and then fails has a prefix of it.
+fn expect_prefixes(rt: &impl Abort, alloc: Global) -> Result<(), NoMemory> {
     let response = org_response(alloc, None)?;
     let whole = written(rt, alloc, &response)?;
     let whole = whole.as_bytes();
@@ -385,7 +388,7 @@ fn expect_beginnings(rt: &impl Abort, alloc: Global) -> Result<(), NoMemory> {
 }
 
 #[test]
-fn a_writer_that_fails_is_told(rt: HostRuntime) -> Result<(), Fail> {
-    expect_beginnings(&rt, rt.alloc())?;
+fn reports_a_failed_writer(rt: HostRuntime) -> Result<(), Fail> {
+    expect_prefixes(&rt, rt.alloc())?;
     Ok(())
 }

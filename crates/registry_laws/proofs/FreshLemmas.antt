@@ -1,4 +1,4 @@
--- The fresh items of an import of a list: of each code the first item, where that is good.
+-- The fresh items of an import: for each code the first item, if it is good.
 use Rattle.std.proofs.Common.{◌≡◌, ℕ, false, List, [], ◌∷◌, ◌++◌, Option, Some, find, nat_eq, refl, ap, ◌∙◌, inl, inr}
 use Rattle.std.specs.Prelude.{◌&&◌, is_some}
 use Rattle.std.proofs.lemmas.Bool.{cases_Bool, eqb-true}
@@ -9,11 +9,11 @@ use Rattle.registry_rules.specs.declared.item.ItemClass.{ItemClass}
 use Rattle.registry_rules.specs.declared.item.ItemClass.TheVariants.{Zero, Untitled, Doubled, Reserved, Owned, Fresh}
 use Rattle.registry_rules.proofs.ImportLemmas.{IsFreshItem}
 
--- the first item of the code
+-- the first item with the code
 abbrev pub coded : ℕ → List Item → Option Item
 coded code items = find (λ item. nat_eq item.code code) items
 
--- an item of another code is passed over, whatever its class
+-- an item with another code is skipped, whatever its class
 passed : (class : ItemClass) (classes : List ItemClass) (item : Item) (items : List Item) (code : ℕ) → nat_eq item.code code ≡ false →
     coded code (fresh_of (class ∷ classes) (item ∷ items)) ≡ coded code (fresh_of classes items)
 passed Fresh classes item items code other = rw other refl
@@ -29,7 +29,7 @@ class_fresh standing before item is once = rw (is.code, is.titled, once, is.unre
 still_once : (before : List Item) (item : Item) (code : ℕ) → is_doubled before code ≡ false → nat_eq item.code code ≡ false → is_doubled (before ++ item ∷ []) code ≡ false
 still_once before item code once other = list_any-append (λ (x : Item). nat_eq x.code code && is_some x.title) before (item ∷ []) ∙ rw (once, other) refl
 
--- of the items of a code the first is fresh, where it is good and no item before has that code
+-- the first item with a code is fresh, if it is good and no earlier item has that code
 pub fresh_coded : (standing : ℕ → Standing) (before items : List Item) (code : ℕ) → is_doubled before code ≡ false →
     ((item : Item) → coded code items ≡ Some item → IsFreshItem standing item) → coded code (fresh_of (classes_from standing before items) items) ≡ coded code items
 fresh_coded standing before [] code once good = refl

@@ -1,4 +1,4 @@
 pub mod SoundLemmas
 pub mod FreshLemmas
 pub mod TakingLemmas
-pub mod AgainLemmas
+pub mod RoundTripLemmas

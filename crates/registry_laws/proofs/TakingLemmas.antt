@@ -1,4 +1,4 @@
--- What the import of a list leaves.
+-- The registry after the import of a list.
 use Rattle.std.proofs.Common.{◌≡◌, ℕ, ◌≤◌, Bool, true, false, List, [], ◌∷◌, ◌++◌, length, Option, Some, None, Result, Ok, nat_eq, refl, sym, ap, subst, ◌∙◌, inl, inr, arith}
 use Rattle.std.specs.Prelude.{not, is_none, is_some, nat_le, if◌then◌else◌, map}
 use Rattle.std.specs.Option.{option_map, option_or}
@@ -14,13 +14,13 @@ use Rattle.usbids_text.specs.declared.kind.Kind.{Kind}
 use Rattle.usbids_text.specs.declared.kind.Kind.TheVariants.{Vendor as OfVendor, Tagged}
 use Rattle.usbids_text.proofs.EntryLemmas.{both}
 use Rattle.registry_rules.specs.Changes.{entry_imported}
-use Rattle.registry_rules.specs.Checks.{import_row}
+use Rattle.registry_rules.specs.Checks.{import_checks}
 use Rattle.registry_rules.specs.History.{History, with_deed}
 use Rattle.registry_rules.specs.Import.{classes_from, fresh_of, tally_of}
 use Rattle.registry_rules.specs.Number.{number}
 use Rattle.registry_rules.specs.Query.{item_of as item_at, owner_of, card_of, org_of, has_vendor, vendor_meant, is_reserved, kept, holds}
 use Rattle.registry_rules.specs.History.{last_of}
-use Rattle.registry_rules.specs.Rows.{entry_of}
+use Rattle.registry_rules.specs.Records.{entry_of}
 use Rattle.registry_rules.specs.Verdict.{standing_at, outcome, verdict, verdict_by, kept_of, deed_for}
 use Rattle.registry_rules.specs.declared.deed.Act.{Act}
 use Rattle.registry_rules.specs.declared.deed.Act.TheVariants.{Imported}
@@ -29,11 +29,12 @@ use Rattle.registry_rules.specs.declared.item.Item.{Item}
 use Rattle.registry_rules.specs.declared.item.Tally.{Tally}
 use Rattle.registry_rules.specs.declared.item.ItemClass.{ItemClass}
 use Rattle.registry_rules.specs.declared.order.Request.{Request}
+use Rattle.registry_rules.specs.declared.limits.TheConstants.{MOST_ITEMS}
 use Rattle.registry_rules.specs.declared.record.Entry.{Entry}
 use Rattle.registry_rules.specs.declared.record.Org.{Org}
 use Rattle.registry_rules.specs.declared.refusal.Refusal.{Refusal}
 use Rattle.registry_rules.specs.declared.verdict.Verdict.TheVariants.{New}
-use Rattle.registry_rules.proofs.EntryLemmas.{put_item, imported_row, unowned_is}
+use Rattle.registry_rules.proofs.EntryLemmas.{put_item, imported_entry, unowned_is}
 use Rattle.registry_rules.proofs.ImportLemmas.{IsFreshItem}
 use Rattle.registry_wire.specs.Decisions.{title_or_not}
 use Rattle.registry_wire.specs.Import.{item_of, items_of, import_of}
@@ -83,7 +84,7 @@ of_list vid pid (t ∷ tops) =
     top_items vid t.kind t tops refl pid
     ∙ (ap (option_or (option_map (named pid) (find_in vid pid t))) (of_list vid pid tops) ∙ sym (mapped_or (named pid) (find_in vid pid t) (find_mid vid pid tops)))
 
--- ---- each item of the vendor that is found is good
+-- ---- each item of the vendor is good
 
 unowned : (owner : Option (List ℕ)) → is_none owner ≡ true → is_some owner ≡ false
 unowned None e = refl
@@ -114,7 +115,7 @@ good h vid doc titles free pid (Some name) is item e =
 abbrev taken : History → ℕ → List TopEntry → List Item
 taken h vid doc = fresh_of (classes_from (standing_at h vid) [] (items_of vid doc)) (items_of vid doc)
 
--- what the list has of a number, as an item
+-- a number in the list, as an item
 abbrev listed_item : ℕ → List TopEntry → Number → Option Item
 listed_item vid doc n = if nat_eq vid n.vid then option_map (named n.pid) (find_mid vid n.pid doc) else None
 
@@ -140,7 +141,7 @@ put_by org old pid false found names = refl
 put_by org old pid true None names = refl
 put_by org old pid true (Some name) names = ap (λ (t : Option (List ℕ)). option_or (option_map (entry_imported org) t) old) (titled name (names name refl))
 
--- whether the number is held, as the deeds so far say
+-- whether the number is held after the deeds so far
 abbrev held_by : History → Number → Option Bool
 held_by h n = last_of (λ deed. holds n deed.act) h.deeds
 
@@ -148,17 +149,17 @@ entries_by : (h : History) (vid : ℕ) (org : List ℕ) (doc : List TopEntry) (d
     (n : Number) → entry_of (with_deed h deed) n ≡ option_or (entry_listed org vid doc n) (entry_of h n)
 entries_by h vid org doc deed tally titles free act n =
     ap (λ (a : Act). entry_of (with_deed h (record deed { act = a })) n) act
-    ∙ (sym (imported_row org (owner_of h n) (card_of h n) (held_by h n) (item_at vid (taken h vid doc) n) (λ item e. fits_by h vid doc titles free n (nat_eq vid n.vid) (find_mid vid n.pid doc) refl refl item (sym (taken_is h vid doc titles free n) ∙ e)))
+    ∙ (sym (imported_entry org (owner_of h n) (card_of h n) (held_by h n) (item_at vid (taken h vid doc) n) (λ item e. fits_by h vid doc titles free n (nat_eq vid n.vid) (find_mid vid n.pid doc) refl refl item (sym (taken_is h vid doc titles free n) ∙ e)))
     ∙ (ap (put_item org (entry_of h n)) (taken_is h vid doc titles free n)
     ∙ put_by org (entry_of h n) n.pid (nat_eq vid n.vid) (find_mid vid n.pid doc) (λ name e. (titles n.pid name e).1)))
 
 -- ---- the verdict
 
-row : (curators : List (List ℕ)) (known : Option Org) (there : Bool) (classes : List ItemClass) (caller : List ℕ) (vid : ℕ) (org : List ℕ) (items : List Item) →
-    list_any (bytes_eq caller) curators ≡ true → is_some known ≡ true → there ≡ true → length items ≤ 8192 →
-    import_row curators known there classes caller vid org items ≡ Ok (Imported vid org (fresh_of classes items) (tally_of classes))
-row curators None there classes caller vid org items c k t s = absurd cc
-row curators (Some o) there classes caller vid org items c k t s = let short : nat_le (length items) 8192 ≡ true = grind arith in rw (c, t, short) refl
+import_passes : (curators : List (List ℕ)) (known : Option Org) (there : Bool) (classes : List ItemClass) (caller : List ℕ) (vid : ℕ) (org : List ℕ) (items : List Item) →
+    list_any (bytes_eq caller) curators ≡ true → is_some known ≡ true → there ≡ true → length items ≤ MOST_ITEMS →
+    import_checks curators known there classes caller vid org items ≡ Ok (Imported vid org (fresh_of classes items) (tally_of classes))
+import_passes curators None there classes caller vid org items c k t s = absurd cc
+import_passes curators (Some o) there classes caller vid org items c k t s = let short : nat_le (length items) MOST_ITEMS ≡ true = grind arith in rw (c, t, short) refl
 
 new_by : (under : Option Deed) (request : Request) (out : Result Act Refusal) (act : Act) → under ≡ None → out ≡ Ok act → verdict_by (option_map kept_of under) request out ≡ New (deed_for request act)
 new_by under request out act u o = ap (λ (k : Option Deed). verdict_by (option_map kept_of k) request out) u ∙ ap (λ (r : Result Act Refusal). verdict_by None request r) o
@@ -173,7 +174,7 @@ new_deed h caller key org named doc may =
     let vid = vendor_meant h named in
     let items = items_of vid doc in
     new_by (kept h caller key) (import_of caller key org h.founding.vendor named doc) _ (act_of h org vid doc) may.unused
-    (row h.founding.curators (org_of h org) (has_vendor h vid) (classes_from (standing_at h vid) [] items) caller vid org items may.curator may.known may.vendor may.short)
+    (import_passes h.founding.curators (org_of h org) (has_vendor h vid) (classes_from (standing_at h vid) [] items) caller vid org items may.curator may.known may.vendor may.short)
 
 pub takes : TakesOver
 takes h caller key org named doc may titles free =

@@ -1,9 +1,9 @@
--- The list of vendors and numbers, as a text that is read again.
+-- Exported lists of vendors and numbers, which are read again.
 use Rattle.std.specs.Prelude.{◌≡◌, ◌⊎◌, List, Option, Result, Ok, Err, All}
 use Rattle.usbnum_core.specs.Number.{IsNumber}
 use Rattle.usbnum_core.specs.Text.{IsTitle}
 use Rattle.usbnum_core.specs.declared.number.Number.{Number}
-use Rattle.usbids_text.specs.Documents.{Spells}
+use Rattle.usbids_text.specs.Documents.{IsTextOf}
 use Rattle.usbids_text.specs.Entries.{TopEntry}
 use Rattle.usbids_text.specs.Moments.{Moment}
 use Rattle.usbids_text.specs.Reading.{Answers}
@@ -14,22 +14,22 @@ use Rattle.registry_rules.specs.declared.record.Entry.{Entry}
 use Rattle.registry_rules.specs.declared.record.Vendor.{Vendor}
 use Rattle.registry_reports.specs.Listing.{list_of}
 
--- what the types keep of a vendor
+-- the invariants of a vendor
 pub record IsVendor (vendor : Vendor) : Type 0 where
   pub vid : IsNumber vendor.vid
   pub name : IsTitle vendor.name
 
--- and of a number with its entry
+-- the invariants of a number with its entry
 pub record IsEntry (pair : Number × Entry) : Type 0 where
   pub pid : IsNumber pair.0.pid
   pub title : IsTitle pair.1.card.title
 
--- the text of the list spells the list
-abbrev pub IsSpelled : Type 0
-IsSpelled = (vendors : List Vendor) (numbers : List (Number × Entry)) (stamp : Option Moment) → All IsVendor vendors → All IsEntry numbers
-    → Spells (written (list_of vendors numbers) stamp) (list_of vendors numbers)
+-- the text written for the list is the text of the list
+abbrev pub ReadsAsItself : Type 0
+ReadsAsItself = (vendors : List Vendor) (numbers : List (Number × Entry)) (stamp : Option Moment) → All IsVendor vendors → All IsEntry numbers
+    → IsTextOf (written (list_of vendors numbers) stamp) (list_of vendors numbers)
 
--- and a reader of the text answers the list, or want of memory
+-- a reader of the text returns the list, or runs out of memory
 abbrev pub IsReadBack : Type 0
 IsReadBack = (vendors : List Vendor) (numbers : List (Number × Entry)) (stamp : Option Moment) (read : Result (List TopEntry) ReadFault) → All IsVendor vendors → All IsEntry numbers
     → Answers (written (list_of vendors numbers) stamp) read → (read ≡ Ok (list_of vendors numbers)) ⊎ (read ≡ Err NoMemory)

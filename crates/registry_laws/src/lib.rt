@@ -1,33 +1,33 @@
-//! Laws of lists that are exported, and read and imported again.
+//! Laws of lists that are exported, and then read or imported.
 #![tactic(auto)]
 
-ghost use Rattle.registry_laws.specs.Exports.{IsSpelled, IsReadBack};
+ghost use Rattle.registry_laws.specs.Exports.{ReadsAsItself, IsReadBack};
 ghost use Rattle.registry_laws.specs.Imports.{TakesOver, CompletesList, GivesSameList};
 
-/// The law that the text of an exported list spells that list.
-pub fn is_spelled()
-    ensures { IsSpelled }
+/// The text of an exported list is the text of that list.
+pub fn reads_as_itself()
+    ensures { ReadsAsItself }
 {}
 
-/// The law that whoever reads the text of an exported list has that list, or wants memory.
+/// A reader of the text of an exported list returns that list, or runs out of memory.
 pub fn is_read_back()
     ensures { IsReadBack }
 {}
 
-/// The law that the import of what a list has of a vendor takes it over, where none of its numbers is
+/// The import of a vendor's devices from a list takes all of them over, if none of their numbers is
 /// owned or reserved.
 pub fn takes_over()
     ensures { TakesOver }
 {}
 
-/// The law that a registry that lists all but a vendor's devices lists all once these are imported, where
-/// none of their numbers is owned or reserved.
+/// A registry that lists everything except a vendor's devices has the whole list after their
+/// import, if none of their numbers is owned or reserved.
 pub fn completes_list()
     ensures { CompletesList }
 {}
 
-/// The law that what was exported of one registry and is imported into another, which lists the same but
-/// for a vendor's devices, is then the list of the other one.
+/// The same for a list that was exported from another registry: after the import both registries
+/// have the same list.
 pub fn gives_same_list()
     ensures { GivesSameList }
 {}

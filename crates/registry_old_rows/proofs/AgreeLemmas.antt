@@ -1,4 +1,4 @@
--- A statement that sets the rows of one table leaves the values of the others.
+-- A statement that sets the rows of one table does not change the values of the others.
 use Rattle.std.proofs.Common.{ℕ, List, [], refl, sym, subst}
 use Rattle.sqlite_trees.specs.Tree.{Trees}
 use Rattle.usbnum_core.specs.Number.{IsNumber}
@@ -11,14 +11,14 @@ use Rattle.registry_rows.specs.Tables.{Tables}
 use Rattle.registry_old_rows.specs.Old.{number_key, number_row, old_span_key, old_span_row, old_entry_key, old_entry_row, old_petition_row, IsSpanOf, IsEntryOf, IsPetitionOf, AreFirst, AreSecond}
 use Rattle.registry_old_rows.specs.Between.{AreBoth}
 
--- no foreign key acts
+-- the schema has no foreign key action
 pub untied_2 : IsUntied schema_2
 untied_2 keys tree olds news = refl
 
 pub untied_3 : IsUntied schema_3
 untied_3 keys tree olds news = refl
 
--- where the tables have the same rows, they have the same values
+-- tables with the same rows have the same values
 pub agree_1 : (vid : ℕ) (a b : Trees) (t : Tables) (numbers : List ℕ) → AgreeOn schema_1.tables a b → AreFirst vid b t numbers → AreFirst vid a t numbers
 agree_1 vid a b t numbers same has = record {
   lasting = record {

@@ -49,7 +49,7 @@ none_left (x ∷ xs) = none_left xs
 
 -- ---- copies
 
--- as the query shows the values of the old table, with the vendor that is given
+-- the row that the query shows for a value of the old table, with the given vendor
 abbrev span_with : ℕ → ℕ × Span → Row
 span_with vid s = Null ∷ whole vid ∷ whole s.1.first ∷ whole s.1.last ∷ []
 

@@ -1,4 +1,4 @@
--- What the statements on the tables of the second schema show of the values and do to them.
+-- What the statements on the tables of the second schema do to the values, and what they show.
 use Rattle.std.proofs.Common.{◌≡◌, ◌≢◌, inl, Vec, Some, ℕ, true, List, [], ◌∷◌, map, Ok, Err, Result, MatchResult, refl, ap, subst, ◌∙◌}
 use Rattle.std.specs.List.{AllByRecursion}
 use Rattle.sqlite.specs.Order.{Row}
@@ -31,7 +31,7 @@ use Rattle.registry_old_rows.specs.declared.second.Reserved.{Reserved}
 use Rattle.std.specs.declared.alloc.Global.{Global}
 use Rattle.registry_old_rows.specs.Old.{number_key, number_row, number_shown, old_span_key, old_span_row, IsSpanOf}
 use Rattle.registry_old_rows.specs.Between.{HoldsSecond}
-use Rattle.registry_old_rows.specs.Steps.{TellsOf}
+use Rattle.registry_rows.specs.Steps.{AnswersOf}
 use Rattle.registry_old_rows.proofs.AgreeLemmas.{untied_2}
 use Rattle.registry_old_rows.proofs.HoldLemmas.{holds_second_metas, holds_second_spans, holds_second_reserved}
 use Rattle.registry_old_rows.proofs.MoveLemmas.{none_left}
@@ -81,7 +81,7 @@ module _ {V X : Type 0} (IsValid : X → Type 0) (show : X → Row) (old new : S
     (read : GoesOn old new × ((v : V) → Held v → IsUnchanged old new × (rows ≡ map show (pick v)))) (valid : (v : V) → Held v → AllByRecursion IsValid (pick v)) where
   pub tells_all : {A : Type 0} (items : A → List X) (result : Result A TableFault)
       → ((values : List X) → AllByRecursion IsValid values → rows ≡ map show values → MatchResult result (λ all. items all ≡ values) (λ fault. fault ≢ Foreign))
-      → TellsOf old new Held result (λ v all. items all ≡ pick v)
+      → AnswersOf old new Held result (λ v all. items all ≡ pick v)
   tells_all items (Ok all) decodes = (read.0, λ v has. (let h = read.1 v has in (h.0, decodes (pick v) (valid v has) h.1)))
   tells_all items (Err fault) decodes = (λ foreign. (read.0, λ v has. decodes (pick v) (valid v has) (read.1 v has).1 foreign), inl read.0)
 

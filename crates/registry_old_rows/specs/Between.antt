@@ -1,4 +1,4 @@
--- The tables in the middle of a step from one schema to the next.
+-- The tables in the middle of a migration step.
 use Rattle.std.specs.Prelude.{◌≡◌, ℕ, List, []}
 use Rattle.sqlite.specs.Effect.{Database}
 use Rattle.sqlite_trees.specs.Tree.{Trees}
@@ -9,19 +9,19 @@ use Rattle.registry_rows.specs.Rows.{vendor_key, vendor_row, IsVendor, span_row,
 use Rattle.registry_rows.specs.Tables.{Tables}
 use Rattle.registry_old_rows.specs.Old.{AreFirst, AreSecond}
 
--- a database of the first schema, with these values and these reserved numbers
+-- a database of the first schema holds these values and these reserved numbers
 pub record HoldsFirst (vid : ℕ) (db : Database) (t : Tables) (numbers : List ℕ) : Type 0 where
   pub schema : db.schema ≡ schema_1
   pub sound : IsSound schema_1 db.trees
   pub rows : AreFirst vid db.trees t numbers
 
--- one of the second
+-- a database of the second schema does
 pub record HoldsSecond (vid : ℕ) (db : Database) (t : Tables) (numbers : List ℕ) : Type 0 where
   pub schema : db.schema ≡ schema_2
   pub sound : IsSound schema_2 db.trees
   pub rows : AreSecond vid db.trees t numbers
 
--- in the tables of the second schema stand the values of `o`, in those that the third adds the values of `t`
+-- the tables of the second schema store the values of `o`, and those that the third adds store the values of `t`
 pub record AreBoth (vid : ℕ) (db : Trees) (o t : Tables) : Type 0 where
   pub second : AreSecond vid db o []
   pub vendors : Stores IsVendor vendor_key vendor_row (db 14) t.vendors

@@ -1,22 +1,20 @@
 -- What a call on the tables of an older schema does within a transaction.
-use Rattle.std.specs.Prelude.{◌≡◌, ℕ, List, Result, Ok, Err}
+use Rattle.std.specs.Prelude.{ℕ, List}
 use Rattle.sqlite.specs.Effect.{Database}
-use Rattle.sqlite.specs.State.{State, IsUnchanged}
-use Rattle.table_laws.specs.Inside.{GoesOn, StaysInside}
-use Rattle.registry_schema.specs.declared.fault.TableFault.{TableFault}
-use Rattle.registry_schema.specs.declared.fault.TableFault.TheVariants.{Foreign}
+use Rattle.sqlite.specs.State.{State}
+use Rattle.table_laws.specs.Inside.{GoesOn}
 use Rattle.registry_rows.specs.Tables.{Tables}
 use Rattle.registry_old_rows.specs.Between.{HoldsSecond, HoldsBoth}
 
--- the transaction goes on, and the values in the tables of both schemas are changed so, by the founding vendor's number
+-- the transaction goes on, and these functions give the tables of both schemas after the call, for this founding vendor
 abbrev pub Moves : ℕ → (Tables → Tables → Tables) → (Tables → Tables → Tables) → State → State → Type 0
 Moves vid olds news old new = GoesOn old new × ((o t : Tables) → HoldsBoth vid old.now o t → HoldsBoth vid new.now (olds o t) (news o t))
 
--- the same of the second schema, and of the reserved numbers
+-- the same for the tables of the second schema and the reserved numbers
 abbrev pub Turns : ℕ → (Tables → Tables) → (List ℕ → List ℕ) → State → State → Type 0
 Turns vid after left old new = GoesOn old new × ((t : Tables) (numbers : List ℕ) → HoldsSecond vid old.now t numbers → HoldsSecond vid new.now (after t) (left numbers))
 
--- what stands in a store of the second schema
+-- the values of a store of the second schema
 pub record Second : Type 0 where
   pub vid : ℕ
   pub tables : Tables
@@ -24,9 +22,3 @@ pub record Second : Type 0 where
 
 abbrev pub IsHeld : Database → Second → Type 0
 IsHeld db x = HoldsSecond x.vid db x.tables x.numbers
-
-module _ (old new : State) where
-  -- what was read is told by what is held, which stays; it is Foreign only where nothing of that kind is held
-  abbrev pub TellsOf : {A X : Type 0} → (X → Type 0) → Result A TableFault → (X → A → Type 0) → Type 0
-  TellsOf {A} {X} Held (Ok a) Is = GoesOn old new × ((x : X) → Held x → IsUnchanged old new × Is x a)
-  TellsOf {A} {X} Held (Err e) Is = (e ≡ Foreign → GoesOn old new × ((x : X) → ¬ Held x)) × StaysInside old new

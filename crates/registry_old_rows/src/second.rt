@@ -1,18 +1,21 @@
-//! The tables of the second schema, in which a store that comes from the first one still has its reserved numbers.
+//! The tables of the second schema, in which a store from the first still has its rows of
+//! `reserved`.
 
 ghost use Rattle.std.specs.Prelude.{◌≡◌, ◌≢◌, [], ℕ, List, map, IsTrue, OnOk, Err};
-ghost use Rattle.sqlite.specs.State.{HasCleanDisk, Survives};
+ghost use Rattle.sqlite.specs.State.{HasCleanDisk};
 ghost use Rattle.sqlite.specs.Held.{state};
 ghost use Rattle.sqlite_keyed.specs.Keyed.{insert_by};
+ghost use Rattle.table_laws.specs.Inside.{CommitsNothing};
 ghost use Rattle.usbnum_core.specs.Number.{IsNumber};
 ghost use Rattle.registry_rows.specs.Rows.{meta_key, meta_shown};
 ghost use Rattle.registry_rows.specs.Tables.{Tables};
 ghost use Rattle.registry_old_rows.specs.Old.{number_shown, old_span_key};
 ghost use Rattle.registry_old_rows.specs.Between.{HoldsSecond};
-ghost use Rattle.registry_old_rows.specs.Steps.{Turns, TellsOf, IsHeld};
+ghost use Rattle.registry_old_rows.specs.Steps.{Turns, IsHeld};
+ghost use Rattle.registry_rows.specs.Steps.{AnswersOf};
 
 use registry_rows::{FromRow, Meta, all_from, pid_at};
-use registry_schema::{TableFault, fault_of};
+use registry_schema::TableFault;
 use sqlite::{Alter, Row, Transaction, params};
 use std::alloc::Global;
 use usbnum_core::{Pid, Span, Title, Vid};
@@ -20,32 +23,28 @@ use usbnum_core::{Pid, Span, Title, Vid};
 fn meta_rows<S: Alter>(tx: &mut Transaction<'_, S>) -> Result<Vec<Row>, TableFault>
     ensures same_reference { tx.new.conn.ghost_name ≡ tx.old.conn.ghost_name }
     ensures rows { HasCleanDisk (state S.Store tx.new.conn.now) → IsTrue (state S.Store tx.old.conn.now).in_transaction
-        → TellsOf (state S.Store tx.old.conn.now) (state S.Store tx.new.conn.now) (IsHeld (state S.Store tx.old.conn.now).now) result (λ x rows. rows.items ≡ map meta_shown x.tables.metas) }
+        → AnswersOf (state S.Store tx.old.conn.now) (state S.Store tx.new.conn.now) (IsHeld (state S.Store tx.old.conn.now).now) result (λ x rows. rows.items ≡ map meta_shown x.tables.metas) }
     ensures fault { result ≢ Err TableFault.Foreign }
-    ensures survives { Survives (state S.Store tx.old.conn.now) (state S.Store tx.new.conn.now) (λ _. ⊥) }
+    ensures survives { CommitsNothing (state S.Store tx.old.conn.now) (state S.Store tx.new.conn.now) }
 {
-    let ran = tx.query_all("SELECT version, vendor, name FROM meta ORDER BY id", &[]);
-    match ran {
-        Ok(rows) => Ok(rows),
-        Err(error) => Err(fault_of(error)),
-    }
+    Ok(tx.query_all("SELECT version, vendor, name FROM meta ORDER BY id", &[])?)
 }
 
-/// The rows that say what the store is.
+/// Returns the rows of `meta`. A sound store has one.
 pub fn list_old_metas<S: Alter>(
     alloc: Global,
     tx: &mut Transaction<'_, S>,
 ) -> Result<Vec<Meta>, TableFault>
     ensures same_reference { tx.new.conn.ghost_name ≡ tx.old.conn.ghost_name }
     ensures listed { HasCleanDisk (state S.Store tx.new.conn.now) → IsTrue (state S.Store tx.old.conn.now).in_transaction
-        → TellsOf (state S.Store tx.old.conn.now) (state S.Store tx.new.conn.now) (IsHeld (state S.Store tx.old.conn.now).now) result (λ x all. all.items ≡ x.tables.metas) }
-    ensures survives { Survives (state S.Store tx.old.conn.now) (state S.Store tx.new.conn.now) (λ _. ⊥) }
+        → AnswersOf (state S.Store tx.old.conn.now) (state S.Store tx.new.conn.now) (IsHeld (state S.Store tx.old.conn.now).now) result (λ x all. all.items ≡ x.tables.metas) }
+    ensures survives { CommitsNothing (state S.Store tx.old.conn.now) (state S.Store tx.new.conn.now) }
 {
     let rows = meta_rows(tx)?;
     all_from(alloc, &rows)
 }
 
-/// Says what the store is.
+/// Writes the row of `meta`, in place of the one before.
 pub fn put_old_meta<S: Alter>(
     tx: &mut Transaction<'_, S>,
     version: u32,
@@ -56,21 +55,19 @@ pub fn put_old_meta<S: Alter>(
     ensures put { (vid : ℕ) → HasCleanDisk (state S.Store tx.new.conn.now) → IsTrue (state S.Store tx.old.conn.now).in_transaction
         → OnOk result (Turns vid (λ t. record t { metas = insert_by meta_key t.metas (record { version = version; vendor = vendor; name = name.now }) }) (λ numbers. numbers) (state S.Store tx.old.conn.now) (state S.Store tx.new.conn.now)) }
     ensures fault { result ≢ Err TableFault.Foreign }
-    ensures survives { Survives (state S.Store tx.old.conn.now) (state S.Store tx.new.conn.now) (λ _. ⊥) }
+    ensures survives { CommitsNothing (state S.Store tx.old.conn.now) (state S.Store tx.new.conn.now) }
 {
-    let ran = tx.execute(
+    tx.execute(
         "INSERT OR REPLACE INTO meta (id, version, vendor, name) VALUES (1, ?1, ?2, ?3)",
         params![version, u32::from(vendor.get()), name.as_str()],
-    );
-    match ran {
-        Ok(_) => Ok(()),
-        Err(error) => Err(fault_of(error)),
-    }
+    )?;
+    Ok(())
 }
 
-/// A number of the table `reserved`.
+/// A row of the table `reserved`.
 #[derive(Clone, Copy, Debug, Drop)]
 pub struct Reserved {
+    /// The product ID.
     pub pid: Pid,
 }
 
@@ -92,59 +89,49 @@ impl FromRow for Reserved {
 fn reserved_rows<S: Alter>(tx: &mut Transaction<'_, S>) -> Result<Vec<Row>, TableFault>
     ensures same_reference { tx.new.conn.ghost_name ≡ tx.old.conn.ghost_name }
     ensures rows { HasCleanDisk (state S.Store tx.new.conn.now) → IsTrue (state S.Store tx.old.conn.now).in_transaction
-        → TellsOf (state S.Store tx.old.conn.now) (state S.Store tx.new.conn.now) (IsHeld (state S.Store tx.old.conn.now).now) result (λ x rows. rows.items ≡ map number_shown x.numbers) }
+        → AnswersOf (state S.Store tx.old.conn.now) (state S.Store tx.new.conn.now) (IsHeld (state S.Store tx.old.conn.now).now) result (λ x rows. rows.items ≡ map number_shown x.numbers) }
     ensures fault { result ≢ Err TableFault.Foreign }
-    ensures survives { Survives (state S.Store tx.old.conn.now) (state S.Store tx.new.conn.now) (λ _. ⊥) }
+    ensures survives { CommitsNothing (state S.Store tx.old.conn.now) (state S.Store tx.new.conn.now) }
 {
-    let ran = tx.query_all("SELECT pid FROM reserved ORDER BY pid", &[]);
-    match ran {
-        Ok(rows) => Ok(rows),
-        Err(error) => Err(fault_of(error)),
-    }
+    Ok(tx.query_all("SELECT pid FROM reserved ORDER BY pid", &[])?)
 }
 
-/// The reserved numbers, one a row.
+/// Returns the reserved numbers, one for each row.
 pub fn list_reserved<S: Alter>(
     alloc: Global,
     tx: &mut Transaction<'_, S>,
 ) -> Result<Vec<Reserved>, TableFault>
     ensures same_reference { tx.new.conn.ghost_name ≡ tx.old.conn.ghost_name }
     ensures listed { HasCleanDisk (state S.Store tx.new.conn.now) → IsTrue (state S.Store tx.old.conn.now).in_transaction
-        → TellsOf (state S.Store tx.old.conn.now) (state S.Store tx.new.conn.now) (IsHeld (state S.Store tx.old.conn.now).now) result (λ x all. map (λ one. one.pid) all.items ≡ x.numbers) }
-    ensures survives { Survives (state S.Store tx.old.conn.now) (state S.Store tx.new.conn.now) (λ _. ⊥) }
+        → AnswersOf (state S.Store tx.old.conn.now) (state S.Store tx.new.conn.now) (IsHeld (state S.Store tx.old.conn.now).now) result (λ x all. map (λ one. one.pid) all.items ≡ x.numbers) }
+    ensures survives { CommitsNothing (state S.Store tx.old.conn.now) (state S.Store tx.new.conn.now) }
 {
     let rows = reserved_rows(tx)?;
     all_from(alloc, &rows)
 }
 
-/// Empties the table of reserved numbers.
+/// Empties the table `reserved`.
 pub fn empty_reserved<S: Alter>(tx: &mut Transaction<'_, S>) -> Result<(), TableFault>
     ensures same_reference { tx.new.conn.ghost_name ≡ tx.old.conn.ghost_name }
     ensures emptied { (vid : ℕ) → HasCleanDisk (state S.Store tx.new.conn.now) → IsTrue (state S.Store tx.old.conn.now).in_transaction → OnOk result (Turns vid (λ t. t) (λ numbers. []) (state S.Store tx.old.conn.now) (state S.Store tx.new.conn.now)) }
     ensures fault { result ≢ Err TableFault.Foreign }
-    ensures survives { Survives (state S.Store tx.old.conn.now) (state S.Store tx.new.conn.now) (λ _. ⊥) }
+    ensures survives { CommitsNothing (state S.Store tx.old.conn.now) (state S.Store tx.new.conn.now) }
 {
-    let ran = tx.execute("DELETE FROM reserved", &[]);
-    match ran {
-        Ok(_) => Ok(()),
-        Err(error) => Err(fault_of(error)),
-    }
+    tx.execute("DELETE FROM reserved", &[])?;
+    Ok(())
 }
 
-/// Puts a span of reserved numbers in.
+/// Inserts a span of reserved numbers.
 pub fn put_old_span<S: Alter>(tx: &mut Transaction<'_, S>, span: Span) -> Result<(), TableFault>
     ensures same_reference { tx.new.conn.ghost_name ≡ tx.old.conn.ghost_name }
     ensures put { (vid : ℕ) → IsNumber vid → HasCleanDisk (state S.Store tx.new.conn.now) → IsTrue (state S.Store tx.old.conn.now).in_transaction
         → OnOk result (Turns vid (λ t. record t { spans = insert_by old_span_key t.spans (vid, span) }) (λ numbers. numbers) (state S.Store tx.old.conn.now) (state S.Store tx.new.conn.now)) }
     ensures fault { result ≢ Err TableFault.Foreign }
-    ensures survives { Survives (state S.Store tx.old.conn.now) (state S.Store tx.new.conn.now) (λ _. ⊥) }
+    ensures survives { CommitsNothing (state S.Store tx.old.conn.now) (state S.Store tx.new.conn.now) }
 {
-    let ran = tx.execute(
+    tx.execute(
         "INSERT OR REPLACE INTO spans (lo, hi) VALUES (?1, ?2)",
         params![u32::from(span.first().get()), u32::from(span.last().get())],
-    );
-    match ran {
-        Ok(_) => Ok(()),
-        Err(error) => Err(fault_of(error)),
-    }
+    )?;
+    Ok(())
 }

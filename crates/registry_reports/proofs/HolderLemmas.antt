@@ -1,4 +1,4 @@
--- The report on the holders is made line by line.
+-- The report on the owners is written line by line.
 use Rattle.std.proofs.Common.{◌≡◌, ℕ, suc, ◌+◌, Bool, true, false, List, [], ◌∷◌, ◌++◌, length, Option, Some, None, refl, sym, ap, ◌∙◌, inl, inr, append_assoc}
 use Rattle.std.specs.Prelude.{map, is_some, slice_get, if◌then◌else◌}
 use Rattle.std.specs.List.{list_any}
@@ -17,36 +17,36 @@ use Rattle.registry_reports.specs.Holders.{holder_line, tally_lines, holder_line
 use Rattle.registry_reports.specs.declared.tallies.Tally.{Tally}
 use Rattle.registry_reports.proofs.CensusLemmas.{Pair}
 
-same-any : (text : List ℕ) (ks : List (List ℕ)) → list_any (is_at (slice_cmp nat_cmp text)) ks ≡ list_any (bytes_eq text) ks
-same-any text [] = refl
-same-any text (k ∷ ks) = rw (is_eq-slice_cmp text k) (elim (cases_Bool (bytes_eq text k)) [ inl e ↦ rw e refl | inr e ↦ rw e (same-any text ks) ])
+same_any : (text : List ℕ) (ks : List (List ℕ)) → list_any (is_at (slice_cmp nat_cmp text)) ks ≡ list_any (bytes_eq text) ks
+same_any text [] = refl
+same_any text (k ∷ ks) = rw (is_eq-slice_cmp text k) (elim (cases_Bool (bytes_eq text k)) [ inl e ↦ rw e refl | inr e ↦ rw e (same_any text ks) ])
 
-some-tallied : (numbers : List Pair) (slug : List ℕ) → is_some (tallied numbers slug) ≡ list_any (bytes_eq slug) (map org_of numbers)
-some-tallied numbers slug = elim (cases_Bool (list_any (bytes_eq slug) (map org_of numbers))) [ inl e ↦ rw e refl | inr e ↦ rw e refl ]
+some_tallied : (numbers : List Pair) (slug : List ℕ) → is_some (tallied numbers slug) ≡ list_any (bytes_eq slug) (map org_of numbers)
+some_tallied numbers slug = elim (cases_Bool (list_any (bytes_eq slug) (map org_of numbers))) [ inl e ↦ rw e refl | inr e ↦ rw e refl ]
 
-its-tally : (numbers : List Pair) (slug : List ℕ) (t : Tally) → tallied numbers slug ≡ Some t → t ≡ tally_of numbers slug
-its-tally numbers slug t is = elim (cases_Bool (list_any (bytes_eq slug) (map org_of numbers))) [
+its_tally : (numbers : List Pair) (slug : List ℕ) (t : Tally) → tallied numbers slug ≡ Some t → t ≡ tally_of numbers slug
+its_tally numbers slug t is = elim (cases_Bool (list_any (bytes_eq slug) (map org_of numbers))) [
   | inl e ↦ let same : Some (tally_of numbers slug) ≡ Some t = rw e at is in cc
   | inr e ↦ absurd (let none : ◌≡◌ {A = Option Tally} None (Some t) = rw e at is in cc)
 ]
 
-same-lines : (numbers : List Pair) (es : List (List ℕ × Tally)) → ((i : ℕ) (e : List ℕ × Tally) → slice_get es i ≡ Some e → e.1 ≡ tally_of numbers e.0) → tally_lines es ≡ holder_lines numbers (keys_of es)
-same-lines numbers [] each = refl
-same-lines numbers (e ∷ es) each =
-    ap (λ (t : Tally). holder_line e.0 t ++ tally_lines es) (each 0 e refl) ∙ ap (λ (l : List ℕ). holder_line e.0 (tally_of numbers e.0) ++ l) (same-lines numbers es (λ i x h. each (suc i) x h))
+same_lines : (numbers : List Pair) (es : List (List ℕ × Tally)) → ((i : ℕ) (e : List ℕ × Tally) → slice_get es i ≡ Some e → e.1 ≡ tally_of numbers e.0) → tally_lines es ≡ holder_lines numbers (keys_of es)
+same_lines numbers [] each = refl
+same_lines numbers (e ∷ es) each =
+    ap (λ (t : Tally). holder_line e.0 t ++ tally_lines es) (each 0 e refl) ∙ ap (λ (l : List ℕ). holder_line e.0 (tally_of numbers e.0) ++ l) (same_lines numbers es (λ i x h. each (suc i) x h))
 
 -- the lines of all tallies are the report
-pub are-holders : (numbers : List Pair) (m : BTreeMap (List ℕ) Tally) (text : List ℕ) → IsOrdered (slice_cmp nat_cmp) m → ((slug : List ℕ) → get (slice_cmp nat_cmp) m slug ≡ tallied numbers slug) → text ≡ tally_lines m.entries → IsHolders numbers text
-are-holders numbers m text up all is = record {
+pub are_holders : (numbers : List Pair) (m : BTreeMap (List ℕ) Tally) (text : List ℕ) → IsOrdered (slice_cmp nat_cmp) m → ((slug : List ℕ) → get (slice_cmp nat_cmp) m slug ≡ tallied numbers slug) → text ≡ tally_lines m.entries → IsHolders numbers text
+are_holders numbers m text up all is = record {
   slugs = keys_of m.entries;
   order = record {
     ascending = up;
-    same = λ slug. sym (same-any slug (keys_of m.entries)) ∙ (sym (is_some-lookup (is_at (slice_cmp nat_cmp slug)) m.entries) ∙ (ap is_some (all slug) ∙ some-tallied numbers slug));
+    same = λ slug. sym (same_any slug (keys_of m.entries)) ∙ (sym (is_some-lookup (is_at (slice_cmp nat_cmp slug)) m.entries) ∙ (ap is_some (all slug) ∙ some_tallied numbers slug));
   };
-  lines = is ∙ same-lines numbers m.entries (λ i e h. its-tally numbers e.0 e.1 (sym (all e.0) ∙ btree_map_get_place nat_list_cmp_total m i e.0 e.1 up h));
+  lines = is ∙ same_lines numbers m.entries (λ i e h. its_tally numbers e.0 e.1 (sym (all e.0) ∙ btree_map_get_place nat_list_cmp_total m i e.0 e.1 up h));
 }
 
--- one line further
-pub line-next : (es rest : List (List ℕ × Tally)) (slug : List ℕ) (t : Tally) (now next left : List ℕ) → es ≡ (slug, t) ∷ rest → now ++ tally_lines es ≡ left → next ≡ now ++ holder_line slug t → next ++ tally_lines rest ≡ left
-line-next es rest slug t now next left is so_far step =
+-- one more line
+pub line_next : (es rest : List (List ℕ × Tally)) (slug : List ℕ) (t : Tally) (now next left : List ℕ) → es ≡ (slug, t) ∷ rest → now ++ tally_lines es ≡ left → next ≡ now ++ holder_line slug t → next ++ tally_lines rest ≡ left
+line_next es rest slug t now next left is so_far step =
     ap (λ (l : List ℕ). l ++ tally_lines rest) step ∙ (append_assoc now (holder_line slug t) (tally_lines rest) ∙ (ap (λ (l : List (List ℕ × Tally)). now ++ tally_lines l) (sym is) ∙ so_far))

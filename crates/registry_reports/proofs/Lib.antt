@@ -1,9 +1,9 @@
 pub mod TitleLemmas
 pub mod ListLemmas
 pub mod CensusLemmas
-pub mod CensusLines
+pub mod CensusLineLemmas
 pub mod OrderLemmas
-pub mod OneLemmas
+pub mod UniqueLemmas
 pub mod HistoryLemmas
 pub mod TallyLemmas
 pub mod HolderLemmas

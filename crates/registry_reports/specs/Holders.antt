@@ -1,4 +1,4 @@
--- The report on who owns how many numbers.
+-- The report on the owners of numbers.
 use Rattle.std.specs.Prelude.{◌≡◌, ℕ, List, [], ◌∷◌, ◌++◌, codes, map}
 use Rattle.std.specs.Fmt.{decimal}
 use Rattle.usbnum_core.specs.declared.number.Number.{Number}
@@ -8,7 +8,7 @@ use Rattle.registry_reports.specs.Columns.{left, right}
 use Rattle.registry_reports.specs.Tallies.{org_of, tally_of}
 use Rattle.registry_reports.specs.declared.tallies.Tally.{Tally}
 
--- the slug, how many numbers it holds, and how many it returned
+-- the slug and the counts of its held and returned numbers
 unfoldable pub holder_line : List ℕ → Tally → List ℕ
 holder_line slug tally = left 32 slug ++ right 6 (decimal tally.held) ++ right 6 (decimal tally.returned) ++ codes "\n"
 

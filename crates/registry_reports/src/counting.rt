@@ -1,4 +1,4 @@
-//! How many numbers of each vendor are free, reserved, held and returned.
+//! Counts the free, reserved, held and returned numbers of each vendor.
 ghost use Rattle.std.specs.Prelude.{◌≡◌, ◌+◌, ◌-◌, ◌^◌, ◌<◌, ◌≤◌, cond, ◌&&◌, ◌++◌, codes, nat_eq, IfOk, OnOk};
 ghost use Rattle.std.specs.List.{count_by};
 ghost use Rattle.std.specs.Fmt.{decimal};
@@ -12,25 +12,27 @@ use registry_rules::Entry;
 use std::alloc::Global;
 use usbnum_core::{NoMemory, Number, Spans, Vid};
 
-/// Whether the number is the vendor's, is held, and is not reserved.
+/// Returns whether the number is the vendor's, held and not reserved.
 fn is_held(vid: Vid, spans: &Spans, pair: &(Number, Entry)) -> bool
     ensures value { result ≡ (nat_eq pair.now.0.vid vid && held_in spans.now pair.now) }
     ensures number { IsNumber pair.now.0.pid }
 {
+    // Only for the proof: a product ID is at least 1.
     let _ = pair.0.pid.get();
     pair.0.vid == vid && !spans.contains(pair.0.pid) && pair.1.held
 }
 
-/// Whether the number is the vendor's, was returned, and is not reserved.
+/// Returns whether the number is the vendor's, returned and not reserved.
 fn is_returned(vid: Vid, spans: &Spans, pair: &(Number, Entry)) -> bool
     ensures value { result ≡ (nat_eq pair.now.0.vid vid && returned_in spans.now pair.now) }
     ensures number { IsNumber pair.now.0.pid }
 {
+    // Only for the proof: a product ID is at least 1.
     let _ = pair.0.pid.get();
     pair.0.vid == vid && !spans.contains(pair.0.pid) && !pair.1.held
 }
 
-/// The count, and one more where the test passed.
+/// Returns the count, plus one if the test passed.
 pub fn one_more(count: usize, test: bool) -> usize
     requires { count < 2 ^ 64 - 1 }
     ensures { result ≡ count + cond test 1 0 }
@@ -38,7 +40,7 @@ pub fn one_more(count: usize, test: bool) -> usize
     if test { count + 1 } else { count }
 }
 
-/// How many numbers of the vendor are held.
+/// Counts the vendor's held numbers.
 fn count_held(vid: Vid, spans: &Spans, numbers: &[(Number, Entry)]) -> usize
     ensures { Ascends numbers.now → result ≡ held_count numbers.now spans.now vid }
 {
@@ -49,7 +51,7 @@ fn count_held(vid: Vid, spans: &Spans, numbers: &[(Number, Entry)]) -> usize
     count
 }
 
-/// How many numbers of the vendor were returned.
+/// Counts the vendor's returned numbers.
 fn count_returned(vid: Vid, spans: &Spans, numbers: &[(Number, Entry)]) -> usize
     ensures { Ascends numbers.now → result ≡ returned_count numbers.now spans.now vid }
 {
@@ -84,7 +86,7 @@ fn push_vendor(alloc: Global, text: &mut String, vid: Vid) -> Result<(), NoMemor
     push_row(text, "vendor", value.as_str())
 }
 
-/// How many numbers are in none of these counts, which together are all others.
+/// Returns the number of all numbers that are in none of these counts.
 fn free_of(reserved: u32, held: usize, returned: usize) -> usize
     ensures { reserved + held + returned ≤ 65535 → result + (reserved + held + returned) ≡ 65535 }
 {
@@ -94,7 +96,7 @@ fn free_of(reserved: u32, held: usize, returned: usize) -> usize
         .saturating_sub(returned)
 }
 
-/// The counts of a vendor.
+/// The counts of one vendor.
 #[derive(Clone, Copy)]
 struct Counts {
     free: usize,
@@ -143,8 +145,9 @@ fn push_census(
     push_counts(alloc, text, pair.0, &counts)
 }
 
-/// Six lines for each vendor: its number, how many of its numbers are free, reserved (fixed ones included), held and
-/// returned, and how many there are. They are right where the numbers ascend, as a registry gives them.
+/// Returns six lines for each vendor: its ID, the counts of its free, reserved (with the fixed
+/// ones), held and returned numbers, and the total. The counts are right if the numbers ascend, as
+/// in the lists of a registry.
 pub fn census(
     alloc: Global,
     vendors: &[(Vid, Spans)],

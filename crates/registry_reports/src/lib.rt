@@ -1,4 +1,5 @@
-//! The list of a registry's numbers, and reports on them, made of the lists that a registry gives.
+//! Makes the list of a registry's numbers, and reports on them, from the lists that a registry
+//! gives.
 #![tactic(auto)]
 
 pub use counting::census;

@@ -1,4 +1,4 @@
-//! The report on who owns how many numbers.
+//! The report on the owners of numbers.
 ghost use Rattle.std.specs.Prelude.{◌≡◌, ◌++◌, IfOk, OnOk};
 ghost use Rattle.std.specs.Ordering.{nat_cmp};
 ghost use Rattle.std.specs.Cmp.Lexicographic.{slice_cmp};
@@ -38,8 +38,9 @@ fn lines_of(alloc: Global, tallies: &BTreeMap<Slug, Tally>) -> Result<String, No
     Ok(text)
 }
 
-/// A line for each organisation that owns a number, by slug: the slug, how many numbers it holds, and how many it returned,
-/// over all vendors. A count of more than six digits is not cut.
+/// Returns a line for each organisation that owns a number, in the order of slugs: the slug and the
+/// counts of its held and returned numbers, over all vendors. A count of more than six digits is
+/// not cut.
 pub fn holders(alloc: Global, numbers: &[(Number, Entry)]) -> Result<String, NoMemory>
     ensures { IfOk result (λ text. IsHolders numbers.now (string_bytes text)) }
 {

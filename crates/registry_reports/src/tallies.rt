@@ -1,4 +1,4 @@
-//! How many numbers each organisation holds, and how many it returned, counted in one pass over all numbers.
+//! Counts the held and the returned numbers of each organisation, in one pass over all numbers.
 ghost use Rattle.std.specs.Prelude.{◌≡◌, ◌-◌, ◌^◌, ◌<◌, ℕ, List, IfOk, OnOk, Some, if◌then◌else◌};
 ghost use Rattle.std.specs.Ordering.{nat_cmp};
 ghost use Rattle.std.specs.Cmp.Lexicographic.{slice_cmp};
@@ -12,14 +12,16 @@ use std::alloc::Global;
 use std::collections::BTreeMap;
 use usbnum_core::{NoMemory, Number, Slug};
 
-/// How many numbers an organisation holds, and how many it returned.
+/// The counts of an organisation's held and returned numbers.
 #[derive(Clone, Copy)]
 pub struct Tally {
+    /// The number of held numbers.
     pub held: usize,
+    /// The number of returned numbers.
     pub returned: usize,
 }
 
-/// The organisation's tally so far.
+/// Returns the organisation's tally so far.
 fn tally_at(tallies: &BTreeMap<Slug, Tally>, org: &Slug) -> Tally
     ensures { result ≡ tally_at tallies.now org.now }
 {
@@ -30,7 +32,7 @@ fn tally_at(tallies: &BTreeMap<Slug, Tally>, org: &Slug) -> Tally
     tallies.get(org).copied().unwrap_or(nothing)
 }
 
-/// The tally with one number more.
+/// Returns the tally with one more number.
 fn with_number(tally: Tally, held: bool) -> Tally
     requires held { tally.held < 2 ^ 64 - 1 }
     requires returned { tally.returned < 2 ^ 64 - 1 }
@@ -60,7 +62,7 @@ fn count_in(tallies: &mut BTreeMap<Slug, Tally>, pair: &(Number, Entry)) -> Resu
     set_tally(tallies, &pair.1.org, with_number(tally, pair.1.held))
 }
 
-/// The tallies of all organisations that own one of the numbers.
+/// Returns the tallies of all organisations that own one of the numbers.
 pub fn tallied(
     alloc: Global,
     numbers: &[(Number, Entry)],

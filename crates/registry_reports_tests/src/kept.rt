@@ -1,16 +1,16 @@
-//! The lists that a registry gives, made of tables.
+//! The lists that a registry gives, made from constants.
 
 use registry_rules::{Card, Entry, Petition, PetitionState, Terms, Vendor};
 use std::process::Abort;
 use usbnum_core::{Link, Number, Pid, Slug, Span, Spans, Title, Vid};
 
-/// Vendors with their names, and the first and the last of their reserved numbers.
+/// Vendors, their names, and the first and the last of their reserved numbers.
 pub(crate) type VendorRows = &'static [(u16, &'static str, Option<(u16, u16)>)];
 
-/// Numbers with their vendors, organisations, whether they are held, and titles.
+/// Vendor IDs, product IDs, organisations, whether the numbers are held, and titles.
 pub(crate) type NumberRows = &'static [(u16, u16, &'static str, bool, &'static str)];
 
-/// Petitions with their vendors, organisations, wanted numbers, titles, and whether they are open.
+/// Petitions, vendors, organisations, wanted numbers, titles, and whether they are open.
 pub(crate) type PetitionRows = &'static [(u32, u16, &'static str, Option<u16>, &'static str, bool)];
 
 fn slug(rt: &(impl AllocGlobal + Abort), text: &str) -> Slug {

@@ -1,4 +1,4 @@
-//! The list and the reports by example.
+//! Tests of the list and the reports.
 #![tactic(auto)]
 
 #[cfg(test)]

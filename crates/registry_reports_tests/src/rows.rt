@@ -1,13 +1,14 @@
-//! Each text of the lists of some registries.
+//! The texts that are made from the lists of some registries.
 
 use crate::kept::{
     NumberRows, PetitionRows, VendorRows, numbers, petitions, reserved, vendors, vid,
 };
+use byte_streams::Outlet;
 use registry_reports::{census, holders, list_document, open_petitions};
 use std::test::Fail;
-use usbids_text::{Outlet, write};
+use usbids_text::write;
 
-/// The vendor of a founding with its fixed numbers.
+/// A founding vendor with its fixed numbers.
 const ONE_VENDOR: VendorRows = &[(0x1209, "Shared products", Some((0x1, 0x10)))];
 
 const TWO_VENDORS: VendorRows = &[

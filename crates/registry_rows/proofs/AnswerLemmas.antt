@@ -1,14 +1,18 @@
--- From the rows that a call read to the values that they stand for.
-use Rattle.std.proofs.Common.{◌≡◌, ◌≢◌, Bool, true, false, cond, List, [], ◌∷◌, map, filter, slice_get, Option, Result, Ok, Err, inl, MatchResult, OnOk, Ordering, is_gt}
+-- From the rows that a call read to the values that they store.
+use Rattle.std.proofs.Common.{◌≡◌, ◌≢◌, sym, subst, Bool, true, false, cond, List, [], ◌∷◌, map, filter, slice_get, Option, Result, Ok, Err, inl, MatchResult, OnOk, Ordering, is_gt}
+use Rattle.std.specs.Prelude.{IsErrAnd}
+use Rattle.std.proofs.lemmas.Result.{err_from_is_err_and}
 use Rattle.sqlite_keyed.specs.Lists.{insert_sorted, sort_by}
 use Rattle.sqlite_keyed.proofs.ListLemmas.{all-filter}
 use Rattle.std.specs.List.{AllByRecursion}
 use Rattle.sqlite.specs.Order.{Row}
+use Rattle.sqlite.specs.declared.error.Error.{Error}
 use Rattle.sqlite.specs.State.{State, IsUnchanged}
-use Rattle.table_laws.specs.Inside.{GoesOn}
+use Rattle.table_laws.specs.Inside.{GoesOn, StaysInside}
+use Rattle.registry_schema.specs.Faults.{IsFaultOf}
 use Rattle.registry_schema.specs.declared.fault.TableFault.{TableFault}
 use Rattle.registry_schema.specs.declared.fault.TableFault.TheVariants.{Foreign}
-use Rattle.registry_rows.specs.Steps.{Decodes, Answers, Changes}
+use Rattle.registry_rows.specs.Steps.{Decodes, Answers, AnswersOf, Changes}
 use Rattle.registry_rows.specs.Tables.{Tables, Holds}
 
 module _ {X : Type 0} (IsValid : X → Type 0) (show : X → Row) (pick : Tables → List X) (old new : State) (rows : List Row)
@@ -27,12 +31,19 @@ module _ {X : Type 0} (IsValid : X → Type 0) (show : X → Row) (pick : Tables
   answers_all items (Ok all) decodes = (read.0, λ t has. (let h = read.1 t has in (h.0, decodes (pick t) (valid t has) h.1)))
   answers_all items (Err fault) decodes = (λ foreign. (read.0, λ t has. decodes (pick t) (valid t has) (read.1 t has).1 foreign), inl read.0)
 
--- an answer may be told in other words
+-- a query that fails passes its error on
+pub fails_to_answer : {A X : Type 0} (old new : State) (Held : X → Type 0) (result : Result A TableFault) (error : Error) (Is : X → A → Type 0) → IsErrAnd result (IsFaultOf error)
+    → StaysInside old new → AnswersOf old new Held result Is
+fails_to_answer old new Held result error Is of inside =
+    let failed = err_from_is_err_and result of in
+    subst (λ r. AnswersOf old new Held r Is) (sym failed.1) (λ foreign. absurd (failed.2.1 foreign), inside)
+
+-- a result that satisfies one relation satisfies a weaker one
 pub answers_as : {A : Type 0} (old new : State) (result : Result A TableFault) (Is Also : Tables → A → Type 0) → ((t : Tables) (a : A) → Is t a → Also t a) → Answers old new result Is → Answers old new result Also
 answers_as old new (Ok a) Is Also means h = (h.0, λ t has. (let it = h.1 t has in (it.0, means t a it.1)))
 answers_as old new (Err e) Is Also means h = h
 
--- ---- what is picked of valid values is valid
+-- ---- values picked from valid ones are valid
 
 module _ {X : Type 0} (IsValid : X → Type 0) where
   pub valid_filtered : (test : X → Bool) (values : List X) → AllByRecursion IsValid values → AllByRecursion IsValid (filter test values)

@@ -1,4 +1,4 @@
--- Rows that stand for values.
+-- Rows that store values.
 use Rattle.std.proofs.Common.{◌≡◌, ◌≢◌, ℕ, ◌+◌, ◌<◌, List, [], ◌∷◌, ◌++◌, map, take, length, get_or, slice_get, Some, refl, sym, ap, arith, ◌∙◌}
 use Rattle.std.specs.List.{AllByRecursion}
 use Rattle.std.proofs.lemmas.List.{take_more}
@@ -11,20 +11,20 @@ use Rattle.registry_schema.specs.declared.fault.TableFault.{TableFault}
 use Rattle.registry_schema.specs.declared.fault.TableFault.TheVariants.{Foreign}
 
 module _ {X : Type 0} (IsValid : X → Type 0) (show : X → Row) (values : List X) (rows : List Row) (all : AllByRecursion IsValid values) (same : rows ≡ map show values) where
-  -- the row at a place stands for the value there
+  -- the row at a place stores the value there
   pub value_at : (i : ℕ) (row : Row) → slice_get rows i ≡ Some row → (x : X) × (slice_get values i ≡ Some x) × (row ≡ show x) × IsValid x
   value_at i row there =
       let it = some_there show (slice_get values i) row (sym (slice_get-map show values i) ∙ ap (λ l. slice_get l i) (sym same) ∙ there) in
       (it.0, it.1, it.2, all-slice_get IsValid values i it.0 it.1 all)
 
-  -- so what a row reads as is the value there
+  -- so decoding a row gives the value there
   pub one_more : (i : ℕ) (row : Row) (found : X) → i < length rows → row ≡ get_or rows i row → ((x : X) → IsValid x → row ≡ show x → found ≡ x) → take (i + 1) values ≡ take i values ++ found ∷ []
   one_more i row found within is reads =
       let it = value_at i row (slice_get_read rows (length rows) i row refl within is) in
       let here : i < length values = omega (arith, ap length same, length-map values show) in
       take_more values i it.0 here ∙ ap (λ x. take i values ++ x ∷ []) (get_or_from_slice_get values i it.0 it.0 it.1 ∙ sym (reads it.0 it.3 it.2))
 
-  -- and where it doesn't read, memory is short
+  -- and if decoding fails, the fault is out of memory
   pub not_foreign : (i : ℕ) (row : Row) (fault : TableFault) → i < length rows → row ≡ get_or rows i row → ((x : X) → IsValid x → row ≡ show x → fault ≢ Foreign) → fault ≢ Foreign
   not_foreign i row fault within is reads = let it = value_at i row (slice_get_read rows (length rows) i row refl within is) in reads it.0 it.3 it.2
 

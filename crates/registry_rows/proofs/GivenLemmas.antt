@@ -1,4 +1,4 @@
--- Values that may be NULL as they are given to a statement.
+-- Parameters of a statement that may be NULL.
 use Rattle.std.proofs.Common.{◌≡◌, ℕ, List, Option, Some, None, IfSome, refl}
 use Rattle.std.specs.Option.{option_copied, option_map}
 use Rattle.std.specs.Borrow.{Bor}

@@ -1,4 +1,4 @@
--- A statement that sets the rows of one table leaves the values of the others.
+-- A statement that sets the rows of one table does not change the values of the others.
 use Rattle.std.proofs.Common.{ℕ, List, refl, sym, subst, ◌∙◌}
 use Rattle.sqlite.specs.Order.{Row}
 use Rattle.sqlite.specs.Effect.{Database}
@@ -18,11 +18,11 @@ use Rattle.registry_rows.specs.declared.meta.Meta.{Meta}
 use Rattle.registry_rows.specs.Rows.{meta_key, meta_row, IsMeta, name_row, fixed_key, fixed_row, IsSpan, org_row, IsOrg, kept_row, IsKept, vendor_key, vendor_row, IsVendor, span_row, IsVendorSpan, entry_row, IsEntry, petition_key, petition_row, IsPetition}
 use Rattle.registry_rows.specs.Tables.{Tables, AreRows, Holds}
 
--- no foreign key acts
+-- the schema has no foreign key action
 pub untied : IsUntied schema_3
 untied keys tree olds news = refl
 
--- where the tables have the same rows, they have the same values
+-- tables with the same rows have the same values
 pub agree : (a b : Trees) (t : Tables) → AgreeOn schema_3.tables a b → AreRows b t → AreRows a t
 agree a b t same has = record {
   metas = subst (λ rows. Stores IsMeta meta_key meta_row rows t.metas) (sym same.0) has.metas;

@@ -1,4 +1,4 @@
--- A STRICT table keeps the values of its rows as they are, and two rows have one key where their values have.
+-- A STRICT table stores the values of its rows unchanged, and two rows have the same key if and only if their values do.
 use Rattle.std.proofs.Common.{◌≡◌, ℕ, ℤ, pos, Bool, true, false, cond, ◌&&◌, ◌||◌, List, ◌∷◌, Option, Some, None, refl, ap, ap₂, ◌∙◌, arith, nat_eq}
 use Rattle.std.specs.List.{list_any}
 use Rattle.std.specs.Str.{bytes_eq}
@@ -103,7 +103,7 @@ cast_entry_numbered e id = simp (cast_int, cast_part)
 equal_texts : (a b : List ℕ) → equal (first_key plain).collation (Text a) (Text b) ≡ bytes_eq a b
 equal_texts a b = ap (λ (k : Key). equal k.collation (Text a) (Text b)) first_key-plain ∙ at_texts false Eq a b ∙ same_texts a b
 
--- the test of two numbers may be turned round
+-- the test of two numbers is symmetric
 pub turned : (m n : ℕ) → nat_eq m n ≡ nat_eq n m
 turned m n = grind (arith, nat_tests)
 

@@ -1,4 +1,4 @@
--- Numbers and texts in SQL are compared as the values are.
+-- SQL compares numbers and texts as the values are compared.
 use Rattle.std.proofs.Common.{◌≡◌, ℕ, List, pos, int_eq, int_cmp, nat_eq, nat_cmp, arith, is_eq}
 use Rattle.std.proofs.lemmas.Int.{ints}
 use Rattle.std.specs.Cmp.Lexicographic.{slice_cmp}

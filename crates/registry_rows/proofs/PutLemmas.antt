@@ -1,4 +1,4 @@
--- What the statements that put rows do to the values of the tables.
+-- What the statements that insert rows do to the values of the tables.
 use Rattle.std.proofs.Common.{ℕ, List, [], ◌∷◌, ◌++◌, Ok, refl, ap}
 use Rattle.sqlite.specs.Edit.{with_rowid}
 use Rattle.sqlite.specs.Rowids.TheVariants.{Chosen}

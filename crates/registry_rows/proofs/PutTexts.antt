@@ -1,4 +1,4 @@
--- What the texts that put rows mean.
+-- What the texts that insert rows mean.
 use Rattle.std.proofs.Common.{ℕ, pos, List, [], ◌∷◌, codes, refl}
 use Rattle.sqlite.specs.declared.types.Value.TheVariants.{Null, Int}
 use Rattle.sqlite.specs.Term.{Term, lit, col}

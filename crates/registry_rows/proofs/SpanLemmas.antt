@@ -1,4 +1,4 @@
--- What the statements on reserved spans do to the values of the tables, and show of them.
+-- What the statements on reserved spans do to the values of the tables, and what they show.
 use Rattle.std.proofs.Common.{◌≡◌, ℕ, ℤ, pos, false, List, [], ◌∷◌, ◌++◌, map, filter, nat_cmp, int_cmp, Ok, refl, ap, ◌∙◌}
 use Rattle.std.specs.List.{list_all}
 use Rattle.sqlite.specs.declared.types.Value.TheVariants.{Int}

@@ -22,7 +22,7 @@ pub put_span_is : IsPut schema_3 11 put_span_text put_span_terms 4
 unfolding understood everything
 put_span_is = record { is = refl; plain = (refl, refl) }
 
--- the vendor's spans that meet two numbers or those between
+-- WHERE the vendor's span has any of the numbers between two
 abbrev pub meeting : List Term
 meeting = op2 (Compare Eq Binary) (col 1 1) (col 0 0) ∷ op2 (Compare Ge Binary) (col 1 3) (col 0 1) ∷ op2 (Compare Le Binary) (col 1 2) (col 0 2) ∷ []
 

@@ -7,7 +7,7 @@ use Rattle.sqlite_sql.specs.declared.ops.CompareOp.TheVariants.{Eq}
 use Rattle.sqlite_typed.proofs.TestLemmas.{at_ints, then_term, last_term}
 use Rattle.usbnum_core.specs.Text.{IsTitle}
 use Rattle.usbnum_core.specs.declared.number.Number.{Number}
-use Rattle.registry_rules.specs.Rows.{with_held, with_card}
+use Rattle.registry_rules.specs.Records.{with_held, with_card}
 use Rattle.registry_rules.specs.declared.record.Card.{Card}
 use Rattle.registry_rules.specs.declared.record.Entry.{Entry}
 use Rattle.table_laws.proofs.StatementLemmas.{changes_unnumbered}
@@ -19,7 +19,7 @@ use Rattle.registry_rows.proofs.KeyLemmas.{cast_entry_numbered, turned}
 use Rattle.registry_rows.proofs.NumberLemmas.{same_numbers}
 use Rattle.registry_rows.proofs.UpdateTexts.{set_held_text, set_held_terms, set_held_news, set_held_is, set_card_text, set_card_terms, set_card_news, set_card_is}
 
--- the entry's row, held or returned, or with another card
+-- the entry with this held flag, and the entry with this card
 abbrev pub held_as : Bool → Number × Entry → Number × Entry
 held_as held e = (e.0, with_held held e.1)
 

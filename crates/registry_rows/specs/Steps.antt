@@ -6,18 +6,22 @@ use Rattle.registry_schema.specs.declared.fault.TableFault.{TableFault}
 use Rattle.registry_schema.specs.declared.fault.TableFault.TheVariants.{Foreign}
 use Rattle.registry_rows.specs.Tables.{Tables, Holds}
 
--- what stands for the value reads as it, unless memory is short
+-- the result is this value, unless out of memory
 abbrev pub Decodes : {A : Type 0} → Result A TableFault → A → Type 0
 Decodes (Ok a) value = a ≡ value
 Decodes (Err e) value = e ≢ Foreign
 
 module _ (old new : State) where
-  -- the change is made, or nothing is
+  -- the change is made; or the call fails, never with Foreign, and the transaction goes on or was rolled back
   abbrev pub Changes : {A : Type 0} → Result A TableFault → (Tables → Tables) → Type 0
   Changes (Ok _) after = GoesOn old new × ((t : Tables) → Holds old.now t → Holds new.now (after t))
   Changes (Err e) after = (e ≢ Foreign) × StaysInside old new
 
-  -- the answer is told by the tables, which stay; it is Foreign only where the rows were read and no values stand in them
+  -- what is held determines the result, and does not change; Foreign comes only if nothing of that kind is held
+  abbrev pub AnswersOf : {A X : Type 0} → (X → Type 0) → Result A TableFault → (X → A → Type 0) → Type 0
+  AnswersOf {A} {X} Held (Ok a) Is = GoesOn old new × ((x : X) → Held x → IsUnchanged old new × Is x a)
+  AnswersOf {A} {X} Held (Err e) Is = (e ≡ Foreign → GoesOn old new × ((x : X) → ¬ Held x)) × StaysInside old new
+
+  -- the same of the tables: Foreign comes only if the rows were read and store no values
   abbrev pub Answers : {A : Type 0} → Result A TableFault → (Tables → A → Type 0) → Type 0
-  Answers (Ok a) IsAnswer = GoesOn old new × ((t : Tables) → Holds old.now t → IsUnchanged old new × IsAnswer t a)
-  Answers (Err e) IsAnswer = (e ≡ Foreign → GoesOn old new × ((t : Tables) → ¬ Holds old.now t)) × StaysInside old new
+  Answers result IsAnswer = AnswersOf (Holds old.now) result IsAnswer

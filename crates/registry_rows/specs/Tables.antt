@@ -18,7 +18,7 @@ use Rattle.registry_rows.specs.declared.kept.KeptRow.{KeptRow}
 use Rattle.registry_rows.specs.declared.meta.Meta.{Meta}
 use Rattle.registry_rows.specs.Rows.{meta_key, meta_row, IsMeta, name_row, fixed_key, fixed_row, IsSpan, org_row, IsOrg, kept_row, IsKept, vendor_key, vendor_row, IsVendor, span_row, IsVendorSpan, entry_row, IsEntry, petition_key, petition_row, IsPetition}
 
--- what stands in the tables: in the order of their keys where a key is the rowid, else in the order in which it came
+-- the values of the tables: in the order of their keys if the key is the rowid, otherwise in the order of insertion
 pub record Tables : Type 0 where
   pub metas : List Meta
   pub curators : List (List ℕ)
@@ -31,7 +31,7 @@ pub record Tables : Type 0 where
   pub entries : List (Number × Entry)
   pub petitions : List (ℕ × Petition)
 
--- the rows of each table are those of its values, and the tables of the older schemas that others replace are empty
+-- the rows of each table store these values, and the tables of older schemas that were replaced are empty
 pub record AreRows (db : Trees) (t : Tables) : Type 0 where
   pub metas : Stores IsMeta meta_key meta_row (db 0) t.metas
   pub curators : StoresUnnumbered IsSlug name_row (db 1) t.curators
@@ -48,17 +48,17 @@ pub record AreRows (db : Trees) (t : Tables) : Type 0 where
   pub entries : StoresUnnumbered IsEntry entry_row (db 17) t.entries
   pub petitions : Stores IsPetition petition_key petition_row (db 19) t.petitions
 
--- the trees have the tables of the third schema and nothing else, and these rows
+-- the trees have exactly the tables of the third schema, with these rows
 pub record HasRows (db : Trees) (t : Tables) : Type 0 where
   pub has : HasTables texts_3 db
   pub rows : AreRows db t
 
--- the same of a database, whose schema is known
+-- the same for a database whose schema is known
 pub record Holds (db : Database) (t : Tables) : Type 0 where
   pub schema : db.schema ≡ schema_3
   pub sound : IsSound schema_3 db.trees
   pub rows : AreRows db.trees t
 
--- no row in any table
+-- no rows in any table
 abbrev pub no_rows : Tables
 no_rows = record { metas = []; curators = []; licences = []; fixed = []; orgs = []; kept = []; vendors = []; spans = []; entries = []; petitions = [] }

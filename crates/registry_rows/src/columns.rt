@@ -1,106 +1,53 @@
-//! The columns of a row as values.
+//! Readers of the columns of a row. Each returns `TableFault::Foreign` if the column holds no such
+//! value, and `TableFault::NoMemory` if out of memory.
 
 ghost use Rattle.std.specs.Prelude.{◌≡◌, ◌≢◌, ◌+◌, ◌<◌, ◌^◌, ℕ, length, IfOk, IsUtf8, MatchOption};
 ghost use Rattle.sqlite.specs.declared.types.Value.TheVariants.{Text as TextValue, Null, Blob};
 ghost use Rattle.sqlite.specs.Order.{column};
 ghost use Rattle.usbnum_core.specs.Number.{IsNumber};
-ghost use Rattle.usbnum_core.specs.Text.{IsSlug, IsKey, IsTitle, IsLink};
 ghost use Rattle.registry_rows.specs.Rows.{flag, whole, IsSpan};
 ghost use Rattle.usbnum_core.specs.declared.number.Span.{Span as SpanValue};
 
-use registry_rules::{Spelling, Text};
+use registry_rules::{CanonicalForm, ReplyText};
 use registry_schema::TableFault;
 use sqlite::Row;
 use sqlite::types::ValueRef;
 use std::alloc::Global;
-use usbnum_core::{Key, Link, Pid, Slug, Span, Title, Vid};
+use usbnum_core::{Pid, Span, Text, TextRule, Vid};
 
-/// The slug in the column.
-pub fn slug_at(alloc: Global, row: &Row, at: usize) -> Result<Slug, TableFault>
+/// Reads the text in the column, of the kind that the rule `R` accepts.
+pub fn text_at<R: TextRule>(alloc: Global, row: &Row, at: usize) -> Result<Text<R>, TableFault>
     ensures ok { IfOk result (λ text. column row.now at ≡ TextValue text) }
-    ensures foreign { result ≡ Err TableFault.Foreign → (text : _) → IsSlug text → column row.now at ≢ TextValue text }
+    ensures foreign { result ≡ Err TableFault.Foreign → (text : _) → R.IsValid text → column row.now at ≢ TextValue text }
 {
     let Ok(ValueRef::Text(bytes)) = row.get_ref(at) else {
         return Err(TableFault::Foreign);
     };
-    match Slug::new(alloc, bytes) {
+    match Text::new(alloc, bytes) {
         Ok(Some(text)) => Ok(text),
         Ok(None) => Err(TableFault::Foreign),
         Err(_) => Err(TableFault::NoMemory),
     }
 }
 
-/// The key in the column.
-pub fn key_at(alloc: Global, row: &Row, at: usize) -> Result<Key, TableFault>
-    ensures ok { IfOk result (λ text. column row.now at ≡ TextValue text) }
-    ensures foreign { result ≡ Err TableFault.Foreign → (text : _) → IsKey text → column row.now at ≢ TextValue text }
-{
-    let Ok(ValueRef::Text(bytes)) = row.get_ref(at) else {
-        return Err(TableFault::Foreign);
-    };
-    match Key::new(alloc, bytes) {
-        Ok(Some(text)) => Ok(text),
-        Ok(None) => Err(TableFault::Foreign),
-        Err(_) => Err(TableFault::NoMemory),
-    }
-}
-
-/// The title in the column.
-pub fn title_at(alloc: Global, row: &Row, at: usize) -> Result<Title, TableFault>
-    ensures ok { IfOk result (λ text. column row.now at ≡ TextValue text) }
-    ensures foreign { result ≡ Err TableFault.Foreign → (text : _) → IsTitle text → column row.now at ≢ TextValue text }
-{
-    let Ok(ValueRef::Text(bytes)) = row.get_ref(at) else {
-        return Err(TableFault::Foreign);
-    };
-    match Title::new(alloc, bytes) {
-        Ok(Some(text)) => Ok(text),
-        Ok(None) => Err(TableFault::Foreign),
-        Err(_) => Err(TableFault::NoMemory),
-    }
-}
-
-/// The link in the column.
-pub fn link_at(alloc: Global, row: &Row, at: usize) -> Result<Link, TableFault>
-    ensures ok { IfOk result (λ text. column row.now at ≡ TextValue text) }
-    ensures foreign { result ≡ Err TableFault.Foreign → (text : _) → IsLink text → column row.now at ≢ TextValue text }
-{
-    let Ok(ValueRef::Text(bytes)) = row.get_ref(at) else {
-        return Err(TableFault::Foreign);
-    };
-    match Link::new(alloc, bytes) {
-        Ok(Some(text)) => Ok(text),
-        Ok(None) => Err(TableFault::Foreign),
-        Err(_) => Err(TableFault::NoMemory),
-    }
-}
-
-/// The title in the column, or none for NULL.
-pub fn title_or_null_at(alloc: Global, row: &Row, at: usize) -> Result<Option<Title>, TableFault>
+/// Reads such a text in the column, or `None` for NULL.
+pub fn text_or_null_at<R: TextRule>(
+    alloc: Global,
+    row: &Row,
+    at: usize,
+) -> Result<Option<Text<R>>, TableFault>
     ensures ok { IfOk result (λ text. MatchOption text (column row.now at ≡ Null) (λ text. column row.now at ≡ TextValue text)) }
-    ensures foreign { result ≡ Err TableFault.Foreign → at < length row.now → (column row.now at ≢ Null) × ((text : _) → IsTitle text → column row.now at ≢ TextValue text) }
+    ensures foreign { result ≡ Err TableFault.Foreign → at < length row.now → (column row.now at ≢ Null) × ((text : _) → R.IsValid text → column row.now at ≢ TextValue text) }
 {
     match row.get_ref(at) {
         Ok(ValueRef::Null) => Ok(None),
-        Ok(ValueRef::Text(_)) => Ok(Some(title_at(alloc, row, at)?)),
+        Ok(ValueRef::Text(_)) => Ok(Some(text_at(alloc, row, at)?)),
         _ => Err(TableFault::Foreign),
     }
 }
 
-/// The link in the column, or none for NULL.
-pub fn link_or_null_at(alloc: Global, row: &Row, at: usize) -> Result<Option<Link>, TableFault>
-    ensures ok { IfOk result (λ text. MatchOption text (column row.now at ≡ Null) (λ text. column row.now at ≡ TextValue text)) }
-    ensures foreign { result ≡ Err TableFault.Foreign → at < length row.now → (column row.now at ≢ Null) × ((text : _) → IsLink text → column row.now at ≢ TextValue text) }
-{
-    match row.get_ref(at) {
-        Ok(ValueRef::Null) => Ok(None),
-        Ok(ValueRef::Text(_)) => Ok(Some(link_at(alloc, row, at)?)),
-        _ => Err(TableFault::Foreign),
-    }
-}
-
-/// The reply in the column.
-pub fn reply_at(alloc: Global, row: &Row, at: usize) -> Result<Text, TableFault>
+/// Reads the reply in the column.
+pub fn reply_at(alloc: Global, row: &Row, at: usize) -> Result<ReplyText, TableFault>
     ensures ok { IfOk result (λ text. column row.now at ≡ TextValue text) }
     ensures foreign { result ≡ Err TableFault.Foreign → (text : _) → IsUtf8 text → column row.now at ≢ TextValue text }
 {
@@ -111,13 +58,13 @@ pub fn reply_at(alloc: Global, row: &Row, at: usize) -> Result<Text, TableFault>
         return Err(TableFault::Foreign);
     };
     match String::from_str(alloc, text) {
-        Ok(text) => Ok(Text::new(text)),
+        Ok(text) => Ok(ReplyText::new(text)),
         Err(_) => Err(TableFault::NoMemory),
     }
 }
 
-/// The spelling in the column.
-pub fn spelling_at(alloc: Global, row: &Row, at: usize) -> Result<Spelling, TableFault>
+/// Reads the canonical form in the column.
+pub fn canonical_form_at(alloc: Global, row: &Row, at: usize) -> Result<CanonicalForm, TableFault>
     ensures ok { IfOk result (λ bytes. column row.now at ≡ Blob bytes) }
     ensures foreign { result ≡ Err TableFault.Foreign → (bytes : _) → column row.now at ≢ Blob bytes }
 {
@@ -125,12 +72,12 @@ pub fn spelling_at(alloc: Global, row: &Row, at: usize) -> Result<Spelling, Tabl
         return Err(TableFault::Foreign);
     };
     match Vec::from_slice(alloc, bytes) {
-        Ok(bytes) => Ok(Spelling::new(bytes)),
+        Ok(bytes) => Ok(CanonicalForm::new(bytes)),
         Err(_) => Err(TableFault::NoMemory),
     }
 }
 
-/// The flag in the column.
+/// Reads the flag in the column.
 pub fn flag_at(row: &Row, at: usize) -> Result<bool, TableFault>
     ensures ok { IfOk result (λ b. column row.now at ≡ flag b) }
     ensures foreign { result ≡ Err TableFault.Foreign → (b : _) → column row.now at ≢ flag b }
@@ -142,7 +89,7 @@ pub fn flag_at(row: &Row, at: usize) -> Result<bool, TableFault>
     }
 }
 
-/// The whole number in the column.
+/// Reads the unsigned integer in the column.
 pub fn number_at(row: &Row, at: usize) -> Result<u32, TableFault>
     ensures ok { IfOk result (λ n. column row.now at ≡ whole n) }
     ensures foreign { result ≡ Err TableFault.Foreign → (n : ℕ) → n < 2 ^ 32 → column row.now at ≢ whole n }
@@ -156,7 +103,7 @@ pub fn number_at(row: &Row, at: usize) -> Result<u32, TableFault>
     }
 }
 
-/// The vendor number in the column.
+/// Reads the vendor ID in the column.
 pub fn vid_at(row: &Row, at: usize) -> Result<Vid, TableFault>
     ensures ok { IfOk result (λ n. column row.now at ≡ whole n) }
     ensures foreign { result ≡ Err TableFault.Foreign → (n : ℕ) → IsNumber n → column row.now at ≢ whole n }
@@ -171,7 +118,7 @@ pub fn vid_at(row: &Row, at: usize) -> Result<Vid, TableFault>
     }
 }
 
-/// The product number in the column.
+/// Reads the product ID in the column.
 pub fn pid_at(row: &Row, at: usize) -> Result<Pid, TableFault>
     ensures ok { IfOk result (λ n. column row.now at ≡ whole n) }
     ensures foreign { result ≡ Err TableFault.Foreign → (n : ℕ) → IsNumber n → column row.now at ≢ whole n }
@@ -186,7 +133,7 @@ pub fn pid_at(row: &Row, at: usize) -> Result<Pid, TableFault>
     }
 }
 
-/// The product number in the column, or none for NULL.
+/// Reads the product ID in the column, or `None` for NULL.
 pub fn pid_or_null_at(row: &Row, at: usize) -> Result<Option<Pid>, TableFault>
     ensures ok { IfOk result (λ pid. MatchOption pid (column row.now at ≡ Null) (λ n. column row.now at ≡ whole n)) }
     ensures foreign { result ≡ Err TableFault.Foreign → at < length row.now → (column row.now at ≢ Null) × ((n : ℕ) → IsNumber n → column row.now at ≢ whole n) }
@@ -198,7 +145,7 @@ pub fn pid_or_null_at(row: &Row, at: usize) -> Result<Option<Pid>, TableFault>
     }
 }
 
-/// The span from the number in the column to the number in the next one.
+/// Reads the span whose first number is in the column and whose last is in the next one.
 pub fn span_at(row: &Row, at: usize) -> Result<Span, TableFault>
     requires { at < 1000 }
     ensures ok { IfOk result (λ span. (column row.now at ≡ whole span.first) × (column row.now (at + 1) ≡ whole span.last)) }

@@ -9,9 +9,9 @@ use registry_schema::TableFault;
 use sqlite::Row;
 use std::alloc::Global;
 
-/// A value that a row stands for.
+/// A value that a row stores.
 pub trait FromRow: Sized {
-    // what a value keeps, and the columns that SELECT shows of it
+    // when a value is valid, and the columns that SELECT shows for it
     ghost is_valid: { Self → Type 0 };
 
     ghost columns: { Self → Columns };
@@ -20,7 +20,7 @@ pub trait FromRow: Sized {
         ensures { (value : Self) → is_valid value → row.now ≡ columns value → Decodes result value };
 }
 
-/// The value of the first row, if there is one.
+/// Reads the value of the first row, if any.
 pub fn first_from<T: FromRow>(alloc: Global, rows: &[Row]) -> Result<Option<T>, TableFault>
     ensures { (values : List T) → AllByRecursion T.is_valid values → rows.now ≡ map T.columns values → Decodes result (slice_get values 0) }
 {
@@ -33,7 +33,7 @@ pub fn first_from<T: FromRow>(alloc: Global, rows: &[Row]) -> Result<Option<T>, 
     }
 }
 
-/// The values of all rows, in their order.
+/// Reads the values of all rows, in their order.
 pub fn all_from<T: FromRow + Drop>(alloc: Global, rows: &[Row]) -> Result<Vec<T>, TableFault>
     ensures { (values : List T) → AllByRecursion T.is_valid values → rows.now ≡ map T.columns values → MatchResult result (λ all. all.items ≡ values) (λ fault. fault ≢ TableFault.Foreign) }
 {

@@ -3,19 +3,18 @@
 ghost use Rattle.std.specs.Prelude.{◌≡◌, ◌≢◌, [], ◌∷◌, ◌++◌, map, filter, find, IsTrue, Err, IfSome};
 ghost use Rattle.std.specs.Option.{option_map, option_copied};
 ghost use Rattle.usbnum_core.specs.Text.{IsTitle, IsLink};
-ghost use Rattle.sqlite.specs.State.{HasCleanDisk, Survives};
+ghost use Rattle.sqlite.specs.State.{HasCleanDisk};
 ghost use Rattle.sqlite.specs.Held.{state};
 ghost use Rattle.sqlite_keyed.specs.Lists.{update_where, delete_where, sort_by};
-ghost use Rattle.registry_rules.specs.Rows.{with_held, with_card};
+ghost use Rattle.table_laws.specs.Inside.{CommitsNothing};
+ghost use Rattle.registry_rules.specs.Records.{with_held, with_card};
 ghost use Rattle.registry_rows.specs.Rows.{IsEntry, entry_row, is_of, is_between, by_number};
 ghost use Rattle.registry_rows.specs.Steps.{Answers, Changes, Decodes};
 
-use crate::columns::{
-    flag_at, link_or_null_at, pid_at, slug_at, title_at, title_or_null_at, vid_at,
-};
+use crate::columns::{flag_at, pid_at, text_at, text_or_null_at, vid_at};
 use crate::decode::{FromRow, all_from, first_from};
 use registry_rules::{Card, Entry, Terms};
-use registry_schema::{TableFault, fault_of};
+use registry_schema::TableFault;
 use sqlite::{Alter, Row, Transaction, params};
 use std::alloc::Global;
 use usbnum_core::{Number, Pid, Vid};
@@ -23,9 +22,9 @@ use usbnum_core::{Number, Pid, Vid};
 fn terms_from(alloc: Global, row: &Row) -> Result<Option<Terms>, TableFault>
     ensures { (e : _) → IsEntry e → row.now ≡ entry_row e → Decodes result e.1.card.terms }
 {
-    let licence = title_or_null_at(alloc, row, 5)?;
-    let site = link_or_null_at(alloc, row, 6)?;
-    let source = link_or_null_at(alloc, row, 7)?;
+    let licence = text_or_null_at(alloc, row, 5)?;
+    let site = text_or_null_at(alloc, row, 6)?;
+    let source = text_or_null_at(alloc, row, 7)?;
     match (licence, site, source) {
         (Some(licence), Some(site), Some(source)) => Ok(Some(Terms {
             licence,
@@ -41,7 +40,7 @@ fn card_from(alloc: Global, row: &Row) -> Result<Card, TableFault>
     ensures { (e : _) → IsEntry e → row.now ≡ entry_row e → Decodes result e.1.card }
 {
     Ok(Card {
-        title: title_at(alloc, row, 4)?,
+        title: text_at(alloc, row, 4)?,
         terms: terms_from(alloc, row)?,
     })
 }
@@ -50,7 +49,7 @@ fn entry_from(alloc: Global, row: &Row) -> Result<Entry, TableFault>
     ensures { (e : _) → IsEntry e → row.now ≡ entry_row e → Decodes result e.1 }
 {
     Ok(Entry {
-        org: slug_at(alloc, row, 2)?,
+        org: text_at(alloc, row, 2)?,
         held: flag_at(row, 3)?,
         card: card_from(alloc, row)?,
     })
@@ -107,7 +106,7 @@ fn source_of(card: &Card) -> Option<&str>
     }
 }
 
-/// Puts the entry in, in the place of the one of its number, if there is one.
+/// Inserts the entry, or replaces the one of its number.
 pub fn put_entry<S: Alter>(
     tx: &mut Transaction<'_, S>,
     number: Number,
@@ -117,9 +116,9 @@ pub fn put_entry<S: Alter>(
     ensures put { HasCleanDisk (state S.Store tx.new.conn.now) → IsTrue (state S.Store tx.old.conn.now).in_transaction
         → Changes (state S.Store tx.old.conn.now) (state S.Store tx.new.conn.now) result (λ t. record t { entries = delete_where (λ other. is_of number other) t.entries ++ (number, entry.now) ∷ [] }) }
     ensures fault { result ≢ Err TableFault.Foreign }
-    ensures survives { Survives (state S.Store tx.old.conn.now) (state S.Store tx.new.conn.now) (λ _. ⊥) }
+    ensures survives { CommitsNothing (state S.Store tx.old.conn.now) (state S.Store tx.new.conn.now) }
 {
-    let ran = tx.execute(
+    tx.execute(
         "INSERT OR REPLACE INTO entries3 (vid, pid, org, held, title, licence, site, source) VALUES (?1, ?2, ?3, ?4, ?5, ?6, ?7, ?8)",
         params![
             u32::from(number.vid.get()),
@@ -131,11 +130,8 @@ pub fn put_entry<S: Alter>(
             site_of(&entry.card),
             source_of(&entry.card)
         ],
-    );
-    match ran {
-        Ok(_) => Ok(()),
-        Err(error) => Err(fault_of(error)),
-    }
+    )?;
+    Ok(())
 }
 
 /// Sets whether the number is held, if it has an entry.
@@ -148,23 +144,20 @@ pub fn set_held<S: Alter>(
     ensures set { HasCleanDisk (state S.Store tx.new.conn.now) → IsTrue (state S.Store tx.old.conn.now).in_transaction
         → Changes (state S.Store tx.old.conn.now) (state S.Store tx.new.conn.now) result (λ t. record t { entries = update_where (is_of number) (λ e. (e.0, with_held held e.1)) t.entries }) }
     ensures fault { result ≢ Err TableFault.Foreign }
-    ensures survives { Survives (state S.Store tx.old.conn.now) (state S.Store tx.new.conn.now) (λ _. ⊥) }
+    ensures survives { CommitsNothing (state S.Store tx.old.conn.now) (state S.Store tx.new.conn.now) }
 {
-    let ran = tx.execute(
+    tx.execute(
         "UPDATE entries3 SET held = ?1 WHERE vid = ?2 AND pid = ?3",
         params![
             held,
             u32::from(number.vid.get()),
             u32::from(number.pid.get())
         ],
-    );
-    match ran {
-        Ok(_) => Ok(()),
-        Err(error) => Err(fault_of(error)),
-    }
+    )?;
+    Ok(())
 }
 
-/// Gives the number another card, if it has an entry.
+/// Sets the card of the number, if it has an entry.
 pub fn set_card<S: Alter>(
     tx: &mut Transaction<'_, S>,
     number: Number,
@@ -174,9 +167,9 @@ pub fn set_card<S: Alter>(
     ensures set { HasCleanDisk (state S.Store tx.new.conn.now) → IsTrue (state S.Store tx.old.conn.now).in_transaction
         → Changes (state S.Store tx.old.conn.now) (state S.Store tx.new.conn.now) result (λ t. record t { entries = update_where (is_of number) (λ e. (e.0, with_card card.now e.1)) t.entries }) }
     ensures fault { result ≢ Err TableFault.Foreign }
-    ensures survives { Survives (state S.Store tx.old.conn.now) (state S.Store tx.new.conn.now) (λ _. ⊥) }
+    ensures survives { CommitsNothing (state S.Store tx.old.conn.now) (state S.Store tx.new.conn.now) }
 {
-    let ran = tx.execute(
+    tx.execute(
         "UPDATE entries3 SET title = ?1, licence = ?2, site = ?3, source = ?4 WHERE vid = ?5 AND pid = ?6",
         params![
             card.title.as_str(),
@@ -186,11 +179,8 @@ pub fn set_card<S: Alter>(
             u32::from(number.vid.get()),
             u32::from(number.pid.get())
         ],
-    );
-    match ran {
-        Ok(_) => Ok(()),
-        Err(error) => Err(fault_of(error)),
-    }
+    )?;
+    Ok(())
 }
 
 fn entry_rows<S: Alter>(tx: &mut Transaction<'_, S>, number: Number) -> Result<Vec<Row>, TableFault>
@@ -198,19 +188,15 @@ fn entry_rows<S: Alter>(tx: &mut Transaction<'_, S>, number: Number) -> Result<V
     ensures rows { HasCleanDisk (state S.Store tx.new.conn.now) → IsTrue (state S.Store tx.old.conn.now).in_transaction
         → Answers (state S.Store tx.old.conn.now) (state S.Store tx.new.conn.now) result (λ t rows. rows.items ≡ map entry_row (filter (is_of number) t.entries)) }
     ensures fault { result ≢ Err TableFault.Foreign }
-    ensures survives { Survives (state S.Store tx.old.conn.now) (state S.Store tx.new.conn.now) (λ _. ⊥) }
+    ensures survives { CommitsNothing (state S.Store tx.old.conn.now) (state S.Store tx.new.conn.now) }
 {
-    let ran = tx.query_all(
+    Ok(tx.query_all(
         "SELECT vid, pid, org, held, title, licence, site, source FROM entries3 WHERE vid = ?1 AND pid = ?2 ORDER BY rowid",
         params![u32::from(number.vid.get()), u32::from(number.pid.get())],
-    );
-    match ran {
-        Ok(rows) => Ok(rows),
-        Err(error) => Err(fault_of(error)),
-    }
+    )?)
 }
 
-/// The number, with its entry, if it has one.
+/// Returns the number with its entry, if it has one.
 pub fn find_entry<S: Alter>(
     alloc: Global,
     tx: &mut Transaction<'_, S>,
@@ -219,7 +205,7 @@ pub fn find_entry<S: Alter>(
     ensures same_reference { tx.new.conn.ghost_name ≡ tx.old.conn.ghost_name }
     ensures found { HasCleanDisk (state S.Store tx.new.conn.now) → IsTrue (state S.Store tx.old.conn.now).in_transaction
         → Answers (state S.Store tx.old.conn.now) (state S.Store tx.new.conn.now) result (λ t found. found ≡ find (is_of number) t.entries) }
-    ensures survives { Survives (state S.Store tx.old.conn.now) (state S.Store tx.new.conn.now) (λ _. ⊥) }
+    ensures survives { CommitsNothing (state S.Store tx.old.conn.now) (state S.Store tx.new.conn.now) }
 {
     let rows = entry_rows(tx, number)?;
     first_from(alloc, &rows)
@@ -235,23 +221,19 @@ fn rows_between<S: Alter>(
     ensures rows { HasCleanDisk (state S.Store tx.new.conn.now) → IsTrue (state S.Store tx.old.conn.now).in_transaction
         → Answers (state S.Store tx.old.conn.now) (state S.Store tx.new.conn.now) result (λ t rows. rows.items ≡ map entry_row (sort_by by_number (filter (is_between vid low high) t.entries))) }
     ensures fault { result ≢ Err TableFault.Foreign }
-    ensures survives { Survives (state S.Store tx.old.conn.now) (state S.Store tx.new.conn.now) (λ _. ⊥) }
+    ensures survives { CommitsNothing (state S.Store tx.old.conn.now) (state S.Store tx.new.conn.now) }
 {
-    let ran = tx.query_all(
+    Ok(tx.query_all(
         "SELECT vid, pid, org, held, title, licence, site, source FROM entries3 WHERE vid = ?1 AND pid BETWEEN ?2 AND ?3 ORDER BY vid, pid, rowid",
         params![
             u32::from(vid.get()),
             u32::from(low.get()),
             u32::from(high.get())
         ],
-    );
-    match ran {
-        Ok(rows) => Ok(rows),
-        Err(error) => Err(fault_of(error)),
-    }
+    )?)
 }
 
-/// The entries of the vendor from the low number to the high one, ascending.
+/// Returns the vendor's entries from the low number to the high one, ascending.
 pub fn find_entries<S: Alter>(
     alloc: Global,
     tx: &mut Transaction<'_, S>,
@@ -262,7 +244,7 @@ pub fn find_entries<S: Alter>(
     ensures same_reference { tx.new.conn.ghost_name ≡ tx.old.conn.ghost_name }
     ensures listed { HasCleanDisk (state S.Store tx.new.conn.now) → IsTrue (state S.Store tx.old.conn.now).in_transaction
         → Answers (state S.Store tx.old.conn.now) (state S.Store tx.new.conn.now) result (λ t all. all.items ≡ sort_by by_number (filter (is_between vid low high) t.entries)) }
-    ensures survives { Survives (state S.Store tx.old.conn.now) (state S.Store tx.new.conn.now) (λ _. ⊥) }
+    ensures survives { CommitsNothing (state S.Store tx.old.conn.now) (state S.Store tx.new.conn.now) }
 {
     let rows = rows_between(tx, vid, low, high)?;
     all_from(alloc, &rows)
@@ -273,19 +255,15 @@ fn all_rows<S: Alter>(tx: &mut Transaction<'_, S>) -> Result<Vec<Row>, TableFaul
     ensures rows { HasCleanDisk (state S.Store tx.new.conn.now) → IsTrue (state S.Store tx.old.conn.now).in_transaction
         → Answers (state S.Store tx.old.conn.now) (state S.Store tx.new.conn.now) result (λ t rows. rows.items ≡ map entry_row (sort_by by_number t.entries)) }
     ensures fault { result ≢ Err TableFault.Foreign }
-    ensures survives { Survives (state S.Store tx.old.conn.now) (state S.Store tx.new.conn.now) (λ _. ⊥) }
+    ensures survives { CommitsNothing (state S.Store tx.old.conn.now) (state S.Store tx.new.conn.now) }
 {
-    let ran = tx.query_all(
+    Ok(tx.query_all(
         "SELECT vid, pid, org, held, title, licence, site, source FROM entries3 ORDER BY vid, pid, rowid",
         &[],
-    );
-    match ran {
-        Ok(rows) => Ok(rows),
-        Err(error) => Err(fault_of(error)),
-    }
+    )?)
 }
 
-/// All of them, by vendor and then by product.
+/// Returns all entries, in order of vendor and then product.
 pub fn list_entries<S: Alter>(
     alloc: Global,
     tx: &mut Transaction<'_, S>,
@@ -293,7 +271,7 @@ pub fn list_entries<S: Alter>(
     ensures same_reference { tx.new.conn.ghost_name ≡ tx.old.conn.ghost_name }
     ensures listed { HasCleanDisk (state S.Store tx.new.conn.now) → IsTrue (state S.Store tx.old.conn.now).in_transaction
         → Answers (state S.Store tx.old.conn.now) (state S.Store tx.new.conn.now) result (λ t all. all.items ≡ sort_by by_number t.entries) }
-    ensures survives { Survives (state S.Store tx.old.conn.now) (state S.Store tx.new.conn.now) (λ _. ⊥) }
+    ensures survives { CommitsNothing (state S.Store tx.old.conn.now) (state S.Store tx.new.conn.now) }
 {
     let rows = all_rows(tx)?;
     all_from(alloc, &rows)

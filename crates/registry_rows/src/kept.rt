@@ -1,25 +1,29 @@
-//! The replies that are kept.
+//! The kept replies.
 
 ghost use Rattle.std.specs.Prelude.{◌≡◌, ◌≢◌, [], ◌∷◌, ◌++◌, map, filter, find, IsTrue, Err};
-ghost use Rattle.sqlite.specs.State.{HasCleanDisk, Survives};
+ghost use Rattle.sqlite.specs.State.{HasCleanDisk};
 ghost use Rattle.sqlite.specs.Held.{state};
 ghost use Rattle.sqlite_keyed.specs.Lists.{delete_where};
+ghost use Rattle.table_laws.specs.Inside.{CommitsNothing};
 ghost use Rattle.registry_rows.specs.Rows.{kept_row, is_kept_under};
 ghost use Rattle.registry_rows.specs.Steps.{Answers, Changes};
 
-use crate::columns::{key_at, reply_at, slug_at, spelling_at};
+use crate::columns::{canonical_form_at, reply_at, text_at};
 use crate::decode::{FromRow, first_from};
-use registry_rules::{Kept, Spelling, Text};
-use registry_schema::{TableFault, fault_of};
+use registry_rules::{CanonicalForm, Kept, ReplyText};
+use registry_schema::TableFault;
 use sqlite::{Alter, Row, Transaction, params};
 use std::alloc::Global;
 use usbnum_core::{Key, Slug};
 
-/// What is kept of an accepted request, under its caller and key.
+/// The kept reply of an accepted request, under its caller and key.
 #[derive(Debug, Drop)]
 pub struct KeptRow {
+    /// The caller of the request.
     pub caller: Slug,
+    /// The key of the request.
     pub key: Key,
+    /// The canonical form of the order, and the reply.
     pub kept: Kept,
 }
 
@@ -32,31 +36,31 @@ impl FromRow for KeptRow {
 
     fn from_row(alloc: Global, row: &Row) -> Result<KeptRow, TableFault> {
         Ok(KeptRow {
-            caller: slug_at(alloc, row, 0)?,
-            key: key_at(alloc, row, 1)?,
+            caller: text_at(alloc, row, 0)?,
+            key: text_at(alloc, row, 1)?,
             kept: Kept {
-                order: spelling_at(alloc, row, 2)?,
+                order: canonical_form_at(alloc, row, 2)?,
                 reply: reply_at(alloc, row, 3)?,
             },
         })
     }
 }
 
-/// Keeps the spelling and the reply under the caller and key.
+/// Keeps the canonical form and the reply under the caller and key.
 pub fn put_kept<S: Alter>(
     tx: &mut Transaction<'_, S>,
     caller: &Slug,
     key: &Key,
-    order: &Spelling,
-    reply: &Text,
+    order: &CanonicalForm,
+    reply: &ReplyText,
 ) -> Result<(), TableFault>
     ensures same_reference { tx.new.conn.ghost_name ≡ tx.old.conn.ghost_name }
     ensures put { HasCleanDisk (state S.Store tx.new.conn.now) → IsTrue (state S.Store tx.old.conn.now).in_transaction
         → Changes (state S.Store tx.old.conn.now) (state S.Store tx.new.conn.now) result (λ t. record t { kept = delete_where (λ other. is_kept_under caller.now key.now other) t.kept ++ record { caller = caller.now; key = key.now; kept = record { order = order.now; reply = reply.now } } ∷ [] }) }
     ensures fault { result ≢ Err TableFault.Foreign }
-    ensures survives { Survives (state S.Store tx.old.conn.now) (state S.Store tx.new.conn.now) (λ _. ⊥) }
+    ensures survives { CommitsNothing (state S.Store tx.old.conn.now) (state S.Store tx.new.conn.now) }
 {
-    let ran = tx.execute(
+    tx.execute(
         "INSERT OR REPLACE INTO kept (caller, request_key, request, reply) VALUES (?1, ?2, ?3, ?4)",
         params![
             caller.as_str(),
@@ -64,11 +68,8 @@ pub fn put_kept<S: Alter>(
             order.as_bytes(),
             reply.as_str()
         ],
-    );
-    match ran {
-        Ok(_) => Ok(()),
-        Err(error) => Err(fault_of(error)),
-    }
+    )?;
+    Ok(())
 }
 
 fn kept_rows<S: Alter>(
@@ -80,19 +81,15 @@ fn kept_rows<S: Alter>(
     ensures rows { HasCleanDisk (state S.Store tx.new.conn.now) → IsTrue (state S.Store tx.old.conn.now).in_transaction
         → Answers (state S.Store tx.old.conn.now) (state S.Store tx.new.conn.now) result (λ t rows. rows.items ≡ map kept_row (filter (is_kept_under caller.now key.now) t.kept)) }
     ensures fault { result ≢ Err TableFault.Foreign }
-    ensures survives { Survives (state S.Store tx.old.conn.now) (state S.Store tx.new.conn.now) (λ _. ⊥) }
+    ensures survives { CommitsNothing (state S.Store tx.old.conn.now) (state S.Store tx.new.conn.now) }
 {
-    let ran = tx.query_all(
+    Ok(tx.query_all(
         "SELECT caller, request_key, request, reply FROM kept WHERE caller = ?1 AND request_key = ?2 ORDER BY rowid",
         params![caller.as_str(), key.as_str()],
-    );
-    match ran {
-        Ok(rows) => Ok(rows),
-        Err(error) => Err(fault_of(error)),
-    }
+    )?)
 }
 
-/// What is kept under the caller and key, if there is anything.
+/// Returns what is kept under the caller and key, if anything.
 pub fn find_kept<S: Alter>(
     alloc: Global,
     tx: &mut Transaction<'_, S>,
@@ -102,7 +99,7 @@ pub fn find_kept<S: Alter>(
     ensures same_reference { tx.new.conn.ghost_name ≡ tx.old.conn.ghost_name }
     ensures found { HasCleanDisk (state S.Store tx.new.conn.now) → IsTrue (state S.Store tx.old.conn.now).in_transaction
         → Answers (state S.Store tx.old.conn.now) (state S.Store tx.new.conn.now) result (λ t found. found ≡ find (is_kept_under caller.now key.now) t.kept) }
-    ensures survives { Survives (state S.Store tx.old.conn.now) (state S.Store tx.new.conn.now) (λ _. ⊥) }
+    ensures survives { CommitsNothing (state S.Store tx.old.conn.now) (state S.Store tx.new.conn.now) }
 {
     let rows = kept_rows(tx, caller, key)?;
     first_from(alloc, &rows)

@@ -1,16 +1,17 @@
 //! The organisations.
 
 ghost use Rattle.std.specs.Prelude.{◌≡◌, ◌≢◌, [], ◌∷◌, ◌++◌, map, filter, find, IsTrue, Err};
-ghost use Rattle.sqlite.specs.State.{HasCleanDisk, Survives};
+ghost use Rattle.sqlite.specs.State.{HasCleanDisk};
 ghost use Rattle.sqlite.specs.Held.{state};
 ghost use Rattle.sqlite_keyed.specs.Lists.{delete_where, sort_by};
+ghost use Rattle.table_laws.specs.Inside.{CommitsNothing};
 ghost use Rattle.registry_rows.specs.Rows.{org_row, is_called, by_slug};
 ghost use Rattle.registry_rows.specs.Steps.{Answers, Changes};
 
-use crate::columns::{link_at, slug_at, title_at};
+use crate::columns::text_at;
 use crate::decode::{FromRow, all_from, first_from};
 use registry_rules::Org;
-use registry_schema::{TableFault, fault_of};
+use registry_schema::TableFault;
 use sqlite::{Alter, Row, Transaction, params};
 use std::alloc::Global;
 use usbnum_core::Slug;
@@ -24,23 +25,23 @@ impl FromRow for Org {
 
     fn from_row(alloc: Global, row: &Row) -> Result<Org, TableFault> {
         Ok(Org {
-            slug: slug_at(alloc, row, 0)?,
-            title: title_at(alloc, row, 1)?,
-            site: link_at(alloc, row, 2)?,
-            keeper: slug_at(alloc, row, 3)?,
+            slug: text_at(alloc, row, 0)?,
+            title: text_at(alloc, row, 1)?,
+            site: text_at(alloc, row, 2)?,
+            keeper: text_at(alloc, row, 3)?,
         })
     }
 }
 
-/// Puts the organisation in, in the place of the one with its slug, if there is one.
+/// Inserts the organisation, or replaces the one with its slug.
 pub fn put_org<S: Alter>(tx: &mut Transaction<'_, S>, org: &Org) -> Result<(), TableFault>
     ensures same_reference { tx.new.conn.ghost_name ≡ tx.old.conn.ghost_name }
     ensures put { HasCleanDisk (state S.Store tx.new.conn.now) → IsTrue (state S.Store tx.old.conn.now).in_transaction
         → Changes (state S.Store tx.old.conn.now) (state S.Store tx.new.conn.now) result (λ t. record t { orgs = delete_where (λ other. is_called org.now.slug other) t.orgs ++ org.now ∷ [] }) }
     ensures fault { result ≢ Err TableFault.Foreign }
-    ensures survives { Survives (state S.Store tx.old.conn.now) (state S.Store tx.new.conn.now) (λ _. ⊥) }
+    ensures survives { CommitsNothing (state S.Store tx.old.conn.now) (state S.Store tx.new.conn.now) }
 {
-    let ran = tx.execute(
+    tx.execute(
         "INSERT OR REPLACE INTO orgs (slug, title, site, keeper) VALUES (?1, ?2, ?3, ?4)",
         params![
             org.slug.as_str(),
@@ -48,11 +49,8 @@ pub fn put_org<S: Alter>(tx: &mut Transaction<'_, S>, org: &Org) -> Result<(), T
             org.site.as_str(),
             org.keeper.as_str()
         ],
-    );
-    match ran {
-        Ok(_) => Ok(()),
-        Err(error) => Err(fault_of(error)),
-    }
+    )?;
+    Ok(())
 }
 
 fn org_rows<S: Alter>(tx: &mut Transaction<'_, S>, slug: &Slug) -> Result<Vec<Row>, TableFault>
@@ -60,19 +58,15 @@ fn org_rows<S: Alter>(tx: &mut Transaction<'_, S>, slug: &Slug) -> Result<Vec<Ro
     ensures rows { HasCleanDisk (state S.Store tx.new.conn.now) → IsTrue (state S.Store tx.old.conn.now).in_transaction
         → Answers (state S.Store tx.old.conn.now) (state S.Store tx.new.conn.now) result (λ t rows. rows.items ≡ map org_row (filter (is_called slug.now) t.orgs)) }
     ensures fault { result ≢ Err TableFault.Foreign }
-    ensures survives { Survives (state S.Store tx.old.conn.now) (state S.Store tx.new.conn.now) (λ _. ⊥) }
+    ensures survives { CommitsNothing (state S.Store tx.old.conn.now) (state S.Store tx.new.conn.now) }
 {
-    let ran = tx.query_all(
+    Ok(tx.query_all(
         "SELECT slug, title, site, keeper FROM orgs WHERE slug = ?1 ORDER BY rowid",
         params![slug.as_str()],
-    );
-    match ran {
-        Ok(rows) => Ok(rows),
-        Err(error) => Err(fault_of(error)),
-    }
+    )?)
 }
 
-/// The organisation of the slug, if there is one.
+/// Returns the organisation with this slug, if any.
 pub fn find_org<S: Alter>(
     alloc: Global,
     tx: &mut Transaction<'_, S>,
@@ -81,7 +75,7 @@ pub fn find_org<S: Alter>(
     ensures same_reference { tx.new.conn.ghost_name ≡ tx.old.conn.ghost_name }
     ensures found { HasCleanDisk (state S.Store tx.new.conn.now) → IsTrue (state S.Store tx.old.conn.now).in_transaction
         → Answers (state S.Store tx.old.conn.now) (state S.Store tx.new.conn.now) result (λ t found. found ≡ find (is_called slug.now) t.orgs) }
-    ensures survives { Survives (state S.Store tx.old.conn.now) (state S.Store tx.new.conn.now) (λ _. ⊥) }
+    ensures survives { CommitsNothing (state S.Store tx.old.conn.now) (state S.Store tx.new.conn.now) }
 {
     let rows = org_rows(tx, slug)?;
     first_from(alloc, &rows)
@@ -92,19 +86,15 @@ fn all_rows<S: Alter>(tx: &mut Transaction<'_, S>) -> Result<Vec<Row>, TableFaul
     ensures rows { HasCleanDisk (state S.Store tx.new.conn.now) → IsTrue (state S.Store tx.old.conn.now).in_transaction
         → Answers (state S.Store tx.old.conn.now) (state S.Store tx.new.conn.now) result (λ t rows. rows.items ≡ map org_row (sort_by by_slug t.orgs)) }
     ensures fault { result ≢ Err TableFault.Foreign }
-    ensures survives { Survives (state S.Store tx.old.conn.now) (state S.Store tx.new.conn.now) (λ _. ⊥) }
+    ensures survives { CommitsNothing (state S.Store tx.old.conn.now) (state S.Store tx.new.conn.now) }
 {
-    let ran = tx.query_all(
+    Ok(tx.query_all(
         "SELECT slug, title, site, keeper FROM orgs ORDER BY slug, rowid",
         &[],
-    );
-    match ran {
-        Ok(rows) => Ok(rows),
-        Err(error) => Err(fault_of(error)),
-    }
+    )?)
 }
 
-/// All organisations, by slug.
+/// Returns all organisations, in order of slug.
 pub fn list_orgs<S: Alter>(
     alloc: Global,
     tx: &mut Transaction<'_, S>,
@@ -112,7 +102,7 @@ pub fn list_orgs<S: Alter>(
     ensures same_reference { tx.new.conn.ghost_name ≡ tx.old.conn.ghost_name }
     ensures listed { HasCleanDisk (state S.Store tx.new.conn.now) → IsTrue (state S.Store tx.old.conn.now).in_transaction
         → Answers (state S.Store tx.old.conn.now) (state S.Store tx.new.conn.now) result (λ t all. all.items ≡ sort_by by_slug t.orgs) }
-    ensures survives { Survives (state S.Store tx.old.conn.now) (state S.Store tx.new.conn.now) (λ _. ⊥) }
+    ensures survives { CommitsNothing (state S.Store tx.old.conn.now) (state S.Store tx.new.conn.now) }
 {
     let rows = all_rows(tx)?;
     all_from(alloc, &rows)

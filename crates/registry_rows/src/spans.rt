@@ -1,15 +1,16 @@
-//! The numbers that an order reserved.
+//! The numbers that orders reserved, as spans.
 
 ghost use Rattle.std.specs.Prelude.{◌≡◌, ◌≢◌, [], ◌∷◌, ◌++◌, map, filter, IsTrue, Err};
-ghost use Rattle.sqlite.specs.State.{HasCleanDisk, Survives};
+ghost use Rattle.sqlite.specs.State.{HasCleanDisk};
 ghost use Rattle.sqlite.specs.Held.{state};
 ghost use Rattle.sqlite_keyed.specs.Lists.{delete_where, sort_by};
+ghost use Rattle.table_laws.specs.Inside.{CommitsNothing};
 ghost use Rattle.registry_rows.specs.Rows.{IsVendorSpan, span_row, begins_at, meets, by_beginning};
 ghost use Rattle.registry_rows.specs.Steps.{Answers, Changes, Decodes};
 
 use crate::columns::{span_at, vid_at};
 use crate::decode::{FromRow, all_from};
-use registry_schema::{TableFault, fault_of};
+use registry_schema::TableFault;
 use sqlite::{Alter, Row, Transaction, params};
 use std::alloc::Global;
 use usbnum_core::{Span, Vid};
@@ -32,7 +33,7 @@ impl FromRow for (Vid, Span) {
     }
 }
 
-/// Puts the span in, in the place of the vendor's one that begins with the same number, if there is one.
+/// Inserts the span, or replaces the vendor's span with the same first number.
 pub fn put_span<S: Alter>(
     tx: &mut Transaction<'_, S>,
     vid: Vid,
@@ -42,23 +43,20 @@ pub fn put_span<S: Alter>(
     ensures put { HasCleanDisk (state S.Store tx.new.conn.now) → IsTrue (state S.Store tx.old.conn.now).in_transaction
         → Changes (state S.Store tx.old.conn.now) (state S.Store tx.new.conn.now) result (λ t. record t { spans = delete_where (λ other. begins_at vid span.first other) t.spans ++ (vid, span) ∷ [] }) }
     ensures fault { result ≢ Err TableFault.Foreign }
-    ensures survives { Survives (state S.Store tx.old.conn.now) (state S.Store tx.new.conn.now) (λ _. ⊥) }
+    ensures survives { CommitsNothing (state S.Store tx.old.conn.now) (state S.Store tx.new.conn.now) }
 {
-    let ran = tx.execute(
+    tx.execute(
         "INSERT OR REPLACE INTO spans3 (vid, lo, hi) VALUES (?1, ?2, ?3)",
         params![
             u32::from(vid.get()),
             u32::from(span.first().get()),
             u32::from(span.last().get())
         ],
-    );
-    match ran {
-        Ok(_) => Ok(()),
-        Err(error) => Err(fault_of(error)),
-    }
+    )?;
+    Ok(())
 }
 
-/// Takes out the vendor's spans that have any of the numbers from the low to the high one.
+/// Deletes the vendor's spans that have any of the numbers from the low to the high one.
 pub fn cut_spans<S: Alter>(
     tx: &mut Transaction<'_, S>,
     vid: Vid,
@@ -69,16 +67,13 @@ pub fn cut_spans<S: Alter>(
     ensures cut { HasCleanDisk (state S.Store tx.new.conn.now) → IsTrue (state S.Store tx.old.conn.now).in_transaction
         → Changes (state S.Store tx.old.conn.now) (state S.Store tx.new.conn.now) result (λ t. record t { spans = delete_where (meets vid low high) t.spans }) }
     ensures fault { result ≢ Err TableFault.Foreign }
-    ensures survives { Survives (state S.Store tx.old.conn.now) (state S.Store tx.new.conn.now) (λ _. ⊥) }
+    ensures survives { CommitsNothing (state S.Store tx.old.conn.now) (state S.Store tx.new.conn.now) }
 {
-    let ran = tx.execute(
+    tx.execute(
         "DELETE FROM spans3 WHERE vid = ?1 AND hi >= ?2 AND lo <= ?3",
         params![u32::from(vid.get()), low, high],
-    );
-    match ran {
-        Ok(_) => Ok(()),
-        Err(error) => Err(fault_of(error)),
-    }
+    )?;
+    Ok(())
 }
 
 fn meeting_rows<S: Alter>(
@@ -91,19 +86,15 @@ fn meeting_rows<S: Alter>(
     ensures rows { HasCleanDisk (state S.Store tx.new.conn.now) → IsTrue (state S.Store tx.old.conn.now).in_transaction
         → Answers (state S.Store tx.old.conn.now) (state S.Store tx.new.conn.now) result (λ t rows. rows.items ≡ map span_row (sort_by by_beginning (filter (meets vid low high) t.spans))) }
     ensures fault { result ≢ Err TableFault.Foreign }
-    ensures survives { Survives (state S.Store tx.old.conn.now) (state S.Store tx.new.conn.now) (λ _. ⊥) }
+    ensures survives { CommitsNothing (state S.Store tx.old.conn.now) (state S.Store tx.new.conn.now) }
 {
-    let ran = tx.query_all(
+    Ok(tx.query_all(
         "SELECT vid, lo, hi FROM spans3 WHERE vid = ?1 AND hi >= ?2 AND lo <= ?3 ORDER BY vid, lo, rowid",
         params![u32::from(vid.get()), low, high],
-    );
-    match ran {
-        Ok(rows) => Ok(rows),
-        Err(error) => Err(fault_of(error)),
-    }
+    )?)
 }
 
-/// The vendor's spans that have any of the numbers from the low to the high one, ascending.
+/// Returns the vendor's spans that have any of the numbers from the low to the high one, ascending.
 pub fn find_spans<S: Alter>(
     alloc: Global,
     tx: &mut Transaction<'_, S>,
@@ -114,7 +105,7 @@ pub fn find_spans<S: Alter>(
     ensures same_reference { tx.new.conn.ghost_name ≡ tx.old.conn.ghost_name }
     ensures listed { HasCleanDisk (state S.Store tx.new.conn.now) → IsTrue (state S.Store tx.old.conn.now).in_transaction
         → Answers (state S.Store tx.old.conn.now) (state S.Store tx.new.conn.now) result (λ t all. all.items ≡ sort_by by_beginning (filter (meets vid low high) t.spans)) }
-    ensures survives { Survives (state S.Store tx.old.conn.now) (state S.Store tx.new.conn.now) (λ _. ⊥) }
+    ensures survives { CommitsNothing (state S.Store tx.old.conn.now) (state S.Store tx.new.conn.now) }
 {
     let rows = meeting_rows(tx, vid, low, high)?;
     all_from(alloc, &rows)
@@ -125,19 +116,15 @@ fn all_rows<S: Alter>(tx: &mut Transaction<'_, S>) -> Result<Vec<Row>, TableFaul
     ensures rows { HasCleanDisk (state S.Store tx.new.conn.now) → IsTrue (state S.Store tx.old.conn.now).in_transaction
         → Answers (state S.Store tx.old.conn.now) (state S.Store tx.new.conn.now) result (λ t rows. rows.items ≡ map span_row (sort_by by_beginning t.spans)) }
     ensures fault { result ≢ Err TableFault.Foreign }
-    ensures survives { Survives (state S.Store tx.old.conn.now) (state S.Store tx.new.conn.now) (λ _. ⊥) }
+    ensures survives { CommitsNothing (state S.Store tx.old.conn.now) (state S.Store tx.new.conn.now) }
 {
-    let ran = tx.query_all(
+    Ok(tx.query_all(
         "SELECT vid, lo, hi FROM spans3 ORDER BY vid, lo, rowid",
         &[],
-    );
-    match ran {
-        Ok(rows) => Ok(rows),
-        Err(error) => Err(fault_of(error)),
-    }
+    )?)
 }
 
-/// All of them, as maximal spans, by vendor and then ascending.
+/// Returns all spans, which are maximal, in order of vendor and then first number.
 pub fn list_spans<S: Alter>(
     alloc: Global,
     tx: &mut Transaction<'_, S>,
@@ -145,7 +132,7 @@ pub fn list_spans<S: Alter>(
     ensures same_reference { tx.new.conn.ghost_name ≡ tx.old.conn.ghost_name }
     ensures listed { HasCleanDisk (state S.Store tx.new.conn.now) → IsTrue (state S.Store tx.old.conn.now).in_transaction
         → Answers (state S.Store tx.old.conn.now) (state S.Store tx.new.conn.now) result (λ t all. all.items ≡ sort_by by_beginning t.spans) }
-    ensures survives { Survives (state S.Store tx.old.conn.now) (state S.Store tx.new.conn.now) (λ _. ⊥) }
+    ensures survives { CommitsNothing (state S.Store tx.old.conn.now) (state S.Store tx.new.conn.now) }
 {
     let rows = all_rows(tx)?;
     all_from(alloc, &rows)

@@ -1,16 +1,17 @@
 //! The vendors.
 
 ghost use Rattle.std.specs.Prelude.{◌≡◌, ◌≢◌, map, IsTrue, Err};
-ghost use Rattle.sqlite.specs.State.{HasCleanDisk, Survives};
+ghost use Rattle.sqlite.specs.State.{HasCleanDisk};
 ghost use Rattle.sqlite.specs.Held.{state};
 ghost use Rattle.sqlite_keyed.specs.Keyed.{insert_by};
+ghost use Rattle.table_laws.specs.Inside.{CommitsNothing};
 ghost use Rattle.registry_rows.specs.Rows.{vendor_key, vendor_shown};
 ghost use Rattle.registry_rows.specs.Steps.{Answers, Changes};
 
-use crate::columns::{title_at, vid_at};
+use crate::columns::{text_at, vid_at};
 use crate::decode::{FromRow, all_from};
 use registry_rules::Vendor;
-use registry_schema::{TableFault, fault_of};
+use registry_schema::TableFault;
 use sqlite::{Alter, Row, Transaction, params};
 use std::alloc::Global;
 use usbnum_core::{Title, Vid};
@@ -25,12 +26,12 @@ impl FromRow for Vendor {
     fn from_row(alloc: Global, row: &Row) -> Result<Vendor, TableFault> {
         Ok(Vendor {
             vid: vid_at(row, 0)?,
-            name: title_at(alloc, row, 1)?,
+            name: text_at(alloc, row, 1)?,
         })
     }
 }
 
-/// Puts the vendor in, in the place of the one with its number, if there is one.
+/// Inserts the vendor, or replaces the one with its vendor ID.
 pub fn put_vendor<S: Alter>(
     tx: &mut Transaction<'_, S>,
     vid: Vid,
@@ -40,16 +41,13 @@ pub fn put_vendor<S: Alter>(
     ensures put { HasCleanDisk (state S.Store tx.new.conn.now) → IsTrue (state S.Store tx.old.conn.now).in_transaction
         → Changes (state S.Store tx.old.conn.now) (state S.Store tx.new.conn.now) result (λ t. record t { vendors = insert_by vendor_key t.vendors (record { vid = vid; name = name.now }) }) }
     ensures fault { result ≢ Err TableFault.Foreign }
-    ensures survives { Survives (state S.Store tx.old.conn.now) (state S.Store tx.new.conn.now) (λ _. ⊥) }
+    ensures survives { CommitsNothing (state S.Store tx.old.conn.now) (state S.Store tx.new.conn.now) }
 {
-    let ran = tx.execute(
+    tx.execute(
         "INSERT OR REPLACE INTO vendors (vid, name) VALUES (?1, ?2)",
         params![u32::from(vid.get()), name.as_str()],
-    );
-    match ran {
-        Ok(_) => Ok(()),
-        Err(error) => Err(fault_of(error)),
-    }
+    )?;
+    Ok(())
 }
 
 fn all_rows<S: Alter>(tx: &mut Transaction<'_, S>) -> Result<Vec<Row>, TableFault>
@@ -57,16 +55,12 @@ fn all_rows<S: Alter>(tx: &mut Transaction<'_, S>) -> Result<Vec<Row>, TableFaul
     ensures rows { HasCleanDisk (state S.Store tx.new.conn.now) → IsTrue (state S.Store tx.old.conn.now).in_transaction
         → Answers (state S.Store tx.old.conn.now) (state S.Store tx.new.conn.now) result (λ t rows. rows.items ≡ map vendor_shown t.vendors) }
     ensures fault { result ≢ Err TableFault.Foreign }
-    ensures survives { Survives (state S.Store tx.old.conn.now) (state S.Store tx.new.conn.now) (λ _. ⊥) }
+    ensures survives { CommitsNothing (state S.Store tx.old.conn.now) (state S.Store tx.new.conn.now) }
 {
-    let ran = tx.query_all("SELECT vid, name FROM vendors ORDER BY vid", &[]);
-    match ran {
-        Ok(rows) => Ok(rows),
-        Err(error) => Err(fault_of(error)),
-    }
+    Ok(tx.query_all("SELECT vid, name FROM vendors ORDER BY vid", &[])?)
 }
 
-/// All vendors, by number.
+/// Returns all vendors, in order of vendor ID.
 pub fn list_vendors<S: Alter>(
     alloc: Global,
     tx: &mut Transaction<'_, S>,
@@ -74,7 +68,7 @@ pub fn list_vendors<S: Alter>(
     ensures same_reference { tx.new.conn.ghost_name ≡ tx.old.conn.ghost_name }
     ensures listed { HasCleanDisk (state S.Store tx.new.conn.now) → IsTrue (state S.Store tx.old.conn.now).in_transaction
         → Answers (state S.Store tx.old.conn.now) (state S.Store tx.new.conn.now) result (λ t all. all.items ≡ t.vendors) }
-    ensures survives { Survives (state S.Store tx.old.conn.now) (state S.Store tx.new.conn.now) (λ _. ⊥) }
+    ensures survives { CommitsNothing (state S.Store tx.old.conn.now) (state S.Store tx.new.conn.now) }
 {
     let rows = all_rows(tx)?;
     all_from(alloc, &rows)

@@ -1,4 +1,4 @@
--- What a grant, a return, an amended card and an import leave of a number's entry, and that an owned number has a card.
+-- A number's entry after a grant, a return, an amended card and an import; an owned number has a card.
 use Rattle.std.proofs.Common.{◌≡◌, ℕ, List, [], ◌∷◌, Option, Some, None, Bool, true, false, refl, ap, sym, ◌∙◌, inl, inr}
 use Rattle.std.specs.Prelude.{nat_eq, unwrap_or, option_and_then, if◌then◌else◌, find, is_some, is_none}
 use Rattle.std.specs.Option.{option_map, option_or}
@@ -8,19 +8,19 @@ use Rattle.usbnum_core.specs.declared.number.Number.{Number}
 use Rattle.registry_rules.specs.Number.{number, is_number}
 use Rattle.registry_rules.specs.History.{History, sooner, first_of, last_of}
 use Rattle.registry_rules.specs.Query.{given, item_of, receiver, card_given, card_asked, card_of_item, owner_of, card_of}
-use Rattle.registry_rules.specs.Rows.{entry_changed, with_held, with_card, after_all}
+use Rattle.registry_rules.specs.Records.{entry_changed, with_held, with_card, after_all}
 use Rattle.registry_rules.specs.Changes.{entry_granted, entry_imported, item_change}
 use Rattle.registry_rules.specs.Import.{Standing}
 use Rattle.registry_rules.specs.Run.{Legal}
 use Rattle.registry_rules.specs.Verdict.{standing_at}
 use Rattle.registry_rules.proofs.FollowLemmas.{Follows, legal_follows}
 use Rattle.registry_rules.proofs.ImportLemmas.{IsFreshItem, AreApart, has_code, item_is}
-use Rattle.registry_rules.proofs.RowsLemmas.{OwnerFits}
+use Rattle.registry_rules.proofs.CheckLemmas.{OwnerFits}
 use Rattle.registry_rules.proofs.RunLemmas.{legal_before}
 use Rattle.registry_rules.specs.declared.change.Change.TheVariants.{PutEntry}
 use Rattle.registry_rules.specs.declared.deed.Deed.{Deed}
 use Rattle.registry_rules.specs.declared.deed.Act.{Act}
-use Rattle.registry_rules.specs.declared.deed.Act.TheVariants.{Enrolled, OrgAmended, Asked, Granted, Declined, Withdrawn, CardAmended, Returned, Reserved, Released, Imported, VendorAdded, LicenceAdded}
+use Rattle.registry_rules.specs.declared.deed.Act.TheVariants.{Granted, CardAmended, Imported}
 use Rattle.registry_rules.specs.declared.founding.Founding.{Founding}
 use Rattle.registry_rules.specs.declared.item.Item.{Item}
 use Rattle.registry_rules.specs.declared.record.Petition.{Petition}
@@ -31,25 +31,25 @@ use Rattle.registry_rules.specs.declared.record.Entry.{Entry}
 abbrev pub entry_by : Option (List ℕ) → Option Card → Option Bool → Option Entry
 entry_by owner card held = option_and_then (λ org. option_map (λ card. record { org = org; held = unwrap_or held false; card = card }) card) owner
 
-pub granted_row : (b : Bool) (owner : Option (List ℕ)) (now : Bool) (card : Option Card) (held : Option Bool) (petition : Petition) → (b ≡ true → OwnerFits owner now petition.org) →
+pub granted_entry : (b : Bool) (owner : Option (List ℕ)) (now : Bool) (card : Option Card) (held : Option Bool) (petition : Petition) → (b ≡ true → OwnerFits owner now petition.org) →
     (if b then Some (entry_granted petition) else entry_by owner card held)
     ≡ entry_by (sooner owner (given b petition.org)) (option_or (given b (card_asked petition)) card) (option_or (given b true) held)
-granted_row false owner now card held petition h = refl
-granted_row true None now card held petition h = refl
-granted_row true (Some owner) now card held petition h =
+granted_entry false owner now card held petition h = refl
+granted_entry true None now card held petition h = refl
+granted_entry true (Some owner) now card held petition h =
     ap (λ org. Some (record { org = org; held = true; card = card_asked petition })) (sym (h refl).0)
 
 -- a return leaves the owner and the card
-pub returned_row : (b : Bool) (owner : Option (List ℕ)) (card : Option Card) (held : Option Bool) →
+pub returned_entry : (b : Bool) (owner : Option (List ℕ)) (card : Option Card) (held : Option Bool) →
     (if b then option_map (with_held false) (entry_by owner card held) else entry_by owner card held) ≡ entry_by owner card (option_or (given b false) held)
-returned_row false owner card held = refl
-returned_row true None card held = refl
-returned_row true (Some org) None held = refl
-returned_row true (Some org) (Some card) held = refl
+returned_entry false owner card held = refl
+returned_entry true None card held = refl
+returned_entry true (Some org) None held = refl
+returned_entry true (Some org) (Some card) held = refl
 
--- Cards: an owned number has one.
+-- An owned number has a card.
 
--- where there is an owner there is a card
+-- if there is an owner, there is a card
 abbrev pub IsCarded : Option (List ℕ) → Option Card → Type 0
 IsCarded None card = Unit {0}
 IsCarded (Some owner) None = ⊥
@@ -84,19 +84,10 @@ carded_import n vid org standing fresh (Some item) owner card each e was =
 
 carded_by : (h : History) (caller : List ℕ) (act : Act) (n : Number) (owner : Option (List ℕ)) (card : Option Card) → Follows h caller act → IsCarded owner card →
     IsCarded (sooner owner (receiver n act)) (option_or (card_given n act) card)
-carded_by h caller (Granted id petition name) n owner card follows was = carded_grant (is_number n (number petition.vid name.pid)) owner card petition.org (card_asked petition) was
-carded_by h caller (CardAmended vid name new) n owner card follows was = carded_amendment (is_number n (number vid name.pid)) owner card new was
+carded_by h caller (Granted id petition name) n owner card follows was = carded_grant (is_number n name.number) owner card petition.org (card_asked petition) was
+carded_by h caller (CardAmended name new) n owner card follows was = carded_amendment (is_number n name.number) owner card new was
 carded_by h caller (Imported vid org fresh tally) n owner card follows was = carded_import n vid org (standing_at h vid) fresh (item_of vid fresh n) owner card follows.each refl was
-carded_by h caller (Enrolled org) n owner card follows was = was
-carded_by h caller (OrgAmended org) n owner card follows was = was
-carded_by h caller (Asked id petition) n owner card follows was = was
-carded_by h caller (Declined id petition) n owner card follows was = was
-carded_by h caller (Withdrawn id petition) n owner card follows was = was
-carded_by h caller (Returned vid name) n owner card follows was = was
-carded_by h caller (Reserved vid name) n owner card follows was = was
-carded_by h caller (Released vid name) n owner card follows was = was
-carded_by h caller (VendorAdded vendor name) n owner card follows was = was
-carded_by h caller (LicenceAdded licence) n owner card follows was = was
+carded_by h caller _ n owner card follows was = was
 
 carded_deeds : (founding : Founding) (deeds : List Deed) (n : Number) → Legal (record { founding = founding; deeds = deeds }) →
     IsCarded (first_of (λ deed. receiver n deed.act) deeds) (last_of (λ deed. card_given n deed.act) deeds)
@@ -109,12 +100,12 @@ carded_deeds founding (deed ∷ earlier) n legal =
 pub carded : (h : History) (n : Number) → Legal h → IsCarded (owner_of h n) (card_of h n)
 carded h n legal = carded_deeds h.founding h.deeds n legal
 
-pub amended_row : (b : Bool) (owner : Option (List ℕ)) (card : Option Card) (held : Option Bool) (new : Card) → IsCarded owner card →
+pub amended_entry : (b : Bool) (owner : Option (List ℕ)) (card : Option Card) (held : Option Bool) (new : Card) → IsCarded owner card →
     (if b then option_map (with_card new) (entry_by owner card held) else entry_by owner card held) ≡ entry_by owner (option_or (given b new) card) held
-amended_row false owner card held new has = refl
-amended_row true None card held new has = refl
-amended_row true (Some org) None held new has = absurd has
-amended_row true (Some org) (Some card) held new has = refl
+amended_entry false owner card held new has = refl
+amended_entry true None card held new has = refl
+amended_entry true (Some org) None held new has = absurd has
+amended_entry true (Some org) (Some card) held new has = refl
 
 -- The items of an import.
 
@@ -135,20 +126,20 @@ either : {A : Type 0} (b : Bool) (x : A) → (if b then x else x) ≡ x
 either true x = refl
 either false x = refl
 
--- what one item changes
+-- the change that a fresh item makes
 item_is_put : (vid : ℕ) (org : List ℕ) (item : Item) (text : List ℕ) (code : Bool) → code ≡ false → item.title ≡ Some text →
     (if code then None else option_map (λ title. PutEntry (number vid item.code) (entry_imported org title)) item.title) ≡ Some (PutEntry (number vid item.code) (entry_imported org text))
 item_is_put vid org item text true e t = absurd cc
 item_is_put vid org item text false e t = ap (option_map (λ title. PutEntry (number vid item.code) (entry_imported org title))) t
 
-pub items_row : (standing : ℕ → Standing) (vid : ℕ) (org : List ℕ) (items : List Item) (n : Number) (old : Option Entry) → AllByRecursion (IsFreshItem standing) items → AreApart items →
+pub items_entry : (standing : ℕ → Standing) (vid : ℕ) (org : List ℕ) (items : List Item) (n : Number) (old : Option Entry) → AllByRecursion (IsFreshItem standing) items → AreApart items →
     after_all (entry_changed n) (filter_map (item_change vid org) items) old ≡ put_item org old (item_of vid items n)
-items_row standing vid org [] n old each apart = ap (put_item org old) (sym (either (nat_eq vid n.vid) None))
-items_row standing vid org (item ∷ items) n old each apart =
+items_entry standing vid org [] n old each apart = ap (put_item org old) (sym (either (nat_eq vid n.vid) None))
+items_entry standing vid org (item ∷ items) n old each apart =
     let text = titled item.title each.0.titled in
     let entry = entry_imported org text.0 in
     ap (λ change. after_all (entry_changed n) (cons_option change (filter_map (item_change vid org) items)) old) (item_is_put vid org item text.0 (nat_eq item.code 0) each.0.code text.1)
-    ∙ items_row standing vid org items n (if is_number n (number vid item.code) then Some entry else old) each.1 apart.1
+    ∙ items_entry standing vid org items n (if is_number n (number vid item.code) then Some entry else old) each.1 apart.1
     ∙ next entry (ap (option_map (entry_imported org)) text.1)
   where
     next : (entry : Entry) → option_map (entry_imported org) item.title ≡ Some entry →
@@ -168,12 +159,12 @@ pub unowned_is : (owner : Option (List ℕ)) → is_some owner ≡ false → own
 unowned_is None e = refl
 unowned_is (Some org) e = absurd cc
 
-pub imported_row : (org : List ℕ) (owner : Option (List ℕ)) (card : Option Card) (held : Option Bool) (found : Option Item) →
+pub imported_entry : (org : List ℕ) (owner : Option (List ℕ)) (card : Option Card) (held : Option Bool) (found : Option Item) →
     ((item : Item) → found ≡ Some item → (owner ≡ None) × (is_none item.title ≡ false)) →
     put_item org (entry_by owner card held) found
     ≡ entry_by (sooner owner (option_map (λ (item : Item). org) found)) (option_or (option_and_then card_of_item found) card) (option_or (option_map (λ (item : Item). true) found) held)
-imported_row org owner card held None fits = refl
-imported_row org owner card held (Some item) fits =
+imported_entry org owner card held None fits = refl
+imported_entry org owner card held (Some item) fits =
     let can = fits item refl in
     let text = titled item.title can.1 in
     rw (can.0, text.1) refl

@@ -1,4 +1,4 @@
--- What an accepted act says of the history before it.
+-- The conditions that an accepted act meets in the history before it.
 use Rattle.std.proofs.Common.{◌≡◌, ℕ, ◌+◌, List, [], ◌∷◌, Option, Some, None, Ok, true, false, length, refl, ap, sym, ◌∙◌, subst}
 use Rattle.std.specs.Prelude.{nat_lt, is_some, option_and_then}
 use Rattle.std.specs.Option.{option_map}
@@ -9,10 +9,10 @@ use Rattle.registry_rules.specs.Number.{number, name_of, span_name_of}
 use Rattle.registry_rules.specs.History.{History}
 use Rattle.registry_rules.specs.Query.{owner_of, org_of, enrolled, asked, petition_of, open_count, vendors, has_vendor, vendor_meant, licences, is_licence, is_fixed, is_reserved}
 use Rattle.registry_rules.specs.Import.{Standing, classes_from}
-use Rattle.registry_rules.specs.Verdict.{verdict, outcome, standing_of, standing_at, org_owning, org_petitioning, least_for, number_chosen, pid_chosen, meets_fixed, all_reserved, least_owned, new_org, new_petition, new_card}
+use Rattle.registry_rules.specs.Verdict.{verdict, outcome, standing_of, standing_at, org_owning, org_petitioning, least_for, number_chosen, meets_fixed, all_reserved, least_owned, new_org, new_petition, new_card}
 use Rattle.registry_rules.specs.Run.{Legal, request_of}
 use Rattle.registry_rules.proofs.RunLemmas.{IsNew, is_new, legal_verdict}
-use Rattle.registry_rules.proofs.RowsLemmas.{CanBeGiven, IsHeldByKeeper, enrol_ok, amend_org_ok, ask_ok, grant_ok, decline_ok, withdraw_ok, amend_ok, return_ok, reserve_ok, release_ok, import_ok, add_vendor_ok, add_licence_ok}
+use Rattle.registry_rules.proofs.CheckLemmas.{CanBeGiven, IsHeldByKeeper, enrol_ok, amend_org_ok, ask_ok, grant_ok, decline_ok, withdraw_ok, amend_ok, return_ok, reserve_ok, release_ok, import_ok, add_vendor_ok, add_licence_ok}
 use Rattle.registry_rules.proofs.ImportLemmas.{IsFreshItem, AreApart, all_fresh, all_apart}
 use Rattle.registry_rules.proofs.SpanLemmas.{none_in_span, none_of_span, all_of_span}
 use Rattle.registry_rules.specs.declared.deed.Deed.{Deed}
@@ -20,21 +20,22 @@ use Rattle.registry_rules.specs.declared.deed.Act.{Act}
 use Rattle.registry_rules.specs.declared.deed.Act.TheVariants.{Enrolled, OrgAmended, Asked, Granted, Declined, Withdrawn, CardAmended, Returned, Reserved, Released, Imported, VendorAdded, LicenceAdded}
 use Rattle.registry_rules.specs.declared.founding.Founding.{Founding}
 use Rattle.registry_rules.specs.declared.item.Item.{Item}
+use Rattle.registry_rules.specs.declared.limits.TheConstants.{MOST_ORGS, MOST_OPEN, MOST_PETITIONS, MOST_VENDORS, MOST_LICENCES}
 use Rattle.registry_rules.specs.declared.name.NumberName.{NumberName}
 use Rattle.registry_rules.specs.declared.name.SpanName.{SpanName}
 use Rattle.registry_rules.specs.declared.order.Order.{Order}
-use Rattle.registry_rules.specs.declared.order.Order.TheVariants.{Enrol, AmendOrg, Ask, Grant, Decline, Withdraw, Amend, Return, Reserve, Release, Import, AddVendor, AddLicence}
+use Rattle.registry_rules.specs.declared.order.Order.TheVariants as orders
 use Rattle.registry_rules.specs.declared.order.Request.{Request}
 use Rattle.registry_rules.specs.declared.record.Org.{Org}
 use Rattle.registry_rules.specs.declared.record.Petition.{Petition}
 use Rattle.registry_rules.specs.declared.record.PetitionState.TheVariants.{Open}
 use Rattle.registry_rules.specs.declared.verdict.Verdict.TheVariants.{New}
 
--- What each kind of act says.
+-- The conditions of each kind of act.
 
 pub record CanEnrol (h : History) (caller : List ℕ) (org : Org) : Type 0 where
   pub unknown : org_of h org.slug ≡ None
-  pub below : nat_lt (length (enrolled h)) 65536 ≡ true
+  pub below : nat_lt (length (enrolled h)) MOST_ORGS ≡ true
   pub keeper : org.keeper ≡ caller
 
 pub record CanAmendOrg (h : History) (caller : List ℕ) (org : Org) : Type 0 where
@@ -49,36 +50,36 @@ pub record CanAsk (h : History) (caller : List ℕ) (id : ℕ) (petition : Petit
   pub keeper : org.keeper ≡ caller
   pub vendor : has_vendor h petition.vid ≡ true
   pub licence : is_licence h petition.terms.licence ≡ true
-  pub few_open : nat_lt (open_count h petition.org) 16 ≡ true
-  pub below : nat_lt (length (asked h)) 1000000 ≡ true
+  pub few_open : nat_lt (open_count h petition.org) MOST_OPEN ≡ true
+  pub below : nat_lt (length (asked h)) MOST_PETITIONS ≡ true
   pub next : id ≡ length (asked h) + 1
   pub is_open : petition.state ≡ Open
 
 pub record CanGrant (h : History) (id : ℕ) (petition : Petition) (name : NumberName) : Type 0 where
   pub there : petition_of h id ≡ Some petition
   pub was_open : petition.state ≡ Open
-  pub fits : CanBeGiven (standing_at h petition.vid name.pid) petition.org
-  pub named : name ≡ name_of h.founding.vendor (number petition.vid name.pid)
+  pub fits : CanBeGiven (standing_of h name.number) petition.org
+  pub named : name ≡ name_of h.founding.vendor name.number
 
 pub record CanClose (h : History) (id : ℕ) (petition : Petition) : Type 0 where
   pub there : petition_of h id ≡ Some petition
   pub was_open : petition.state ≡ Open
 
-pub record CanChange (h : History) (caller : List ℕ) (vid : ℕ) (name : NumberName) : Type 0 where
-  pub holder : IsHeldByKeeper (standing_at h vid name.pid) (org_owning h (number vid name.pid)) caller
-  pub named : name ≡ name_of h.founding.vendor (number vid name.pid)
+pub record CanChange (h : History) (caller : List ℕ) (name : NumberName) : Type 0 where
+  pub holder : IsHeldByKeeper (standing_of h name.number) (org_owning h name.number) caller
+  pub named : name ≡ name_of h.founding.vendor name.number
 
-pub record CanReserve (h : History) (vid : ℕ) (name : SpanName) : Type 0 where
-  pub vendor : has_vendor h vid ≡ true
-  pub unfixed : (pid : ℕ) → span_has name.span pid ≡ true → is_fixed h (number vid pid) ≡ false
-  pub unowned : (pid : ℕ) → span_has name.span pid ≡ true → is_some (owner_of h (number vid pid)) ≡ false
-  pub named : name ≡ span_name_of h.founding.vendor vid name.span
+pub record CanReserve (h : History) (name : SpanName) : Type 0 where
+  pub vendor : has_vendor h name.vid ≡ true
+  pub unfixed : (pid : ℕ) → span_has name.span pid ≡ true → is_fixed h (number name.vid pid) ≡ false
+  pub unowned : (pid : ℕ) → span_has name.span pid ≡ true → is_some (owner_of h (number name.vid pid)) ≡ false
+  pub named : name ≡ span_name_of h.founding.vendor name.vid name.span
 
-pub record CanRelease (h : History) (vid : ℕ) (name : SpanName) : Type 0 where
-  pub vendor : has_vendor h vid ≡ true
-  pub unfixed : (pid : ℕ) → span_has name.span pid ≡ true → is_fixed h (number vid pid) ≡ false
-  pub reserved : (pid : ℕ) → span_has name.span pid ≡ true → is_reserved h (number vid pid) ≡ true
-  pub named : name ≡ span_name_of h.founding.vendor vid name.span
+pub record CanRelease (h : History) (name : SpanName) : Type 0 where
+  pub vendor : has_vendor h name.vid ≡ true
+  pub unfixed : (pid : ℕ) → span_has name.span pid ≡ true → is_fixed h (number name.vid pid) ≡ false
+  pub reserved : (pid : ℕ) → span_has name.span pid ≡ true → is_reserved h (number name.vid pid) ≡ true
+  pub named : name ≡ span_name_of h.founding.vendor name.vid name.span
 
 pub record CanImport (h : History) (vid : ℕ) (org : List ℕ) (fresh : List Item) : Type 0 where
   pub receiver : Org
@@ -89,13 +90,13 @@ pub record CanImport (h : History) (vid : ℕ) (org : List ℕ) (fresh : List It
 
 pub record CanAddVendor (h : History) (vid : ℕ) : Type 0 where
   pub unknown : has_vendor h vid ≡ false
-  pub below : nat_lt (length (vendors h)) 256 ≡ true
+  pub below : nat_lt (length (vendors h)) MOST_VENDORS ≡ true
 
 pub record CanAddLicence (h : History) (licence : List ℕ) : Type 0 where
   pub unknown : is_licence h licence ≡ false
-  pub below : nat_lt (length (licences h)) 1024 ≡ true
+  pub below : nat_lt (length (licences h)) MOST_LICENCES ≡ true
 
--- what an act of the caller says of the history before it
+-- the act of the caller meets its conditions in the history before it
 abbrev pub Follows : History → List ℕ → Act → Type 0
 Follows h caller (Enrolled org) = CanEnrol h caller org
 Follows h caller (OrgAmended org) = CanAmendOrg h caller org
@@ -103,10 +104,10 @@ Follows h caller (Asked id petition) = CanAsk h caller id petition
 Follows h caller (Granted id petition name) = CanGrant h id petition name
 Follows h caller (Declined id petition) = CanClose h id petition
 Follows h caller (Withdrawn id petition) = CanClose h id petition
-Follows h caller (CardAmended vid name card) = CanChange h caller vid name
-Follows h caller (Returned vid name) = CanChange h caller vid name
-Follows h caller (Reserved vid name) = CanReserve h vid name
-Follows h caller (Released vid name) = CanRelease h vid name
+Follows h caller (CardAmended name card) = CanChange h caller name
+Follows h caller (Returned name) = CanChange h caller name
+Follows h caller (Reserved name) = CanReserve h name
+Follows h caller (Released name) = CanRelease h name
 Follows h caller (Imported vid org fresh tally) = CanImport h vid org fresh
 Follows h caller (VendorAdded vid name) = CanAddVendor h vid
 Follows h caller (LicenceAdded licence) = CanAddLicence h licence
@@ -120,7 +121,7 @@ org_by slug (Some keeper) None org e = absurd cc
 org_by slug (Some keeper) (Some found) org e =
     let same : Some (record { slug = slug; title = found.title; site = found.site; keeper = keeper }) ≡ Some org = e in cc
 
--- an organisation that was found has the slug by which it was
+-- an organisation has the slug under which it is found
 pub slug_is : (h : History) (slug : List ℕ) (org : Org) → org_of h slug ≡ Some org → org.slug ≡ slug
 slug_is h slug org e = org_by slug _ _ org e
 
@@ -128,102 +129,88 @@ mapped : {A B : Type 0} (f : A → B) (found : Option A) (b : B) → option_map 
 mapped f None b e = absurd cc
 mapped f (Some a) b e = (a, refl, (let same : Some (f a) ≡ Some b = e in cc))
 
--- the number chosen is of the petition's vendor
-chosen_is : (named : Option ℕ) (petition : Petition) (least : Option ℕ) (n : Number) → number_chosen named (Some petition) least ≡ Some n → n ≡ number petition.vid n.pid
-chosen_is named petition least n e =
-    let is = mapped (number petition.vid) (pid_chosen named (Some petition) least) n e in
-    subst (λ (m : Number). m ≡ number petition.vid m.pid) is.2 refl
+-- the state that is found for a number is the state of that number
+stands : (h : History) (found : Option Number) (standing : Standing) → option_map (standing_of h) found ≡ Some standing → standing ≡ standing_of h standing.number
+stands h found standing e =
+    let is = mapped (standing_of h) found standing e in
+    subst (λ (s : Standing). s ≡ standing_of h s.number) is.2 refl
 
-can_grant : (h : History) (named : Option ℕ) (found : Option Petition) (petition : Petition) (standing : Standing) →
-    found ≡ Some petition → option_map (standing_of h) (number_chosen named found (least_for h found)) ≡ Some standing →
-    standing ≡ standing_at h petition.vid standing.number.pid
-can_grant h named found petition standing there picked =
-    let is = mapped (standing_of h) (number_chosen named found (least_for h found)) standing picked in
-    let chosen : number_chosen named (Some petition) (least_for h (Some petition)) ≡ Some is.0
-    = subst (λ (f : Option Petition). number_chosen named f (least_for h f) ≡ Some is.0) there is.1 in
-    let same : is.0 ≡ number petition.vid is.0.pid = chosen_is named petition (least_for h (Some petition)) is.0 chosen in
-    subst (λ (s : Standing). s ≡ standing_at h petition.vid s.number.pid) is.2 (ap (standing_of h) same)
-
--- What an accepted order says.
+-- The act of an accepted order meets its conditions.
 
 pub follows : (h : History) (caller : List ℕ) (order : Order) (act : Act) → outcome h caller order ≡ Ok act → Follows h caller act
 unfolding outcome
-follows h caller (Enrol org title site) act e =
-    let is = enrol_ok (org_of h org) (length (enrolled h)) (new_org caller org title site) act e in
+follows h caller (orders.Enrol it) act e =
+    let is = enrol_ok (org_of h it.org) (length (enrolled h)) (new_org caller it.org it.title it.site) act e in
     subst (Follows h caller) (sym is.does) (record { unknown = is.unknown; below = is.below; keeper = refl })
-follows h caller (AmendOrg org title site) act e =
-    let is = amend_org_ok (org_of h org) caller title site act e in
-    let slug : is.org.slug ≡ org = slug_is h org is.org is.there in
+follows h caller (orders.AmendOrg it) act e =
+    let is = amend_org_ok (org_of h it.org) caller it.title it.site act e in
+    let slug : is.org.slug ≡ it.org = slug_is h it.org is.org is.there in
     subst (Follows h caller) (sym is.does)
     (record { before = is.org; there = ap (org_of h) slug ∙ is.there; keeper_before = is.keeper; keeper = is.keeper })
-follows h caller (Ask org want title terms vendor) act e =
-    let vid = vendor_meant h vendor in
-    let is = ask_ok (org_of h org) (has_vendor h vid) (is_licence h terms.licence) (open_count h org) (length (asked h)) (option_map (standing_at h vid) want) caller (new_petition vid org want title terms) act e in
+follows h caller (orders.Ask it) act e =
+    let vid = vendor_meant h it.vendor in
+    let is = ask_ok (org_of h it.org) (has_vendor h vid) (is_licence h it.terms.licence) (open_count h it.org) (length (asked h)) (option_map (standing_at h vid) it.want) caller (new_petition vid it.org it.want it.title it.terms) act e in
     subst (Follows h caller) (sym is.does)
     (record { org = is.org; there = is.there; keeper = is.keeper; vendor = is.vendor; licence = is.licence; few_open = is.few_open; below = is.below; next = refl; is_open = refl })
-follows h caller (Grant id named) act e =
-    let is = grant_ok h.founding.curators h.founding.vendor (petition_of h id) (option_map (standing_of h) (number_chosen named (petition_of h id) (least_for h (petition_of h id)))) caller id act e in
-    let same : is.standing ≡ standing_at h is.petition.vid is.standing.number.pid = can_grant h named (petition_of h id) is.petition is.standing is.there is.picked in
+follows h caller (orders.Grant it) act e =
+    let chosen = number_chosen it.number (petition_of h it.petition) (least_for h (petition_of h it.petition)) in
+    let is = grant_ok h.founding.curators h.founding.vendor (petition_of h it.petition) (option_map (standing_of h) chosen) caller it.petition act e in
+    let same : is.standing ≡ standing_of h is.standing.number = stands h chosen is.standing is.picked in
     subst (Follows h caller) (sym is.does)
-    (record {
-      there = is.there;
-      was_open = is.was_open;
-      fits = subst (λ (s : Standing). CanBeGiven s is.petition.org) same is.fits;
-      named = ap (λ (s : Standing). name_of h.founding.vendor s.number) same;
-    })
-follows h caller (Decline id) act e =
-    let is = decline_ok h.founding.curators (petition_of h id) caller id act e in
+    (record { there = is.there; was_open = is.was_open; fits = subst (λ (s : Standing). CanBeGiven s is.petition.org) same is.fits; named = refl })
+follows h caller (orders.Decline it) act e =
+    let is = decline_ok h.founding.curators (petition_of h it.petition) caller it.petition act e in
     subst (Follows h caller) (sym is.does) (record { there = is.there; was_open = is.was_open })
-follows h caller (Withdraw id) act e =
-    let is = withdraw_ok (petition_of h id) (org_petitioning h id) caller id act e in
+follows h caller (orders.Withdraw it) act e =
+    let is = withdraw_ok (petition_of h it.petition) (org_petitioning h it.petition) caller it.petition act e in
     subst (Follows h caller) (sym is.does) (record { there = is.there; was_open = is.was_open })
-follows h caller (Amend pid title terms vendor) act e =
-    let n = number (vendor_meant h vendor) pid in
-    let is = amend_ok h.founding.vendor (standing_of h n) (org_owning h n) (is_licence h terms.licence) caller (new_card title terms) act e in
+follows h caller (orders.Amend it) act e =
+    let n = number (vendor_meant h it.vendor) it.number in
+    let is = amend_ok h.founding.vendor (standing_of h n) (org_owning h n) (is_licence h it.terms.licence) caller (new_card it.title it.terms) act e in
     subst (Follows h caller) (sym is.does) (record { holder = is.holder; named = refl })
-follows h caller (Return pid vendor) act e =
-    let n = number (vendor_meant h vendor) pid in
+follows h caller (orders.Return it) act e =
+    let n = number (vendor_meant h it.vendor) it.number in
     let is = return_ok h.founding.vendor (standing_of h n) (org_owning h n) caller act e in
     subst (Follows h caller) (sym is.does) (record { holder = is.holder; named = refl })
-follows h caller (Reserve span vendor) act e =
-    let vid = vendor_meant h vendor in
-    let is = reserve_ok h.founding.curators h.founding.vendor (has_vendor h vid) (meets_fixed h vid span) (least_owned h vid span) caller vid span act e in
+follows h caller (orders.Reserve it) act e =
+    let vid = vendor_meant h it.vendor in
+    let is = reserve_ok h.founding.curators h.founding.vendor (has_vendor h vid) (meets_fixed h vid it.span) (least_owned h vid it.span) caller vid it.span act e in
     subst (Follows h caller) (sym is.does)
     (record {
       vendor = is.vendor;
-      unfixed = none_of_span (λ pid. is_fixed h (number vid pid)) span is.unfixed;
-      unowned = none_in_span (λ pid. is_some (owner_of h (number vid pid))) span is.unowned;
+      unfixed = none_of_span (λ pid. is_fixed h (number vid pid)) it.span is.unfixed;
+      unowned = none_in_span (λ pid. is_some (owner_of h (number vid pid))) it.span is.unowned;
       named = refl;
     })
-follows h caller (Release span vendor) act e =
-    let vid = vendor_meant h vendor in
-    let is = release_ok h.founding.curators h.founding.vendor (has_vendor h vid) (meets_fixed h vid span) (all_reserved h vid span) caller vid span act e in
+follows h caller (orders.Release it) act e =
+    let vid = vendor_meant h it.vendor in
+    let is = release_ok h.founding.curators h.founding.vendor (has_vendor h vid) (meets_fixed h vid it.span) (all_reserved h vid it.span) caller vid it.span act e in
     subst (Follows h caller) (sym is.does)
     (record {
       vendor = is.vendor;
-      unfixed = none_of_span (λ pid. is_fixed h (number vid pid)) span is.unfixed;
-      reserved = all_of_span (λ pid. is_reserved h (number vid pid)) span is.reserved;
+      unfixed = none_of_span (λ pid. is_fixed h (number vid pid)) it.span is.unfixed;
+      reserved = all_of_span (λ pid. is_reserved h (number vid pid)) it.span is.reserved;
       named = refl;
     })
-follows h caller (Import org items vendor) act e =
-    let vid = vendor_meant h vendor in
-    let is = import_ok h.founding.curators (org_of h org) (has_vendor h vid) (classes_from (standing_at h vid) [] items) caller vid org items act e in
+follows h caller (orders.Import it) act e =
+    let vid = vendor_meant h it.vendor in
+    let is = import_ok h.founding.curators (org_of h it.org) (has_vendor h vid) (classes_from (standing_at h vid) [] it.items) caller vid it.org it.items act e in
     subst (Follows h caller) (sym is.does)
-    (record { receiver = is.receiver; there = is.there; vendor = is.vendor; each = all_fresh (standing_at h vid) [] items; apart = all_apart (standing_at h vid) [] items })
-follows h caller (AddVendor vid name) act e =
-    let is = add_vendor_ok h.founding.curators (has_vendor h vid) (length (vendors h)) caller vid name act e in
+    (record { receiver = is.receiver; there = is.there; vendor = is.vendor; each = all_fresh (standing_at h vid) [] it.items; apart = all_apart (standing_at h vid) [] it.items })
+follows h caller (orders.AddVendor it) act e =
+    let is = add_vendor_ok h.founding.curators (has_vendor h it.vendor) (length (vendors h)) caller it.vendor it.name act e in
     subst (Follows h caller) (sym is.does) (record { unknown = is.unknown; below = is.below })
-follows h caller (AddLicence licence) act e =
-    let is = add_licence_ok h.founding.curators (is_licence h licence) (length (licences h)) caller licence act e in
+follows h caller (orders.AddLicence it) act e =
+    let is = add_licence_ok h.founding.curators (is_licence h it.licence) (length (licences h)) caller it.licence act e in
     subst (Follows h caller) (sym is.does) (record { unknown = is.unknown; below = is.below })
 
--- a new deed says so of the history before it
+-- so does the act of a new deed
 pub new_follows : (h : History) (request : Request) (deed : Deed) → verdict h request ≡ New deed → Follows h deed.caller deed.act
 new_follows h request deed e =
     let new : IsNew h request deed = is_new h request deed e in
     subst (λ (d : Deed). Follows h d.caller d.act) (sym new.does) (follows h request.caller request.order new.act new.accepted)
 
--- and so does each deed of a legal history
+-- so does the act of each deed of a legal history
 pub legal_follows : (founding : Founding) (deed : Deed) (earlier : List Deed) →
     Legal (record { founding = founding; deeds = deed ∷ earlier }) → Follows (record { founding = founding; deeds = earlier }) deed.caller deed.act
 legal_follows founding deed earlier legal =

@@ -1,4 +1,4 @@
--- What a legal history says of a number: who owns it, whether it is held, and whether it is reserved.
+-- The states of a number in a legal history: owned, held and reserved.
 use Rattle.std.proofs.Common.{◌≡◌, ℕ, List, [], ◌∷◌, Option, Some, None, Bool, true, false, refl, ap, sym, ◌∙◌, subst, inl, inr, ⊎_elim, ◌⊎◌}
 use Rattle.std.specs.Prelude.{nat_eq, is_some, is_none, unwrap_or, ◌&&◌, ◌||◌}
 use Rattle.std.specs.Option.{option_map, option_or}
@@ -13,18 +13,18 @@ use Rattle.registry_rules.specs.Query.{given, item_of, receiver, holds, reserves
 use Rattle.registry_rules.specs.Run.{Legal}
 use Rattle.registry_rules.specs.Verdict.{standing_at}
 use Rattle.registry_rules.proofs.RunLemmas.{legal_before}
-use Rattle.registry_rules.proofs.RowsLemmas.{OwnerFits}
+use Rattle.registry_rules.proofs.CheckLemmas.{OwnerFits}
 use Rattle.registry_rules.proofs.ImportLemmas.{IsFreshItem, item_is}
 use Rattle.registry_rules.proofs.FollowLemmas.{Follows, legal_follows}
 use Rattle.registry_rules.specs.declared.deed.Deed.{Deed}
 use Rattle.registry_rules.specs.declared.deed.Act.{Act}
-use Rattle.registry_rules.specs.declared.deed.Act.TheVariants.{Enrolled, OrgAmended, Asked, Granted, Declined, Withdrawn, CardAmended, Returned, Reserved, Released, Imported, VendorAdded, LicenceAdded}
+use Rattle.registry_rules.specs.declared.deed.Act.TheVariants.{Granted, Returned, Reserved, Released, Imported}
 use Rattle.registry_rules.specs.declared.founding.Founding.{Founding}
 use Rattle.registry_rules.specs.declared.item.Item.{Item}
 
 -- The tests.
 
--- two numbers that the test takes for one are one
+-- two numbers that pass the test are equal
 pub same_number : (a b : Number) → is_number a b ≡ true → a ≡ b
 same_number a b e =
     let both = and_parts (nat_eq a.vid b.vid) (nat_eq a.pid b.pid) e in
@@ -42,7 +42,7 @@ some_not : {A : Type 0} (found : Option A) → is_some found ≡ false → found
 some_not None e = refl
 some_not (Some x) e = absurd cc
 
--- One organisation.
+-- A number has one organisation for good.
 
 -- the number has no owner, or this one
 abbrev Allows : Option (List ℕ) → List ℕ → Type 0
@@ -71,28 +71,18 @@ fresh_number h vid fresh n item each e =
       subst (λ (m : Number). is_reserved h m ≡ false) same is.2.unreserved,
     )
 
--- an act that follows gives a number to the organisation that owns it, if there is one
+-- an accepted act gives a number to its owner, if it has one
 receiver_allowed : (h : History) (caller : List ℕ) (act : Act) (n : Number) (org : List ℕ) → Follows h caller act → receiver n act ≡ Some org → Allows (owner_of h n) org
 receiver_allowed h caller (Granted id petition name) n org can e =
-    let is = given_is (is_number n (number petition.vid name.pid)) petition.org org e in
-    let same : n ≡ number petition.vid name.pid = same_number n (number petition.vid name.pid) is.0 in
+    let is = given_is (is_number n name.number) petition.org org e in
+    let same : n ≡ name.number = same_number n name.number is.0 in
     subst (λ (o : List ℕ). Allows (owner_of h n) o) is.1
     (subst (λ (m : Number). Allows (owner_of h m) petition.org) (sym same)
-    (allows_fitting (owner_of h (number petition.vid name.pid)) (is_held h (number petition.vid name.pid)) petition.org can.fits.owner))
+    (allows_fitting (owner_of h name.number) (is_held h name.number) petition.org can.fits.owner))
 receiver_allowed h caller (Imported vid to fresh tally) n org can e =
     let found = item_found (item_of vid fresh n) to org e in
     allows_none (owner_of h n) org (fresh_number h vid fresh n found.0 can.each found.1).0
-receiver_allowed h caller (Enrolled o) n org can e = absurd cc
-receiver_allowed h caller (OrgAmended o) n org can e = absurd cc
-receiver_allowed h caller (Asked id petition) n org can e = absurd cc
-receiver_allowed h caller (Declined id petition) n org can e = absurd cc
-receiver_allowed h caller (Withdrawn id petition) n org can e = absurd cc
-receiver_allowed h caller (CardAmended vid name card) n org can e = absurd cc
-receiver_allowed h caller (Returned vid name) n org can e = absurd cc
-receiver_allowed h caller (Reserved vid name) n org can e = absurd cc
-receiver_allowed h caller (Released vid name) n org can e = absurd cc
-receiver_allowed h caller (VendorAdded vid name) n org can e = absurd cc
-receiver_allowed h caller (LicenceAdded licence) n org can e = absurd cc
+receiver_allowed h caller _ n org can e = absurd cc
 
 owner_now : (owner given : Option (List ℕ)) (org : List ℕ) → Allows owner org → given ≡ Some org → sooner owner given ≡ Some org
 owner_now None None org fits e = e
@@ -120,7 +110,7 @@ each_names founding n (deed ∷ earlier) legal =
           (each_names founding n earlier (legal_before founding deed earlier legal)),
     )
 
--- whoever a deed of a legal history gives a number to owns it
+-- an organisation to which a deed of a legal history gives a number owns it
 pub one_organisation : (h : History) → Legal h → (n : Number) (deed : Deed) (org : List ℕ) → Contains h.deeds deed → receiver n deed.act ≡ Some org → owner_of h n ≡ Some org
 one_organisation h legal n deed org among e =
     All-contains (Names n h.deeds) h.deeds deed (All-from_recursion (Names n h.deeds) h.deeds (each_names h.founding n h.deeds legal)) among org e
@@ -135,7 +125,7 @@ neither : (owner given : Option (List ℕ)) → sooner owner given ≡ None → 
 neither owner None e = (e, refl)
 neither owner (Some x) e = absurd cc
 
--- whether the number is held, by the deeds so far and by the next one
+-- whether the number is held, by the next deed and the deeds so far
 abbrev held_by : Option Bool → Option Bool → Bool
 held_by next so_far = unwrap_or (option_or next so_far) false
 
@@ -148,21 +138,12 @@ unheld_if false so_far e = e
 
 unheld_now : (n : Number) (act : Act) (so_far : Option Bool) → receiver n act ≡ None → unwrap_or so_far false ≡ false → held_by (holds n act) so_far ≡ false
 unheld_now n (Granted id petition name) so_far r e =
-    unheld_before (given (is_number n (number petition.vid name.pid)) true) so_far
-    (ap (λ b. given b true) (given_none (is_number n (number petition.vid name.pid)) petition.org r)) e
+    unheld_before (given (is_number n name.number) true) so_far
+    (ap (λ b. given b true) (given_none (is_number n name.number) petition.org r)) e
 unheld_now n (Imported vid to fresh tally) so_far r e =
     unheld_before (option_map (λ item. true) (item_of vid fresh n)) so_far (ap (option_map (λ item. true)) (unmapped (λ item. to) (item_of vid fresh n) r)) e
-unheld_now n (Returned vid name) so_far r e = unheld_if (is_number n (number vid name.pid)) so_far e
-unheld_now n (Enrolled o) so_far r e = e
-unheld_now n (OrgAmended o) so_far r e = e
-unheld_now n (Asked id petition) so_far r e = e
-unheld_now n (Declined id petition) so_far r e = e
-unheld_now n (Withdrawn id petition) so_far r e = e
-unheld_now n (CardAmended vid name card) so_far r e = e
-unheld_now n (Reserved vid name) so_far r e = e
-unheld_now n (Released vid name) so_far r e = e
-unheld_now n (VendorAdded vid name) so_far r e = e
-unheld_now n (LicenceAdded licence) so_far r e = e
+unheld_now n (Returned name) so_far r e = unheld_if (is_number n name.number) so_far e
+unheld_now n _ so_far r e = e
 
 unheld_in : (n : Number) (deeds : List Deed) → first_of (λ deed. receiver n deed.act) deeds ≡ None → unwrap_or (last_of (λ deed. holds n deed.act) deeds) false ≡ false
 unheld_in n [] e = refl
@@ -175,33 +156,23 @@ unheld h n e = unheld_in n h.deeds e
 
 -- An owned number is not reserved.
 
--- the number has no owner, or isn't reserved
+-- the number has no owner, or is not reserved
 abbrev pub OwnedOrReserved : Option (List ℕ) → Bool → Type 0
 OwnedOrReserved owner reserved = (owner ≡ None) ⊎ (reserved ≡ false)
 
--- whether the number is reserved, where the next deed says so of it
+-- whether the number is reserved, by whether it is fixed, the next deed and the deeds so far
 abbrev reserved_by : Bool → Option Bool → Option Bool → Bool
 reserved_by fixed next so_far = fixed || unwrap_or (option_or next so_far) false
 
--- a number that is given was neither owned by another nor reserved
+-- a number that an accepted act gives was not reserved
 unreserved_receiver : (h : History) (caller : List ℕ) (act : Act) (n : Number) (org : List ℕ) → Follows h caller act → receiver n act ≡ Some org → is_reserved h n ≡ false
 unreserved_receiver h caller (Granted id petition name) n org can e =
-    let is = given_is (is_number n (number petition.vid name.pid)) petition.org org e in
-    subst (λ (m : Number). is_reserved h m ≡ false) (sym (same_number n (number petition.vid name.pid) is.0)) can.fits.unreserved
+    let is = given_is (is_number n name.number) petition.org org e in
+    subst (λ (m : Number). is_reserved h m ≡ false) (sym (same_number n name.number is.0)) can.fits.unreserved
 unreserved_receiver h caller (Imported vid to fresh tally) n org can e =
     let found = item_found (item_of vid fresh n) to org e in
     (fresh_number h vid fresh n found.0 can.each found.1).1
-unreserved_receiver h caller (Enrolled o) n org can e = absurd cc
-unreserved_receiver h caller (OrgAmended o) n org can e = absurd cc
-unreserved_receiver h caller (Asked id petition) n org can e = absurd cc
-unreserved_receiver h caller (Declined id petition) n org can e = absurd cc
-unreserved_receiver h caller (Withdrawn id petition) n org can e = absurd cc
-unreserved_receiver h caller (CardAmended vid name card) n org can e = absurd cc
-unreserved_receiver h caller (Returned vid name) n org can e = absurd cc
-unreserved_receiver h caller (Reserved vid name) n org can e = absurd cc
-unreserved_receiver h caller (Released vid name) n org can e = absurd cc
-unreserved_receiver h caller (VendorAdded vid name) n org can e = absurd cc
-unreserved_receiver h caller (LicenceAdded licence) n org can e = absurd cc
+unreserved_receiver h caller _ n org can e = absurd cc
 
 given_apart : (owner given : Option (List ℕ)) (reserved : Bool) → OwnedOrReserved owner reserved → ((org : List ℕ) → given ≡ Some org → reserved ≡ false) → OwnedOrReserved (sooner owner given) reserved
 given_apart owner None reserved apart new = apart
@@ -216,25 +187,15 @@ span_cases vid n has P within outside = ⊎_elim
 
 apart_now : (h : History) (caller : List ℕ) (act : Act) (n : Number) → Follows h caller act → OwnedOrReserved (owner_of h n) (is_reserved h n) →
     OwnedOrReserved (sooner (owner_of h n) (receiver n act)) (reserved_by (is_fixed h n) (reserves n act) (last_of (λ deed. reserves n deed.act) h.deeds))
-apart_now h caller (Reserved vid name) n can apart =
-    span_cases vid n (span_has name.span n.pid) (λ b. OwnedOrReserved (owner_of h n) (reserved_by (is_fixed h n) (given b true) (last_of (λ deed. reserves n deed.act) h.deeds)))
+apart_now h caller (Reserved name) n can apart =
+    span_cases name.vid n (span_has name.span n.pid) (λ b. OwnedOrReserved (owner_of h n) (reserved_by (is_fixed h n) (given b true) (last_of (λ deed. reserves n deed.act) h.deeds)))
     (λ same has. inl (some_not (owner_of h n) (subst (λ v. is_some (owner_of h (number v n.pid)) ≡ false) same (can.unowned n.pid has))))
     apart
-apart_now h caller (Released vid name) n can apart =
-    span_cases vid n (span_has name.span n.pid) (λ b. OwnedOrReserved (owner_of h n) (reserved_by (is_fixed h n) (given b false) (last_of (λ deed. reserves n deed.act) h.deeds)))
+apart_now h caller (Released name) n can apart =
+    span_cases name.vid n (span_has name.span n.pid) (λ b. OwnedOrReserved (owner_of h n) (reserved_by (is_fixed h n) (given b false) (last_of (λ deed. reserves n deed.act) h.deeds)))
     (λ same has. inr (or_from (is_fixed h n) false (subst (λ v. is_fixed h (number v n.pid) ≡ false) same (can.unfixed n.pid has)) refl))
     apart
-apart_now h caller (Granted id petition name) n can apart = given_apart (owner_of h n) (receiver n (Granted id petition name)) (is_reserved h n) apart (λ org e. unreserved_receiver h caller (Granted id petition name) n org can e)
-apart_now h caller (Imported vid to fresh tally) n can apart = given_apart (owner_of h n) (receiver n (Imported vid to fresh tally)) (is_reserved h n) apart (λ org e. unreserved_receiver h caller (Imported vid to fresh tally) n org can e)
-apart_now h caller (Enrolled o) n can apart = given_apart (owner_of h n) (receiver n (Enrolled o)) (is_reserved h n) apart (λ org e. unreserved_receiver h caller (Enrolled o) n org can e)
-apart_now h caller (OrgAmended o) n can apart = given_apart (owner_of h n) (receiver n (OrgAmended o)) (is_reserved h n) apart (λ org e. unreserved_receiver h caller (OrgAmended o) n org can e)
-apart_now h caller (Asked id petition) n can apart = given_apart (owner_of h n) (receiver n (Asked id petition)) (is_reserved h n) apart (λ org e. unreserved_receiver h caller (Asked id petition) n org can e)
-apart_now h caller (Declined id petition) n can apart = given_apart (owner_of h n) (receiver n (Declined id petition)) (is_reserved h n) apart (λ org e. unreserved_receiver h caller (Declined id petition) n org can e)
-apart_now h caller (Withdrawn id petition) n can apart = given_apart (owner_of h n) (receiver n (Withdrawn id petition)) (is_reserved h n) apart (λ org e. unreserved_receiver h caller (Withdrawn id petition) n org can e)
-apart_now h caller (CardAmended vid name card) n can apart = given_apart (owner_of h n) (receiver n (CardAmended vid name card)) (is_reserved h n) apart (λ org e. unreserved_receiver h caller (CardAmended vid name card) n org can e)
-apart_now h caller (Returned vid name) n can apart = given_apart (owner_of h n) (receiver n (Returned vid name)) (is_reserved h n) apart (λ org e. unreserved_receiver h caller (Returned vid name) n org can e)
-apart_now h caller (VendorAdded vid name) n can apart = given_apart (owner_of h n) (receiver n (VendorAdded vid name)) (is_reserved h n) apart (λ org e. unreserved_receiver h caller (VendorAdded vid name) n org can e)
-apart_now h caller (LicenceAdded licence) n can apart = given_apart (owner_of h n) (receiver n (LicenceAdded licence)) (is_reserved h n) apart (λ org e. unreserved_receiver h caller (LicenceAdded licence) n org can e)
+apart_now h caller act n can apart = given_apart (owner_of h n) (receiver n act) (is_reserved h n) apart (λ org e. unreserved_receiver h caller act n org can e)
 
 apart_in : (founding : Founding) (n : Number) (deeds : List Deed) → Legal (record { founding = founding; deeds = deeds }) →
     OwnedOrReserved (owner_of (record { founding = founding; deeds = deeds }) n) (is_reserved (record { founding = founding; deeds = deeds }) n)

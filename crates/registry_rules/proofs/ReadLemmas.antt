@@ -1,4 +1,4 @@
--- An order is read back from its fields, and no field of it holds a tab.
+-- An order can be read back from its fields, and no field has a tab.
 use Rattle.std.proofs.Common.{◌≡◌, ◌≢◌, ◌≤◌, ◌<◌, ◌+◌, ◌/◌, ◌%◌, ◌^◌, ℕ, List, [], ◌∷◌, ◌++◌, Option, Some, None, Bool, true, false, map, length, drop, refl, ap, sym, ◌∙◌, subst, arith, ⊎_elim, inl, inr}
 use Rattle.std.specs.Prelude.{codes, slice_index_or, option_and_then, nat_eq, is_some, unwrap_or, if◌then◌else◌, IfSome, ◌⊎◌}
 use Rattle.std.specs.Fmt.{decimal}
@@ -13,17 +13,17 @@ use Rattle.std.proofs.lemmas.Bool.Decides.{nat_tests}
 use Rattle.usbnum_core.specs.Number.{IsNumber, digits_of, lower_hex_digit, code_of}
 use Rattle.usbnum_core.specs.Text.{IsTitle}
 use Rattle.usbnum_core.specs.declared.number.Span.{Span}
-use Rattle.usbnum_core.proofs.Digits.{digits_read}
-use Rattle.usbnum_core.proofs.Same.{span_decides}
-use Rattle.registry_rules.specs.Spelling.{fields_of, spelling_of, number_field, vendor_fields, item_field}
+use Rattle.usbnum_core.proofs.DigitLemmas.{digits_read}
+use Rattle.usbnum_core.proofs.SameSpansLemmas.{span_decides}
+use Rattle.registry_rules.specs.CanonicalForm.{fields_of, canonical_form, number_field, vendor_fields, item_field}
 use Rattle.registry_rules.specs.Orders.{IsOrder, IsItem, IsNumberIfAny}
 use Rattle.registry_rules.proofs.FieldLemmas.{HasNoTab, same_fields, slug_has_no_tab, title_has_no_tab, link_has_no_tab}
 use Rattle.registry_rules.specs.declared.item.Item.{Item}
 use Rattle.registry_rules.specs.declared.record.Terms.{Terms}
 use Rattle.registry_rules.specs.declared.order.Order.{Order}
-use Rattle.registry_rules.specs.declared.order.Order.TheVariants.{Enrol, AmendOrg, Ask, Grant, Decline, Withdraw, Amend, Return, Reserve, Release, Import, AddVendor, AddLicence}
+use Rattle.registry_rules.specs.declared.order.Order.TheVariants as orders
 
--- The fields hold no tab.
+-- The fields have no tab.
 
 fixed_text : (text : List ℕ) → list_any (λ byte. nat_eq byte 9) text ≡ false → HasNoTab text
 fixed_text [] e = tt
@@ -72,41 +72,41 @@ items_tabless [] each = tt
 items_tabless (item ∷ items) each = (item_tabless item each.0, items_tabless items each.1)
 
 tabless : (order : Order) → IsOrder order → AllByRecursion HasNoTab (fields_of order)
-tabless (Enrol org title site) is = (fixed_text (codes "enrol") refl, (slug_has_no_tab org is.0, (title_has_no_tab title is.1, (link_has_no_tab site is.2, tt))))
-tabless (AmendOrg org title site) is = (fixed_text (codes "amend-org") refl, (slug_has_no_tab org is.0, (title_has_no_tab title is.1, (link_has_no_tab site is.2, tt))))
-tabless (Ask org want title terms vendor) is = (
+tabless (orders.Enrol it) is = (fixed_text (codes "enrol") refl, (slug_has_no_tab it.org is.0, (title_has_no_tab it.title is.1, (link_has_no_tab it.site is.2, tt))))
+tabless (orders.AmendOrg it) is = (fixed_text (codes "amend-org") refl, (slug_has_no_tab it.org is.0, (title_has_no_tab it.title is.1, (link_has_no_tab it.site is.2, tt))))
+tabless (orders.Ask it) is = (
   fixed_text (codes "ask") refl,
   (
-    slug_has_no_tab org is.0,
+    slug_has_no_tab it.org is.0,
     (
-      named_tabless want,
+      named_tabless it.want,
       (
-        title_has_no_tab title is.2,
-        (title_has_no_tab terms.licence is.3.licence, (link_has_no_tab terms.site is.3.site, (link_has_no_tab terms.source is.3.source, last_tabless vendor))),
+        title_has_no_tab it.title is.2,
+        (title_has_no_tab it.terms.licence is.3.licence, (link_has_no_tab it.terms.site is.3.site, (link_has_no_tab it.terms.source is.3.source, last_tabless it.vendor))),
       ),
     ),
   ),
 )
-tabless (Grant petition number) is = (fixed_text (codes "grant") refl, (decimal_tabless petition is.0, (named_tabless number, tt)))
-tabless (Decline petition) is = (fixed_text (codes "decline") refl, (decimal_tabless petition is, tt))
-tabless (Withdraw petition) is = (fixed_text (codes "withdraw") refl, (decimal_tabless petition is, tt))
-tabless (Amend number title terms vendor) is = (
+tabless (orders.Grant it) is = (fixed_text (codes "grant") refl, (decimal_tabless it.petition is.0, (named_tabless it.number, tt)))
+tabless (orders.Decline it) is = (fixed_text (codes "decline") refl, (decimal_tabless it.petition is, tt))
+tabless (orders.Withdraw it) is = (fixed_text (codes "withdraw") refl, (decimal_tabless it.petition is, tt))
+tabless (orders.Amend it) is = (
   fixed_text (codes "amend") refl,
   (
-    digits_tabless number,
+    digits_tabless it.number,
     (
-      title_has_no_tab title is.1,
-      (title_has_no_tab terms.licence is.2.licence, (link_has_no_tab terms.site is.2.site, (link_has_no_tab terms.source is.2.source, last_tabless vendor))),
+      title_has_no_tab it.title is.1,
+      (title_has_no_tab it.terms.licence is.2.licence, (link_has_no_tab it.terms.site is.2.site, (link_has_no_tab it.terms.source is.2.source, last_tabless it.vendor))),
     ),
   ),
 )
-tabless (Return number vendor) is = (fixed_text (codes "return") refl, (digits_tabless number, last_tabless vendor))
-tabless (Reserve span vendor) is = (fixed_text (codes "reserve") refl, (digits_tabless span.first, (digits_tabless span.last, last_tabless vendor)))
-tabless (Release span vendor) is = (fixed_text (codes "release") refl, (digits_tabless span.first, (digits_tabless span.last, last_tabless vendor)))
-tabless (Import org items vendor) is =
-    (fixed_text (codes "import") refl, (slug_has_no_tab org is.0, vendor_tabless vendor (map item_field items) (items_tabless items (recursion_from_All IsItem items is.1))))
-tabless (AddVendor vendor name) is = (fixed_text (codes "add-vendor") refl, (digits_tabless vendor, (title_has_no_tab name is.1, tt)))
-tabless (AddLicence licence) is = (fixed_text (codes "add-licence") refl, (title_has_no_tab licence is, tt))
+tabless (orders.Return it) is = (fixed_text (codes "return") refl, (digits_tabless it.number, last_tabless it.vendor))
+tabless (orders.Reserve it) is = (fixed_text (codes "reserve") refl, (digits_tabless it.span.first, (digits_tabless it.span.last, last_tabless it.vendor)))
+tabless (orders.Release it) is = (fixed_text (codes "release") refl, (digits_tabless it.span.first, (digits_tabless it.span.last, last_tabless it.vendor)))
+tabless (orders.Import it) is =
+    (fixed_text (codes "import") refl, (slug_has_no_tab it.org is.0, vendor_tabless it.vendor (map item_field it.items) (items_tabless it.items (recursion_from_All IsItem it.items is.1))))
+tabless (orders.AddVendor it) is = (fixed_text (codes "add-vendor") refl, (digits_tabless it.vendor, (title_has_no_tab it.name is.1, tt)))
+tabless (orders.AddLicence it) is = (fixed_text (codes "add-licence") refl, (title_has_no_tab it.licence is, tt))
 
 -- Reading numbers and items.
 
@@ -131,7 +131,7 @@ named_reads : (number : Option ℕ) → IsNumberIfAny number → code_of (number
 named_reads None valid = refl
 named_reads (Some number) valid = code_reads number valid.within
 
--- the field at a place, or nothing past the end
+-- the field at an index, empty past the end
 abbrev at : List (List ℕ) → ℕ → List ℕ
 at fields i = slice_index_or fields i []
 
@@ -208,84 +208,125 @@ span_reads span p q =
 
 -- Reading orders.
 
+-- the order of each kind, from its fields in sequence
+
+abbrev an_enrol : List ℕ → List ℕ → List ℕ → Order
+an_enrol org title site = orders.Enrol (record { org = org; title = title; site = site })
+
+abbrev an_org_amendment : List ℕ → List ℕ → List ℕ → Order
+an_org_amendment org title site = orders.AmendOrg (record { org = org; title = title; site = site })
+
+abbrev an_ask : List ℕ → Option ℕ → List ℕ → Terms → Option ℕ → Order
+an_ask org want title terms vendor = orders.Ask (record { org = org; want = want; title = title; terms = terms; vendor = vendor })
+
+abbrev a_grant : ℕ → Option ℕ → Order
+a_grant petition number = orders.Grant (record { petition = petition; number = number })
+
+abbrev a_decline : ℕ → Order
+a_decline petition = orders.Decline (record { petition = petition })
+
+abbrev a_withdrawal : ℕ → Order
+a_withdrawal petition = orders.Withdraw (record { petition = petition })
+
+abbrev an_amendment : ℕ → List ℕ → Terms → Option ℕ → Order
+an_amendment number title terms vendor = orders.Amend (record { number = number; title = title; terms = terms; vendor = vendor })
+
+abbrev a_return : ℕ → Option ℕ → Order
+a_return number vendor = orders.Return (record { number = number; vendor = vendor })
+
+abbrev a_reservation : Span → Option ℕ → Order
+a_reservation span vendor = orders.Reserve (record { span = span; vendor = vendor })
+
+abbrev a_release : Span → Option ℕ → Order
+a_release span vendor = orders.Release (record { span = span; vendor = vendor })
+
+abbrev an_import : List ℕ → List Item → Option ℕ → Order
+an_import org items vendor = orders.Import (record { org = org; items = items; vendor = vendor })
+
+abbrev a_vendor : ℕ → List ℕ → Order
+a_vendor vendor name = orders.AddVendor (record { vendor = vendor; name = name })
+
+abbrev a_licence : List ℕ → Order
+a_licence licence = orders.AddLicence (record { licence = licence })
+
 abbrev terms_at : List (List ℕ) → ℕ → Terms
 terms_at fields i = record { licence = at fields i; site = at fields (i + 1); source = at fields (i + 2) }
 
--- what an order on a span is, where there is a span
+-- the order on a span, if there is one, otherwise some order
 abbrev on_span : (Span → Order) → Option Span → Order
-on_span make None = AddLicence []
+on_span make None = a_licence []
 on_span make (Some span) = make span
 
 abbrev number_at : List (List ℕ) → ℕ → ℕ
 number_at fields i = unwrap_or (code_of (at fields i)) 0
 
--- the order that fields are of
+-- reads an order from its fields
 abbrev read : List (List ℕ) → Order
-read [] = AddLicence []
+read [] = a_licence []
 read (name ∷ fields) =
-    if bytes_eq name (codes "enrol") then Enrol (at fields 0) (at fields 1) (at fields 2)
-    else if bytes_eq name (codes "amend-org") then AmendOrg (at fields 0) (at fields 1) (at fields 2)
-    else if bytes_eq name (codes "ask") then Ask (at fields 0) (code_of (at fields 1)) (at fields 2) (terms_at fields 3) (code_of (at fields 6))
-    else if bytes_eq name (codes "grant") then Grant (digits_value 10 (at fields 0)) (code_of (at fields 1))
-    else if bytes_eq name (codes "decline") then Decline (digits_value 10 (at fields 0))
-    else if bytes_eq name (codes "withdraw") then Withdraw (digits_value 10 (at fields 0))
-    else if bytes_eq name (codes "amend") then Amend (number_at fields 0) (at fields 1) (terms_at fields 2) (code_of (at fields 5))
-    else if bytes_eq name (codes "return") then Return (number_at fields 0) (code_of (at fields 1))
-    else if bytes_eq name (codes "reserve") then on_span (λ span. Reserve span (code_of (at fields 2))) (span_read (at fields 0) (at fields 1))
-    else if bytes_eq name (codes "release") then on_span (λ span. Release span (code_of (at fields 2))) (span_read (at fields 0) (at fields 1))
-    else if bytes_eq name (codes "import") then Import (at fields 0) (items_read (drop 1 fields)) (code_of (at fields 1))
-    else if bytes_eq name (codes "add-vendor") then AddVendor (number_at fields 0) (at fields 1)
-    else AddLicence (at fields 0)
+    if bytes_eq name (codes "enrol") then an_enrol (at fields 0) (at fields 1) (at fields 2)
+    else if bytes_eq name (codes "amend-org") then an_org_amendment (at fields 0) (at fields 1) (at fields 2)
+    else if bytes_eq name (codes "ask") then an_ask (at fields 0) (code_of (at fields 1)) (at fields 2) (terms_at fields 3) (code_of (at fields 6))
+    else if bytes_eq name (codes "grant") then a_grant (digits_value 10 (at fields 0)) (code_of (at fields 1))
+    else if bytes_eq name (codes "decline") then a_decline (digits_value 10 (at fields 0))
+    else if bytes_eq name (codes "withdraw") then a_withdrawal (digits_value 10 (at fields 0))
+    else if bytes_eq name (codes "amend") then an_amendment (number_at fields 0) (at fields 1) (terms_at fields 2) (code_of (at fields 5))
+    else if bytes_eq name (codes "return") then a_return (number_at fields 0) (code_of (at fields 1))
+    else if bytes_eq name (codes "reserve") then on_span (λ span. a_reservation span (code_of (at fields 2))) (span_read (at fields 0) (at fields 1))
+    else if bytes_eq name (codes "release") then on_span (λ span. a_release span (code_of (at fields 2))) (span_read (at fields 0) (at fields 1))
+    else if bytes_eq name (codes "import") then an_import (at fields 0) (items_read (drop 1 fields)) (code_of (at fields 1))
+    else if bytes_eq name (codes "add-vendor") then a_vendor (number_at fields 0) (at fields 1)
+    else a_licence (at fields 0)
 
 petition_reads : (n : ℕ) → n < 2 ^ 32 → digits_value 10 (decimal n) ≡ n
 petition_reads n small = (decimal_is_IsNumeral n (omega arith)).1
 
 reads : (order : Order) → IsOrder order → read (fields_of order) ≡ order
-reads (Enrol org title site) is = refl
-reads (AmendOrg org title site) is = refl
-reads (Ask org want title terms vendor) is =
-    ap (λ w. Ask org w title terms (code_of (at (vendor_fields vendor) 0))) (named_reads want is.1) ∙ ap (Ask org want title terms) (vendor_reads vendor is.4)
-reads (Grant petition number) is = ap (λ p. Grant p (code_of (number_field number))) (petition_reads petition is.0) ∙ ap (Grant petition) (named_reads number is.1)
-reads (Decline petition) is = ap Decline (petition_reads petition is)
-reads (Withdraw petition) is = ap Withdraw (petition_reads petition is)
-reads (Amend number title terms vendor) is =
-    ap (λ n. Amend n title terms (code_of (at (vendor_fields vendor) 0))) (number_reads number is.0) ∙ ap (Amend number title terms) (vendor_reads vendor is.3)
-reads (Return number vendor) is =
-    ap (λ n. Return n (code_of (at (vendor_fields vendor) 0))) (number_reads number is.0) ∙ ap (Return number) (vendor_reads vendor is.1)
-reads (Reserve span vendor) is =
-    ap (on_span (λ span. Reserve span (code_of (at (vendor_fields vendor) 0)))) (span_reads span is.0 is.1) ∙ ap (Reserve span) (vendor_reads vendor is.2)
-reads (Release span vendor) is =
-    ap (on_span (λ span. Release span (code_of (at (vendor_fields vendor) 0)))) (span_reads span is.0 is.1) ∙ ap (Release span) (vendor_reads vendor is.2)
-reads (Import org items vendor) is =
-    let each : AllByRecursion IsItem items = recursion_from_All IsItem items is.1 in
-    ap (λ found. Import org found (code_of (at (vendor_fields vendor ++ map item_field items) 0))) (items_are vendor items is.2 each)
-    ∙ ap (Import org items) (vendor_is vendor items is.2)
-reads (AddVendor vendor name) is = ap (λ v. AddVendor v name) (number_reads vendor is.0)
-reads (AddLicence licence) is = refl
+reads (orders.Enrol it) is = refl
+reads (orders.AmendOrg it) is = refl
+reads (orders.Ask it) is =
+    ap (λ w. an_ask it.org w it.title it.terms (code_of (at (vendor_fields it.vendor) 0))) (named_reads it.want is.1) ∙ ap (an_ask it.org it.want it.title it.terms) (vendor_reads it.vendor is.4)
+reads (orders.Grant it) is = ap (λ p. a_grant p (code_of (number_field it.number))) (petition_reads it.petition is.0) ∙ ap (a_grant it.petition) (named_reads it.number is.1)
+reads (orders.Decline it) is = ap a_decline (petition_reads it.petition is)
+reads (orders.Withdraw it) is = ap a_withdrawal (petition_reads it.petition is)
+reads (orders.Amend it) is =
+    ap (λ n. an_amendment n it.title it.terms (code_of (at (vendor_fields it.vendor) 0))) (number_reads it.number is.0) ∙ ap (an_amendment it.number it.title it.terms) (vendor_reads it.vendor is.3)
+reads (orders.Return it) is =
+    ap (λ n. a_return n (code_of (at (vendor_fields it.vendor) 0))) (number_reads it.number is.0) ∙ ap (a_return it.number) (vendor_reads it.vendor is.1)
+reads (orders.Reserve it) is =
+    ap (on_span (λ found. a_reservation found (code_of (at (vendor_fields it.vendor) 0)))) (span_reads it.span is.0 is.1) ∙ ap (a_reservation it.span) (vendor_reads it.vendor is.2)
+reads (orders.Release it) is =
+    ap (on_span (λ found. a_release found (code_of (at (vendor_fields it.vendor) 0)))) (span_reads it.span is.0 is.1) ∙ ap (a_release it.span) (vendor_reads it.vendor is.2)
+reads (orders.Import it) is =
+    let each : AllByRecursion IsItem it.items = recursion_from_All IsItem it.items is.1 in
+    ap (λ found. an_import it.org found (code_of (at (vendor_fields it.vendor ++ map item_field it.items) 0))) (items_are it.vendor it.items is.2 each)
+    ∙ ap (an_import it.org it.items) (vendor_is it.vendor it.items is.2)
+reads (orders.AddVendor it) is = ap (λ v. a_vendor v it.name) (number_reads it.vendor is.0)
+reads (orders.AddLicence it) is = refl
 
--- Orders with one spelling are one order.
+-- Orders with the same canonical form are equal.
 
 filled : (order : Order) → 1 ≤ length (fields_of order)
-filled (Enrol org title site) = omega arith
-filled (AmendOrg org title site) = omega arith
-filled (Ask org want title terms vendor) = omega arith
-filled (Grant petition number) = omega arith
-filled (Decline petition) = omega arith
-filled (Withdraw petition) = omega arith
-filled (Amend number title terms vendor) = omega arith
-filled (Return number vendor) = omega arith
-filled (Reserve span vendor) = omega arith
-filled (Release span vendor) = omega arith
-filled (Import org items vendor) = omega arith
-filled (AddVendor vendor name) = omega arith
-filled (AddLicence licence) = omega arith
+filled (orders.Enrol it) = omega arith
+filled (orders.AmendOrg it) = omega arith
+filled (orders.Ask it) = omega arith
+filled (orders.Grant it) = omega arith
+filled (orders.Decline it) = omega arith
+filled (orders.Withdraw it) = omega arith
+filled (orders.Amend it) = omega arith
+filled (orders.Return it) = omega arith
+filled (orders.Reserve it) = omega arith
+filled (orders.Release it) = omega arith
+filled (orders.Import it) = omega arith
+filled (orders.AddVendor it) = omega arith
+filled (orders.AddLicence it) = omega arith
 
 same_joined : (xs ys : List (List ℕ)) → 1 ≤ length xs → 1 ≤ length ys → AllByRecursion HasNoTab xs → AllByRecursion HasNoTab ys → join_with_byte 9 xs ≡ join_with_byte 9 ys → xs ≡ ys
 same_joined [] ys p q each others e = absurd (omega arith)
 same_joined (x ∷ xs) [] p q each others e = absurd (omega arith)
 same_joined (x ∷ xs) (y ∷ ys) p q each others e = same_fields x y xs ys each others e
 
-pub own_spelling : (a b : Order) → IsOrder a → IsOrder b → spelling_of a ≡ spelling_of b → a ≡ b
-unfolding spelling_of
-own_spelling a b is also e =
+pub own_canonical_form : (a b : Order) → IsOrder a → IsOrder b → canonical_form a ≡ canonical_form b → a ≡ b
+unfolding canonical_form
+own_canonical_form a b is also e =
     sym (reads a is) ∙ ap read (same_joined (fields_of a) (fields_of b) (filled a) (filled b) (tabless a is) (tabless b also) e) ∙ reads b also

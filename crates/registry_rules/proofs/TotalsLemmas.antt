@@ -1,4 +1,4 @@
--- Totals after a deed are those of the history with it.
+-- Totals that are updated with a deed are those of the history with the deed.
 use Rattle.std.proofs.Common.{◌≡◌, ◌∙◌, ap, ap₂, subst, sym, refl, ℕ, ◌+◌, ◌-◌, ◌<◌, ◌≤◌, true, false, List, [], ◌∷◌, ◌++◌, None, length, length-append, append_assoc, arith}
 use Rattle.std.specs.Prelude.{nat_eq, nat_lt, find, is_some, if◌then◌else◌, ◌&&◌, ◌||◌, not}
 use Rattle.std.proofs.lemmas.Bool.{ltb-true}
@@ -7,11 +7,11 @@ use Rattle.std.specs.Str.{bytes_eq}
 use Rattle.std.proofs.lemmas.List.Folds.{find-append, list_any-append}
 use Rattle.usbnum_core.specs.Spans.{span_has, spans_have}
 use Rattle.usbnum_core.specs.declared.number.Number.{Number}
-use Rattle.registry_rules.specs.Number.{number, is_number}
+use Rattle.registry_rules.specs.Number.{is_number}
 use Rattle.std.specs.Option.{option_or}
 use Rattle.registry_rules.specs.History.{History, with_deed, last_of, all_of}
 use Rattle.registry_rules.specs.Query.{enrolled, asked, open_count, owner_of, is_reserved, is_fixed, is_licence, licences, vendors, item_of, adds_licence, adds_vendor, reserves}
-use Rattle.registry_rules.specs.Rows.{LeadsTo}
+use Rattle.registry_rules.specs.Records.{LeadsTo}
 use Rattle.registry_rules.specs.Changes.{act_changes}
 use Rattle.registry_rules.specs.Run.{Legal}
 use Rattle.registry_rules.specs.Sets.{count_at, numbers_at}
@@ -21,7 +21,7 @@ use Rattle.registry_rules.specs.Carrying.{Asks, Closes, HasTaken, Reserves, Rele
 use Rattle.registry_rules.specs.Verdict.{verdict, standing_at}
 use Rattle.registry_rules.proofs.FollowLemmas.{CanEnrol, CanAsk, CanGrant, CanClose, CanRelease, CanImport, Follows, new_follows}
 use Rattle.registry_rules.proofs.RunLemmas.{legal_new}
-use Rattle.registry_rules.proofs.Unrepeated.{licences_counted, ascending_distinct}
+use Rattle.registry_rules.proofs.NoRepeatLemmas.{licences_counted, ascending_distinct}
 use Rattle.registry_rules.proofs.NumberLemmas.{owned_or_reserved}
 use Rattle.registry_rules.proofs.OpenLemmas.{open_after_ask, open_after_close}
 use Rattle.registry_rules.proofs.TakenLemmas.{taken_more, same_test, reserves_taken, reserves_reserved, released_taken, released_reserved, unowned_by, in_span, takes_by, imported_taken}
@@ -32,6 +32,7 @@ use Rattle.registry_rules.specs.declared.deed.Act.TheVariants.{Enrolled, OrgAmen
 use Rattle.registry_rules.specs.declared.founding.Founding.{Founding}
 use Rattle.registry_rules.specs.declared.item.Item.{Item}
 use Rattle.registry_rules.specs.declared.item.Tally.{Tally}
+use Rattle.registry_rules.specs.declared.limits.TheConstants.{MOST_ORGS, MOST_PETITIONS, MOST_OPEN}
 use Rattle.registry_rules.specs.declared.order.Order.{Order}
 use Rattle.registry_rules.specs.declared.order.Request.{Request}
 use Rattle.registry_rules.specs.declared.record.Org.{Org}
@@ -44,7 +45,7 @@ use Rattle.registry_rules.specs.declared.name.SpanName.{SpanName}
 use Rattle.registry_rules.specs.declared.totals.Totals.{Totals}
 use Rattle.registry_rules.specs.declared.verdict.Verdict.TheVariants.{New}
 
--- a deed that adds no licence keeps what stands in the founding's place
+-- a deed that adds no licence keeps the founding
 keeps_founding : (h : History) (deed : Deed) (founding : Founding) → adds_licence deed.act ≡ None → IsFoundingOf h founding → IsFoundingOf (with_deed h deed) founding
 keeps_founding h deed founding none s = record {
   vendor = s.vendor;
@@ -55,7 +56,7 @@ keeps_founding h deed founding none s = record {
   allowed_count = rw none s.allowed_count;
 }
 
--- one that adds no vendor keeps the vendors
+-- a deed that adds no vendor keeps the vendors
 keeps_vendors : (h : History) (deed : Deed) (list : List Vendor) → adds_vendor deed.act ≡ None → AreVendorsOf h list → AreVendorsOf (with_deed h deed) list
 keeps_vendors h deed list none s = record {
   each = λ vid. rw none (s.each vid);
@@ -65,16 +66,16 @@ keeps_vendors h deed list none s = record {
 below_limit : (n limit most : ℕ) → nat_lt n limit ≡ true → limit ≤ most → n < most
 below_limit n limit most e within = let less : n < limit = ltb-true n limit e in omega (arith, less, within)
 
--- the founding, where no deed was done yet
+-- the deed of a caller, key, order and act
 abbrev the_deed : List ℕ → List ℕ → Order → Act → Deed
 the_deed caller key order act = record { caller = caller; key = key; order = order; act = act }
 
--- an enrolment: one organisation more
+-- an enrolment: one more organisation
 enrolled_more : (h : History) (caller key : List ℕ) (order : Order) (org : Org) (old new : Totals) → CanEnrol h caller org
     → (old.orgs < 4294967295 → new ≡ record old { orgs = old.orgs + 1 }) → IsSummary h old → IsSummary (with_deed h (the_deed caller key order (Enrolled org))) new
 enrolled_more h caller key order org old new can is s =
     let deed = the_deed caller key order (Enrolled org) in
-    let few : length (enrolled h) < 4294967295 = below_limit (length (enrolled h)) 65536 4294967295 can.below (omega arith) in
+    let few : length (enrolled h) < 4294967295 = below_limit (length (enrolled h)) MOST_ORGS 4294967295 can.below (omega arith) in
     let count : old.orgs ≡ length (enrolled h) = s.orgs in
     let now : new ≡ record old { orgs = old.orgs + 1 } = is (omega (arith, few, count)) in
     let more : length (enrolled h ++ org ∷ []) ≡ length (enrolled h) + 1 = length-append (enrolled h) (org ∷ []) in
@@ -89,14 +90,14 @@ enrolled_more h caller key order org old new can is s =
       nothing = s.nothing;
     })
 
--- an ask: one petition more, which is open
+-- an ask: one more petition, which is open
 asked_more : (h : History) (caller key : List ℕ) (order : Order) (id : ℕ) (petition : Petition) (old new : Totals) → CanAsk h caller id petition
     → LeadsTo (act_changes (Asked id petition)) h (with_deed h (the_deed caller key order (Asked id petition)))
     → Asks old new petition.org → IsSummary h old → IsSummary (with_deed h (the_deed caller key order (Asked id petition))) new
 asked_more h caller key order id petition old new can leads is s =
     let deed = the_deed caller key order (Asked id petition) in
-    let few : length (asked h) < 4294967295 = below_limit (length (asked h)) 1000000 4294967295 can.below (omega arith) in
-    let few_open : open_count h petition.org < 4294967295 = below_limit (open_count h petition.org) 16 4294967295 can.few_open (omega arith) in
+    let few : length (asked h) < 4294967295 = below_limit (length (asked h)) MOST_PETITIONS 4294967295 can.below (omega arith) in
+    let few_open : open_count h petition.org < 4294967295 = below_limit (open_count h petition.org) MOST_OPEN 4294967295 can.few_open (omega arith) in
     let count : old.petitions ≡ length (asked h) = s.petitions in
     let count_open : count_at old.still_open petition.org ≡ open_count h petition.org = s.still_open petition.org in
     let more : length (asked h ++ petition ∷ []) ≡ length (asked h) + 1 = length-append (asked h) (petition ∷ []) in
@@ -113,10 +114,10 @@ asked_more h caller key order id petition old new can leads is s =
       nothing = s.nothing;
     })
 
--- a grant: one open petition less, and one number more that is taken
+-- a grant: one fewer open petition, and one more number that is taken
 granted_more : (h : History) (caller key : List ℕ) (order : Order) (id : ℕ) (petition : Petition) (name : NumberName) (old mid new : Totals) → CanGrant h id petition name
     → LeadsTo (act_changes (Granted id petition name)) h (with_deed h (the_deed caller key order (Granted id petition name)))
-    → Closes old mid petition.org → HasTaken mid new petition.vid name.pid → IsSummary h old → IsSummary (with_deed h (the_deed caller key order (Granted id petition name))) new
+    → Closes old mid petition.org → HasTaken mid new name.number.vid name.number.pid → IsSummary h old → IsSummary (with_deed h (the_deed caller key order (Granted id petition name))) new
 granted_more h caller key order id petition name old mid new can leads closes takes s =
     let deed = the_deed caller key order (Granted id petition name) in
     let now : new ≡ record old { still_open = mid.still_open; taken = new.taken } = takes.same ∙ ap (λ (m : Totals). record m { taken = new.taken }) closes.same in
@@ -126,12 +127,12 @@ granted_more h caller key order id petition name old mid new can leads closes ta
       orgs = s.orgs;
       petitions = s.petitions;
       still_open = λ slug. closes.closed slug ∙ ap (λ n. if bytes_eq petition.org slug then n - 1 else n) (s.still_open slug)
-          ∙ sym (open_after_close h (with_deed h deed) id petition (IsGranted name.pid) leads.petitions can.there can.was_open refl refl slug);
+          ∙ sym (open_after_close h (with_deed h deed) id petition (IsGranted name.number.pid) leads.petitions can.there can.was_open refl refl slug);
       taken = λ n. takes.taken n
-          ∙ ap (λ b. spans_have (numbers_at mid.taken n.vid) n.pid || b) (same_test petition.vid name.pid n)
-          ∙ ap (λ (m : Totals). spans_have (numbers_at m.taken n.vid) n.pid || is_number n (number petition.vid name.pid)) closes.same
-          ∙ ap (λ b. b || is_number n (number petition.vid name.pid)) (s.taken n)
-          ∙ taken_more (owner_of h n) (is_reserved h n) (is_number n (number petition.vid name.pid)) petition.org;
+          ∙ ap (λ b. spans_have (numbers_at mid.taken n.vid) n.pid || b) (same_test name.number.vid name.number.pid n)
+          ∙ ap (λ (m : Totals). spans_have (numbers_at m.taken n.vid) n.pid || is_number n name.number) closes.same
+          ∙ ap (λ b. b || is_number n name.number) (s.taken n)
+          ∙ taken_more (owner_of h n) (is_reserved h n) (is_number n name.number) petition.org;
       reserved = s.reserved;
       nothing = s.nothing;
     })
@@ -186,10 +187,10 @@ org_amended_same h caller key order org old new is s =
       nothing = s.nothing;
     })
 
-card_amended_same : (h : History) (caller key : List ℕ) (order : Order) (vid : ℕ) (name : NumberName) (card : Card) (old new : Totals) → new ≡ old → IsSummary h old
-    → IsSummary (with_deed h (the_deed caller key order (CardAmended vid name card))) new
-card_amended_same h caller key order vid name card old new is s =
-    let deed = the_deed caller key order (CardAmended vid name card) in
+card_amended_same : (h : History) (caller key : List ℕ) (order : Order) (name : NumberName) (card : Card) (old new : Totals) → new ≡ old → IsSummary h old
+    → IsSummary (with_deed h (the_deed caller key order (CardAmended name card))) new
+card_amended_same h caller key order name card old new is s =
+    let deed = the_deed caller key order (CardAmended name card) in
     subst (λ t. IsSummary (with_deed h deed) t) (sym is) (record {
       founding = keeps_founding h deed old.founding refl s.founding;
       vendors = keeps_vendors h deed old.vendors refl s.vendors;
@@ -201,10 +202,10 @@ card_amended_same h caller key order vid name card old new is s =
       nothing = s.nothing;
     })
 
-returned_same : (h : History) (caller key : List ℕ) (order : Order) (vid : ℕ) (name : NumberName) (old new : Totals) → new ≡ old → IsSummary h old
-    → IsSummary (with_deed h (the_deed caller key order (Returned vid name))) new
-returned_same h caller key order vid name old new is s =
-    let deed = the_deed caller key order (Returned vid name) in
+returned_same : (h : History) (caller key : List ℕ) (order : Order) (name : NumberName) (old new : Totals) → new ≡ old → IsSummary h old
+    → IsSummary (with_deed h (the_deed caller key order (Returned name))) new
+returned_same h caller key order name old new is s =
+    let deed = the_deed caller key order (Returned name) in
     subst (λ t. IsSummary (with_deed h deed) t) (sym is) (record {
       founding = keeps_founding h deed old.founding refl s.founding;
       vendors = keeps_vendors h deed old.vendors refl s.vendors;
@@ -216,31 +217,31 @@ returned_same h caller key order vid name old new is s =
       nothing = s.nothing;
     })
 
-reserved_more : (h : History) (caller key : List ℕ) (order : Order) (vid : ℕ) (name : SpanName) (old new : Totals) → Reserves old new vid name.span
-    → IsSummary h old → IsSummary (with_deed h (the_deed caller key order (Reserved vid name))) new
-reserved_more h caller key order vid name old new is s =
-    let deed = the_deed caller key order (Reserved vid name) in
+reserved_more : (h : History) (caller key : List ℕ) (order : Order) (name : SpanName) (old new : Totals) → Reserves old new name.vid name.span
+    → IsSummary h old → IsSummary (with_deed h (the_deed caller key order (Reserved name))) new
+reserved_more h caller key order name old new is s =
+    let deed = the_deed caller key order (Reserved name) in
     subst (λ t. IsSummary (with_deed h deed) t) (sym is.same) (record {
       founding = keeps_founding h deed old.founding refl s.founding;
       vendors = keeps_vendors h deed old.vendors refl s.vendors;
       orgs = s.orgs;
       petitions = s.petitions;
       still_open = s.still_open;
-      taken = λ n. is.taken n ∙ ap (λ b. b || (nat_eq vid n.vid && span_has name.span n.pid)) (s.taken n)
-          ∙ reserves_taken (is_some (owner_of h n)) (is_fixed h n) (nat_eq vid n.vid && span_has name.span n.pid) (last_of (λ d. reserves n d.act) h.deeds);
-      reserved = λ n. is.reserved n ∙ ap (λ b. b || (nat_eq vid n.vid && span_has name.span n.pid)) (s.reserved n)
-          ∙ reserves_reserved (is_fixed h n) (nat_eq vid n.vid && span_has name.span n.pid) (last_of (λ d. reserves n d.act) h.deeds);
+      taken = λ n. is.taken n ∙ ap (λ b. b || (nat_eq name.vid n.vid && span_has name.span n.pid)) (s.taken n)
+          ∙ reserves_taken (is_some (owner_of h n)) (is_fixed h n) (nat_eq name.vid n.vid && span_has name.span n.pid) (last_of (λ d. reserves n d.act) h.deeds);
+      reserved = λ n. is.reserved n ∙ ap (λ b. b || (nat_eq name.vid n.vid && span_has name.span n.pid)) (s.reserved n)
+          ∙ reserves_reserved (is_fixed h n) (nat_eq name.vid n.vid && span_has name.span n.pid) (last_of (λ d. reserves n d.act) h.deeds);
       nothing = s.nothing;
     })
 
-released_less : (h : History) (caller key : List ℕ) (order : Order) (vid : ℕ) (name : SpanName) (old new : Totals) → Legal h → CanRelease h vid name → Releases old new vid name.span
-    → IsSummary h old → IsSummary (with_deed h (the_deed caller key order (Released vid name))) new
-released_less h caller key order vid name old new legal can is s =
-    let deed = the_deed caller key order (Released vid name) in
-    let unfixed : (n : Number) → (nat_eq vid n.vid && span_has name.span n.pid) ≡ true → is_fixed h n ≡ false
-    = λ n e. let at = in_span vid name.span n e in subst (λ m. is_fixed h m ≡ false) at.0 (can.unfixed n.pid at.1) in
-    let unowned : (n : Number) → (nat_eq vid n.vid && span_has name.span n.pid) ≡ true → is_some (owner_of h n) ≡ false
-    = λ n e. let at = in_span vid name.span n e in
+released_less : (h : History) (caller key : List ℕ) (order : Order) (name : SpanName) (old new : Totals) → Legal h → CanRelease h name → Releases old new name.vid name.span
+    → IsSummary h old → IsSummary (with_deed h (the_deed caller key order (Released name))) new
+released_less h caller key order name old new legal can is s =
+    let deed = the_deed caller key order (Released name) in
+    let unfixed : (n : Number) → (nat_eq name.vid n.vid && span_has name.span n.pid) ≡ true → is_fixed h n ≡ false
+    = λ n e. let at = in_span name.vid name.span n e in subst (λ m. is_fixed h m ≡ false) at.0 (can.unfixed n.pid at.1) in
+    let unowned : (n : Number) → (nat_eq name.vid n.vid && span_has name.span n.pid) ≡ true → is_some (owner_of h n) ≡ false
+    = λ n e. let at = in_span name.vid name.span n e in
     unowned_by (owner_of h n) (is_reserved h n) (owned_or_reserved h legal n) (subst (λ m. is_reserved h m ≡ true) at.0 (can.reserved n.pid at.1)) in
     subst (λ t. IsSummary (with_deed h deed) t) (sym is.same) (record {
       founding = keeps_founding h deed old.founding refl s.founding;
@@ -248,10 +249,10 @@ released_less h caller key order vid name old new legal can is s =
       orgs = s.orgs;
       petitions = s.petitions;
       still_open = s.still_open;
-      taken = λ n. is.taken n ∙ ap (λ b. b && not (nat_eq vid n.vid && span_has name.span n.pid)) (s.taken n)
-          ∙ released_taken (owner_of h n) (is_fixed h n) (nat_eq vid n.vid && span_has name.span n.pid) (last_of (λ d. reserves n d.act) h.deeds) (unowned n) (unfixed n);
-      reserved = λ n. is.reserved n ∙ ap (λ b. b && not (nat_eq vid n.vid && span_has name.span n.pid)) (s.reserved n)
-          ∙ released_reserved (is_fixed h n) (nat_eq vid n.vid && span_has name.span n.pid) (last_of (λ d. reserves n d.act) h.deeds) (unfixed n);
+      taken = λ n. is.taken n ∙ ap (λ b. b && not (nat_eq name.vid n.vid && span_has name.span n.pid)) (s.taken n)
+          ∙ released_taken (owner_of h n) (is_fixed h n) (nat_eq name.vid n.vid && span_has name.span n.pid) (last_of (λ d. reserves n d.act) h.deeds) (unowned n) (unfixed n);
+      reserved = λ n. is.reserved n ∙ ap (λ b. b && not (nat_eq name.vid n.vid && span_has name.span n.pid)) (s.reserved n)
+          ∙ released_reserved (is_fixed h n) (nat_eq name.vid n.vid && span_has name.span n.pid) (last_of (λ d. reserves n d.act) h.deeds) (unfixed n);
       nothing = s.nothing;
     })
 
@@ -271,7 +272,7 @@ imported_more h caller key order vid org fresh tally old new can is s =
       nothing = s.nothing;
     })
 
--- one vendor more
+-- one more vendor
 vendor_more : (h : History) (caller key : List ℕ) (order : Order) (vid : ℕ) (name : List ℕ) (old new : Totals) → new ≡ record old { vendors = old.vendors ++ record { vid = vid; name = name } ∷ [] }
     → IsSummary h old → IsSummary (with_deed h (the_deed caller key order (VendorAdded vid name))) new
 vendor_more h caller key order vid name old new is s =
@@ -293,7 +294,7 @@ vendor_more h caller key order vid name old new is s =
       nothing = s.nothing;
     })
 
--- one licence more
+-- one more licence
 licence_more : (h : History) (caller key : List ℕ) (order : Order) (licence : List ℕ) (old new : Totals) → Legal (with_deed h (the_deed caller key order (LicenceAdded licence))) → Allows old new licence
     → IsSummary h old → IsSummary (with_deed h (the_deed caller key order (LicenceAdded licence))) new
 licence_more h caller key order licence old new after is s =
@@ -329,15 +330,15 @@ carries_by h caller key order (Asked id petition) old new legal after can leads 
 carries_by h caller key order (Granted id petition name) old new legal after can leads is s = granted_more h caller key order id petition name old is.0 new can leads is.1 is.2 s
 carries_by h caller key order (Declined id petition) old new legal after can leads is s = declined_less h caller key order id petition old new can leads is s
 carries_by h caller key order (Withdrawn id petition) old new legal after can leads is s = withdrawn_less h caller key order id petition old new can leads is s
-carries_by h caller key order (CardAmended vid name card) old new legal after can leads is s = card_amended_same h caller key order vid name card old new is s
-carries_by h caller key order (Returned vid name) old new legal after can leads is s = returned_same h caller key order vid name old new is s
-carries_by h caller key order (Reserved vid name) old new legal after can leads is s = reserved_more h caller key order vid name old new is s
-carries_by h caller key order (Released vid name) old new legal after can leads is s = released_less h caller key order vid name old new legal can is s
+carries_by h caller key order (CardAmended name card) old new legal after can leads is s = card_amended_same h caller key order name card old new is s
+carries_by h caller key order (Returned name) old new legal after can leads is s = returned_same h caller key order name old new is s
+carries_by h caller key order (Reserved name) old new legal after can leads is s = reserved_more h caller key order name old new is s
+carries_by h caller key order (Released name) old new legal after can leads is s = released_less h caller key order name old new legal can is s
 carries_by h caller key order (Imported vid org fresh tally) old new legal after can leads is s = imported_more h caller key order vid org fresh tally old new can is s
 carries_by h caller key order (VendorAdded vid name) old new legal after can leads is s = vendor_more h caller key order vid name old new is s
 carries_by h caller key order (LicenceAdded licence) old new legal after can leads is s = licence_more h caller key order licence old new after is s
 
--- totals carried on by a new deed are those of the history with it
+-- totals that are updated with a new deed are those of the history with the deed
 pub carries : (h : History) (request : Request) (deed : Deed) (old new : Totals) → Legal h → verdict h request ≡ New deed → Carries old new deed.act
     → AreTotalsOf h old → AreTotalsOf (with_deed h deed) new
 unfolding AreTotalsOf

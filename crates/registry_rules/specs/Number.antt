@@ -1,35 +1,36 @@
--- Numbers of vendors, and how replies name them.
-use Rattle.std.specs.Prelude.{ℕ, ◌+◌, ◌-◌, zero, suc, List, [], ◌∷◌, Option, Some, None, Bool, nat_eq, ◌&&◌, if◌then◌else◌}
+-- USB numbers, each a vendor ID and a product ID, and the names that replies use for them.
+use Rattle.std.specs.Prelude.{ℕ, ◌+◌, ◌-◌, zero, suc, List, [], ◌∷◌, Bool, nat_eq, ◌&&◌, not}
 use Rattle.usbnum_core.specs.declared.number.Number.{Number}
 use Rattle.usbnum_core.specs.declared.number.Span.{Span}
+use Rattle.registry_rules.specs.Values.{VendorId, ProductId}
 use Rattle.registry_rules.specs.declared.name.NumberName.{NumberName}
 use Rattle.registry_rules.specs.declared.name.SpanName.{SpanName}
 
--- the product number of the vendor
-abbrev pub number : ℕ → ℕ → Number
+-- the number with this vendor ID and product ID
+abbrev pub number : VendorId → ProductId → Number
 number vid pid = record { vid = vid; pid = pid }
 
--- whether the two are one number
+-- whether two numbers are equal
 abbrev pub is_number : Number → Number → Bool
 is_number a b = nat_eq a.vid b.vid && nat_eq a.pid b.pid
 
--- the next so many numbers, from n on
+-- the given count of consecutive numbers, from n on
 unfoldable pub numbers_from : ℕ → ℕ → List ℕ
 numbers_from n zero = []
 numbers_from n (suc left) = n ∷ numbers_from (suc n) left
 
--- the product numbers of a span, ascending
-abbrev pub numbers_in : Span → List ℕ
+-- the product IDs of a span, ascending
+abbrev pub numbers_in : Span → List ProductId
 numbers_in span = numbers_from span.first (span.last + 1 - span.first)
 
--- the vendor as a name has it: none for the founding one
-abbrev pub vendor_named : ℕ → ℕ → Option ℕ
-vendor_named founding vid = if nat_eq vid founding then None else Some vid
+-- whether a vendor is foreign: not the founding vendor, for which the registry was created
+abbrev pub is_foreign : VendorId → VendorId → Bool
+is_foreign founding vid = not (nat_eq vid founding)
 
--- the number's name, where the registry was founded for the vendor given first
-abbrev pub name_of : ℕ → Number → NumberName
-name_of founding n = record { vendor = vendor_named founding n.vid; pid = n.pid }
+-- the name of a number in a registry with this founding vendor
+abbrev pub name_of : VendorId → Number → NumberName
+name_of founding n = record { number = n; foreign = is_foreign founding n.vid }
 
--- the same of a span of the vendor given second
-abbrev pub span_name_of : ℕ → ℕ → Span → SpanName
-span_name_of founding vid span = record { vendor = vendor_named founding vid; span = span }
+-- the same for a span of the second vendor
+abbrev pub span_name_of : VendorId → VendorId → Span → SpanName
+span_name_of founding vid span = record { vid = vid; span = span; foreign = is_foreign founding vid }

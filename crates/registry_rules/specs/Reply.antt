@@ -1,7 +1,8 @@
--- What is answered to an accepted request, and what a refusal shows.
-use Rattle.std.specs.Prelude.{ℕ, List, [], ◌++◌, codes, Option, Some, None}
+-- The texts of replies: to accepted requests, and of refusals.
+use Rattle.std.specs.Prelude.{ℕ, List, [], ◌++◌, codes, Option, Some, None, Bool, if◌then◌else◌}
 use Rattle.std.specs.Fmt.{decimal}
 use Rattle.usbnum_core.specs.Number.{digits_of}
+use Rattle.registry_rules.specs.Values.{VendorId}
 use Rattle.registry_rules.specs.declared.deed.Act.{Act}
 use Rattle.registry_rules.specs.declared.deed.Act.TheVariants.{Enrolled, OrgAmended, Asked, Granted, Declined, Withdrawn, CardAmended, Returned, Reserved, Released, Imported, VendorAdded, LicenceAdded}
 use Rattle.registry_rules.specs.declared.item.Tally.{Tally}
@@ -10,26 +11,25 @@ use Rattle.registry_rules.specs.declared.name.SpanName.{SpanName}
 use Rattle.registry_rules.specs.declared.refusal.Refusal.{Refusal}
 use Rattle.registry_rules.specs.declared.refusal.Refusal.TheVariants.{KeyReused, NotCurator, NotKeeper, NoOrg, OrgTaken, NoPetition, PetitionClosed, NumberReserved, NumberOwned, NumberHeld, NumberNotHeld, NoneFree, LicenceUnknown, TooManyOpen, RangeOwned, RangeFixed, RangeNotReserved, Full, ImportTooLong, VendorTaken, NoVendor, LicenceTaken}
 
--- a vendor before its number: four digits and a colon, or nothing
-abbrev pub vendor_text : Option ℕ → List ℕ
-vendor_text None = []
-vendor_text (Some vid) = digits_of vid ++ codes ":"
+-- the vendor in a name: four digits and a colon if it is foreign, otherwise nothing
+abbrev pub vendor_text : Bool → VendorId → List ℕ
+vendor_text foreign vid = if foreign then digits_of vid ++ codes ":" else []
 
--- 0011, or cafe:0011
+-- for example 0011, or cafe:0011
 abbrev pub number_text : NumberName → List ℕ
-number_text name = vendor_text name.vendor ++ digits_of name.pid
+number_text name = vendor_text name.foreign name.number.vid ++ digits_of name.number.pid
 
--- 2000-20ff, or cafe:2000-20ff
+-- for example 2000-20ff, or cafe:2000-20ff
 abbrev pub span_text : SpanName → List ℕ
-span_text name = vendor_text name.vendor ++ digits_of name.span.first ++ codes "-" ++ digits_of name.span.last
+span_text name = vendor_text name.foreign name.vid ++ digits_of name.span.first ++ codes "-" ++ digits_of name.span.last
 
--- fresh 1, owned 0, reserved 0, doubled 0, untitled 0, zero 0
+-- for example: fresh 1, owned 0, reserved 0, doubled 0, untitled 0, zero 0
 abbrev pub tally_text : Tally → List ℕ
 tally_text tally =
     codes "fresh " ++ decimal tally.fresh ++ codes ", owned " ++ decimal tally.owned ++ codes ", reserved " ++ decimal tally.reserved
     ++ codes ", doubled " ++ decimal tally.doubled ++ codes ", untitled " ++ decimal tally.untitled ++ codes ", zero " ++ decimal tally.zero
 
--- the reply that is kept for good
+-- the reply to an accepted request; the registry keeps it for repeats of the request
 abbrev pub act_text : Act → List ℕ
 act_text (Enrolled org) = codes "enrolled " ++ org.slug
 act_text (OrgAmended org) = codes "amended organisation " ++ org.slug
@@ -37,15 +37,15 @@ act_text (Asked id petition) = codes "petition " ++ decimal id
 act_text (Granted id petition name) = codes "granted " ++ number_text name ++ codes " to " ++ petition.org ++ codes " by petition " ++ decimal id
 act_text (Declined id petition) = codes "declined petition " ++ decimal id
 act_text (Withdrawn id petition) = codes "withdrawn petition " ++ decimal id
-act_text (CardAmended vid name card) = codes "amended " ++ number_text name
-act_text (Returned vid name) = codes "returned " ++ number_text name
-act_text (Reserved vid name) = codes "reserved " ++ span_text name
-act_text (Released vid name) = codes "released " ++ span_text name
+act_text (CardAmended name card) = codes "amended " ++ number_text name
+act_text (Returned name) = codes "returned " ++ number_text name
+act_text (Reserved name) = codes "reserved " ++ span_text name
+act_text (Released name) = codes "released " ++ span_text name
 act_text (Imported vid org fresh tally) = codes "imported " ++ tally_text tally
 act_text (VendorAdded vendor name) = codes "added vendor " ++ digits_of vendor
 act_text (LicenceAdded licence) = codes "added licence " ++ licence
 
--- the number of a refusal
+-- the number of a refusal; 20 to 32 are not refusals of the rules
 abbrev pub refusal_number : Refusal → ℕ
 refusal_number KeyReused = 1
 refusal_number NotCurator = 2
@@ -70,7 +70,7 @@ refusal_number VendorTaken = 33
 refusal_number NoVendor = 34
 refusal_number LicenceTaken = 35
 
--- and its name
+-- the name of a refusal
 abbrev pub refusal_name : Refusal → List ℕ
 refusal_name KeyReused = codes "KeyReused"
 refusal_name NotCurator = codes "NotCurator"
@@ -95,8 +95,16 @@ refusal_name VendorTaken = codes "VendorTaken"
 refusal_name NoVendor = codes "NoVendor"
 refusal_name LicenceTaken = codes "LicenceTaken"
 
--- the owner that stands in the way, or the least owned number of the span
+-- the owner of the number, or the least owned number of the span
 abbrev pub refusal_detail : Refusal → Option (List ℕ)
 refusal_detail (NumberOwned owner) = Some owner
 refusal_detail (RangeOwned name) = Some (number_text name)
 refusal_detail _ = None
+
+-- for example NumberReserved, or NumberOwned: acme
+abbrev pub name_and_detail : List ℕ → Option (List ℕ) → List ℕ
+name_and_detail name None = name
+name_and_detail name (Some detail) = name ++ codes ": " ++ detail
+
+abbrev pub refusal_text : Refusal → List ℕ
+refusal_text refusal = name_and_detail (refusal_name refusal) (refusal_detail refusal)

@@ -1,28 +1,30 @@
--- Lists of texts in the order of their bytes.
+-- Sorted lists of texts: curators and licences. Texts are compared byte by byte.
 use Rattle.std.specs.Prelude.{ℕ, ◌≡◌, ◌≤◌, List, length}
 use Rattle.std.specs.List.{list_any}
 use Rattle.std.specs.Str.{bytes_eq}
 use Rattle.std.specs.Ordering.{nat_cmp}
 use Rattle.std.specs.Cmp.Lexicographic.{slice_cmp}
 use Rattle.std.specs.List.Sorted.{IsStrictlySortedBy}
+use Rattle.registry_rules.specs.declared.limits.TheConstants.{MOST_CURATORS, MOST_LICENCES}
 
--- the texts are in the order of their bytes, and none is there twice
+-- the texts ascend, without repeats
 abbrev pub IsAscending : List (List ℕ) → Type 0
 IsAscending = IsStrictlySortedBy (slice_cmp nat_cmp)
 
--- the texts given, each once, in the order of their bytes
+-- `ordered` has the texts of `given`, sorted and without repeats
 pub record AreInOrder (given ordered : List (List ℕ)) : Type 0 where
   pub ascending : IsAscending ordered
   pub same : (text : List ℕ) → list_any (bytes_eq text) ordered ≡ list_any (bytes_eq text) given
 
--- 1 to 64 slugs, each once, in the order of their bytes
+-- a valid list of curators, the callers who run the registry: they grant and decline petitions, reserve and release numbers,
+-- import, and add vendors and licences
 pub record IsCurators (slugs : List (List ℕ)) : Type 0 where
   pub some : 1 ≤ length slugs
-  pub most : length slugs ≤ 64
+  pub most : length slugs ≤ MOST_CURATORS
   pub ascending : IsAscending slugs
 
--- 1 to 1,024 titles, each once, in the order of their bytes
+-- a valid list of the licences that a product may have
 pub record IsLicences (titles : List (List ℕ)) : Type 0 where
   pub some : 1 ≤ length titles
-  pub most : length titles ≤ 1024
+  pub most : length titles ≤ MOST_LICENCES
   pub ascending : IsAscending titles

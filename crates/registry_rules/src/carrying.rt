@@ -1,4 +1,4 @@
-//! What each kind of act does to totals.
+//! The effect of each kind of act on totals.
 
 ghost use Rattle.std.specs.Prelude.{◌≡◌, ◌<◌, ◌+◌, ◌++◌, ◌∷◌, [], OnOk};
 ghost use Rattle.registry_rules.specs.Carrying.{Asks, Closes, HasTaken, Reserves, Releases, Imports, Allows, Carries};
@@ -8,7 +8,7 @@ use crate::summing::add_items;
 use crate::{Act, Items, Totals, Vendor};
 use usbnum_core::{NoMemory, Pid, Slug, Span, Title, Vid};
 
-/// Carries the totals on by what a deed did. Nothing is said of the totals after NoMemory.
+/// Updates the totals with an act. After NoMemory their content is unspecified.
 pub(crate) fn carry_act(totals: &mut Totals, act: &Act) -> Result<(), NoMemory>
     ensures { OnOk result (Carries totals.old totals.new act.now) }
 {
@@ -24,19 +24,15 @@ pub(crate) fn carry_act(totals: &mut Totals, act: &Act) -> Result<(), NoMemory>
             name,
         } => {
             closed(totals, &petition.org)?;
-            taken(totals, petition.vid, name.pid)
+            taken(totals, name.number.vid, name.number.pid)
         }
         Act::Declined { id: _, petition } => closed(totals, &petition.org),
         Act::Withdrawn { id: _, petition } => closed(totals, &petition.org),
-        Act::OrgAmended(_)
-        | Act::CardAmended {
-            vid: _,
-            name: _,
-            card: _,
+        Act::OrgAmended(_) | Act::CardAmended { name: _, card: _ } | Act::Returned { name: _ } => {
+            Ok(())
         }
-        | Act::Returned { vid: _, name: _ } => Ok(()),
-        Act::Reserved { vid, name } => reserved(totals, *vid, &name.span),
-        Act::Released { vid, name } => released(totals, *vid, &name.span),
+        Act::Reserved { name } => reserved(totals, name.vid, &name.span),
+        Act::Released { name } => released(totals, name.vid, &name.span),
         Act::Imported {
             vid,
             org: _,

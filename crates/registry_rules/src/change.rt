@@ -1,8 +1,10 @@
+//! Changes on the records of a registry.
+
 use crate::{Card, Entry, Org, Petition};
 use usbnum_core::{Number, Span, Title, Vid};
 
-/// One change of what is kept of a history. A record is put in the place of an older one, where there
-/// is one.
+/// One step on the records. A record that is put replaces the older one under its key, if there is
+/// one.
 #[derive(Debug)]
 pub enum Change {
     PutOrg(Org),
@@ -10,9 +12,9 @@ pub enum Change {
     PutEntry { number: Number, entry: Entry },
     SetHeld { number: Number, held: bool },
     SetCard { number: Number, card: Card },
-    /// The numbers of the span join those that an order reserved.
+    /// Adds the numbers of the span to those that orders reserved.
     ReserveSpan { vid: Vid, span: Span },
-    /// The numbers of the span leave those that an order reserved.
+    /// Removes the numbers of the span from those that orders reserved.
     ReleaseSpan { vid: Vid, span: Span },
     PutVendor { vid: Vid, name: Title },
     PutLicence(Title),

@@ -1,3 +1,5 @@
+//! The vendor, the numbers and the organisation that an order concerns.
+
 ghost use Rattle.std.specs.Prelude.{◌≡◌, ℕ, true, false, nat_eq, IfSome, IsSomeAnd};
 ghost use Rattle.std.specs.List.{list_any};
 ghost use Rattle.std.specs.Option.{option_copied, option_map};
@@ -5,17 +7,19 @@ ghost use Rattle.usbnum_core.specs.Spans.{span_has};
 ghost use Rattle.usbnum_core.specs.declared.number.Number.{Number};
 ghost use Rattle.registry_rules.specs.FactsOf.{petition_named, slug_concerned, vendor_concerned, concerns, holding_in, holding_of};
 ghost use Rattle.registry_rules.specs.History.{History};
-ghost use Rattle.registry_rules.specs.Number.{number};
-ghost use Rattle.registry_rules.specs.OnFacts.{meant};
 ghost use Rattle.registry_rules.specs.Verdict.{least_for};
 
-use crate::{Holdings, Item, Order, Petition};
+use crate::{
+    Amend, AmendOrg, Ask, Enrol, Holdings, Import, Item, Order, Petition, Release, Reserve, Return,
+};
 use usbnum_core::{Number, Pid, Slug, Span, Vid};
 
-/// Product numbers of a vendor, from the first to the last.
+/// A span of product IDs of a vendor.
 #[derive(Clone, Copy, Debug, PartialEq, Eq)]
 pub struct VendorSpan {
+    /// The vendor.
     pub vid: Vid,
+    /// The product IDs.
     pub span: Span,
 }
 
@@ -30,7 +34,7 @@ fn only(pid: Pid) -> Span
     }
 }
 
-// The span from the lesser of the two beginnings to the greater of the two ends.
+// The least span that has the numbers of the span and the product ID.
 fn grown(span: &Span, pid: Pid) -> Span
     ensures keeps { (n : ℕ) → span_has span.now n ≡ true → span_has result n ≡ true }
     ensures has { span_has result pid ≡ true }
@@ -47,7 +51,7 @@ fn grown(span: &Span, pid: Pid) -> Span
     }
 }
 
-// The span with the code, unless that is 0.
+// The span extended to the code, unless that is 0.
 fn with_code(found: Option<Span>, code: u16) -> Option<Span>
     ensures keeps { IfSome found (λ old. IsSomeAnd result (λ new. (n : ℕ) → span_has old n ≡ true → span_has new n ≡ true)) }
     ensures has { nat_eq code 0 ≡ false → IsSomeAnd result (λ new. span_has new code ≡ true) }
@@ -61,7 +65,7 @@ fn with_code(found: Option<Span>, code: u16) -> Option<Span>
     }
 }
 
-// From the least code of the items to the greatest; 0 is no product number.
+// The span from the least code of the items to the greatest, without 0.
 fn codes_span(items: &[Item]) -> Option<Span>
     ensures { (code : ℕ) → nat_eq code 0 ≡ false → list_any (λ item. nat_eq item.code code) items.now ≡ true → IsSomeAnd result (λ span. span_has span code ≡ true) }
 {
@@ -72,10 +76,31 @@ fn codes_span(items: &[Item]) -> Option<Span>
     found
 }
 
-/// The product numbers that the order names or resolves to, and their vendor: of a span all of it, of
-/// an import all from its least code to its greatest. `petition` is the one that the order names, and
-/// `least` the least free number of that petition's vendor.
-#[tactic(auto, unfolding(crate::specs::FactsOf::concerns, crate::specs::FactsOf::petition_named))]
+/// Returns the vendor that the order names, or its petition's, otherwise the founding vendor.
+/// `petition` is the petition that the order names. No other function resolves a vendor.
+#[tactic(auto, unfolding(crate::specs::FactsOf::vendor_concerned, crate::specs::FactsOf::petition_named))]
+pub(crate) fn vid_concerned(order: &Order, founding: Vid, petition: Option<&Petition>) -> Vid
+    ensures { (h : History) → founding ≡ h.founding.vendor → option_copied petition.entry ≡ petition_named h order.now → result ≡ vendor_concerned h order.now }
+{
+    match order {
+        Order::Ask(Ask { vendor, .. })
+        | Order::Amend(Amend { vendor, .. })
+        | Order::Return(Return { vendor, .. })
+        | Order::Reserve(Reserve { vendor, .. })
+        | Order::Release(Release { vendor, .. })
+        | Order::Import(Import { vendor, .. }) => vendor.unwrap_or(founding),
+        Order::Grant(_) | Order::Decline(_) | Order::Withdraw(_) => match petition {
+            Some(petition) => petition.vid,
+            None => founding,
+        },
+        _ => founding,
+    }
+}
+
+/// Returns a span that has each number that the order concerns, with its vendor. For an import it
+/// reaches from the least code to the greatest. `petition` is the petition that the order names,
+/// and `least` the least free product ID of that petition's vendor.
+#[tactic(auto, unfolding(crate::specs::FactsOf::concerns, crate::specs::FactsOf::petition_named, crate::specs::FactsOf::vendor_concerned))]
 pub fn numbers_concerned(
     order: &Order,
     founding: Vid,
@@ -85,73 +110,33 @@ pub fn numbers_concerned(
     ensures { (h : History) → founding ≡ h.founding.vendor → option_copied petition.entry ≡ petition_named h order.now → least ≡ least_for h (petition_named h order.now) →
         (n : Number) → concerns h order.now n ≡ true → IsSomeAnd result (λ range. (range.vid ≡ n.vid) × (span_has range.span n.pid ≡ true)) }
 {
-    match order {
-        Order::Ask { want, vendor, .. } => {
-            let vid = vendor.unwrap_or(founding);
-            let span = only((*want)?);
-            Some(VendorSpan { vid, span })
-        }
-        Order::Grant { number, .. } => {
-            let petition = petition?;
-            let pid = number.or(petition.want).or(least)?;
-            let vid = petition.vid;
-            let span = only(pid);
-            Some(VendorSpan { vid, span })
-        }
-        Order::Amend { number, vendor, .. } | Order::Return { number, vendor } => {
-            let vid = vendor.unwrap_or(founding);
-            let span = only(*number);
-            Some(VendorSpan { vid, span })
-        }
-        Order::Reserve { span, vendor } | Order::Release { span, vendor } => {
-            let vid = vendor.unwrap_or(founding);
-            let span = *span;
-            Some(VendorSpan { vid, span })
-        }
-        Order::Import { items, vendor, .. } => {
-            let vid = vendor.unwrap_or(founding);
-            let span = codes_span(items.as_slice())?;
-            Some(VendorSpan { vid, span })
-        }
-        _ => None,
-    }
+    let vid = vid_concerned(order, founding, petition);
+    let span = match order {
+        Order::Ask(it) => only(it.want?),
+        Order::Grant(it) => only(it.number.or(petition?.want).or(least)?),
+        Order::Amend(Amend { number, .. }) | Order::Return(Return { number, .. }) => only(*number),
+        Order::Reserve(Reserve { span, .. }) | Order::Release(Release { span, .. }) => *span,
+        Order::Import(it) => codes_span(it.items.as_slice())?,
+        _ => return None,
+    };
+    Some(VendorSpan { vid, span })
 }
 
-/// The vendor that the order means, or its petition's, by the petition that the order names.
-#[tactic(auto, unfolding(crate::specs::FactsOf::vendor_concerned, crate::specs::FactsOf::petition_named))]
-pub(crate) fn vid_concerned(order: &Order, founding: Vid, petition: Option<&Petition>) -> Vid
-    ensures { (h : History) → founding ≡ h.founding.vendor → option_copied petition.entry ≡ petition_named h order.now → result ≡ vendor_concerned h order.now }
+// The owner of the number, by its holding.
+fn owner_in(holdings: &Holdings, number: Number) -> Option<&Slug>
+    ensures { option_copied result ≡ option_map (λ holding. holding.org) (holding_in holdings.now number) }
 {
-    match order {
-        Order::Ask { vendor, .. } => vendor.unwrap_or(founding),
-        Order::Amend { vendor, .. } => vendor.unwrap_or(founding),
-        Order::Return { vendor, .. } => vendor.unwrap_or(founding),
-        Order::Reserve { vendor, .. } => vendor.unwrap_or(founding),
-        Order::Release { vendor, .. } => vendor.unwrap_or(founding),
-        Order::Import { vendor, .. } => vendor.unwrap_or(founding),
-        Order::Grant { .. } | Order::Decline { .. } | Order::Withdraw { .. } => match petition {
-            Some(petition) => petition.vid,
-            None => founding,
-        },
-        _ => founding,
-    }
-}
-
-// The owner of the vendor's number, as the holdings have it.
-fn owner_in(holdings: &Holdings, founding: Vid, vendor: Option<Vid>, pid: Pid) -> Option<&Slug>
-    ensures { option_copied result ≡ option_map (λ holding. holding.org) (holding_in holdings.now (number (meant founding vendor) pid)) }
-{
-    let vid = vendor.unwrap_or(founding);
-    match holdings.of(Number { vid, pid }) {
+    match holdings.of(number) {
         Some(holding) => Some(&holding.org),
         None => None,
     }
 }
 
-/// The organisation that the order names, the petition's, or the number's owner, by the petition that
-/// the order names and the holdings of the numbers that it concerns.
-#[tactic(auto, unfolding(crate::specs::FactsOf::concerns, crate::specs::FactsOf::petition_named, crate::specs::FactsOf::slug_concerned))]
-pub fn org_concerned<'a>(
+/// Returns the organisation that the order names, its petition's, or the owner of its number.
+/// `petition` is the petition that the order names; `holdings` has the holding of each number that
+/// the order concerns.
+#[tactic(auto, unfolding(crate::specs::FactsOf::concerns, crate::specs::FactsOf::petition_named, crate::specs::FactsOf::slug_concerned, crate::specs::FactsOf::vendor_concerned))]
+pub fn slug_concerned<'a>(
     order: &'a Order,
     founding: Vid,
     petition: Option<&'a Petition>,
@@ -160,17 +145,16 @@ pub fn org_concerned<'a>(
     ensures { (h : History) → founding ≡ h.founding.vendor → option_copied petition.entry ≡ petition_named h order.now →
         ((n : Number) → concerns h order.now n ≡ true → holding_in holdings.now n ≡ holding_of h n) → option_copied result ≡ slug_concerned h order.now }
 {
+    let vid = vid_concerned(order, founding, petition);
     match order {
-        Order::Enrol { org, .. }
-        | Order::AmendOrg { org, .. }
-        | Order::Ask { org, .. }
-        | Order::Import { org, .. } => Some(org),
-        Order::Amend { number, vendor, .. } => owner_in(holdings, founding, *vendor, *number),
-        Order::Return { number, vendor } => owner_in(holdings, founding, *vendor, *number),
-        Order::Grant { .. } | Order::Decline { .. } | Order::Withdraw { .. } => {
-            let petition = petition?;
-            Some(&petition.org)
+        Order::Enrol(Enrol { org, .. })
+        | Order::AmendOrg(AmendOrg { org, .. })
+        | Order::Ask(Ask { org, .. })
+        | Order::Import(Import { org, .. }) => Some(org),
+        Order::Amend(Amend { number, .. }) | Order::Return(Return { number, .. }) => {
+            owner_in(holdings, Number { vid, pid: *number })
         }
+        Order::Grant(_) | Order::Decline(_) | Order::Withdraw(_) => Some(&petition?.org),
         _ => None,
     }
 }

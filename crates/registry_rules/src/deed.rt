@@ -1,19 +1,21 @@
+//! Deeds: accepted requests with their effects.
+
 use crate::{Card, Items, NumberName, Order, Org, Petition, SpanName, Tally};
 use usbnum_core::{Key, Slug, Title, Vid};
 
-/// What an accepted request did. `vid` is the number's vendor, also where its name leaves it out.
+/// The effect of an accepted request. Each name has its vendor, even if the reply leaves it out.
 #[derive(Debug)]
 pub enum Act {
     /// An organisation was enrolled.
     Enrolled(Org),
-    /// An organisation has this title and site now.
+    /// An organisation got this title and site.
     OrgAmended(Org),
-    /// The petition of this number was asked.
+    /// The petition was opened under this number.
     Asked {
         id: u32,
         petition: Petition,
     },
-    /// The petition, as it was while open, was granted the number of its vendor.
+    /// The petition, as it was while open, was granted the number.
     Granted {
         id: u32,
         petition: Petition,
@@ -29,25 +31,21 @@ pub enum Act {
         id: u32,
         petition: Petition,
     },
-    /// A held number has this card now.
+    /// A held number got this card.
     CardAmended {
-        vid: Vid,
         name: NumberName,
         card: Card,
     },
-    /// A held number was given back.
+    /// A held number was returned.
     Returned {
-        vid: Vid,
         name: NumberName,
     },
     /// The numbers of a span were reserved.
     Reserved {
-        vid: Vid,
         name: SpanName,
     },
     /// The numbers of a span were released.
     Released {
-        vid: Vid,
         name: SpanName,
     },
     /// The fresh items of an import became held numbers of the organisation.
@@ -68,12 +66,16 @@ pub enum Act {
     },
 }
 
-/// One accepted request, and what it did.
+/// An accepted request with its effect.
 #[derive(Debug, Drop)]
 pub struct Deed {
+    /// The caller of the request.
     pub caller: Slug,
+    /// The key of the request.
     pub key: Key,
+    /// The order of the request.
     pub order: Order,
+    /// Its effect.
     pub act: Act,
 }
 
@@ -91,14 +93,10 @@ impl Drop for Act {
             } => {}
             Act::Declined { id: _, petition: _ } => {}
             Act::Withdrawn { id: _, petition: _ } => {}
-            Act::CardAmended {
-                vid: _,
-                name: _,
-                card: _,
-            } => {}
-            Act::Returned { vid: _, name: _ } => {}
-            Act::Reserved { vid: _, name: _ } => {}
-            Act::Released { vid: _, name: _ } => {}
+            Act::CardAmended { name: _, card: _ } => {}
+            Act::Returned { name: _ } => {}
+            Act::Reserved { name: _ } => {}
+            Act::Released { name: _ } => {}
             Act::Imported {
                 vid: _,
                 org: _,

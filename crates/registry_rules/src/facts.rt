@@ -1,12 +1,14 @@
+//! The facts of a history for a request: the few values that decide the verdict on it.
+
 ghost use Rattle.std.specs.Prelude.{◌≡◌, find};
 ghost use Rattle.std.specs.Option.{option_copied};
 ghost use Rattle.registry_rules.specs.Number.{is_number};
 
-use crate::{Founding, Holding, Org, Petition, Spelling, Text, Vendors};
+use crate::{CanonicalForm, Founding, Holding, Org, Petition, ReplyText, Vendors};
 use std::marker::Model;
-use usbnum_core::{Number, Pid, Spans};
+use usbnum_core::{Number, Pid, Spans, Vid};
 
-/// The owned ones of some numbers.
+/// The holdings of some numbers: of those among them that are owned.
 #[derive(Debug, Drop)]
 pub struct Holdings {
     items: Vec<Holding>,
@@ -22,19 +24,21 @@ impl Model for Holdings {
 }
 
 impl Holdings {
+    /// Returns a list of these holdings.
     pub fn new(items: Vec<Holding>) -> Holdings
         ensures { result ≡ items.items }
     {
         Holdings { items }
     }
 
+    /// Returns the holdings.
     pub fn as_slice(&self) -> &[Holding]
         ensures { result.now ≡ self.now }
     {
         &self.items
     }
 
-    /// What there is of the number.
+    /// Returns the holding of the number, or None if the list has none.
     pub fn of(&self, number: Number) -> Option<&Holding>
         ensures { option_copied result ≡ find (λ holding. is_number number holding.number) self.now }
     {
@@ -42,37 +46,41 @@ impl Holdings {
     }
 }
 
-/// What is kept of the accepted request of a caller and key: its order's spelling and its reply.
+/// What a registry keeps of an accepted request, by its caller and key, to recognise a repeat.
 #[derive(Clone, Debug, Drop)]
 pub struct Kept {
-    pub order: Spelling,
-    pub reply: Text,
+    /// The canonical form of its order.
+    pub order: CanonicalForm,
+    /// Its reply.
+    pub reply: ReplyText,
 }
 
-/// What has to be known of a history to judge a request. The vendor concerned is the one that the
-/// order means, for an order on a petition the petition's.
+/// The facts of a history for a request.
 #[derive(Debug, Drop)]
 pub struct Facts<'a> {
     /// The founding, with the licences that are allowed now.
     pub founding: &'a Founding,
     /// All vendors, the founding one included.
     pub vendors: &'a Vendors,
-    /// What is kept under the request's caller and key.
+    /// The vendor concerned: the one that the order means, or its petition's.
+    pub vendor: Vid,
+    /// What the registry keeps under the request's caller and key.
     pub kept: Option<Kept>,
-    /// The organisation concerned: the one named, the petition's, or the number's owner.
+    /// The organisation concerned: the one that the order names, its petition's, or its number's
+    /// owner.
     pub org: Option<Org>,
-    /// How many organisations there are.
+    /// The number of organisations.
     pub orgs: u32,
-    /// How many petitions of the organisation concerned are open.
+    /// The number of open petitions of the organisation concerned.
     pub open_count: u32,
-    /// The petition named.
+    /// The petition that the order names.
     pub petition: Option<Petition>,
-    /// How many petitions there are.
+    /// The number of petitions.
     pub petitions: u32,
-    /// The owned ones of the numbers that the order names or resolves to.
+    /// The holdings of the numbers that the order concerns.
     pub holdings: Holdings,
-    /// The reserved numbers of the vendor concerned, those of the founding included.
+    /// The reserved numbers of the vendor concerned, including the fixed ones.
     pub reserved: &'a Spans,
-    /// The least free number of the vendor concerned.
+    /// The least free product ID of the vendor concerned.
     pub least: Option<Pid>,
 }

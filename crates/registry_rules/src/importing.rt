@@ -1,13 +1,16 @@
+//! The checks of an import, the classes of its items, and its act if the checks pass.
+
 ghost use Rattle.std.specs.Prelude.{◌≡◌, ◌≤◌, [], nat_eq, is_some, IfOk, length, ◌&&◌};
 ghost use Rattle.std.specs.List.{list_any};
-ghost use Rattle.registry_rules.specs.Checks.{import_row};
 ghost use Rattle.registry_rules.specs.Gives.{Gives};
 ghost use Rattle.registry_rules.specs.Import.{is_doubled, class_of, classes_from, fresh_of, counted, tally_of, IsTallyWithin};
-ghost use Rattle.registry_rules.specs.OnFacts.{standing_in_at, vendor_there};
+ghost use Rattle.registry_rules.specs.OnFacts.{standing_in_at, outcome_on};
+ghost use Rattle.registry_rules.specs.declared.order.Order.TheVariants as orders;
 
 use crate::checks::{check_curator, check_vendor};
-use crate::stop::Stop;
-use crate::{Act, Facts, Item, ItemClass, Items, Refusal, Tally};
+use crate::limits::MOST_ITEMS;
+use crate::rejection::Rejection;
+use crate::{Act, Facts, Import, Item, ItemClass, Items, Refusal, Tally};
 use std::alloc::{AllocError, Global};
 use usbnum_core::{Number, Pid, Slug, Vid};
 
@@ -57,7 +60,7 @@ fn classes(
     Ok(classes)
 }
 
-// The fresh ones of the items.
+// The items whose class is fresh.
 fn fresh(alloc: Global, classes: &[ItemClass], items: &[Item]) -> Result<Vec<Item>, AllocError>
     requires { length classes.now ≡ length items.now }
     ensures { IfOk result (λ fresh. fresh.items ≡ fresh_of classes.now items.now) }
@@ -71,9 +74,9 @@ fn fresh(alloc: Global, classes: &[ItemClass], items: &[Item]) -> Result<Vec<Ite
     Ok(fresh)
 }
 
-// A tally with one item more.
+// The tally with one more item of the class.
 fn count(tally: Tally, class: ItemClass) -> Tally
-    requires { IsTallyWithin tally 8192 }
+    requires { IsTallyWithin tally MOST_ITEMS }
     ensures { result ≡ counted class tally }
 {
     match class {
@@ -104,9 +107,9 @@ fn count(tally: Tally, class: ItemClass) -> Tally
     }
 }
 
-// How many there are of each class.
+// The number of items of each class.
 fn tally(classes: &[ItemClass]) -> Tally
-    requires { length classes.now ≤ 8192 }
+    requires { length classes.now ≤ MOST_ITEMS }
     ensures { result ≡ tally_of classes.now }
 {
     let mut tally = Tally {
@@ -125,30 +128,29 @@ fn tally(classes: &[ItemClass]) -> Tally
     tally
 }
 
+#[tactic(auto, unfolding(crate::specs::OnFacts::outcome_on))]
 pub(crate) fn import(
     alloc: Global,
     facts: &Facts<'_>,
     caller: &Slug,
-    vid: Vid,
-    org: &Slug,
-    items: &Items,
-) -> Result<Act, Stop>
-    ensures { Gives result (import_row facts.now.founding.now.curators facts.now.org (vendor_there facts.now.vendors.now vid)
-        (classes_from (standing_in_at facts.now vid) [] items.now) caller.now vid org.now items.now) }
+    it: &Import,
+) -> Result<Act, Rejection>
+    ensures { Gives result (outcome_on facts.now caller.now (orders.Import it.now)) }
 {
+    let vid = facts.vendor;
     check_curator(facts.founding, caller)?;
     if facts.org.is_none() {
-        return Err(Stop::Refused(Refusal::NoOrg));
+        return Err(Rejection::Refused(Refusal::NoOrg));
     }
     check_vendor(facts, vid)?;
-    let items = items.as_slice();
-    if items.len() > 8192 {
-        return Err(Stop::Refused(Refusal::ImportTooLong));
+    let items = it.items.as_slice();
+    if items.len() > MOST_ITEMS {
+        return Err(Rejection::Refused(Refusal::ImportTooLong));
     }
     let classes = classes(alloc, facts, vid, items)?;
     Ok(Act::Imported {
         vid,
-        org: org.clone()?,
+        org: it.org.clone()?,
         fresh: Items::new(fresh(alloc, &classes, items)?),
         tally: tally(&classes),
     })

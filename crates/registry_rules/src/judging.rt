@@ -1,3 +1,5 @@
+//! The verdict on a request.
+
 ghost use Rattle.std.specs.Prelude.{◌≡◌, Result, IfOk};
 ghost use Rattle.registry_rules.specs.FactsOf.{AreFactsOf};
 ghost use Rattle.registry_rules.specs.Gives.{Gives};
@@ -5,71 +7,34 @@ ghost use Rattle.registry_rules.specs.History.{History};
 ghost use Rattle.registry_rules.specs.OnFacts.{outcome_on};
 ghost use Rattle.registry_rules.specs.Verdict.{verdict, verdict_by, deed_for};
 
-use crate::checks::vendor_meant;
 use crate::importing::import;
-use crate::rows::{
+use crate::order_checks::{
     add_licence, add_vendor, amend, amend_org, ask, decline, enrol, give_back, grant, withdraw,
 };
-use crate::span_rows::{release, reserve};
-use crate::stop::Stop;
+use crate::rejection::Rejection;
+use crate::span_checks::{release, reserve};
 use crate::{Act, Deed, Facts, Kept, Order, Refusal, Request, Verdict, request_bytes};
 use std::alloc::{AllocError, Global};
-use usbnum_core::{NoMemory, Number, Slug};
+use usbnum_core::{NoMemory, Slug};
 
-// What the order does, by the row of its checks.
-#[tactic(auto, unfolding(crate::specs::OnFacts::outcome_on))]
-fn act_on(alloc: Global, facts: &Facts<'_>, caller: &Slug, order: &Order) -> Result<Act, Stop>
+// Checks the order and returns its act.
+fn act_on(alloc: Global, facts: &Facts<'_>, caller: &Slug, order: &Order) -> Result<Act, Rejection>
     ensures { Gives result (outcome_on facts.now caller.now order.now) }
 {
     match order {
-        Order::Enrol { org, title, site } => enrol(facts, caller, org, title, site),
-        Order::AmendOrg {
-            org: _,
-            title,
-            site,
-        } => amend_org(facts, caller, title, site),
-        Order::Ask {
-            org,
-            want,
-            title,
-            terms,
-            vendor,
-        } => {
-            let vid = vendor_meant(facts.founding, *vendor);
-            ask(facts, caller, vid, org, *want, title, terms)
-        }
-        Order::Grant { petition, number } => grant(facts, caller, *petition, *number),
-        Order::Decline { petition } => decline(facts, caller, *petition),
-        Order::Withdraw { petition } => withdraw(facts, caller, *petition),
-        Order::Amend {
-            number,
-            title,
-            terms,
-            vendor,
-        } => {
-            let vid = vendor_meant(facts.founding, *vendor);
-            let number = Number { vid, pid: *number };
-            amend(facts, caller, &number, title, terms)
-        }
-        Order::Return { number, vendor } => {
-            let vid = vendor_meant(facts.founding, *vendor);
-            let number = Number { vid, pid: *number };
-            give_back(facts, caller, &number)
-        }
-        Order::Reserve { span, vendor } => {
-            let vid = vendor_meant(facts.founding, *vendor);
-            reserve(facts, caller, vid, span)
-        }
-        Order::Release { span, vendor } => {
-            let vid = vendor_meant(facts.founding, *vendor);
-            release(facts, caller, vid, span)
-        }
-        Order::Import { org, items, vendor } => {
-            let vid = vendor_meant(facts.founding, *vendor);
-            import(alloc, facts, caller, vid, org, items)
-        }
-        Order::AddVendor { vendor, name } => add_vendor(facts, caller, *vendor, name),
-        Order::AddLicence { licence } => add_licence(facts, caller, licence),
+        Order::Enrol(it) => enrol(facts, caller, it),
+        Order::AmendOrg(it) => amend_org(facts, caller, it),
+        Order::Ask(it) => ask(facts, caller, it),
+        Order::Grant(it) => grant(facts, caller, it),
+        Order::Decline(it) => decline(facts, caller, it),
+        Order::Withdraw(it) => withdraw(facts, caller, it),
+        Order::Amend(it) => amend(facts, caller, it),
+        Order::Return(it) => give_back(facts, caller, it),
+        Order::Reserve(it) => reserve(facts, caller, it),
+        Order::Release(it) => release(facts, caller, it),
+        Order::Import(it) => import(alloc, facts, caller, it),
+        Order::AddVendor(it) => add_vendor(facts, caller, it),
+        Order::AddLicence(it) => add_licence(facts, caller, it),
     }
 }
 
@@ -84,7 +49,7 @@ fn deed_of(request: &Request, act: Act) -> Result<Deed, AllocError>
     })
 }
 
-// The verdict on a request whose key is kept.
+// The verdict on a request whose caller used the key before.
 fn repeated(alloc: Global, kept: &Kept, request: &Request) -> Result<Verdict, NoMemory>
     ensures { IfOk result (λ found. (outcome : Result Act Refusal) → found ≡ verdict_by (Some kept.now) request.now outcome) }
 {
@@ -96,8 +61,25 @@ fn repeated(alloc: Global, kept: &Kept, request: &Request) -> Result<Verdict, No
     }
 }
 
-/// What becomes of a request, by the facts of a history. On facts of no history it returns, and
-/// promises nothing more.
+/// Returns the verdict on a request, by the facts of a history. With facts that are not those of a
+/// history, the verdict may be any.
+///
+/// # Examples
+///
+/// Here `rt` is the runtime that `main` gets, `founding` founds a registry, and `request` enrols
+/// the organisation `acme`. It is new: nothing is kept under its key, and there is no `acme` yet.
+///
+/// ```
+/// let totals = Totals::founded(rt.alloc(), &founding).expect(&rt, "memory");
+/// let holdings = Holdings::new(Vec::new(rt.alloc()));
+/// let facts = totals.facts(&request, None, None, None, holdings);
+/// let verdict = judge(rt.alloc(), &facts, &request).expect(&rt, "memory");
+/// let Verdict::New(deed) = verdict else {
+///     panic!(rt; "no deed");
+/// };
+/// let reply = reply_text(rt.alloc(), &deed).expect(&rt, "memory");
+/// assert_eq!(rt; reply.as_str(), "enrolled acme");
+/// ```
 pub fn judge(alloc: Global, facts: &Facts<'_>, request: &Request) -> Result<Verdict, NoMemory>
     ensures { (h : History) → AreFactsOf h request.now facts.now → IfOk result (λ found. found ≡ verdict h request.now) }
 {
@@ -106,7 +88,7 @@ pub fn judge(alloc: Global, facts: &Facts<'_>, request: &Request) -> Result<Verd
     }
     match act_on(alloc, facts, &request.caller, &request.order) {
         Ok(act) => Ok(Verdict::New(deed_of(request, act)?)),
-        Err(Stop::Refused(refusal)) => Ok(Verdict::Refused(refusal)),
-        Err(Stop::OutOfMemory) => Err(NoMemory),
+        Err(Rejection::Refused(refusal)) => Ok(Verdict::Refused(refusal)),
+        Err(Rejection::OutOfMemory) => Err(NoMemory),
     }
 }

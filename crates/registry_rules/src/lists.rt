@@ -1,13 +1,17 @@
+//! Lists of curators and of licences.
+
 ghost use Rattle.std.specs.Prelude.{◌≡◌, ◌≤◌, ◌↔◌, ℕ, List, [], ◌∷◌, ◌++◌, IsTrue, IsSome, IfSome, OnOk, length};
 ghost use Rattle.std.specs.List.{list_any};
 ghost use Rattle.std.specs.Str.{bytes_eq};
 ghost use Rattle.registry_rules.specs.Texts.{AreInOrder};
 
+use crate::limits::{MOST_CURATORS, MOST_LICENCES};
 use std::alloc::AllocError;
 use std::marker::Model;
 use usbnum_core::{NoMemory, Slug, Text, TextRule, Title};
 
-/// The curators of a registry: 1 to 64, each once, in the order of their bytes.
+/// The curators of a registry, the callers who run it: one to `MOST_CURATORS` slugs, sorted by
+/// their bytes and without repeats.
 #[derive(Debug, Drop)]
 pub struct Curators {
     slugs: Vec<Slug>,
@@ -27,13 +31,13 @@ impl Model for Curators {
 impl Curators {
     ghost use Rattle.registry_rules.specs.Texts.{IsCurators};
 
-    /// These slugs, each once and in order, or None where there are none or more than 64, repeats
-    /// counted.
+    /// Sorts these slugs and removes repeats. Returns None if the list given is empty or has more
+    /// than `MOST_CURATORS` elements.
     pub fn new(slugs: Vec<Slug>) -> Option<Curators>
-        ensures counted { IsSome result ↔ ((1 ≤ length slugs.items) × (length slugs.items ≤ 64)) }
+        ensures counted { IsSome result ↔ ((1 ≤ length slugs.items) × (length slugs.items ≤ MOST_CURATORS)) }
         ensures same { IfSome result (AreInOrder slugs.items) }
     {
-        if slugs.is_empty() || slugs.len() > 64 {
+        if slugs.is_empty() || slugs.len() > MOST_CURATORS {
             return None;
         }
         Some(Curators {
@@ -41,24 +45,28 @@ impl Curators {
         })
     }
 
+    /// Returns whether the caller is a curator.
     pub fn contains(&self, slug: &Slug) -> bool
         ensures { result ≡ list_any (bytes_eq slug.now) self.now }
     {
         self.slugs.iter().any(|other| slug == other)
     }
 
+    /// Returns the length of the list.
     pub fn len(&self) -> usize
         ensures { result ≡ length self.now }
     {
         self.slugs.len()
     }
 
+    /// Returns whether the list is empty, which is always false.
     pub fn is_empty(&self) -> bool
         ensures { IsTrue result ↔ (length self.now ≡ 0) }
     {
         self.slugs.is_empty()
     }
 
+    /// Returns the curators, ascending.
     pub fn as_slice(&self) -> &[Slug]
         ensures slugs { result.now ≡ self.now }
         ensures valid { IsCurators self.now }
@@ -77,7 +85,8 @@ impl Clone for Curators {
     }
 }
 
-/// The allowed licences of a registry: 1 to 1,024, each once, in the order of their bytes.
+/// The licences that a registry allows: one to `MOST_LICENCES` titles, sorted by their bytes and
+/// without repeats.
 #[derive(Debug, Drop)]
 pub struct Licences {
     titles: Vec<Title>,
@@ -97,13 +106,13 @@ impl Model for Licences {
 impl Licences {
     ghost use Rattle.registry_rules.specs.Texts.{IsLicences};
 
-    /// These titles, each once and in order, or None where there are none or more than 1,024,
-    /// repeats counted.
+    /// Sorts these titles and removes repeats. Returns None if the list given is empty or has more
+    /// than `MOST_LICENCES` elements.
     pub fn new(titles: Vec<Title>) -> Option<Licences>
-        ensures counted { IsSome result ↔ ((1 ≤ length titles.items) × (length titles.items ≤ 1024)) }
+        ensures counted { IsSome result ↔ ((1 ≤ length titles.items) × (length titles.items ≤ MOST_LICENCES)) }
         ensures same { IfSome result (AreInOrder titles.items) }
     {
-        if titles.is_empty() || titles.len() > 1024 {
+        if titles.is_empty() || titles.len() > MOST_LICENCES {
             return None;
         }
         Some(Licences {
@@ -111,12 +120,12 @@ impl Licences {
         })
     }
 
-    // One title more. 1,024 are all that there may be: then it answers NoMemory, as where memory is
-    // short, and nothing is changed.
+    // Adds a title. Returns NoMemory also if the list has `MOST_LICENCES`. At NoMemory nothing is
+    // changed.
     pub(crate) fn add(&mut self, title: Title) -> Result<(), NoMemory>
         ensures { OnOk result (AreInOrder (self.old ++ title ∷ []) self.new) }
     {
-        if self.titles.len() >= 1024 {
+        if self.titles.len() >= MOST_LICENCES {
             return Err(NoMemory);
         }
         let mut titles = self.titles.clone()?;
@@ -125,24 +134,28 @@ impl Licences {
         Ok(())
     }
 
+    /// Returns whether the licence is allowed.
     pub fn contains(&self, title: &Title) -> bool
         ensures { result ≡ list_any (bytes_eq title.now) self.now }
     {
         self.titles.iter().any(|other| title == other)
     }
 
+    /// Returns the length of the list.
     pub fn len(&self) -> usize
         ensures { result ≡ length self.now }
     {
         self.titles.len()
     }
 
+    /// Returns whether the list is empty, which is always false.
     pub fn is_empty(&self) -> bool
         ensures { IsTrue result ↔ (length self.now ≡ 0) }
     {
         self.titles.is_empty()
     }
 
+    /// Returns the licences, ascending.
     pub fn as_slice(&self) -> &[Title]
         ensures titles { result.now ≡ self.now }
         ensures valid { IsLicences self.now }
@@ -161,7 +174,7 @@ impl Clone for Licences {
     }
 }
 
-// The texts, each once, in the order of their bytes.
+// The texts, sorted by their bytes and without repeats.
 fn in_order<R: TextRule>(texts: Vec<Text<R>>) -> Vec<Text<R>>
     ensures same { AreInOrder texts.items result.items }
     ensures some { 1 ≤ length texts.items → 1 ≤ length result.items }

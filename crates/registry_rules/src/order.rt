@@ -1,218 +1,201 @@
+//! Requests and their orders, with a struct for each kind of order.
+
 ghost use Rattle.std.specs.Prelude.{◌≡◌};
 
 use crate::{Items, Terms};
 use std::alloc::AllocError;
 use usbnum_core::{Key, Link, Pid, Slug, Span, Title, Vid};
 
-/// What a request asks for. Where an order may name a vendor and names none, it means the vendor of
-/// the founding.
-#[derive(Debug)]
-pub enum Order {
-    /// A new organisation, whose keeper is the caller.
-    Enrol {
-        org: Slug,
-        title: Title,
-        site: Link,
-    },
-    /// Another title and site of an organisation.
-    AmendOrg {
-        org: Slug,
-        title: Title,
-        site: Link,
-    },
-    /// A new petition, for the wanted number or for any.
-    Ask {
-        org: Slug,
-        want: Option<Pid>,
-        title: Title,
-        terms: Terms,
-        vendor: Option<Vid>,
-    },
-    /// The number named, else the one that the petition wants, else the least free one becomes the
-    /// petition's organisation's.
-    Grant {
-        petition: u32,
-        number: Option<Pid>,
-    },
-    /// A curator refuses a petition.
-    Decline {
-        petition: u32,
-    },
-    /// The keeper takes a petition back.
-    Withdraw {
-        petition: u32,
-    },
-    /// Another card of a held number.
-    Amend {
-        number: Pid,
-        title: Title,
-        terms: Terms,
-        vendor: Option<Vid>,
-    },
-    /// A held number is given back; its owner stays the same.
-    Return {
-        number: Pid,
-        vendor: Option<Vid>,
-    },
-    /// All numbers of the span are to be reserved.
-    Reserve {
-        span: Span,
-        vendor: Option<Vid>,
-    },
-    /// No number of the span is to be reserved any longer.
-    Release {
-        span: Span,
-        vendor: Option<Vid>,
-    },
-    /// The fresh items of a list become held numbers of the organisation.
-    Import {
-        org: Slug,
-        items: Items,
-        vendor: Option<Vid>,
-    },
-    /// A further vendor.
-    AddVendor {
-        vendor: Vid,
-        name: Title,
-    },
-    /// A further allowed licence.
-    AddLicence {
-        licence: Title,
-    },
-}
-
-/// An order of a caller, under a key of the caller's choice. The same order under the same key is
-/// acted on once.
+/// Enrols a new organisation, whose keeper is the caller.
 #[derive(Clone, Debug, Drop)]
-pub struct Request {
-    pub caller: Slug,
-    pub key: Key,
-    pub order: Order,
+pub struct Enrol {
+    /// The slug of the organisation, which never changes.
+    pub org: Slug,
+    /// Its title.
+    pub title: Title,
+    /// Its site.
+    pub site: Link,
 }
 
+/// Changes the title and the site of an organisation.
+#[derive(Clone, Debug, Drop)]
+pub struct AmendOrg {
+    /// The organisation.
+    pub org: Slug,
+    /// Its new title.
+    pub title: Title,
+    /// Its new site.
+    pub site: Link,
+}
+
+/// Opens a petition, for a certain number or for any.
+#[derive(Clone, Debug, Drop)]
+pub struct Ask {
+    /// The organisation that asks.
+    pub org: Slug,
+    /// The product ID that it wants; None for any.
+    pub want: Option<Pid>,
+    /// The title for the number's card.
+    pub title: Title,
+    /// The terms for the card.
+    pub terms: Terms,
+    /// The vendor of the number, if the order names it.
+    pub vendor: Option<Vid>,
+}
+
+/// Gives the petition's organisation the number named, otherwise the one that the petition wants,
+/// otherwise the least free one.
+#[derive(Clone, Debug, Drop)]
+pub struct Grant {
+    /// The petition.
+    pub petition: u32,
+    /// The product ID to grant, if the order names it.
+    pub number: Option<Pid>,
+}
+
+/// Closes a petition without a grant, by a curator.
+#[derive(Clone, Debug, Drop)]
+pub struct Decline {
+    /// The petition.
+    pub petition: u32,
+}
+
+/// Closes a petition without a grant, by the keeper of its organisation.
+#[derive(Clone, Debug, Drop)]
+pub struct Withdraw {
+    /// The petition.
+    pub petition: u32,
+}
+
+/// Changes the card of a held number.
+#[derive(Clone, Debug, Drop)]
+pub struct Amend {
+    /// The number.
+    pub number: Pid,
+    /// The new title.
+    pub title: Title,
+    /// The new terms.
+    pub terms: Terms,
+    /// The number's vendor, where it is named.
+    pub vendor: Option<Vid>,
+}
+
+/// Returns a held number, which keeps its owner.
+#[derive(Clone, Debug, Drop)]
+pub struct Return {
+    /// The number.
+    pub number: Pid,
+    /// The number's vendor, where it is named.
+    pub vendor: Option<Vid>,
+}
+
+/// Reserves all numbers of a span.
+#[derive(Clone, Debug, Drop)]
+pub struct Reserve {
+    /// The span.
+    pub span: Span,
+    /// The vendor of the numbers, where it is named.
+    pub vendor: Option<Vid>,
+}
+
+/// Releases all numbers of a span.
+#[derive(Clone, Debug, Drop)]
+pub struct Release {
+    /// The span.
+    pub span: Span,
+    /// The vendor of the numbers, where it is named.
+    pub vendor: Option<Vid>,
+}
+
+/// Gives an organisation the numbers of the fresh items of a list.
+#[derive(Clone, Debug, Drop)]
+pub struct Import {
+    /// The organisation.
+    pub org: Slug,
+    /// The items.
+    pub items: Items,
+    /// The vendor of the numbers, where it is named.
+    pub vendor: Option<Vid>,
+}
+
+/// Adds a vendor.
+#[derive(Clone, Debug, Drop)]
+pub struct AddVendor {
+    /// The vendor.
+    pub vendor: Vid,
+    /// Its name.
+    pub name: Title,
+}
+
+/// Allows a further licence.
+#[derive(Clone, Debug, Drop)]
+pub struct AddLicence {
+    /// The licence.
+    pub licence: Title,
+}
+
+/// The order of a request. An order that may name a vendor and does not means the founding vendor.
+#[derive(Debug, Drop)]
+pub enum Order {
+    /// Enrols an organisation.
+    Enrol(Enrol),
+    /// Amends an organisation.
+    AmendOrg(AmendOrg),
+    /// Asks for a number.
+    Ask(Ask),
+    /// Grants a petition.
+    Grant(Grant),
+    /// Declines a petition.
+    Decline(Decline),
+    /// Withdraws a petition.
+    Withdraw(Withdraw),
+    /// Amends a number's card.
+    Amend(Amend),
+    /// Returns a number.
+    Return(Return),
+    /// Reserves numbers.
+    Reserve(Reserve),
+    /// Releases reserved numbers.
+    Release(Release),
+    /// Imports a list.
+    Import(Import),
+    /// Adds a vendor.
+    AddVendor(AddVendor),
+    /// Adds a licence.
+    AddLicence(AddLicence),
+}
+
+// By hand, so that a copy is equal to the order it is of.
 impl Clone for Order {
     ghost is_clone = { λ order copy. copy ≡ order };
 
     fn clone(&self) -> Result<Order, AllocError> {
         Ok(match self {
-            Order::Enrol { org, title, site } => Order::Enrol {
-                org: org.clone()?,
-                title: title.clone()?,
-                site: site.clone()?,
-            },
-            Order::AmendOrg { org, title, site } => Order::AmendOrg {
-                org: org.clone()?,
-                title: title.clone()?,
-                site: site.clone()?,
-            },
-            Order::Ask {
-                org,
-                want,
-                title,
-                terms,
-                vendor,
-            } => Order::Ask {
-                org: org.clone()?,
-                want: *want,
-                title: title.clone()?,
-                terms: terms.clone()?,
-                vendor: *vendor,
-            },
-            Order::Grant { petition, number } => Order::Grant {
-                petition: *petition,
-                number: *number,
-            },
-            Order::Decline { petition } => Order::Decline {
-                petition: *petition,
-            },
-            Order::Withdraw { petition } => Order::Withdraw {
-                petition: *petition,
-            },
-            Order::Amend {
-                number,
-                title,
-                terms,
-                vendor,
-            } => Order::Amend {
-                number: *number,
-                title: title.clone()?,
-                terms: terms.clone()?,
-                vendor: *vendor,
-            },
-            Order::Return { number, vendor } => Order::Return {
-                number: *number,
-                vendor: *vendor,
-            },
-            Order::Reserve { span, vendor } => Order::Reserve {
-                span: *span,
-                vendor: *vendor,
-            },
-            Order::Release { span, vendor } => Order::Release {
-                span: *span,
-                vendor: *vendor,
-            },
-            Order::Import { org, items, vendor } => Order::Import {
-                org: org.clone()?,
-                items: items.clone()?,
-                vendor: *vendor,
-            },
-            Order::AddVendor { vendor, name } => Order::AddVendor {
-                vendor: *vendor,
-                name: name.clone()?,
-            },
-            Order::AddLicence { licence } => Order::AddLicence {
-                licence: licence.clone()?,
-            },
+            Order::Enrol(it) => Order::Enrol(it.clone()?),
+            Order::AmendOrg(it) => Order::AmendOrg(it.clone()?),
+            Order::Ask(it) => Order::Ask(it.clone()?),
+            Order::Grant(it) => Order::Grant(it.clone()?),
+            Order::Decline(it) => Order::Decline(it.clone()?),
+            Order::Withdraw(it) => Order::Withdraw(it.clone()?),
+            Order::Amend(it) => Order::Amend(it.clone()?),
+            Order::Return(it) => Order::Return(it.clone()?),
+            Order::Reserve(it) => Order::Reserve(it.clone()?),
+            Order::Release(it) => Order::Release(it.clone()?),
+            Order::Import(it) => Order::Import(it.clone()?),
+            Order::AddVendor(it) => Order::AddVendor(it.clone()?),
+            Order::AddLicence(it) => Order::AddLicence(it.clone()?),
         })
     }
 }
 
-// By hand, so that a drop is one step wherever an order goes out of scope.
-impl Drop for Order {
-    fn drop(self) {
-        match self {
-            Order::Enrol {
-                org: _,
-                title: _,
-                site: _,
-            } => {}
-            Order::AmendOrg {
-                org: _,
-                title: _,
-                site: _,
-            } => {}
-            Order::Ask {
-                org: _,
-                want: _,
-                title: _,
-                terms: _,
-                vendor: _,
-            } => {}
-            Order::Grant {
-                petition: _,
-                number: _,
-            } => {}
-            Order::Decline { petition: _ } => {}
-            Order::Withdraw { petition: _ } => {}
-            Order::Amend {
-                number: _,
-                title: _,
-                terms: _,
-                vendor: _,
-            } => {}
-            Order::Return {
-                number: _,
-                vendor: _,
-            } => {}
-            Order::Reserve { span: _, vendor: _ } => {}
-            Order::Release { span: _, vendor: _ } => {}
-            Order::Import {
-                org: _,
-                items: _,
-                vendor: _,
-            } => {}
-            Order::AddVendor { vendor: _, name: _ } => {}
-            Order::AddLicence { licence: _ } => {}
-        }
-    }
+/// An order of a caller, under a key that the caller chooses. The same order under the same key is
+/// acted on once.
+#[derive(Clone, Debug, Drop)]
+pub struct Request {
+    /// The caller.
+    pub caller: Slug,
+    /// The caller's key for the request.
+    pub key: Key,
+    /// The order.
+    pub order: Order,
 }

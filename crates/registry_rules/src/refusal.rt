@@ -1,61 +1,65 @@
-ghost use Rattle.std.specs.Prelude.{◌≡◌, IfOk};
-ghost use Rattle.registry_rules.specs.Reply.{refusal_number, refusal_name, refusal_detail};
+//! Refusals: the reasons, their numbers, names and details.
 
-use crate::{NumberName, Text};
+ghost use Rattle.std.specs.Prelude.{◌≡◌, IfOk, Some};
+ghost use Rattle.registry_rules.specs.Reply.{refusal_number, refusal_name, refusal_detail, refusal_text};
+
+use crate::{NumberName, ReplyText};
 use std::alloc::Global;
+use std::error::Error;
+use std::fmt;
 use usbnum_core::{NoMemory, Slug};
 
-/// Why the rules refuse a request. Nothing is changed then.
+/// The reason why the rules refuse a request. A refused request changes nothing.
 #[derive(Clone, Debug, PartialEq, Eq, Drop)]
 pub enum Refusal {
-    /// The key is kept with another order.
+    /// The caller used the key for another order.
     KeyReused,
-    /// The caller is no curator.
+    /// The caller is not a curator.
     NotCurator,
-    /// The caller isn't the keeper of the organisation concerned.
+    /// The caller is not the keeper of the organisation concerned.
     NotKeeper,
-    /// There is no such organisation.
+    /// The organisation does not exist.
     NoOrg,
-    /// The slug is enrolled already.
+    /// An organisation with the slug exists.
     OrgTaken,
-    /// There is no petition of that number.
+    /// The petition does not exist.
     NoPetition,
-    /// The petition isn't open.
+    /// The petition is not open.
     PetitionClosed,
     /// The number is reserved.
     NumberReserved,
-    /// Another organisation, which is named, owns the number.
+    /// Another organisation, which the refusal names, owns the number.
     NumberOwned(Slug),
-    /// The same organisation holds the number already.
+    /// The organisation holds the number already.
     NumberHeld,
-    /// Nobody holds the number.
+    /// The number is not held.
     NumberNotHeld,
     /// No number of the vendor is free.
     NoneFree,
-    /// The licence isn't allowed.
+    /// The licence is not allowed.
     LicenceUnknown,
-    /// The organisation has 16 open petitions.
+    /// The organisation has `MOST_OPEN` open petitions.
     TooManyOpen,
-    /// An owned number is in the span; the least one is named.
+    /// A number of the span is owned; the refusal names the least one.
     RangeOwned(NumberName),
-    /// A number that was reserved at the founding is in the span.
+    /// A number of the span is fixed.
     RangeFixed,
-    /// A number of the span isn't reserved.
+    /// A number of the span is not reserved.
     RangeNotReserved,
-    /// There are as many organisations, petitions, vendors or licences as there may be.
+    /// The registry has the most organisations, petitions, vendors or licences that it may have.
     Full,
-    /// The import has more than 8,192 items.
+    /// The import has more than `MOST_ITEMS` items.
     ImportTooLong,
-    /// The vendor is there already.
+    /// The registry has the vendor already.
     VendorTaken,
-    /// There is no such vendor.
+    /// The registry does not have the vendor.
     NoVendor,
     /// The licence is allowed already.
     LicenceTaken,
 }
 
 impl Refusal {
-    /// The number of the refusal.
+    /// Returns the number of the refusal.
     pub fn number(&self) -> u8
         ensures { result ≡ refusal_number self.now }
     {
@@ -85,7 +89,7 @@ impl Refusal {
         }
     }
 
-    /// Its name, as `NumberOwned`.
+    /// Returns the name of the refusal, for example `NumberOwned`.
     pub fn name(&self) -> &'static str
         ensures { result.now ≡ refusal_name self.now }
     {
@@ -115,14 +119,30 @@ impl Refusal {
         }
     }
 
-    /// What it says more than its name: the owner that stands in the way, or the least owned number.
-    pub fn detail(&self, alloc: Global) -> Result<Option<Text>, NoMemory>
+    /// Returns the detail: the owner of the number, or the least owned number of the span, or None.
+    pub fn detail(&self, alloc: Global) -> Result<Option<ReplyText>, NoMemory>
         ensures { IfOk result (λ detail. detail ≡ refusal_detail self.now) }
     {
         match self {
-            Refusal::NumberOwned(owner) => Ok(Some(Text::new(format!(in alloc; "{owner}")?))),
-            Refusal::RangeOwned(name) => Ok(Some(Text::new(format!(in alloc; "{name}")?))),
+            Refusal::NumberOwned(owner) => Ok(Some(ReplyText::new(format!(in alloc; "{owner}")?))),
+            Refusal::RangeOwned(name) => Ok(Some(ReplyText::new(format!(in alloc; "{name}")?))),
             _ => Ok(None),
         }
     }
 }
+
+/// Writes the name, and after a colon the detail, as in `NumberOwned: acme`.
+impl fmt::Display for Refusal {
+    ghost output = { λ refusal. Some (refusal_text refusal) };
+
+    fn fmt<W: fmt::Write>(&self, f: &mut fmt::Formatter<W>) -> fmt::Result {
+        let name = self.name();
+        match self {
+            Refusal::NumberOwned(owner) => write!(f, "{name}: {owner}"),
+            Refusal::RangeOwned(number) => write!(f, "{name}: {number}"),
+            _ => f.write_str(name),
+        }
+    }
+}
+
+impl Error for Refusal {}

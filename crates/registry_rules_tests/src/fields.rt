@@ -1,6 +1,6 @@
-//! Values from texts, a founding, and two requests.
+//! Makers of values for the tests: from texts, a founding, and two requests.
 
-use registry_rules::{Curators, Founding, Licences, Order, Request, Terms};
+use registry_rules::{Ask, Curators, Enrol, Founding, Licences, Order, Request, Terms};
 use std::process::Abort;
 use usbnum_core::{Key, Link, Number, Pid, Slug, Span, Spans, Title, Vid};
 
@@ -39,7 +39,7 @@ pub(crate) fn span(rt: &(impl AllocGlobal + Abort), first: u16, last: u16) -> Sp
     Span::new(number(rt, first).pid, number(rt, last).pid).expect(rt, "a span")
 }
 
-/// A founding of vendor 1209 with curator Ann, two licences and one span of fixed numbers.
+/// Returns a founding of vendor 1209 with curator Ann, two licences and one span of fixed numbers.
 pub(crate) fn founding(rt: &(impl AllocGlobal + Abort), fixed: Span) -> Founding {
     let mut curators = Vec::new(rt.alloc());
     curators.push(slug(rt, "ann")).expect(rt, "memory");
@@ -67,29 +67,29 @@ fn request(rt: &(impl AllocGlobal + Abort), order: Order) -> Request {
     }
 }
 
-/// Ann enrols an organisation.
+/// Returns Ann's request to enrol an organisation.
 pub(crate) fn enrol(rt: &(impl AllocGlobal + Abort), org: &str) -> Request {
-    let order = Order::Enrol {
+    let order = Order::Enrol(Enrol {
         org: slug(rt, org),
         title: title(rt, "Acme Tools"),
         site: link(rt),
-    };
+    });
     request(rt, order)
 }
 
-/// Ann asks for any number for an organisation.
+/// Returns Ann's request for any number for an organisation.
 pub(crate) fn ask(rt: &(impl AllocGlobal + Abort), org: &str) -> Request {
     let terms = Terms {
         licence: title(rt, "MIT"),
         site: link(rt),
         source: link(rt),
     };
-    let order = Order::Ask {
+    let order = Order::Ask(Ask {
         org: slug(rt, org),
         want: None,
         title: title(rt, "Lamp"),
         terms,
         vendor: None,
-    };
+    });
     request(rt, order)
 }

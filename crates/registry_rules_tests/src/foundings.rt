@@ -1,11 +1,11 @@
-//! What a founding and the values beside it say of themselves.
+//! The methods of a founding's values, of texts and holdings, and the calls of the laws.
 
 use crate::fields::{founding, slug, span, title};
 use registry_rules::laws::{
-    has_four_states, has_one_organisation, has_own_spelling, has_row_if_owned, is_kept_for_good,
-    is_legal_from_start, is_owned_or_reserved, may_be_repeated, stays_legal,
+    has_entry_if_owned, has_four_states, has_one_organisation, has_one_state,
+    has_own_canonical_form, is_kept_for_good, is_legal_from_start, may_be_repeated, stays_legal,
 };
-use registry_rules::{Curators, Holdings, Licences, Spelling, Text, Totals};
+use registry_rules::{CanonicalForm, Curators, Holdings, Licences, ReplyText, Totals};
 
 #[test]
 fn a_founding_says_what_it_has(rt: HostRuntime) {
@@ -40,7 +40,7 @@ fn a_founding_says_what_it_has(rt: HostRuntime) {
     assert_eq!(rt; vendor.name.as_str(), "Shared products");
 }
 
-// So many texts are counted, repeats too, and each is kept once.
+// The limits count repeats, and the lists have each text once.
 #[test]
 fn lists_are_counted(rt: HostRuntime) {
     for (count, fits) in [(0_u16, false), (1, true), (64, true), (65, false)] {
@@ -64,10 +64,10 @@ fn lists_are_counted(rt: HostRuntime) {
 #[test]
 fn texts_say_what_they_are(rt: HostRuntime) {
     let bytes = b"grant".as_slice().to_vec(rt.alloc()).expect(&rt, "memory");
-    let spelling = Spelling::new(bytes).clone().expect(&rt, "memory");
-    assert_eq!(rt; spelling.as_bytes(), b"grant".as_slice());
+    let form = CanonicalForm::new(bytes).clone().expect(&rt, "memory");
+    assert_eq!(rt; form.as_bytes(), b"grant".as_slice());
     let text = String::from_str(rt.alloc(), "petition 1").expect(&rt, "memory");
-    let text = Text::new(text).clone().expect(&rt, "memory");
+    let text = ReplyText::new(text).clone().expect(&rt, "memory");
     assert_eq!(rt; text.as_str(), "petition 1");
     assert_eq!(rt; Holdings::new(Vec::new(rt.alloc())).as_slice().len(), 0);
 }
@@ -79,8 +79,8 @@ fn laws_may_be_cited(rt: HostRuntime) {
     may_be_repeated();
     is_kept_for_good();
     has_one_organisation();
-    is_owned_or_reserved();
+    has_one_state();
     has_four_states();
-    has_own_spelling();
-    has_row_if_owned();
+    has_own_canonical_form();
+    has_entry_if_owned();
 }

@@ -1,5 +1,6 @@
-//! Values of the rules, one request's way through them, and the limits that no short history reaches.
-//! `scripts/compare_with_plain_history.py` has the cases of each order and refusal.
+//! Tests of the rules' types, of one request from end to end, and of the limits that no short
+//! history reaches. `scripts/compare_with_plain_history.py` has the cases for each order and
+//! refusal.
 #![tactic(auto)]
 
 #[cfg(test)]

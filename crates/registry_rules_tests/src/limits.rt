@@ -1,4 +1,4 @@
-//! As many organisations and petitions as there may be, and one more: the facts say that they are there.
+//! The limits of organisations and petitions, tested with facts that claim so many.
 
 use crate::fields::{ask, enrol, founding, slug, span, title};
 use registry_rules::{Facts, Holdings, Org, Request, Totals, Verdict, judge, reply_text};
@@ -16,7 +16,7 @@ fn acme(rt: &(impl AllocGlobal + Abort)) -> Org {
     }
 }
 
-// The reply, or the refusal's number and name.
+// The reply, `kept`, or the refusal's number and name.
 fn answer(rt: &(impl AllocGlobal + Abort), facts: &Facts<'_>, request: &Request) -> String {
     match judge(rt.alloc(), facts, request).expect(rt, "memory") {
         Verdict::New(deed) => {
@@ -31,7 +31,7 @@ fn answer(rt: &(impl AllocGlobal + Abort), facts: &Facts<'_>, request: &Request)
     }
 }
 
-// The answer where there are so many organisations, Acme among them where it is asked for, and petitions.
+// The answer with these counts; `org` is the organisation concerned.
 fn answer_at(
     rt: &(impl AllocGlobal + Abort),
     request: &Request,

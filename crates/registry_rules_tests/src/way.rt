@@ -1,19 +1,19 @@
-//! One request's way through the rules, and the totals of lists.
+//! One request through all steps of the rules, and totals from lists.
 
 use crate::fields::{enrol, founding, number, slug, span, title};
 use registry_rules::{
     Card, Change, Deed, Entry, Holdings, PetitionCounts, Totals, Vendor, Vendors, Verdict, changes,
-    judge, numbers_concerned, org_concerned, reply_text, request_bytes,
+    judge, numbers_concerned, reply_text, request_bytes, slug_concerned,
 };
 use std::process::Abort;
 
-// What comes of Acme's enrolment.
+// The deed of Acme's enrolment.
 fn accepted(rt: &(impl AllocGlobal + Abort), totals: &Totals) -> Option<Deed> {
     let request = enrol(rt, "acme");
     let holdings = Holdings::new(Vec::new(rt.alloc()));
     let vendor = totals.founding().vendor;
     assert!(rt; numbers_concerned(&request.order, vendor, None, None).is_none());
-    assert!(rt; org_concerned(&request.order, vendor, None, &holdings) == Some(&slug(rt, "acme")));
+    assert!(rt; slug_concerned(&request.order, vendor, None, &holdings) == Some(&slug(rt, "acme")));
     let order = request_bytes(rt.alloc(), &request).expect(rt, "memory");
     assert_eq!(rt;
         order.as_bytes(),
@@ -39,6 +39,21 @@ fn a_request_is_accepted(rt: HostRuntime) {
     );
     totals.carry(&deed).expect(&rt, "memory");
     assert_eq!(rt; (totals.orgs(), totals.petitions()), (1, 0));
+}
+
+#[test]
+fn a_new_request_has_a_deed(rt: HostRuntime) {
+    let founding = founding(&rt, span(&rt, 1, 16));
+    let request = enrol(&rt, "acme");
+    let totals = Totals::founded(rt.alloc(), &founding).expect(&rt, "memory");
+    let holdings = Holdings::new(Vec::new(rt.alloc()));
+    let facts = totals.facts(&request, None, None, None, holdings);
+    let verdict = judge(rt.alloc(), &facts, &request).expect(&rt, "memory");
+    let Verdict::New(deed) = verdict else {
+        panic!(rt; "no deed");
+    };
+    let reply = reply_text(rt.alloc(), &deed).expect(&rt, "memory");
+    assert_eq!(rt; reply.as_str(), "enrolled acme");
 }
 
 #[test]

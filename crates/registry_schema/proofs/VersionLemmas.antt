@@ -1,4 +1,4 @@
--- The names of each schema's tables tell which it is, and each has the table meta.
+-- The names of a schema's tables give its version, and each schema has the table meta.
 use Rattle.std.proofs.Common.{◌≡◌, Some, true, IsTrue, ap, refl, ◌∙◌}
 use Rattle.sqlite_schema.specs.declared.schema.Schema.{Schema}
 use Rattle.sqlite.specs.State.{State, IsLive}
@@ -21,7 +21,7 @@ module _ (s : State) (live : IsLive s) (is_open : IsTrue s.is_open) where
   pub has_schema_3 : HasTables texts_3 s.now.trees → s.now.schema ≡ schema_3
   has_schema_3 has = live_schema s _ live is_open has ∙ schema_3_is
 
-  -- and so does what their names tell
+  -- and their names give its version
   pub named_1 : HasTables texts_1 s.now.trees → version_named s.now.schema.tables ≡ Some 1
   named_1 has = ap (λ (x : Schema). version_named x.tables) (has_schema_1 has)
 

@@ -2,3 +2,4 @@ pub mod Texts
 pub mod Schema
 pub mod Meta
 pub mod Version
+pub mod Faults

@@ -1,4 +1,4 @@
--- Whether a store has the table that tells what it is.
+-- Whether a database has the table meta.
 use Rattle.std.specs.Prelude.{Bool, codes}
 use Rattle.std.specs.List.{list_any}
 use Rattle.std.specs.Str.{bytes_eq}

@@ -1,7 +1,7 @@
--- The text of each table, to the byte, and what a store has in it.
+-- The CREATE TABLE text of each table, to the byte, and what the table holds.
 use Rattle.std.specs.Prelude.{ℕ, List, [], ◌∷◌, ◌++◌, codes}
 
--- one row: the number of the schema, the founding vendor and its name
+-- one row: the schema version, the founding vendor and its name
 abbrev pub meta_text : List ℕ
 meta_text = codes "CREATE TABLE meta (id INTEGER PRIMARY KEY, version INTEGER NOT NULL, vendor INTEGER NOT NULL, name TEXT NOT NULL) STRICT"
 
@@ -13,7 +13,7 @@ curators_text = codes "CREATE TABLE curators (name TEXT PRIMARY KEY NOT NULL) ST
 abbrev pub licences_text : List ℕ
 licences_text = codes "CREATE TABLE licences (name TEXT PRIMARY KEY NOT NULL) STRICT"
 
--- the maximal spans of the numbers of the founding vendor that are reserved for good
+-- the fixed numbers of the founding vendor, reserved for good, as maximal spans
 abbrev pub fixed_text : List ℕ
 fixed_text = codes "CREATE TABLE fixed (lo INTEGER PRIMARY KEY, hi INTEGER NOT NULL) STRICT"
 
@@ -29,15 +29,15 @@ petitions_text = codes "CREATE TABLE petitions (id INTEGER PRIMARY KEY, org TEXT
 abbrev pub entries_text : List ℕ
 entries_text = codes "CREATE TABLE entries (pid INTEGER PRIMARY KEY, org TEXT NOT NULL, held INTEGER NOT NULL, title TEXT NOT NULL, licence TEXT, site TEXT, source TEXT) STRICT"
 
--- the numbers that an order reserved in the first schema, empty from the second on
+-- the numbers that orders reserved in the first schema, empty from the second on
 abbrev pub reserved_text : List ℕ
 reserved_text = codes "CREATE TABLE reserved (pid INTEGER PRIMARY KEY) STRICT"
 
--- a row for each accepted request: its order's spelling and its reply
+-- a row for each accepted request: the canonical form of its order, and its reply
 abbrev pub kept_text : List ℕ
 kept_text = codes "CREATE TABLE kept (caller TEXT NOT NULL, request_key TEXT NOT NULL, request BLOB NOT NULL, reply TEXT NOT NULL, PRIMARY KEY (caller, request_key)) STRICT"
 
--- the maximal spans of the numbers that an order reserved in the second schema, empty from the third on
+-- the maximal spans of the numbers that orders reserved in the second schema, empty from the third on
 abbrev pub spans_text : List ℕ
 spans_text = codes "CREATE TABLE spans (lo INTEGER PRIMARY KEY, hi INTEGER NOT NULL) STRICT"
 
@@ -45,7 +45,7 @@ spans_text = codes "CREATE TABLE spans (lo INTEGER PRIMARY KEY, hi INTEGER NOT N
 abbrev pub vendors_text : List ℕ
 vendors_text = codes "CREATE TABLE vendors (vid INTEGER PRIMARY KEY, name TEXT NOT NULL) STRICT"
 
--- the maximal spans of each vendor's numbers that an order reserved
+-- the maximal spans of each vendor's numbers that orders reserved
 abbrev pub spans3_text : List ℕ
 spans3_text = codes "CREATE TABLE spans3 (vid INTEGER NOT NULL, lo INTEGER NOT NULL, hi INTEGER NOT NULL, PRIMARY KEY (vid, lo)) STRICT"
 

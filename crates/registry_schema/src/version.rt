@@ -1,4 +1,4 @@
-//! Which of the schemas a store has.
+//! The schema version of a store.
 
 ghost use Rattle.std.specs.Prelude.{◌≡◌, IsTrue, Some, false, map};
 ghost use Rattle.sqlite.specs.State.{IsLive};
@@ -11,7 +11,7 @@ ghost use Rattle.registry_schema.specs.Meta.{has_meta_table};
 use sqlite::{Alter, Connection};
 use sqlite_schema::schema::Table;
 
-/// Whether the store has a table `meta`. No store call is made.
+/// Returns whether the database has a table `meta`. Makes no store call.
 pub fn has_meta<S: Alter>(conn: &Connection<S>) -> bool
     ensures { result ≡ has_meta_table (state S.Store conn.now).now.schema }
 {
@@ -22,7 +22,7 @@ pub fn has_meta<S: Alter>(conn: &Connection<S>) -> bool
         .any(|table| table.name.as_slice() == b"meta".as_slice())
 }
 
-/// Whether the store has no table and no view. No store call is made.
+/// Returns whether the database has no table, index or view. Makes no store call.
 pub fn is_empty<S: Alter>(conn: &Connection<S>) -> bool
     ensures empty { IsTrue result → (state S.Store conn.now).now.schema ≡ no_schema }
     ensures filled { result ≡ false → ¬ ((state S.Store conn.now).now.schema ≡ no_schema) }
@@ -32,7 +32,7 @@ pub fn is_empty<S: Alter>(conn: &Connection<S>) -> bool
     schema.tables.is_empty() && schema.indexes.is_empty() && schema.views.is_empty()
 }
 
-// The names of the tables of each schema, in the order in which they are made.
+// The names of each schema's tables, in the order of their creation.
 const FIRST: [&str; 9] = [
     "meta",
     "curators",
@@ -75,7 +75,7 @@ const THIRD: [&str; 14] = [
     "petitions3",
 ];
 
-// Whether the tables have these names, in this order, and no table is left over.
+// Returns whether the tables have exactly these names, in this order.
 fn have_names(tables: &[Table], names: &[&str]) -> bool
     ensures { result ≡ are_named (map (λ name. name.now) names.now) tables.now }
 {
@@ -102,8 +102,8 @@ fn version_by(tables: &[Table]) -> Option<u8>
     }
 }
 
-/// The number of the schema whose tables the store has, told by their names; None where it has those of no schema.
-/// No store call is made.
+/// Returns the version of the schema whose table names the database has, or `None` if no schema has
+/// them. Makes no store call.
 pub fn version_of<S: Alter>(conn: &Connection<S>) -> Option<u8>
     ensures first { IsTrue (state S.Store conn.now).is_open → HasTables texts_1 (state S.Store conn.now).now.trees → result ≡ Some 1 }
     ensures second { IsTrue (state S.Store conn.now).is_open → HasTables texts_2 (state S.Store conn.now).now.trees → result ≡ Some 2 }

@@ -1,9 +1,10 @@
--- What opening makes of a store of any schema.
+-- What opening does to a store of any schema.
 use Rattle.std.proofs.Common.{◌≡◌, IsTrue, ℕ, inl, inr, Result, Ok, Err, IfErr, MatchResult, IfOk, ◌⊎◌, sym, subst, arith}
 use Rattle.sqlite_disk.specs.Disk.{MoreFaults}
 use Rattle.sqlite_trees.specs.Tree.{Trees}
 use Rattle.sqlite.specs.State.{State, HasCleanDisk, Survives}
 use Rattle.sqlite.proofs.StateLemmas.{survives_then}
+use Rattle.table_laws.specs.Inside.{CommitsNothing}
 use Rattle.registry_rules.specs.History.{History}
 use Rattle.registry_rules.specs.Run.{Legal}
 use Rattle.registry_tables.specs.Rows.{newest, Rows}
@@ -12,7 +13,7 @@ use Rattle.registry_store.specs.declared.fault.Fault.{Fault}
 use Rattle.registry_store.specs.declared.fault.Fault.TheVariants.{Foreign}
 use Rattle.registry_store.specs.Promise.{IsAt, LeavesLater}
 
--- after a migration, also one that had a fault, a crash leaves the history in one of the schemas
+-- after a migration, even one with a fault, a crash leaves the history in one of the schemas
 pub leaves_then : (a b : State) → Survives a b (CommitsLater a) → (version : ℕ) (h : History) → IsAt version a h → HasCleanDisk b → LeavesLater version b h
 leaves_then a b survives version h at clean db may =
     let early : HasCleanDisk a = omega (arith, survives.clean) in
@@ -21,23 +22,23 @@ leaves_then a b survives version h at clean db may =
       | inr step ↦ let was = at.shown early step.0 in step.1 h version (subst (λ d. Rows version d.trees h) (sym was.0) was.1)
     ]
 
--- a call that commits nothing leaves what could be left before
+-- after a call that commits nothing, a crash leaves what it could leave before
 pub quiet_after : {X E : Type 0} (b : State) (of : X → State) (st : E → State) (version : ℕ) (h : History) → (HasCleanDisk b → LeavesLater version b h) → (told : Result X E)
-    → MatchResult told (λ x. Survives b (of x) (λ _. ⊥)) (λ e. Survives b (st e) (λ _. ⊥)) → IfErr told (λ e. HasCleanDisk (st e) → LeavesLater version (st e) h)
+    → MatchResult told (λ x. CommitsNothing b (of x)) (λ e. CommitsNothing b (st e)) → IfErr told (λ e. HasCleanDisk (st e) → LeavesLater version (st e) h)
 quiet_after b of st version h before (Ok x) quiet = tt
 quiet_after b of st version h before (Err e) quiet = λ clean db may.
     (let early : HasCleanDisk b = omega (arith, quiet.clean) in elim (quiet.crash clean db may) [ inl was ↦ before early db was | inr none ↦ absurd none ])
 
 -- a migration, and then a call that commits nothing
 pub commits_then : {X E : Type 0} (a b : State) (P : Trees → Type 0) (of : X → State) (st : E → State) → Survives a b P → (told : Result X E)
-    → MatchResult told (λ x. Survives b (of x) (λ _. ⊥)) (λ e. Survives b (st e) (λ _. ⊥)) → MatchResult told (λ x. Survives a (of x) P) (λ e. Survives a (st e) P)
+    → MatchResult told (λ x. CommitsNothing b (of x)) (λ e. CommitsNothing b (st e)) → MatchResult told (λ x. Survives a (of x) P) (λ e. Survives a (st e) P)
 commits_then a b P of st first (Ok x) quiet = survives_then a b (of x) _ _ P (λ _ db p. p) (λ _ db none. absurd none) first quiet
 commits_then a b P of st first (Err e) quiet = survives_then a b (st e) _ _ P (λ _ db p. p) (λ _ db none. absurd none) first quiet
 
 -- what is foreign in the newest schema was foreign before the migration
 pub foreign_after : {X E : Type 0} (a b : State) (of : X → State) (st : E → State) (fault : E → Fault) → (IsTrue a.is_open → a.now ≡ a.committed)
     → (HasCleanDisk b → StaysOpen a b × ((h : History) (version : ℕ) → IsAtRest version a h → IsAtRest newest b h)) → (told : Result X E)
-    → MatchResult told (λ x. Survives b (of x) (λ _. ⊥)) (λ e. Survives b (st e) (λ _. ⊥))
+    → MatchResult told (λ x. CommitsNothing b (of x)) (λ e. CommitsNothing b (st e))
     → IfErr told (λ e. HasCleanDisk (st e) → fault e ≡ Foreign → IsTrue b.is_open × ((h : History) → Legal h → ¬ Rows newest b.now.trees h))
     → IfErr told (λ e. HasCleanDisk (st e) → fault e ≡ Foreign → (version : ℕ) (h : History) → Legal h → ¬ Rows version a.now.trees h)
 foreign_after a b of st fault settled raised (Ok x) quiet none = tt
@@ -49,9 +50,9 @@ foreign_after a b of st fault settled raised (Err e) quiet none = λ clean forei
     let now = made.1 h version (λ _. (still, subst (λ d. Rows version d.trees h) still rows)) found.0 in
     found.1 h legal (subst (λ d. Rows newest d.trees h) (sym now.0) now.1))
 
--- a connection that is open in the end was open before the migration, and is open unless its disk failed or refused
+-- a connection that is open at the end was open before the migration, and stays open unless its disk fails or refuses
 pub open_then : {X E : Type 0} (a b : State) (P : Trees → Type 0) (of : X → State) (st : E → State) → Survives a b P → (HasCleanDisk b → StaysOpen a b) → (told : Result X E)
-    → MatchResult told (λ x. Survives b (of x) (λ _. ⊥)) (λ e. Survives b (st e) (λ _. ⊥))
+    → MatchResult told (λ x. CommitsNothing b (of x)) (λ e. CommitsNothing b (st e))
     → IfOk told (λ x. HasCleanDisk (of x) → IsTrue b.is_open × (IsTrue (of x).is_open ⊎ MoreFaults b.faults (of x).faults))
     → IfOk told (λ x. HasCleanDisk (of x) → IsTrue a.is_open × (IsTrue (of x).is_open ⊎ MoreFaults a.faults (of x).faults))
 open_then a b P of st first same (Ok x) quiet was = λ clean.

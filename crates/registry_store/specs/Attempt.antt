@@ -17,7 +17,7 @@ use Rattle.registry_store.specs.Promise.{Counts}
 abbrev pub CommitsOne : State → Totals → Request → Trees → Type 0
 CommitsOne old totals r db = IsTrue old.is_open × ((h : History) → Counts totals h → Rows newest old.now.trees h → Rows newest db (after_one h r))
 
--- the transaction has the rows of the deed and its reply, and nothing is committed
+-- the transaction shows the rows of the deed and its reply, and nothing is committed
 pub record Wrote (old new : State) (before after : Totals) (r : Request) (d : Deed) : Type 0 where
   pub shown : Shows old new new.now old.committed true
   pub made : (h : History) → Counts before h → verdict h r ≡ New d → HoldsRows newest old.now h → HoldsRows newest new.now (with_deed h d)

@@ -3,10 +3,10 @@ use Rattle.std.specs.Prelude.{◌≡◌, ◌≤◌, [], ◌∷◌, ◌++◌, Vec
 use Rattle.std.specs.declared.alloc.Global.{Global}
 use Rattle.registry_rules.specs.declared.verdict.Reply.{Reply}
 
--- the reply stands at the end, and the list has no less room than before
+-- the reply is appended, and the capacity does not shrink
 abbrev pub TakesReply : Vec Reply Global → Vec Reply Global → Reply → Type 0
 TakesReply old new reply = (new.items ≡ old.items ++ reply ∷ []) × (vec_capacity old ≤ vec_capacity new)
 
--- the list is full, and has the replies that it had
+-- the list is full and unchanged
 abbrev pub HasNoRoom : Vec Reply Global → Vec Reply Global → Reply → Type 0
 HasNoRoom old new reply = (new.items ≡ old.items) × (vec_capacity old ≤ vec_len old)

@@ -1,4 +1,4 @@
--- What a registry promises of its store.
+-- What a registry promises about its store.
 use Rattle.std.specs.Prelude.{◌≡◌, ◌≤◌, ◌⊎◌, ℕ, Bool, false, IsTrue}
 use Rattle.sqlite.specs.Tree.{Trees}
 use Rattle.sqlite.specs.View.{doubt}
@@ -13,7 +13,7 @@ use Rattle.registry_rules.specs.TotalsOf.{AreTotalsOf}
 use Rattle.registry_tables.specs.Rows.{Rows, newest}
 use Rattle.registry_store.specs.declared.registry.Registry.{Registry}
 
--- each database that a crash may now leave has the rows, in this schema, of one of these histories
+-- each database that a crash may now leave holds the rows of one of these histories, in this schema
 abbrev pub Leaves : ℕ → State → (History → Type 0) → Type 0
 Leaves v s These = (db : Trees) → s.may_leave db → (h : History) × These h × Rows v db h
 
@@ -21,16 +21,16 @@ Leaves v s These = (db : Trees) → s.may_leave db → (h : History) × These h 
 abbrev pub LeavesFrom : ℕ → State → (History → Type 0) → Type 0
 LeavesFrom from s These = (db : Trees) → s.may_leave db → (h : History) × These h × (v : ℕ) × (from ≤ v) × Rows v db h
 
--- the rows of the history, in this schema or a later one
+-- each database that a crash may now leave holds the rows of this history, in this schema or a later one
 abbrev pub LeavesLater : ℕ → State → History → Type 0
 LeavesLater v s h = (db : Trees) → s.may_leave db → (later : ℕ) × (v ≤ later) × Rows later db h
 
--- While it is open the connection shows the rows of the history, and a crash leaves those alone.
+-- While the connection is open it shows the rows of the history, and a crash leaves only those.
 pub record IsAt (v : ℕ) (s : State) (h : History) : Type 0 where
   pub shown : HasCleanDisk s → IsTrue s.is_open → (s.now ≡ s.committed) × Rows v s.committed.trees h
   pub left : HasCleanDisk s → Leaves v s (λ x. x ≡ h)
 
--- The connection is open and at rest, and shows the rows of the history, as one does that was just opened.
+-- The connection is open and at rest, and shows the rows of the history: a connection just opened.
 abbrev pub IsFreshAt : ℕ → State → History → Type 0
 IsFreshAt v s h = HasCleanDisk s → IsTrue s.is_open × (s.now ≡ s.committed) × Rows v s.committed.trees h
 
@@ -39,7 +39,7 @@ pub record Counts (totals : Totals) (h : History) : Type 0 where
   pub legal : Legal h
   pub totals_are : AreTotalsOf h totals
 
--- whatever a call commits: no doubt and no fault is forgotten, and only a fault shuts the connection
+-- whatever a call commits: no doubt and no fault is forgotten, and only a fault closes the connection
 pub record Endures (old new : State) : Type 0 where
   pub clean : doubt old.is_clean ≤ doubt new.is_clean
   pub shield : old.IsShielded → new.IsShielded
@@ -54,12 +54,13 @@ module _ {S : Type 0} {g : Ghosts S} where
   abbrev pub state_of : Registry S g → State
   state_of it = state g it.conn
 
-  -- a fault of an earlier call
-  abbrev pub is_spent : Registry S g → Bool
-  is_spent it = it.spent
+  -- an earlier call had a fault
+  abbrev pub is_poisoned : Registry S g → Bool
+  is_poisoned it = it.poisoned
 
-  -- a registry that is not spent is at this history: its totals, its tables, and what a crash may leave
-  pub record Stands (it : Registry S g) (h : History) : Type 0 where
-    pub unspent : is_spent it ≡ false
+  -- a registry represents a history: it is not poisoned, and its totals, its tables and what a crash may leave are those of
+  -- the history
+  pub record Represents (it : Registry S g) (h : History) : Type 0 where
+    pub not_poisoned : is_poisoned it ≡ false
     pub counts : Counts it.totals h
     pub at : IsAt newest (state_of it) h

@@ -1,8 +1,9 @@
 //! One request in one transaction.
 
 ghost use Rattle.std.specs.Prelude.{◌≡◌, ◌≢◌, true, false, IsTrue, IfOk, OnOk, OnErr, Err};
-ghost use Rattle.sqlite.specs.State.{HasCleanDisk, Survives, Shows};
+ghost use Rattle.sqlite.specs.State.{HasCleanDisk, Survives};
 ghost use Rattle.sqlite.specs.Held.{state};
+ghost use Rattle.table_laws.specs.Inside.{CommitsNothing};
 ghost use Rattle.registry_rules.specs.History.{History};
 ghost use Rattle.registry_rules.specs.Verdict.{verdict};
 ghost use Rattle.registry_rules.specs.declared.deed.Deed.{Deed};
@@ -15,13 +16,15 @@ ghost use Rattle.registry_tables.specs.Rows.{HoldsRows, newest};
 ghost use Rattle.registry_store.specs.Promise.{Counts, IsAt};
 ghost use Rattle.registry_store.specs.Attempt.{CommitsOne, Wrote};
 
-use registry_rules::{Deed, Reply, Request, Text, Totals, Verdict, changes, judge, reply_text};
-use registry_tables::{TableFault, facts_for, keep_reply, store};
-use sqlite::{Alter, Connection, Error, ErrorCode, Transaction};
+use registry_rules::{
+    Deed, Reply, ReplyText, Request, Totals, Verdict, changes, judge, reply_text,
+};
+use registry_tables::{TableFault, commit, facts_for, keep_reply, store};
+use sqlite::{Alter, Connection, Transaction};
 use std::alloc::Global;
 use usbnum_core::NoMemory;
 
-/// The verdict on a request, by the rows that it concerns.
+/// Returns the verdict on a request, from the rows that it concerns.
 fn judged<S: Alter>(
     alloc: Global,
     tx: &mut Transaction<'_, S>,
@@ -31,7 +34,7 @@ fn judged<S: Alter>(
     ensures same_reference { tx.new.conn.ghost_name ≡ tx.old.conn.ghost_name }
     ensures found { HasCleanDisk (state S.Store tx.new.conn.now) → IsTrue (state S.Store tx.old.conn.now).in_transaction
         → Finds (state S.Store tx.old.conn.now) (state S.Store tx.new.conn.now) result (λ h found. AreTotalsOf h totals.now → found ≡ verdict h request.now) }
-    ensures survives { Survives (state S.Store tx.old.conn.now) (state S.Store tx.new.conn.now) (λ _. ⊥) }
+    ensures survives { CommitsNothing (state S.Store tx.old.conn.now) (state S.Store tx.new.conn.now) }
 {
     let facts = facts_for(alloc, tx, totals, request)?;
     match judge(alloc, &facts, request) {
@@ -40,21 +43,22 @@ fn judged<S: Alter>(
     }
 }
 
-/// The rows of a deed and its reply, in the transaction, and the totals with it. What wants memory of its own comes before the first write.
+/// Writes the rows of a deed and its reply in the transaction, and updates the totals. Allocates
+/// its own memory before the first write.
 fn write<S: Alter>(
     alloc: Global,
     tx: &mut Transaction<'_, S>,
     totals: &mut Totals,
     request: &Request,
     deed: &Deed,
-    reply: &Text,
+    reply: &ReplyText,
 ) -> Result<(), TableFault>
     requires { reply.now ≡ act_text deed.now.act }
     ensures same_reference { tx.new.conn.ghost_name ≡ tx.old.conn.ghost_name }
     ensures ok { HasCleanDisk (state S.Store tx.new.conn.now) → IsTrue (state S.Store tx.old.conn.now).in_transaction → IsTrue (state S.Store tx.old.conn.now).is_open
         → OnOk result (Wrote (state S.Store tx.old.conn.now) (state S.Store tx.new.conn.now) totals.old totals.new request.now deed.now) }
     ensures kind { result ≢ Err TableFault.Foreign }
-    ensures survives { Survives (state S.Store tx.old.conn.now) (state S.Store tx.new.conn.now) (λ _. ⊥) }
+    ensures survives { CommitsNothing (state S.Store tx.old.conn.now) (state S.Store tx.new.conn.now) }
 {
     let Ok(changes) = changes(alloc, deed) else {
         return Err(TableFault::NoMemory);
@@ -66,21 +70,8 @@ fn write<S: Alter>(
     keep_reply(alloc, tx, request, reply)
 }
 
-/// Commits what the transaction wrote.
-fn finish<S: Alter>(tx: Transaction<'_, S>) -> Result<(), TableFault>
-    ensures ended { tx.exit.0.now.in_transaction ≡ false }
-    ensures ok { HasCleanDisk (state S.Store tx.exit.0.now) → OnOk result (Shows (state S.Store tx.entry.conn.now) (state S.Store tx.exit.0.now) (state S.Store tx.entry.conn.now).now (state S.Store tx.entry.conn.now).now false) }
-    ensures kind { result ≢ Err TableFault.Foreign }
-    ensures survives { Survives (state S.Store tx.entry.conn.now) (state S.Store tx.exit.0.now) (λ db. db ≡ (state S.Store tx.entry.conn.now).now.trees) }
-{
-    match tx.commit() {
-        Ok(()) => Ok(()),
-        Err(Error::SqliteFailure(ErrorCode::OutOfMemory)) => Err(TableFault::NoMemory),
-        Err(_) => Err(TableFault::Store),
-    }
-}
-
-/// One request in one transaction, with one commit where it is accepted and new, and no write where it isn't.
+/// Acts on one request in one transaction: one commit if the request is accepted and new, otherwise
+/// no write.
 pub(crate) fn attempt<S: Alter>(
     alloc: Global,
     conn: &mut Connection<S>,
@@ -96,6 +87,7 @@ pub(crate) fn attempt<S: Alter>(
     ensures foreign { HasCleanDisk (state S.Store conn.new) → result ≡ Err TableFault.Foreign → (h : History) → Counts totals.old h → IsAt newest (state S.Store conn.old) h → ⊥ }
     ensures survives { Survives (state S.Store conn.old) (state S.Store conn.new) (CommitsOne (state S.Store conn.old) totals.old request.now) }
 {
+    // For the proof only: the schema that the connection shows.
     let _schema = conn.schema();
     let mut tx = conn.transaction();
     let verdict = judged(alloc, &mut tx, totals, request)?;
@@ -107,7 +99,7 @@ pub(crate) fn attempt<S: Alter>(
                 return Err(TableFault::NoMemory);
             };
             write(alloc, &mut tx, totals, request, &deed, &reply)?;
-            finish(tx)?;
+            commit(tx)?;
             Ok(Reply::Done(reply))
         }
     }

@@ -1,27 +1,47 @@
-//! Why a call of a registry gives up.
+//! Why a call of a registry fails.
 
-ghost use Rattle.std.specs.Prelude.{◌≡◌, ◌≢◌, ◌↔◌};
+ghost use Rattle.std.specs.Prelude.{◌≡◌, ◌≢◌, ◌↔◌, Some};
+ghost use Rattle.registry_store.specs.Faults.{fault_text};
 
 use registry_tables::TableFault;
+use std::error::Error;
+use std::fmt;
 
-/// Why a call of a registry gives up.
+/// Why a call of a registry fails.
 #[derive(Clone, Copy, Debug, Drop, PartialEq, Eq)]
 pub enum Fault {
     /// The store refused or failed.
     Store,
-    /// Memory was wanted and not there.
+    /// Out of memory.
     NoMemory,
-    /// The tables are those of no history.
+    /// The tables hold the rows of no history.
     Foreign,
-    /// There is a registry already, where one was to be founded.
+    /// The database already has a table `meta`, so no registry is founded in it.
     Taken,
-    /// An earlier call of this registry had a fault. It is closed and opened again.
-    Spent,
+    /// An earlier call of this registry had a fault. Close the registry and open it again.
+    Poisoned,
 }
 
-/// The registry's name for a fault of its tables.
+/// The fault in a few words.
+impl fmt::Display for Fault {
+    ghost output = { λ fault. Some (fault_text fault) };
+
+    fn fmt<W: fmt::Write>(&self, f: &mut fmt::Formatter<W>) -> fmt::Result {
+        f.write_str(match self {
+            Fault::Store => "the store failed",
+            Fault::NoMemory => "out of memory",
+            Fault::Foreign => "not the tables of a registry",
+            Fault::Taken => "the store holds a registry already",
+            Fault::Poisoned => "the registry had a fault before and is poisoned",
+        })
+    }
+}
+
+impl Error for Fault {}
+
+/// Maps a fault of the tables to a fault of the registry.
 pub(crate) fn fault_of(fault: TableFault) -> Fault
-    ensures unspent { result ≢ Fault.Spent }
+    ensures not_poisoned { result ≢ Fault.Poisoned }
     ensures found { result ≢ Fault.Taken }
     ensures foreign { (result ≡ Fault.Foreign) ↔ (fault ≡ TableFault.Foreign) }
     ensures memory { (result ≡ Fault.NoMemory) ↔ (fault ≡ TableFault.NoMemory) }

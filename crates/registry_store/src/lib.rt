@@ -1,4 +1,4 @@
-//! The registry over a store: what it acknowledged is never lost, doubled or torn.
+//! The registry over a store: what it acknowledges is never lost, doubled or torn.
 #![tactic(auto)]
 
 mod attempt;
@@ -12,8 +12,8 @@ pub mod run;
 pub use fault::Fault;
 pub use registry::Registry;
 pub use reopen::{
-    Closed, close_and_open, close_files, crash_and_open, crash_and_open_store, leave,
-    leave_and_open, leave_store, open_files, run_in_memory, run_through, stop, take_up,
+    Closed, abandon, close_and_open, close_files, crash_and_open, crash_and_open_store, leave,
+    leave_and_open, leave_store, open_files, run_in_memory, run_through, take_up,
 };
 pub use replies::{Cut, Replies, RunStop};
 pub use run::RunEnd;

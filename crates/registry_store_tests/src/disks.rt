@@ -7,10 +7,10 @@ use sqlite_disk::{Crash, Disk, Fuse, Memory};
 use std::alloc::Global;
 use std::test::Fail;
 
-/// More calls than anything here makes.
+/// More calls than any test makes.
 pub const MANY: u64 = 100_000;
 
-/// As the program opens files, but for a cache of the size of what is stored here.
+/// The options with which the program opens files, but with a cache as large as the database.
 pub const PLAIN: Options = Options {
     cache_pages: 32,
     spill_pages: 2000,
@@ -18,7 +18,7 @@ pub const PLAIN: Options = Options {
     seed: 1,
 };
 
-/// The same, where what was committed is copied into the main file before each further write.
+/// The same, with all commits copied into the main file before each further write.
 pub const COPYING: Options = Options {
     cache_pages: 32,
     spill_pages: 2000,
@@ -26,24 +26,24 @@ pub const COPYING: Options = Options {
     seed: 1,
 };
 
-/// The file whose calls fail from one on.
+/// The file whose calls fail from some call on.
 #[derive(Clone, Copy, Debug)]
 pub enum Stops {
     Db,
     Log,
 }
 
-/// What becomes of the files after a stop.
+/// What happens to the files after a stop.
 #[derive(Clone, Copy, Debug)]
 pub enum Fate {
-    /// The machine stops: what was not synced is lost.
+    /// The machine stops: writes that were not synced are lost.
     Crash,
-    /// The process alone stops: what was written is there.
+    /// Only the process stops: all writes are kept.
     Exit,
 }
 
-/// The calls at which a file stops in one test: from the first up to the last, or to the first that is not reached. Tests of
-/// further calls begin where this one ends.
+/// The calls at which a file stops in one test: from the first to the last, or to the first that is
+/// not reached. Other tests go on from the last.
 #[derive(Clone, Copy)]
 pub struct Part {
     pub first: u64,
@@ -57,17 +57,18 @@ impl Part {
         last: MANY,
     };
 
-    /// Those up to one.
+    /// Returns the calls up to this one.
     pub fn up_to(last: u64) -> Part {
         Part { first: 0, last }
     }
 
-    /// Those from one on.
+    /// Returns the calls from this one on.
     pub fn from(first: u64) -> Part {
         Part { first, last: MANY }
     }
 
-    /// Where nothing stops before this call, it is above the first one; where something stops up to the last, there are further tests.
+    /// Checks where the test ended: if a run had no stop, it must have stopped before; if each run
+    /// had one, another test must go on from the last call.
     pub fn ends_at(self, end: Option<u64>) -> bool {
         match end {
             Some(calls) => self.first < calls,
@@ -76,17 +77,17 @@ impl Part {
     }
 }
 
-/// What the two files hold.
+/// The contents of the two files.
 #[derive(Drop)]
 pub struct Image {
     log: Vec<u8>,
     db: Vec<u8>,
 }
 
-/// Two files of which one stops.
+/// Two files, one of which stops.
 pub type Stopping = Files<Fuse<Memory>>;
 
-/// The files before there is anything.
+/// Returns empty files.
 pub fn nothing(alloc: Global) -> Image {
     Image {
         log: Vec::new(alloc),
@@ -101,7 +102,7 @@ fn copy_of(alloc: Global, bytes: &[u8]) -> Result<Memory, Fail> {
     Ok(file)
 }
 
-/// Files that hold this, of which one fails after so many calls.
+/// Returns files with these contents, one of which fails after this many calls.
 pub fn files_of(alloc: Global, image: &Image, stops: Stops, calls: u64) -> Result<Stopping, Fail> {
     let log = copy_of(alloc, image.log.as_slice())?;
     let db = copy_of(alloc, image.db.as_slice())?;
@@ -115,12 +116,12 @@ pub fn files_of(alloc: Global, image: &Image, stops: Stops, calls: u64) -> Resul
     })
 }
 
-/// Files that hold this and do not stop.
+/// Returns files with these contents that do not stop.
 pub fn whole(alloc: Global, image: &Image) -> Result<Stopping, Fail> {
     files_of(alloc, image, Stops::Log, u64::MAX)
 }
 
-/// What the files hold as they are read now.
+/// Returns the contents of the files as they read now.
 pub fn image_of(alloc: Global, files: &Stopping) -> Result<Image, Fail> {
     let mut log = Vec::new(alloc);
     log.extend_from_slice(files.log.inner().bytes())?;
@@ -133,7 +134,7 @@ fn has_call<D: Disk>(file: &mut D) -> bool {
     file.may_be_used() && file.len().is_ok()
 }
 
-/// Whether the file that stops has not stopped, and will not at its next call.
+/// Returns whether the file has not stopped and will not at its next call.
 pub fn has_not_stopped(files: &mut Stopping, stops: Stops) -> bool {
     match stops {
         Stops::Db => has_call(&mut files.db),
@@ -146,7 +147,7 @@ fn crashed<D: Crash>(files: &mut Files<D>) {
     files.db.crash();
 }
 
-/// What a stop leaves of the files.
+/// Returns what a stop leaves of the files.
 pub fn left_by(alloc: Global, mut files: Stopping, fate: Fate) -> Result<Image, Fail> {
     match fate {
         Fate::Crash => crashed(&mut files),
@@ -155,12 +156,12 @@ pub fn left_by(alloc: Global, mut files: Stopping, fate: Fate) -> Result<Image, 
     image_of(alloc, &files)
 }
 
-/// Whether the files hold the same. What is opened again then does the same.
+/// Returns whether the contents are the same. Opened again, they then behave the same.
 pub fn are_same(first: &Image, other: &Image) -> bool {
     first.log.as_slice() == other.log.as_slice() && first.db.as_slice() == other.db.as_slice()
 }
 
-/// Whether these files hold what others did that were looked at before.
+/// Returns whether these contents are those that were examined before.
 pub fn was_seen(seen: &Option<Image>, image: &Image) -> bool {
     match seen {
         Some(other) => are_same(other, image),
@@ -168,7 +169,7 @@ pub fn was_seen(seen: &Option<Image>, image: &Image) -> bool {
     }
 }
 
-/// A connection to the files, or the files.
+/// Returns a connection to the files, or the files.
 pub fn connected<D: Disk + Drop>(
     alloc: Global,
     files: Files<D>,
@@ -193,7 +194,8 @@ fn taken_up<D: Disk + Drop>(
     }
 }
 
-/// The registry in the files, or the registry's fault, if it came to that, and the files.
+/// Returns the registry in the files; otherwise the fault, if the registry returned one, and the
+/// files.
 pub fn opened<D: Disk + Drop>(
     alloc: Global,
     files: Files<D>,
@@ -216,7 +218,7 @@ fn founded_over<D: Disk + Drop>(
     }
 }
 
-/// Founds a registry in the files: whether it was founded, else its fault, if it came to that.
+/// Founds a registry in the files. Returns the fault, if the registry returned one, and the files.
 pub fn found_in<D: Disk + Drop>(
     alloc: Global,
     files: Files<D>,
@@ -239,13 +241,13 @@ fn closed_in<D: Disk + Drop>(alloc: Global, files: Files<D>) -> Option<Files<D>>
     }
 }
 
-/// What the store in the files is once it was closed: all of it is in the main file.
+/// Returns the contents after the store in the files is closed: all of it is in the main file.
 pub fn closed(alloc: Global, files: Stopping) -> Result<Image, Fail> {
     let files = closed_in(alloc, files).ok_or("not closed")?;
     image_of(alloc, &files)
 }
 
-/// The files of a new registry that was closed.
+/// Returns the files of a new registry that was closed.
 pub fn founded(alloc: Global, founding: &Founding) -> Result<Image, Fail> {
     let files = whole(alloc, &nothing(alloc))?;
     let (outcome, files) = found_in(alloc, files, founding);
@@ -253,7 +255,7 @@ pub fn founded(alloc: Global, founding: &Founding) -> Result<Image, Fail> {
     closed(alloc, files)
 }
 
-// How many more calls the file passes on, of so many.
+// Returns the number of further calls that the file passes on, up to `most`.
 fn calls_left<D: Disk>(file: &mut D, most: u64) -> u64 {
     let mut left: u64 = 0;
     for _ in 0..most {
@@ -265,7 +267,7 @@ fn calls_left<D: Disk>(file: &mut D, most: u64) -> u64 {
     left
 }
 
-// The files of a registry that was opened.
+// Opens the registry in the files and returns its files.
 fn opened_and_left<D: Disk + Drop>(alloc: Global, files: Files<D>) -> Option<Files<D>> {
     match opened(alloc, files, PLAIN) {
         Ok(registry) => Some(leave(registry)),
@@ -273,7 +275,7 @@ fn opened_and_left<D: Disk + Drop>(alloc: Global, files: Files<D>) -> Option<Fil
     }
 }
 
-/// How many calls of a file the opening of a store makes.
+/// Returns the number of calls of a file that it takes to open a store.
 pub fn calls_to_open(alloc: Global, image: &Image, stops: Stops) -> Result<u64, Fail> {
     let most: u64 = 400;
     let files = files_of(alloc, image, stops, most)?;

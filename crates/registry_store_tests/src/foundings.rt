@@ -1,5 +1,5 @@
-//! A founding is stopped at each call of a file in turn: what is found then is no registry, which can be founded again, or the
-//! one that was founded.
+//! A founding is stopped at each call of a file in turn. It then left the registry, or none, and
+//! one can be founded.
 
 use crate::disks::{
     Fate, Image, MANY, PLAIN, Stops, closed, connected, files_of, found_in, has_not_stopped,
@@ -29,7 +29,7 @@ fn founded_anew<S: Alter + Drop>(
     }
 }
 
-// The registry that is there, or a new one where there is none, and whether it was there.
+// Returns the registry in the store, or a new one if it has none, and whether it had one.
 fn there_or_new<S: Alter + Drop>(
     alloc: Global,
     conn: Connection<S>,
@@ -41,7 +41,7 @@ fn there_or_new<S: Alter + Drop>(
     }
 }
 
-// Whether a registry is there, and how all goes on with it, or with a new one.
+// Returns whether the files have a registry, and how it, or a new one, goes on.
 fn gone_on<D: Disk + Drop>(
     alloc: Global,
     files: Files<D>,
@@ -53,7 +53,7 @@ fn gone_on<D: Disk + Drop>(
     Some((was_there, go_on(alloc, registry, requests, 0)?))
 }
 
-// A founding without a stop, and what comes of requests then.
+// A founding without a stop, and the results of requests after it.
 #[derive(Drop)]
 struct Wanted {
     founding: Founding,
@@ -75,7 +75,7 @@ fn founded_whole(alloc: Global) -> Result<Wanted, Fail> {
     })
 }
 
-// Whether a registry is there after what is left, from which all goes on as without a stop.
+// Returns whether a registry is left, after checking that all goes on as without a stop.
 fn is_there(
     rt: &impl Abort,
     alloc: Global,
@@ -86,9 +86,9 @@ fn is_there(
     let files = whole(alloc, left)?;
     let requests = wanted.requests.as_slice();
     let (was_there, second) = gone_on(alloc, files, &wanted.founding, requests).ok_or("not found")?;
-    let stands = wanted.plain.stands.first().ok_or("nothing stands")?;
+    let lists = wanted.plain.lists.first().ok_or("no lists")?;
     let replies = lines_of(alloc, second.replies.as_slice())?;
-    assert_eq!(rt; second.stands.as_str(), stands.as_str(), "at {calls}");
+    assert_eq!(rt; second.lists.as_str(), lists.as_str(), "at {calls}");
     assert_eq!(rt;
         replies.as_str(),
         wanted.plain.replies.as_str(),
@@ -102,7 +102,7 @@ fn is_there(
     Ok(was_there)
 }
 
-// A founding that stops at a call: whether there was none, what came of it, and what it left.
+// A founding that stops at a call: its outcome, what it left, and whether there was no stop.
 #[derive(Drop)]
 struct Stopped {
     outcome: Result<(), Option<Fault>>,
@@ -127,7 +127,7 @@ fn stop_at(
     })
 }
 
-// A founding that was acknowledged is there. Else its fault is the store's.
+// Checks that an acknowledged founding is kept, and that any other fault is the store's.
 fn ends_well(rt: &impl Abort, outcome: Result<(), Option<Fault>>, was_there: bool, calls: u64) {
     match outcome {
         Ok(()) => assert!(rt; was_there, "at {calls}"),
@@ -135,8 +135,8 @@ fn ends_well(rt: &impl Abort, outcome: Result<(), Option<Fault>>, was_there: boo
     }
 }
 
-// Stops at each call until a founding has no stop: how many calls that one makes. Once the registry is there it is after later
-// stops too. Files that hold what those before did are not looked at again.
+// Stops at each call until a founding has no stop, and returns the number of its calls. Once a stop
+// leaves the registry, later ones do too. Skips files that have the same contents as those before.
 fn stop_at_each(
     rt: &impl Abort,
     alloc: Global,

@@ -1,11 +1,13 @@
-//! A registry by example: over disks that stop at each call in turn, closed and opened in each way, brought up from older
-//! schemas, and what it answers.
+//! Tests of a registry: over disks that stop at each call in turn, closed and opened in each way,
+//! migrated from older schemas, and its queries.
 #![tactic(auto)]
 
 #[cfg(test)]
 mod disks;
 #[cfg(test)]
 mod foundings;
+#[cfg(test)]
+mod listing;
 #[cfg(test)]
 mod memory;
 #[cfg(test)]
@@ -26,8 +28,6 @@ mod runs;
 mod steps;
 #[cfg(test)]
 mod through;
-#[cfg(test)]
-mod told;
 #[cfg(test)]
 mod values;
 #[cfg(test)]

@@ -1,5 +1,5 @@
-//! A registry that finds no memory while it acts is spent, and right again once it is opened. That shows where an allocation is
-//! refused (`rt try --test --fail-alloc N`); else nothing here runs short.
+//! A registry that runs out of memory while it acts is poisoned, and sound again once it is opened.
+//! This tests something only when an allocation is refused (`rt try --test --fail-alloc N`).
 
 use crate::disks::{PLAIN, connected};
 use crate::steps::ENROL;
@@ -12,7 +12,7 @@ use std::alloc::Global;
 use std::process::Abort;
 use std::test::Fail;
 
-// What a registry answers to a request.
+// The reply of a registry to a request.
 #[derive(Clone, Copy, Debug, PartialEq, Eq)]
 enum Answer {
     Enrolled,
@@ -40,42 +40,42 @@ fn act_on<S: Alter>(registry: &mut Registry<S>, request: &Request) -> Answer {
     }
 }
 
-// The answers to a request that comes twice, and how many organisations there are then.
+// The answers to a request that comes twice, and the number of organisations then.
 #[derive(Clone, Copy, Debug)]
-struct Told {
+struct Outcome {
     first: Answer,
     again: Answer,
     orgs: Option<usize>,
 }
 
-fn act_twice<S: Alter>(registry: &mut Registry<S>, request: &Request) -> Told {
+fn act_twice<S: Alter>(registry: &mut Registry<S>, request: &Request) -> Outcome {
     let first = act_on(registry, request);
     let again = act_on(registry, request);
     let orgs = match registry.orgs() {
         Ok(orgs) => Some(orgs.len()),
         Err(_) => None,
     };
-    Told { first, again, orgs }
+    Outcome { first, again, orgs }
 }
 
-fn close_after<S: Alter + Drop>(mut registry: Registry<S>, request: &Request) -> Told {
-    let told = act_twice(&mut registry, request);
+fn close_after<S: Alter + Drop>(mut registry: Registry<S>, request: &Request) -> Outcome {
+    let outcome = act_twice(&mut registry, request);
     let _conn = registry.close();
-    told
+    outcome
 }
 
 fn act_around_a_crash<D: Crash + Drop>(
     alloc: Global,
     mut registry: Registry<FileStore<D>>,
     request: &Request,
-) -> Option<(Told, Told)> {
+) -> Option<(Outcome, Outcome)> {
     let before = act_twice(&mut registry, request);
     let registry = crash_and_open(alloc, registry, PLAIN)?;
     Some((before, close_after(registry, request)))
 }
 
-// The same of a new registry in files in memory.
-fn tell(alloc: Global, founding: &Founding, request: &Request) -> Option<(Told, Told)> {
+// Acts over a new registry in files in memory.
+fn outcomes(alloc: Global, founding: &Founding, request: &Request) -> Option<(Outcome, Outcome)> {
     let log = Memory::new(alloc);
     let db = Memory::new(alloc);
     let conn = connected(alloc, Files { log, db }, PLAIN).ok()?;
@@ -83,33 +83,33 @@ fn tell(alloc: Global, founding: &Founding, request: &Request) -> Option<(Told, 
     act_around_a_crash(alloc, registry, request)
 }
 
-// A disk that is kept in memory fails where it finds none.
+// A disk in memory fails if out of memory.
 fn is_short(answer: Answer) -> bool {
     matches!(answer, Answer::Fault(Fault::NoMemory | Fault::Store))
 }
 
-// No answer is another than the right one, and after a fault there is none.
-fn is_right(told: Told) -> bool {
-    let Told { first, again, orgs } = told;
+// Checks that each answer is right, and that a fault leaves the registry poisoned.
+fn is_right(outcome: Outcome) -> bool {
+    let Outcome { first, again, orgs } = outcome;
     match (first, again) {
         (Answer::Enrolled, Answer::Enrolled) => orgs == Some(1) || orgs.is_none(),
         (Answer::Enrolled, fault) => is_short(fault) && orgs.is_none(),
-        (fault, Answer::Fault(Fault::Spent)) => is_short(fault) && orgs.is_none(),
+        (fault, Answer::Fault(Fault::Poisoned)) => is_short(fault) && orgs.is_none(),
         _ => false,
     }
 }
 
-fn is_whole(told: Told) -> bool {
-    is_right(told) && told.again == Answer::Enrolled && told.orgs == Some(1)
+fn is_whole(outcome: Outcome) -> bool {
+    is_right(outcome) && outcome.again == Answer::Enrolled && outcome.orgs == Some(1)
 }
 
 #[test]
-fn want_of_memory_spends_a_registry_and_loses_nothing(rt: HostRuntime) -> Result<(), Fail> {
+fn out_of_memory_poisons_a_registry_and_loses_nothing(rt: HostRuntime) -> Result<(), Fail> {
     let alloc = rt.alloc();
     let founding = founding(alloc)?;
     let (enrol, _) = ENROL;
     let request = request(alloc, enrol)?;
-    let (before, after) = tell(alloc, &founding, &request).ok_or("memory")?;
+    let (before, after) = outcomes(alloc, &founding, &request).ok_or("memory")?;
     assert!(rt; is_right(before), "{before:?}");
     assert!(rt; is_right(after), "{after:?}");
     assert!(rt; is_whole(before) || is_whole(after), "{before:?} {after:?}");

@@ -1,12 +1,13 @@
-//! Stores of older schemas are opened as the history that they hold: all tables are those of a registry that was founded today
-//! and acted on the same requests, also after a stop at any call within the migration.
+//! Stores of older schemas open with the history that they hold: all tables are those of a registry
+//! that was founded today and acted on the same requests, even after a stop at any call of the
+//! migration.
 
 use crate::disks::{Fate, Image, PLAIN, Part, Stops, connected, founded, was_seen, whole};
+use crate::listing::add_answer;
 use crate::older::{OF_FIRST, OF_SECOND, ONE_VENDOR, RESERVE, older};
 use crate::openings::{Wanted, left_at};
 use crate::runs::{Second, go_on, plain_over, second_in};
 use crate::steps::Step;
-use crate::told::add_answer;
 use crate::values::{founding, lines_of, replies_to, requests_of};
 use registry_store::Registry;
 use sqlite::{Connection, FileStore, Files};
@@ -15,7 +16,7 @@ use std::alloc::Global;
 use std::process::Abort;
 use std::test::Fail;
 
-// What a query answers of the store in the files, as it is.
+// Returns the result of a query on the store in the files as it is.
 fn answer_in<D: Disk + Drop>(alloc: Global, files: Files<D>, query: &str) -> Option<String> {
     let mut conn = connected(alloc, files, PLAIN).ok()?;
     let mut text = String::new(alloc);
@@ -30,18 +31,19 @@ fn answer_over(alloc: Global, image: &Image, query: &str) -> Result<String, Fail
     Ok(answer_in(alloc, whole(alloc, image)?, query).ok_or("no answer")?)
 }
 
-// What a registry tells and holds that is founded today and acts on the same requests.
+// Returns the texts of a registry that is founded today and acts on the same requests.
 fn founded_today(alloc: Global) -> Result<Wanted, Fail> {
     let image = founded(alloc, &founding(alloc)?)?;
     let requests = requests_of(alloc, &ONE_VENDOR)?;
     let mut plain = plain_over(alloc, &image, requests.as_slice())?;
     Ok(Wanted {
-        stands: plain.stands.pop().ok_or("nothing stands")?,
+        lists: plain.lists.pop().ok_or("no lists")?,
         rows: plain.rows,
     })
 }
 
-// A store is opened as the registry of today, and each request has its first reply again.
+// Checks that a store opens as the registry of today, and that each request has its first reply
+// again.
 fn opens_as_today(rt: &impl Abort, alloc: Global, image: &Image) -> Result<(), Fail> {
     let wanted = founded_today(alloc)?;
     let requests = requests_of(alloc, &ONE_VENDOR)?;
@@ -49,7 +51,7 @@ fn opens_as_today(rt: &impl Abort, alloc: Global, image: &Image) -> Result<(), F
         "not opened",
     )?;
     let replies = lines_of(alloc, second.replies.as_slice())?;
-    assert_eq!(rt; second.stands.as_str(), wanted.stands.as_str());
+    assert_eq!(rt; second.lists.as_str(), wanted.lists.as_str());
     assert_eq!(rt; replies.as_str(), replies_to(alloc, &ONE_VENDOR)?.as_str());
     assert_eq!(rt; second.rows.as_str(), wanted.rows.as_str());
     Ok(())
@@ -109,7 +111,7 @@ fn raised<D: Disk + Drop>(alloc: Global, conn: Connection<FileStore<D>>) -> Opti
     go_on(alloc, registry, &[], 0)
 }
 
-// The version of the store in the files, and what comes of opening it.
+// Returns the version of the store in the files, and the result of opening it.
 fn version_and_raised<D: Disk + Drop>(alloc: Global, files: Files<D>) -> Option<(String, Second)> {
     let mut conn = connected(alloc, files, PLAIN).ok()?;
     let mut version = String::new(alloc);
@@ -119,7 +121,7 @@ fn version_and_raised<D: Disk + Drop>(alloc: Global, files: Files<D>) -> Option<
     Some((version, raised(alloc, conn)?))
 }
 
-// The version that a stop left. Opened again, the store is as without a stop.
+// Returns the version that a stop left, after checking that the store opens as without a stop.
 fn version_after(
     rt: &impl Abort,
     alloc: Global,
@@ -129,17 +131,14 @@ fn version_after(
 ) -> Result<String, Fail> {
     let files = whole(alloc, left)?;
     let (version, second) = version_and_raised(alloc, files).ok_or("not opened")?;
-    assert_eq!(rt;
-        second.stands.as_str(),
-        wanted.stands.as_str(),
-        "at {calls}"
-    );
+    assert_eq!(rt; second.lists.as_str(), wanted.lists.as_str(), "at {calls}");
     assert_eq!(rt; second.rows.as_str(), wanted.rows.as_str(), "at {calls}");
     Ok(version)
 }
 
-// Stops at each call of a part until a migration has no stop: how many calls that one makes, and which schemas the stops left,
-// each where it is another than the one before. Files that hold what those before did are not opened again.
+// Stops at each call of a part until a migration has no stop. Returns the number of its calls, and
+// the schemas that the stops left, without repetition. Skips files that have the same contents as
+// those before.
 fn stop_at_each(
     rt: &impl Abort,
     alloc: Global,
@@ -167,7 +166,7 @@ fn stop_at_each(
     Ok((None, versions))
 }
 
-// The stops leave these schemas, one after the other.
+// Checks that the stops leave these schemas in this order.
 fn stop_in(
     rt: &impl Abort,
     alloc: Global,
@@ -197,7 +196,8 @@ fn schema_1_as_the_main_file_stops(rt: HostRuntime) -> Result<(), Fail> {
     )
 }
 
-// The second step is the same where a store begins with it, so the stops of a process are tried of that alone.
+// A migration from the second schema is the second step of one from the first, so the stops of a
+// process are tested only there.
 
 #[test]
 fn schema_1_as_the_log_stops(rt: HostRuntime) -> Result<(), Fail> {

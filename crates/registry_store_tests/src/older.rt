@@ -1,5 +1,5 @@
-//! Stores of schemas 1 and 2, made by statements, and the requests after which they are so: each kind of order that these
-//! schemas know.
+//! Stores of schemas 1 and 2, made by statements, and the requests that led to them: each kind of
+//! order that these schemas know.
 
 use crate::disks::{Image, PLAIN, closed, connected, nothing, whole};
 use crate::steps::Step;
@@ -9,7 +9,7 @@ use sqlite_disk::Disk;
 use std::alloc::Global;
 use std::test::Fail;
 
-/// The requests that the stores were made by.
+/// The requests that the stores represent.
 pub const ONE_VENDOR: [Step; 19] = [
     (
         r#"{"caller":"ann","key":"a1","order":"enrol","org":"acme","title":"Acme Tools","site":"https://acme.example/"}"#,
@@ -86,7 +86,7 @@ pub const ONE_VENDOR: [Step; 19] = [
     ),
 ];
 
-/// The reservation of 256 numbers, of which 16 were released later.
+/// The reservation of 256 numbers, of which 16 are released later.
 pub const RESERVE: Step = (
     r#"{"caller":"cora","key":"c1","order":"reserve","first":"2000","last":"20ff"}"#,
     r#"{"done":"reserved 2000-20ff"}"#,
@@ -104,7 +104,7 @@ CREATE TABLE entries (pid INTEGER PRIMARY KEY, org TEXT NOT NULL, held INTEGER N
 CREATE TABLE reserved (pid INTEGER PRIMARY KEY) STRICT;
 CREATE TABLE kept (caller TEXT NOT NULL, request_key TEXT NOT NULL, request BLOB NOT NULL, reply TEXT NOT NULL, PRIMARY KEY (caller, request_key)) STRICT";
 
-/// The rows that both schemas have alike, but for the kept replies.
+/// The rows that both schemas share, without the kept replies.
 const ROWS: &str = "INSERT INTO curators VALUES ('cora');
 INSERT INTO licences VALUES ('GPL-3.0-only'), ('MIT');
 INSERT INTO fixed VALUES (1, 16);
@@ -120,22 +120,22 @@ INSERT INTO entries VALUES (768, 'bolt', 1, 'Probe', NULL, NULL, NULL);
 INSERT INTO entries VALUES (769, 'bolt', 0, 'Probe 2', NULL, NULL, NULL);
 INSERT INTO entries VALUES (8208, 'acme', 1, 'Lamp 2', 'GPL-3.0-only', 'https://acme.example/lamp', 'https://acme.example/src')";
 
-/// In schema 1: 2000 to 20ff, but for 2010 to 201f, a row for each number.
+/// Schema 1: a row for each number of 2000 to 20ff without 2010 to 201f.
 const FIRST: &str = "INSERT INTO meta VALUES (1, 1, 4617, 'Shared products');
 INSERT INTO reserved WITH RECURSIVE n (i) AS (SELECT 8192 UNION ALL SELECT i + 1 FROM n LIMIT 256) SELECT i FROM n WHERE i < 8208 OR i > 8223";
 
-/// In schema 2: a row for each span.
+/// Schema 2: a row for each span.
 const SECOND: &str = "CREATE TABLE spans (lo INTEGER PRIMARY KEY, hi INTEGER NOT NULL) STRICT;
 INSERT INTO meta VALUES (1, 2, 4617, 'Shared products');
 INSERT INTO spans VALUES (8192, 8207), (8224, 8447)";
 
-/// The statements that make a store of schema 1, but for the kept replies.
+/// The statements that make a store of schema 1, without the kept replies.
 pub const OF_FIRST: [&str; 3] = [TABLES, ROWS, FIRST];
 
-/// The same of schema 2.
+/// The same for schema 2.
 pub const OF_SECOND: [&str; 3] = [TABLES, ROWS, SECOND];
 
-/// Caller, key, spelling and reply of each accepted request.
+/// The caller, key, canonical form and reply of each accepted request.
 const KEPT: [(&str, &str, &str, &str); 19] = [
     (
         "ann",
@@ -223,7 +223,7 @@ const KEPT: [(&str, &str, &str, &str); 19] = [
     ),
 ];
 
-// Puts in what a request left in `kept`.
+// Inserts the row of `kept` of a request.
 fn keep<S: Alter>(
     conn: &mut Connection<S>,
     (caller, key, request, reply): (&str, &str, &str, &str),
@@ -244,7 +244,7 @@ fn run_all<S: Alter>(conn: &mut Connection<S>, batches: &[&str]) -> bool {
         .all(|batch| conn.execute_batch(batch).is_ok())
 }
 
-// In one transaction, which takes less time than one for each statement.
+// Runs the statements in one transaction, which is faster than one for each.
 fn make<S: Alter>(conn: &mut Connection<S>, batches: &[&str]) -> bool {
     run_all(conn, &["BEGIN"])
         && run_all(conn, batches)
@@ -259,7 +259,7 @@ fn make_in<D: Disk + Drop>(alloc: Global, files: Files<D>, batches: &[&str]) -> 
     if made { Some(files) } else { None }
 }
 
-/// The files of a store that these statements make, with the kept replies.
+/// Returns the files of a store that these statements make, with the kept replies.
 pub fn older(alloc: Global, batches: &[&str]) -> Result<Image, Fail> {
     let files = whole(alloc, &nothing(alloc))?;
     let files = make_in(alloc, files, batches).ok_or("not made")?;

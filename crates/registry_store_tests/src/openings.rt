@@ -1,4 +1,5 @@
-//! An opening is stopped at each call of a file in turn: opened again, the registry is the one of an opening without a stop.
+//! An opening is stopped at each call of a file in turn. Opened again, the registry is that of an
+//! opening without a stop.
 
 use crate::disks::{
     Fate, Image, PLAIN, Part, Stopping, Stops, closed, files_of, founded, has_not_stopped,
@@ -15,7 +16,7 @@ use std::alloc::Global;
 use std::process::Abort;
 use std::test::Fail;
 
-// Whether the registry is opened, else its fault, if it came to that.
+// Opens the registry in the files. Returns the fault, if the registry returned one, and the files.
 fn open_in<D: Disk + Drop>(
     alloc: Global,
     files: Files<D>,
@@ -26,14 +27,14 @@ fn open_in<D: Disk + Drop>(
     }
 }
 
-/// What is told, and which rows there are, once files are opened without a stop.
+/// The lists and the rows of files that are opened without a stop.
 #[derive(Drop)]
 pub struct Wanted {
-    pub stands: String,
+    pub lists: String,
     pub rows: String,
 }
 
-/// Opens files with a stop at a call: what the stop leaves, and whether there was none.
+/// Opens files with a stop at a call. Returns what the stop leaves, and whether there was none.
 pub fn left_at(
     rt: &impl Abort,
     alloc: Global,
@@ -55,8 +56,8 @@ pub fn left_at(
     Ok((left_by(alloc, files, fate)?, is_whole))
 }
 
-// Opens the files with a stop at each call of a part, until there is no stop: how many calls an opening makes. Files that hold
-// what those before did are not opened again.
+// Opens the files with a stop at each call of a part until there is no stop, and returns the number
+// of calls of an opening. Skips files that have the same contents as those before.
 fn stop_at_each(
     rt: &impl Abort,
     alloc: Global,
@@ -72,11 +73,7 @@ fn stop_at_each(
         if !was_seen(&last, &left) {
             let files = whole(alloc, &left)?;
             let second = second_in(alloc, files, &[], 0).ok_or("not opened")?;
-            assert_eq!(rt;
-                second.stands.as_str(),
-                wanted.stands.as_str(),
-                "at {calls}"
-            );
+            assert_eq!(rt; second.lists.as_str(), wanted.lists.as_str(), "at {calls}");
             assert_eq!(rt; second.rows.as_str(), wanted.rows.as_str(), "at {calls}");
         }
         if is_whole {
@@ -87,11 +84,11 @@ fn stop_at_each(
     Ok(None)
 }
 
-// What an opening without a stop tells.
+// Returns the texts of an opening without a stop.
 fn wanted_of(alloc: Global, image: &Image) -> Result<Wanted, Fail> {
     let second = second_in(alloc, whole(alloc, image)?, &[], 0).ok_or("not opened")?;
     Ok(Wanted {
-        stands: second.stands,
+        lists: second.lists,
         rows: second.rows,
     })
 }
@@ -109,7 +106,8 @@ fn stop_in(
     Ok(())
 }
 
-// The files of a registry that acted on the requests, of which the log stops after so many calls.
+// Returns the files of a registry that acted on the requests, whose log stops after this many
+// calls.
 fn after_run(
     alloc: Global,
     requests: &[Request],
@@ -123,25 +121,27 @@ fn after_run(
     Ok((count, whole(alloc, &left_by(alloc, files, fate)?)?))
 }
 
-// The requests that are in a log: two, since a longer one has further frames of the same form.
+// The requests in a log: two, since a longer log only has more frames of the same form.
 fn few(alloc: Global) -> Result<Vec<Request>, Fail> {
     requests_of(alloc, EACH_KIND.get(..2).ok_or("too few")?)
 }
 
-// What was left by a process that came to its end, with all in the log. A crash leaves the same, or fewer whole commits.
+// Returns what a process leaves that came to its end, with everything in the log. A crash leaves
+// the same, or fewer whole commits.
 fn with_log(alloc: Global) -> Result<Image, Fail> {
     let (_, files) = after_run(alloc, few(alloc)?.as_slice(), u64::MAX, Fate::Exit)?;
     image_of(alloc, &files)
 }
 
-// The same of each kind of order, once it was closed.
+// Returns the files after each kind of order, closed.
 fn without_log(alloc: Global) -> Result<Image, Fail> {
     let requests = requests_of(alloc, &EACH_KIND)?;
     let (_, files) = after_run(alloc, requests.as_slice(), u64::MAX, Fate::Exit)?;
     closed(alloc, files)
 }
 
-// What was left by a process that stopped at the last call before the second reply, with a part of its commit.
+// Returns what a process leaves that stopped at the last call before the second reply, with part of
+// its commit.
 fn with_part(alloc: Global) -> Result<Image, Fail> {
     let requests = few(alloc)?;
     let mut calls: u64 = 0;

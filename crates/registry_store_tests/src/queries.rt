@@ -1,8 +1,8 @@
-//! What a registry answers of its history.
+//! The queries of a registry.
 
 use crate::steps::{ENROL, Step};
-use crate::values::{founding, lines_of, replies_to, requests_of, slug};
-use registry_rules::{Entry, Founding, Org, Petition, PetitionState, Request, Vendor};
+use crate::values::{founding, lines_of, replies_to, request, requests_of, slug};
+use registry_rules::{Entry, Founding, Org, Petition, PetitionState, Reply, Request, Vendor};
 use registry_store::{Fault, Registry, RunEnd};
 use sqlite::{Alter, Connection};
 use std::alloc::Global;
@@ -11,7 +11,8 @@ use std::process::Abort;
 use std::test::Fail;
 use usbnum_core::{Number, Pid, Slug, Spans, Vid};
 
-// Two organisations, a further vendor, a span that is reserved, a number of each vendor that is granted, one that is imported, and one that is returned.
+// Two organisations, a further vendor and a reserved span; of the numbers, one of each vendor is
+// granted, one is imported and one is returned.
 const STEPS: &[Step] = &[
     (
         r#"{"caller":"bob","key":"b1","order":"enrol","org":"bolt","title":"Bolt","site":"https://bolt.example/"}"#,
@@ -57,7 +58,7 @@ const NUMBERS: &str =
 
 const PETITIONS: &str = "1 1209 acme Blinker, granted 17\n2 1000 acme Lamp, granted 1\n";
 
-// What a registry answered.
+// The results of a run and of the queries.
 #[derive(Drop)]
 struct Answers {
     end: RunEnd,
@@ -68,7 +69,7 @@ struct Answers {
     reserved: Result<Spans, Fault>,
 }
 
-// Acts on the requests, and asks for each list.
+// Acts on the requests, and queries each list.
 fn ask<S: Alter + Drop>(mut registry: Registry<S>, requests: &[Request], vid: Vid) -> Answers {
     let end = registry.run_from(requests, 0);
     let numbers = registry.numbers();
@@ -87,7 +88,7 @@ fn ask<S: Alter + Drop>(mut registry: Registry<S>, requests: &[Request], vid: Vi
     }
 }
 
-// The same of a new registry in memory.
+// The same for a new registry in memory.
 fn answers_after(alloc: Global, founding: &Founding, requests: &[Request]) -> Option<Answers> {
     let conn = Connection::open_in_memory(alloc).ok()?;
     let registry = Registry::found(alloc, conn, founding).ok()?;
@@ -161,7 +162,24 @@ fn answers_what_it_was_asked_to_do(rt: HostRuntime) -> Result<(), Fail> {
     Ok(())
 }
 
-// What is there of single keys, as lines: some that there are, and some that there aren't.
+#[test]
+fn acts_on_one_request(rt: HostRuntime) -> Result<(), Fail> {
+    let alloc = rt.alloc();
+    let founding = founding(alloc)?;
+    let (enrol, _) = ENROL;
+    let request = request(alloc, enrol)?;
+    let conn = Connection::open_in_memory(alloc).expect(&rt, "memory");
+    let found = Registry::found(alloc, conn, &founding);
+    let mut registry = found.ok().expect(&rt, "a registry");
+    let reply = registry.act(&request).expect(&rt, "a reply");
+    let orgs = registry.orgs().expect(&rt, "organisations");
+    let _conn = registry.close();
+    assert!(rt; matches!(&reply, Reply::Done(text) if text.as_str() == "enrolled acme"));
+    assert_eq!(rt; orgs.len(), 1);
+    Ok(())
+}
+
+// Keys to look up, some of which exist.
 #[derive(Drop)]
 struct Keys {
     numbers: Vec<Number>,
@@ -237,7 +255,7 @@ fn add_org<S: Alter>(registry: &mut Registry<S>, slug: &Slug, text: &mut String)
     }
 }
 
-// Looks each key up.
+// Looks up each key.
 fn look_up<S: Alter>(registry: &mut Registry<S>, keys: &Keys, text: &mut String) -> bool {
     for number in &keys.numbers {
         if !add_number(registry, *number, text) {

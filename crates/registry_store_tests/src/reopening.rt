@@ -1,4 +1,5 @@
-//! A registry in files in memory, which is closed and opened again. Each time another is founded first, in vain.
+//! A registry in files in memory that is closed and opened again. Before each opening the test
+//! tries to found another one, in vain.
 
 use crate::disks::{PLAIN, connected};
 use crate::steps::{ENROL, Step};
@@ -11,7 +12,7 @@ use std::alloc::Global;
 use std::process::Abort;
 use std::test::Fail;
 
-// What came of one opening of the files.
+// The outcome of one opening of the files.
 #[derive(Drop)]
 struct Outcome {
     was_there: bool,
@@ -19,7 +20,7 @@ struct Outcome {
     end: RunEnd,
 }
 
-// What comes of the requests, and how many licences there are then.
+// Acts on the requests. Returns the outcome, with the number of licences then.
 fn run<S: Alter>(registry: &mut Registry<S>, was_there: bool, requests: &[Request]) -> Outcome {
     let end = registry.run_from(requests, 0);
     let licences = registry.founding().licences.len();
@@ -30,7 +31,7 @@ fn run<S: Alter>(registry: &mut Registry<S>, was_there: bool, requests: &[Reques
     }
 }
 
-// Acts on the requests, and closes the files.
+// Acts on the requests and closes the files.
 fn act<D: Disk + Drop>(
     mut registry: Registry<FileStore<D>>,
     was_there: bool,
@@ -40,7 +41,7 @@ fn act<D: Disk + Drop>(
     (outcome, registry.close().into_store().close())
 }
 
-// A registry that is there already, and whether it was told to be there.
+// Opens the registry in the store. Returns whether the fault was that the store has one.
 fn opened<S: Alter + Drop>(
     alloc: Global,
     conn: Connection<S>,
@@ -50,7 +51,7 @@ fn opened<S: Alter + Drop>(
     Some((fault == Fault::Taken, registry))
 }
 
-// A new registry, or the one that is there.
+// Returns a new registry, or the one in the store.
 fn founded_or_opened<S: Alter + Drop>(
     alloc: Global,
     conn: Connection<S>,
@@ -62,7 +63,7 @@ fn founded_or_opened<S: Alter + Drop>(
     }
 }
 
-// Founds a registry over the files, or opens the one that is there, and acts on the requests.
+// Founds a registry over the files, or opens the one in them, and acts on the requests.
 fn visit<D: Disk + Drop>(
     alloc: Global,
     files: Files<D>,
@@ -74,7 +75,7 @@ fn visit<D: Disk + Drop>(
     Some(act(registry, was_there, requests))
 }
 
-// The bytes of both files.
+// Returns the bytes of both files.
 fn bytes_of(alloc: Global, files: &Files<Memory>) -> Result<Vec<u8>, Fail> {
     let mut bytes = Vec::new(alloc);
     bytes.extend_from_slice(files.log.bytes())?;
@@ -97,7 +98,8 @@ const ADD_LICENCE: Step = (
     r#"{"done":"added licence CERN-OHL-S-2.0"}"#,
 );
 
-// An opening of the files, whether it found a registry and left other bytes, and how many licences there are then.
+// An opening of the files: whether it finds a registry, whether it changes the bytes, and the
+// number of licences after it.
 #[derive(Clone, Copy)]
 struct Opening {
     steps: &'static [Step],
@@ -106,7 +108,7 @@ struct Opening {
     licences: usize,
 }
 
-// Repeats and refusals write nothing, and neither does opening.
+// Repeats, refusals and openings write nothing.
 const OPENINGS: [Opening; 4] = [
     Opening {
         steps: &[ENROL, ASK, GRANT, ADD_LICENCE],

@@ -1,5 +1,5 @@
-//! A run is stopped at each call of a file in turn: what was replied is kept, at most one request more was acted on, and
-//! the rest goes on as without a stop.
+//! A run is stopped at each call of a file in turn: what was replied is kept, at most one more
+//! request was acted on, and the rest goes on as without a stop.
 
 use crate::disks::{
     COPYING, Fate, Image, MANY, PLAIN, Stops, calls_to_open, files_of, founded, has_not_stopped,
@@ -15,7 +15,7 @@ use std::alloc::Global;
 use std::process::Abort;
 use std::test::Fail;
 
-// Requests over a registry that acted on those before them, and what comes of them without a stop.
+// Requests to a registry that acted on those before them, and their results without a stop.
 #[derive(Drop)]
 struct Round {
     image: Image,
@@ -41,28 +41,29 @@ fn round_of(
     })
 }
 
-// A run that came to its end has no fault. After a stop the registry is spent.
+// Checks that the fault of a run is the store's, and that the registry is poisoned after it.
 fn ends_well(rt: &impl Abort, first: &First, calls: u64) {
     match first.fault {
         Some(fault) => assert_eq!(rt; fault, Fault::Store, "at {calls}"),
         None => {}
     }
     if first.is_open && first.fault.is_some() {
-        assert_eq!(rt; first.spent.as_deref(), Some(SPENT), "at {calls}");
+        assert_eq!(rt; first.poisoned.as_deref(), Some(SPENT), "at {calls}");
     }
 }
 
-// What stands is the history after as many requests as have replies or, where the registry was open, after one more.
-fn stands_as(rt: &impl Abort, plain: &Plain, first: &First, stands: &str, calls: u64) {
+// Checks that the registry represents the history after as many requests as have replies or, if it
+// was open, after one more.
+fn lists_as(rt: &impl Abort, plain: &Plain, first: &First, lists: &str, calls: u64) {
     let count = first.replies.len();
-    let as_told = plain.stands.get(count);
-    let one_more = plain.stands.get(count.saturating_add(1));
-    let is_either = as_told.is_some_and(|text| text.as_str() == stands)
-        || first.is_open && one_more.is_some_and(|text| text.as_str() == stands);
-    assert!(rt; is_either, "at {calls}: {stands}");
+    let as_acknowledged = plain.lists.get(count);
+    let one_more = plain.lists.get(count.saturating_add(1));
+    let is_either = as_acknowledged.is_some_and(|text| text.as_str() == lists)
+        || first.is_open && one_more.is_some_and(|text| text.as_str() == lists);
+    assert!(rt; is_either, "at {calls}: {lists}");
 }
 
-// What went on is the rest of the run, with the tables of a run without a stop.
+// Checks that the replies are the rest of the run, and the tables those of a run without a stop.
 fn goes_on(
     rt: &impl Abort,
     alloc: Global,
@@ -80,7 +81,7 @@ fn goes_on(
     Ok(())
 }
 
-// How a file stops, and what becomes of the files.
+// Which file stops, what happens to the files, and how they are opened.
 #[derive(Clone, Copy)]
 struct Stop {
     stops: Stops,
@@ -88,7 +89,7 @@ struct Stop {
     options: Options,
 }
 
-// A run that stops at a call, if it comes to that.
+// A run that may stop at a call.
 #[derive(Drop)]
 struct Stopped {
     first: First,
@@ -108,8 +109,8 @@ fn stop_at(alloc: Global, round: &Round, stop: Stop, calls: u64) -> Result<Stopp
     })
 }
 
-// Stops at each call, from the first one of the run on, until a run has no stop: how many calls the file passes then
-// after those of the opening.
+// Stops at each call from the first of the run on, until a run has no stop. Returns the number of
+// calls after those of the opening.
 fn stop_at_each(
     rt: &impl Abort,
     alloc: Global,
@@ -128,7 +129,7 @@ fn stop_at_each(
         let count = first.replies.len();
         let seen = seen_after(alloc, last, left, round.requests.as_slice(), count)?;
         ends_well(rt, &first, calls);
-        stands_as(rt, &round.plain, &first, seen.second.stands.as_str(), calls);
+        lists_as(rt, &round.plain, &first, seen.second.lists.as_str(), calls);
         goes_on(rt, alloc, &round.plain, &first, &seen.second, calls)?;
         assert!(rt; most <= count, "at {calls}");
         if is_whole {
@@ -141,7 +142,8 @@ fn stop_at_each(
     Ok(None)
 }
 
-// The calls of a run of the steps from one up to another, of a registry that acted on those before.
+// Returns the number of calls of a run of the steps from `first` to `last`, over a registry that
+// acted on those before.
 fn stop_in(
     rt: &impl Abort,
     alloc: Global,
@@ -156,7 +158,7 @@ fn stop_in(
     Ok(stop_at_each(rt, alloc, &round, stop)?.ok_or("always a stop")?)
 }
 
-// A run makes more calls than it has requests.
+// Checks that the run makes more than three calls.
 fn stops_in(
     rt: &impl Abort,
     alloc: Global,
@@ -170,14 +172,14 @@ fn stops_in(
     Ok(())
 }
 
-// The log stops, and with it the machine.
+// The log stops, and the machine with it.
 const LOG: Stop = Stop {
     stops: Stops::Log,
     fate: Fate::Crash,
     options: PLAIN,
 };
 
-// The same where the process alone stops.
+// The same, with only the process stopped.
 const PROCESS: Stop = Stop {
     stops: Stops::Log,
     fate: Fate::Exit,
@@ -191,7 +193,7 @@ const MAIN_FILE: Stop = Stop {
     options: PLAIN,
 };
 
-// The same where what was committed is copied into it within the run.
+// The same, with commits copied into it during the run.
 const COPIES: Stop = Stop {
     stops: Stops::Db,
     fate: Fate::Crash,
@@ -204,8 +206,9 @@ const LOG_OF_COPIES: Stop = Stop {
     options: COPYING,
 };
 
-// Each call of the log is tried of each kind of order: a few requests at a time, over a registry that acted on those before
-// them and was closed. Left out are the second to fourth petition, which are written as the first one is.
+// Tests each call of the log for each kind of order: a few requests at a time, over a registry that
+// acted on those before them and was closed. The second to fourth petition are left out, because
+// they are written as the first is.
 
 #[test]
 fn orders_0_to_4_as_the_log_stops(rt: HostRuntime) -> Result<(), Fail> {
@@ -242,8 +245,9 @@ fn enrolments_5_to_10_as_the_log_stops(rt: HostRuntime) -> Result<(), Fail> {
     stops_in(&rt, rt.alloc(), &TEN, 5, 10, LOG)
 }
 
-// A commit is copied into the main file before the next one is written, by the same calls for each page, whatever was asked for.
-// So they are tried of an enrolment and of a grant, which changes rows of three tables. The proof has them all.
+// A commit is copied into the main file before the next one is written, with the same calls for
+// each page, whatever the request. So only an enrolment and a grant, which changes rows of three
+// tables, are tested. The proof covers all.
 
 #[test]
 fn enrolments_as_copies_stop(rt: HostRuntime) -> Result<(), Fail> {
@@ -255,7 +259,7 @@ fn grants_as_copies_stop(rt: HostRuntime) -> Result<(), Fail> {
     stops_in(&rt, rt.alloc(), &EACH_KIND, 10, 12, COPIES)
 }
 
-// A log of which a process wrote a part is another than one of which a crash left a part.
+// A log partly written by a process differs from one partly left by a crash.
 
 #[test]
 fn enrolments_as_the_process_stops(rt: HostRuntime) -> Result<(), Fail> {
@@ -267,7 +271,7 @@ fn enrolments_as_the_log_of_copies_stops(rt: HostRuntime) -> Result<(), Fail> {
     stops_in(&rt, rt.alloc(), &TEN, 0, 2, LOG_OF_COPIES)
 }
 
-// A run reads the main file at most where it was not read when the store was opened.
+// A run reads only the parts of the main file that were not read when the store was opened.
 #[test]
 fn enrolments_as_the_main_file_stops(rt: HostRuntime) -> Result<(), Fail> {
     let calls = stop_in(&rt, rt.alloc(), &TEN, 0, 10, MAIN_FILE)?;

@@ -1,7 +1,7 @@
-//! A run over files that may stop, what goes on from there, and the same run without stops.
+//! A run over files that may stop, how it goes on, and the same run without stops.
 
 use crate::disks::{COPYING, Image, are_same, closed, opened, whole};
-use crate::told::{rows_of, tell_lists, told};
+use crate::listing::{listing, rows_of, write_lists};
 use crate::values::lines_of;
 use registry_rules::{Reply, Request};
 use registry_store::{Fault, Registry, RunEnd, leave, leave_store, open_files};
@@ -10,22 +10,26 @@ use sqlite_disk::Disk;
 use std::alloc::Global;
 use std::test::Fail;
 
-/// What a run gave, and what the registry answered after its stop.
+/// The results of a run, and those of the registry after its stop.
 #[derive(Drop)]
 pub struct First {
-    /// The fault of the run. There is none where it came to its end, or not to its beginning.
+    /// The fault of the run; `None` if it came to its end or did not start.
     pub fault: Option<Fault>,
     /// Whether the registry was opened.
     pub is_open: bool,
     pub replies: Vec<Reply>,
-    pub spent: Option<String>,
+    pub poisoned: Option<String>,
 }
 
-/// What a spent registry answers to a request, to a run and to what it is asked for.
+/// The results of a poisoned registry for a request, a run and each list.
 pub const SPENT: &str =
-    "Some(Spent)\nSome(Spent), 0 replies\nErr(Spent)\nErr(Spent)\nErr(Spent)\nErr(Spent)\n";
+    "Some(Poisoned)\nSome(Poisoned), 0 replies\nErr(Poisoned)\nErr(Poisoned)\nErr(Poisoned)\nErr(Poisoned)\n";
 
-fn tell_act<S: Alter>(registry: &mut Registry<S>, requests: &[Request], text: &mut String) -> bool {
+fn write_act<S: Alter>(
+    registry: &mut Registry<S>,
+    requests: &[Request],
+    text: &mut String,
+) -> bool {
     match requests.first() {
         Some(request) => {
             let fault = registry.act(request).err();
@@ -35,22 +39,26 @@ fn tell_act<S: Alter>(registry: &mut Registry<S>, requests: &[Request], text: &m
     }
 }
 
-fn tell_run<S: Alter>(registry: &mut Registry<S>, requests: &[Request], text: &mut String) -> bool {
+fn write_run<S: Alter>(
+    registry: &mut Registry<S>,
+    requests: &[Request],
+    text: &mut String,
+) -> bool {
     let RunEnd { replies, fault } = registry.run_from(requests, 0);
     let count = replies.len();
     writeln!(text, "{fault:?}, {count} replies").is_ok()
 }
 
-// What a registry answers after a stop.
+// Returns the results of a registry after a stop.
 fn answers<S: Alter>(
     alloc: Global,
     registry: &mut Registry<S>,
     requests: &[Request],
 ) -> Option<String> {
     let mut text = String::new(alloc);
-    if tell_act(registry, requests, &mut text)
-        && tell_run(registry, requests, &mut text)
-        && tell_lists(registry, &mut text)
+    if write_act(registry, requests, &mut text)
+        && write_run(registry, requests, &mut text)
+        && write_lists(registry, &mut text)
     {
         Some(text)
     } else {
@@ -60,7 +68,7 @@ fn answers<S: Alter>(
 
 fn run_first<S: Alter>(alloc: Global, registry: &mut Registry<S>, requests: &[Request]) -> First {
     let RunEnd { replies, fault } = registry.run_from(requests, 0);
-    let spent = match fault {
+    let poisoned = match fault {
         Some(_) => answers(alloc, registry, requests),
         None => None,
     };
@@ -68,7 +76,7 @@ fn run_first<S: Alter>(alloc: Global, registry: &mut Registry<S>, requests: &[Re
         fault,
         is_open: true,
         replies,
-        spent,
+        poisoned,
     }
 }
 
@@ -77,11 +85,12 @@ fn not_run(alloc: Global, fault: Option<Fault>) -> First {
         fault,
         is_open: false,
         replies: Vec::new(alloc),
-        spent: None,
+        poisoned: None,
     }
 }
 
-/// Opens the registry in the files, acts on the requests up to the first fault, and lets go of the files.
+/// Opens the registry in the files, acts on the requests up to the first fault, and abandons the
+/// files.
 pub fn first_in<D: Disk + Drop>(
     alloc: Global,
     files: Files<D>,
@@ -97,36 +106,37 @@ pub fn first_in<D: Disk + Drop>(
     }
 }
 
-/// What stands after a stop, the replies from the first unanswered request on, and the rows of all tables then.
+/// The lists of a registry after a stop, its replies from the first unanswered request on, and the
+/// rows of all tables then.
 #[derive(Drop)]
 pub struct Second {
-    pub stands: String,
+    pub lists: String,
     pub replies: Vec<Reply>,
     pub fault: Option<Fault>,
     pub rows: String,
 }
 
-/// What a registry tells, and then replies and holds when it has gone on.
+/// Returns the lists of a registry, and then its replies and rows when it goes on.
 pub fn go_on<S: Alter + Drop>(
     alloc: Global,
     mut registry: Registry<S>,
     requests: &[Request],
     answered: usize,
 ) -> Option<Second> {
-    let stands = told(alloc, &mut registry);
+    let lists = listing(alloc, &mut registry);
     let answered = usize::min(answered, requests.len());
     let RunEnd { replies, fault } = registry.run_from(requests, answered);
     let mut conn = registry.close();
     let rows = rows_of(alloc, &mut conn);
     Some(Second {
-        stands: stands?,
+        lists: lists?,
         replies,
         fault,
         rows: rows?,
     })
 }
 
-/// The same of the registry in the files.
+/// The same for the registry in the files.
 pub fn second_in<D: Disk + Drop>(
     alloc: Global,
     files: Files<D>,
@@ -140,7 +150,7 @@ pub fn second_in<D: Disk + Drop>(
     go_on(alloc, registry, requests, answered)
 }
 
-/// What came of the files that a stop left.
+/// The results for the files that a stop left.
 #[derive(Drop)]
 pub struct Seen {
     image: Image,
@@ -148,7 +158,8 @@ pub struct Seen {
     pub second: Second,
 }
 
-/// What comes of the files that a stop left: the same as of those before, where they hold the same.
+/// Returns the results for the files that a stop left, which are those of before if the contents
+/// are the same.
 pub fn seen_after(
     alloc: Global,
     before: Option<Seen>,
@@ -173,35 +184,39 @@ pub fn seen_after(
 /// A run without stops.
 #[derive(Drop)]
 pub struct Plain {
-    /// What the registry tells before the first request, and after each.
-    pub stands: Vec<String>,
+    /// The lists of the registry before the first request, and after each.
+    pub lists: Vec<String>,
     /// The replies as lines.
     pub replies: String,
     pub rows: String,
-    /// What the files hold then.
+    /// The contents of the files after the run.
     pub image: Image,
 }
 
-fn add_told<S: Alter>(alloc: Global, registry: &mut Registry<S>, stands: &mut Vec<String>) -> bool {
-    match told(alloc, registry) {
-        Some(text) => stands.push(text).is_ok(),
+fn add_listing<S: Alter>(
+    alloc: Global,
+    registry: &mut Registry<S>,
+    lists: &mut Vec<String>,
+) -> bool {
+    match listing(alloc, registry) {
+        Some(text) => lists.push(text).is_ok(),
         None => false,
     }
 }
 
-// Acts on one request after the other, and tells after each.
+// Acts on one request after another, and adds the lists after each.
 fn act_on_each<S: Alter>(
     alloc: Global,
     registry: &mut Registry<S>,
     requests: &[Request],
-    stands: &mut Vec<String>,
+    lists: &mut Vec<String>,
     replies: &mut Vec<Reply>,
 ) -> bool {
     for request in requests {
         let Ok(reply) = registry.act(request) else {
             return false;
         };
-        if replies.push(reply).is_err() || !add_told(alloc, registry, stands) {
+        if replies.push(reply).is_err() || !add_listing(alloc, registry, lists) {
             return false;
         }
     }
@@ -212,31 +227,31 @@ fn plain_in<D: Disk + Drop>(
     alloc: Global,
     files: Files<D>,
     requests: &[Request],
-    stands: &mut Vec<String>,
+    lists: &mut Vec<String>,
     replies: &mut Vec<Reply>,
 ) -> Option<(String, Files<D>)> {
     let Ok(mut registry) = opened(alloc, files, COPYING) else {
         return None;
     };
-    let went = add_told(alloc, &mut registry, stands)
-        && act_on_each(alloc, &mut registry, requests, stands, replies);
+    let went = add_listing(alloc, &mut registry, lists)
+        && act_on_each(alloc, &mut registry, requests, lists, replies);
     let mut conn = registry.close();
     let rows = rows_of(alloc, &mut conn);
     let files = leave_store(conn);
     if went { Some((rows?, files)) } else { None }
 }
 
-/// What a run over files with this gives, which do not stop.
+/// Returns the results of a run over files with these contents, which do not stop.
 pub fn plain_over(alloc: Global, image: &Image, requests: &[Request]) -> Result<Plain, Fail> {
     let files = whole(alloc, image)?;
-    let mut stands = Vec::new(alloc);
+    let mut lists = Vec::new(alloc);
     let mut replies = Vec::new(alloc);
-    let (rows, files) = plain_in(alloc, files, requests, &mut stands, &mut replies).ok_or(
+    let (rows, files) = plain_in(alloc, files, requests, &mut lists, &mut replies).ok_or(
         "not run",
     )?;
     Ok(Plain {
         image: closed(alloc, files)?,
-        stands,
+        lists,
         replies: lines_of(alloc, replies.as_slice())?,
         rows,
     })

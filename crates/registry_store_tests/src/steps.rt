@@ -1,4 +1,4 @@
-//! Requests, each with the reply that it should have.
+//! Requests, each with its expected reply.
 
 /// A request as a text, and its reply as a line.
 pub type Step = (&'static str, &'static str);
@@ -52,7 +52,7 @@ pub const TEN: [Step; 10] = [
     ),
 ];
 
-/// Each kind of order is accepted once; then come a repeat, a refusal and another order under a kept key.
+/// Each kind of order, accepted once, then a repeat, a refusal and another order under a kept key.
 pub const EACH_KIND: [Step; 20] = [
     ENROL,
     (

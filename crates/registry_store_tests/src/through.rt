@@ -1,9 +1,9 @@
-//! Runs that go through stops, in memory, and whose replies are refused.
+//! Runs that go on through stops, in memory, and runs whose replies are refused.
 
 use crate::disks::{COPYING, MANY, PLAIN, Stops, calls_to_open, files_of, founded, opened, whole};
+use crate::listing::listing;
 use crate::runs::{Plain, Second, go_on, plain_over};
 use crate::steps::{EACH_KIND, ENROL, TEN};
-use crate::told::told;
 use crate::values::{founding, lines_of, replies_to, requests_of};
 use registry_rules::{Reply, Request};
 use registry_store::{Cut, Registry, Replies, RunStop, leave, run_in_memory, run_through};
@@ -13,11 +13,12 @@ use std::alloc::Global;
 use std::process::Abort;
 use std::test::Fail;
 
-// What a run through stops gives, and holds in the end.
+// The replies of a run through stops, and the lists at its end; `None` if it does not come to the
+// end.
 #[derive(Drop)]
 struct Through {
     replies: Vec<Reply>,
-    stands: Option<String>,
+    lists: Option<String>,
 }
 
 fn end_of<D: Disk + Drop>(
@@ -25,9 +26,9 @@ fn end_of<D: Disk + Drop>(
     replies: Vec<Reply>,
     mut registry: Registry<FileStore<D>>,
 ) -> Through {
-    let stands = told(alloc, &mut registry);
+    let lists = listing(alloc, &mut registry);
     drop(leave(registry));
-    Through { replies, stands }
+    Through { replies, lists }
 }
 
 fn through_in<D: Crash + Drop>(
@@ -43,12 +44,13 @@ fn through_in<D: Crash + Drop>(
         Ok((replies, registry)) => Some(end_of(alloc, replies, registry)),
         Err(replies) => Some(Through {
             replies,
-            stands: None,
+            lists: None,
         }),
     }
 }
 
-// Two rounds come through the stop of a file. One comes to the end only without a stop, and gives a beginning of the replies.
+// Checks that two runs come through the stop of a file, and that one comes to its end only without
+// a stop, with a prefix of the replies otherwise.
 fn goes_through(
     rt: &impl Abort,
     alloc: Global,
@@ -57,17 +59,17 @@ fn goes_through(
     two: &Through,
     calls: u64,
 ) -> Result<(), Fail> {
-    let last = plain.stands.last().ok_or("nothing stands")?;
+    let last = plain.lists.last().ok_or("no lists")?;
     let replies = lines_of(alloc, two.replies.as_slice())?;
     assert_eq!(rt; replies.as_str(), plain.replies.as_str(), "at {calls}");
-    assert_eq!(rt; two.stands.as_deref(), Some(last.as_str()), "at {calls}");
+    assert_eq!(rt; two.lists.as_deref(), Some(last.as_str()), "at {calls}");
     let first = lines_of(alloc, one.replies.as_slice())?;
     assert!(rt;
         plain.replies.as_str().starts_with(first.as_str()),
         "at {calls}"
     );
-    if one.stands.is_some() {
-        assert_eq!(rt; one.stands.as_deref(), Some(last.as_str()), "at {calls}");
+    if one.lists.is_some() {
+        assert_eq!(rt; one.lists.as_deref(), Some(last.as_str()), "at {calls}");
         assert_eq!(rt; first.as_str(), plain.replies.as_str(), "at {calls}");
     }
     Ok(())
@@ -86,7 +88,7 @@ fn a_run_goes_through_a_stop_at_each_call(rt: HostRuntime) -> Result<(), Fail> {
         let files = files_of(alloc, &image, Stops::Log, calls)?;
         let one = through_in(alloc, files, requests.as_slice(), 1).ok_or("not opened")?;
         goes_through(&rt, alloc, &plain, &one, &two, calls)?;
-        if one.stands.is_some() {
+        if one.lists.is_some() {
             assert!(rt; begin < calls);
             return Ok(());
         }
@@ -103,7 +105,7 @@ fn no_round_gives_no_reply(rt: HostRuntime) -> Result<(), Fail> {
     let none = through_in(alloc, whole(alloc, &image)?, requests.as_slice(), 0).ok_or(
         "not opened",
     )?;
-    assert!(rt; none.stands.is_none());
+    assert!(rt; none.lists.is_none());
     assert_eq!(rt; none.replies.len(), 0);
     Ok(())
 }
@@ -115,18 +117,18 @@ fn a_run_in_memory_is_the_run_without_stops(rt: HostRuntime) -> Result<(), Fail>
     let image = founded(alloc, &founding)?;
     let requests = requests_of(alloc, &EACH_KIND)?;
     let plain = plain_over(alloc, &image, requests.as_slice())?;
-    let last = plain.stands.last().ok_or("nothing stands")?;
+    let last = plain.lists.last().ok_or("no lists")?;
     let (replies, registry) = run_in_memory(alloc, &founding, requests.as_slice(), PLAIN, 1).ok_or(
         "not run",
     )?;
     let end = end_of(alloc, replies, registry);
-    assert_eq!(rt; end.stands.as_deref(), Some(last.as_str()));
+    assert_eq!(rt; end.lists.as_deref(), Some(last.as_str()));
     let replies = lines_of(alloc, end.replies.as_slice())?;
     assert_eq!(rt; replies.as_str(), replies_to(alloc, &EACH_KIND)?.as_str());
     Ok(())
 }
 
-// Takes so many replies, and refuses the next one.
+// Takes this many replies, and refuses the next one.
 #[derive(Drop)]
 struct Few {
     room: usize,
@@ -149,7 +151,7 @@ impl Replies for Few {
     }
 }
 
-// How a run ends whose replies find so much room, and how it goes on when there is more.
+// How a run ends whose receiver has room for this many replies, and how it goes on with more.
 #[derive(Drop)]
 struct Refused {
     outcome: Result<(), RunStop>,
@@ -194,12 +196,9 @@ fn a_reply_that_is_refused_ends_a_run(rt: HostRuntime) -> Result<(), Fail> {
         let files = whole(alloc, &image)?;
         let refused = refuse_in(alloc, files, requests.as_slice(), room).ok_or("not opened")?;
         assert_eq!(rt; refused.outcome, Err(RunStop::Cut), "at {room}");
-        let rest = refused.rest.ok_or("nothing stands")?;
-        let stands = plain
-            .stands
-            .get(room.saturating_add(1))
-            .ok_or("nothing stands")?;
-        assert_eq!(rt; rest.stands.as_str(), stands.as_str(), "at {room}");
+        let rest = refused.rest.ok_or("no lists")?;
+        let lists = plain.lists.get(room.saturating_add(1)).ok_or("no lists")?;
+        assert_eq!(rt; rest.lists.as_str(), lists.as_str(), "at {room}");
         let mut replies = lines_of(alloc, refused.few.taken.as_slice())?;
         replies.push_str(lines_of(alloc, rest.replies.as_slice())?.as_str())?;
         assert_eq!(rt; refused.few.taken.len(), room);

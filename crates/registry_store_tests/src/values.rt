@@ -1,4 +1,5 @@
-//! What the examples share: foundings and requests, which are read as the program reads them, and replies as lines.
+//! Shared by the tests: foundings and requests, read as the program reads them, and replies as
+//! lines.
 
 use crate::steps::Step;
 use registry_rules::{Founding, Reply, Request};
@@ -11,17 +12,17 @@ use usbnum_core::{Key, Slug, Vid};
 const FOUNDING: &str =
     "vendor = \"1209\"\nname = \"Shared products\"\ncurators = [\"cora\"]\nlicences = [\"GPL-3.0-only\", \"MIT\"]\nfixed = [\"0001-0010\"]\n";
 
-/// The slug that is spelt so.
+/// Returns the slug with this text.
 pub fn slug(alloc: Global, text: &str) -> Result<Slug, Fail> {
     Ok(Slug::new(alloc, text.as_bytes())?.ok_or("no slug")?)
 }
 
-/// The vendor 1209, whose numbers up to 0010 are fixed.
+/// Returns a founding of the vendor 1209, with the numbers up to 0010 fixed.
 pub fn founding(alloc: Global) -> Result<Founding, Fail> {
     Ok(founding_from_toml(alloc, FOUNDING.as_bytes())??)
 }
 
-// What cora imports from a list under a key, for the organisation that stands behind the key.
+// Returns cora's import of a list, under the key and for the organisation in `words`.
 fn import(alloc: Global, words: &str, list: &str) -> Result<Request, Fail> {
     let (key, org) = words.split_once(' ').ok_or("no key")?;
     let key = Key::new(alloc, key.as_bytes())?.ok_or("no key")?;
@@ -31,7 +32,8 @@ fn import(alloc: Global, words: &str, list: &str) -> Result<Request, Fail> {
     Ok(import_request(alloc, caller, key, org, vendor, None, &list)?)
 }
 
-/// The request that a text is: one line of JSON, or for an import its key and organisation and then, from the next line on, its list.
+/// Returns the request of a text: one line of JSON; or for an import its key and organisation, and
+/// from the next line on its list.
 pub fn request(alloc: Global, text: &str) -> Result<Request, Fail> {
     match text.split_once('\n') {
         Some((words, list)) => import(alloc, words, list),
@@ -39,7 +41,7 @@ pub fn request(alloc: Global, text: &str) -> Result<Request, Fail> {
     }
 }
 
-/// The replies, each as a line.
+/// Returns the replies, each as a line.
 pub fn lines_of(alloc: Global, replies: &[Reply]) -> Result<String, Fail> {
     let mut text = String::new(alloc);
     for reply in replies {
@@ -49,7 +51,7 @@ pub fn lines_of(alloc: Global, replies: &[Reply]) -> Result<String, Fail> {
     Ok(text)
 }
 
-/// The requests of the steps.
+/// Returns the requests of the steps.
 pub fn requests_of(alloc: Global, steps: &[Step]) -> Result<Vec<Request>, Fail> {
     let mut requests = Vec::new(alloc);
     for (text, _) in steps {
@@ -58,7 +60,7 @@ pub fn requests_of(alloc: Global, steps: &[Step]) -> Result<Vec<Request>, Fail> 
     Ok(requests)
 }
 
-/// The replies that the steps should have, each as a line.
+/// Returns the expected replies of the steps, each as a line.
 pub fn replies_to(alloc: Global, steps: &[Step]) -> Result<String, Fail> {
     let mut text = String::new(alloc);
     for (_, reply) in steps {

@@ -1,4 +1,4 @@
-//! The ways in which a registry is closed and opened again.
+//! The ways to close and reopen a registry.
 
 use crate::disks::{PLAIN, Stops, calls_to_open, files_of, founded, opened, whole};
 use crate::runs::{Second, go_on, plain_over};
@@ -6,8 +6,8 @@ use crate::steps::{EACH_KIND, TEN};
 use crate::values::{founding, requests_of};
 use registry_rules::Request;
 use registry_store::{
-    Closed, Registry, close_and_open, close_files, crash_and_open, crash_and_open_store, leave,
-    leave_and_open, open_files, stop, take_up,
+    Closed, Registry, abandon, close_and_open, close_files, crash_and_open, crash_and_open_store,
+    leave, leave_and_open, open_files, take_up,
 };
 use sqlite::{Connection, FileStore, Files};
 use sqlite_disk::{Crash, Disk};
@@ -49,7 +49,7 @@ fn stop_and_open<D: Disk + Drop>(
     alloc: Global,
     registry: Registry<FileStore<D>>,
 ) -> Option<Registry<FileStore<D>>> {
-    open_again(alloc, stop(registry).close())
+    open_again(alloc, abandon(registry).close())
 }
 
 fn close_store_and_open<D: Disk + Drop>(
@@ -63,7 +63,7 @@ fn close_store_and_open<D: Disk + Drop>(
     }
 }
 
-// The connection is taken up as it is.
+// Ends the registry in this way and opens it again.
 fn go_through<D: Crash + Drop>(
     alloc: Global,
     registry: Registry<FileStore<D>>,
@@ -80,7 +80,7 @@ fn go_through<D: Crash + Drop>(
     }
 }
 
-// Acts on the first requests, is closed and opened in this way, and goes on.
+// Acts on the first requests, closes and opens the registry in this way, and goes on.
 fn go_on_after<D: Crash + Drop>(
     alloc: Global,
     mut registry: Registry<FileStore<D>>,
@@ -116,8 +116,8 @@ fn each_way_of_closing_keeps_all(rt: HostRuntime) -> Result<(), Fail> {
     for way in WAYS {
         let files = whole(alloc, &image)?;
         let second = go_on_in(alloc, files, requests.as_slice(), 5, way).ok_or("not opened")?;
-        let stands = plain.stands.get(5).ok_or("nothing stands")?;
-        assert_eq!(rt; second.stands.as_str(), stands.as_str(), "{way:?}");
+        let lists = plain.lists.get(5).ok_or("no lists")?;
+        assert_eq!(rt; second.lists.as_str(), lists.as_str(), "{way:?}");
         assert_eq!(rt; second.rows.as_str(), plain.rows.as_str(), "{way:?}");
         assert_eq!(rt;
             second.replies.len(),
@@ -128,7 +128,7 @@ fn each_way_of_closing_keeps_all(rt: HostRuntime) -> Result<(), Fail> {
     Ok(())
 }
 
-// Whether a registry whose file stopped within a run is opened in this way.
+// Returns whether a registry whose file stopped during a run opens in this way.
 fn opens_after_stop<D: Crash + Drop>(
     alloc: Global,
     files: Files<D>,

@@ -7,7 +7,7 @@ use Rattle.std.specs.Cmp.{IsTotalOrder}
 use Rattle.sqlite_keyed.proofs.ListLemmas.{all_weaker}
 
 module _ {K : Type 0} (cmp : K → K → Ordering) (total : IsTotalOrder cmp) (same : K → K → Bool) (told : (a b : K) → is_eq (cmp a b) ≡ same a b) (exact : (a b : K) → same a b ≡ true → a ≡ b) where
-  -- a key below all of a list is not in it
+  -- a key below all keys of a list is not in it
   pub lacks : (k : K) (ks : List K) → AllByRecursion (λ y. cmp k y ≡ Less) ks → list_any (same k) ks ≡ false
   lacks k [] below = refl
   lacks k (x ∷ ks) below = let apart : same k x ≡ false = sym (told k x) ∙ ap is_eq below.0 in rw apart (lacks k ks below.1)
@@ -34,7 +34,7 @@ module _ {K : Type 0} (cmp : K → K → Ordering) (total : IsTotalOrder cmp) (s
       go false is h = h
       go true is h = let here = exact k x is in rw here (lacks x xs low ∙ sym (lacks x ys high))
 
-  -- lists that ascend and have the same keys are one
+  -- ascending lists with the same keys are equal
   pub one_order : (xs ys : List K) → IsStrictlySortedBy cmp xs → IsStrictlySortedBy cmp ys → ((k : K) → list_any (same k) xs ≡ list_any (same k) ys) → xs ≡ ys
   unfolding IsStrictlySortedBy
   one_order [] [] up rise agree = refl

@@ -1,15 +1,16 @@
--- A transaction that reads, and is undone.
+-- A transaction that reads and is rolled back.
 use Rattle.std.proofs.Common.{◌≡◌, IsTrue, true, refl, sym, ap, subst, ◌∙◌, arith, Result, Ok, Err, IfOk}
 use Rattle.sqlite.specs.Store.{Ghosts}
-use Rattle.sqlite.specs.State.{HasCleanDisk, Survives, IsLive, IsRolledBack, KeepsCommit}
+use Rattle.sqlite.specs.State.{HasCleanDisk, IsLive, IsRolledBack, KeepsCommit}
 use Rattle.sqlite.specs.Held.{Held, state}
 use Rattle.sqlite.proofs.StateLemmas.{survives_then}
 use Rattle.sqlite.proofs.Callers.{survives_begin}
+use Rattle.table_laws.specs.Inside.{CommitsNothing}
 use Rattle.registry_schema.specs.declared.fault.TableFault.{TableFault}
 use Rattle.registry_schema.specs.declared.fault.TableFault.TheVariants.{Foreign}
 use Rattle.registry_rules.specs.History.{History}
 use Rattle.registry_tables.specs.Rows.{newest, Rows, HoldsRows}
-use Rattle.registry_tables.specs.Calls.{Lists, KeepsAll, IsForeign}
+use Rattle.registry_tables.specs.Calls.{Lists, KeepsAll, IsForeign, IsLookUp}
 use Rattle.registry_tables.specs.Finds.{Finds}
 use Rattle.registry_tables.proofs.FindLemmas.{goes_keeps}
 use Rattle.registry_tables.proofs.RowsLemmas.{enters}
@@ -21,10 +22,10 @@ module _ {S : Type 0} (g : Ghosts S) (old begun mid end : Held S) (is : begun �
   opened : IsTrue (state g begun).is_open → IsTrue (state g old).is_open
   opened = subst (λ b. IsTrue (state g b).is_open) is
 
-  pub quiet_all : Survives (state g begun) (state g mid) (λ _. ⊥) → Survives (state g mid) (state g end) (λ _. ⊥) → Survives (state g old) (state g end) (λ _. ⊥)
+  pub quiet_all : CommitsNothing (state g begun) (state g mid) → CommitsNothing (state g mid) (state g end) → CommitsNothing (state g old) (state g end)
   quiet_all first last =
       survives_begin g old (state g end) _
-      (subst (λ b. Survives (state g b) (state g end) (λ _. ⊥)) is (survives_then (state g begun) (state g mid) (state g end) _ _ (λ _. ⊥) (λ _ db none. none) (λ _ db none. none) first last))
+      (subst (λ b. CommitsNothing (state g b) (state g end)) is (survives_then (state g begun) (state g mid) (state g end) _ _ (λ _. ⊥) (λ _ db none. none) (λ _ db none. none) first last))
 
   keeps_by : {A : Type 0} (Is : History → A → Type 0) (result : Result A TableFault) → Finds (state g begun) (state g mid) result Is → KeepsCommit (state g begun) (state g mid)
   keeps_by Is (Ok a) told = goes_keeps (state g begun) (state g mid) told.0
@@ -47,19 +48,22 @@ module _ {S : Type 0} (g : Ghosts S) (old begun mid end : Held S) (is : begun �
         (is_open, λ h legal rows. none.1 h legal (held h is_open rows))
 
     module _ {A : Type 0} (Is : History → A → Type 0) (result : Result A TableFault) (told : HasCleanDisk (state g mid) → IsTrue (state g begun).in_transaction → Finds (state g begun) (state g mid) result Is)
-        (last : Survives (state g mid) (state g end) (λ _. ⊥)) where
+        (last : CommitsNothing (state g mid) (state g end)) where
       tells : HasCleanDisk (state g end) → Finds (state g begun) (state g mid) result Is
       tells clean = let early : HasCleanDisk (state g mid) = omega (arith, last.clean) in told early inside
 
-      pub lists_all : HasCleanDisk (state g end) → IfOk result (λ a. Lists (state g old) (state g end) Is a)
+      lists_all : HasCleanDisk (state g end) → IfOk result (λ a. Lists (state g old) (state g end) Is a)
       lists_all clean = lists_by Is result (tells clean)
 
-      pub is_foreign : HasCleanDisk (state g end) → IsForeign (state g old) (state g end) result
+      is_foreign : HasCleanDisk (state g end) → IsForeign (state g old) (state g end) result
       is_foreign clean = foreign_by Is result (tells clean)
 
-      pub keeps_all : (HasCleanDisk (state g end) → IsRolledBack (state g mid) (state g end)) → HasCleanDisk (state g end) → KeepsAll (state g old) (state g end)
+      keeps_all : (HasCleanDisk (state g end) → IsRolledBack (state g mid) (state g end)) → HasCleanDisk (state g end) → KeepsAll (state g old) (state g end)
       keeps_all undone clean is_open =
           let back = undone clean in
           let kept = keeps_by Is result (tells clean) in
           let same = kept.committed (back.was_open is_open) ∙ ap (λ b. (state g b).committed) is in
           (opened (kept.was_open (back.was_open is_open)), (back.undone is_open).0 ∙ same, (back.undone is_open).1 ∙ same)
+
+      pub look_up : (HasCleanDisk (state g end) → IsRolledBack (state g mid) (state g end)) → CommitsNothing (state g begun) (state g mid) → IsLookUp (state g old) (state g end) result Is
+      look_up undone first = record { answer = lists_all; same = keeps_all undone; foreign = is_foreign; survives = quiet_all first last }

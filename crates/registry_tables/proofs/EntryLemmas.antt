@@ -1,4 +1,4 @@
--- What is found after an entry was changed in place.
+-- What is found after an entry is changed in place.
 use Rattle.std.proofs.Common.{◌≡◌, Bool, true, false, cond, if◌then◌else◌, ◌&&◌, List, [], ◌∷◌, find, Option, Some, None, refl, ap, ap₂, ◌∙◌}
 use Rattle.std.specs.List.{AllByRecursion}
 use Rattle.std.specs.Option.{option_map}
@@ -10,7 +10,7 @@ use Rattle.registry_rows.specs.Rows.{is_of}
 use Rattle.registry_rows.proofs.KeyLemmas.{turned}
 use Rattle.registry_tables.specs.Rows.{NoTwo}
 
--- what finds a value finds what it was changed to
+-- if the change keeps the test, the test finds the changed value
 found_changed : {X : Type 0} (test p : X → Bool) (f : X → X) → ((x : X) → test (f x) ≡ test x) → (xs : List X) → find test (update_where p f xs) ≡ option_map (λ x. cond (p x) (f x) x) (find test xs)
 found_changed test p f keeps [] = refl
 found_changed {X} test p f keeps (x ∷ xs) = go (p x) refl (test x) refl (found_changed test p f keeps xs)

@@ -1,4 +1,4 @@
--- How look-ups answer what the history says.
+-- How lookups return what the history says.
 use Rattle.std.proofs.Common.{◌≡◌, inl, inr, IsTrue, Result, Ok, Err, sym, subst, ◌∙◌}
 use Rattle.sqlite.specs.State.{State, IsUnchanged, KeepsCommit}
 use Rattle.sqlite.proofs.StateLemmas.{unchanged}
@@ -14,11 +14,11 @@ use Rattle.registry_rows.specs.Tables.{Tables, Holds}
 use Rattle.registry_tables.specs.Finds.{Finds}
 use Rattle.registry_tables.specs.Rows.{newest, HoldsRows, AreRecords, AreKeptReplies}
 
--- what was read says this of the tables, which stay
+-- what was read says this of the tables, which are unchanged
 abbrev pub Read : State → State → (Tables → Type 0) → Type 0
 Read old new Says = GoesOn old new × ((t : Tables) → Holds old.now t → IsUnchanged old new × Says t)
 
--- the look-ups so far went well, and told this of the history
+-- the lookups so far succeeded, and say this of the history
 abbrev pub Told : State → State → (History → Type 0) → Type 0
 Told old new Is = GoesOn old new × ((h : History) → Legal h → HoldsRows newest old.now h → IsUnchanged old new × Is h)
 
@@ -32,19 +32,19 @@ stays_keeps old new (inr undone) = record { was_open = undone.was_open; committe
 module _ (old new : State) where
   -- ---- from the tables to a history
 
-  -- what the tables answer is what the history says
+  -- what the tables return is what the history says
   pub finds_by : {A B : Type 0} (P : Tables → A → Type 0) (Is : History → B → Type 0) (a : A) (b : B)
       → ((h : History) (t : Tables) → Legal h → AreRecords h t → AreKeptReplies h t.kept → P t a → Is h b) → Answers old new (Ok a) P → Finds old new (Ok b) Is
   unfolding HoldsRows
   finds_by P Is a b means read = (read.0, λ h legal had. (let it = read.1 had.1 had.2 in (it.0, means h had.1 legal had.3 had.4 it.1)))
 
   module _ {B : Type 0} (Is : History → B → Type 0) where
-    -- of an answer of the tables that of a history is made
+    -- a result about the tables becomes one about the history
     pub passes : (Says : Tables → Type 0) (b : B) → ((h : History) (t : Tables) → Legal h → Holds old.now t → AreRecords h t → Says t → Is h b) → Read old new Says → Finds old new (Ok b) Is
     unfolding HoldsRows
     passes Says b means read = (read.0, λ h legal rows. (let it = read.1 rows.1 rows.2 in (it.0, means h rows.1 legal rows.2 rows.3 it.1)))
 
-    -- or it is that of none
+    -- or it refutes every history
     pub refuses : (Says : Tables → Type 0) → ((h : History) (t : Tables) → Legal h → Holds old.now t → AreRecords h t → ¬ Says t) → Read old new Says → Finds old new (Err Foreign) Is
     unfolding HoldsRows
     refuses Says never read = (λ _. (read.0.was_open, λ h legal rows. never h rows.1 legal rows.2 rows.3 (read.1 rows.1 rows.2).1), goes_keeps old new read.0)
@@ -53,36 +53,36 @@ module _ (old new : State) where
     unfolding HoldsRows
     fails e read = (λ foreign. (let none = read.0 foreign in (none.0.was_open, λ h legal rows. none.1 rows.1 rows.2)), stays_keeps old new read.1)
 
-    -- a fault of another kind says nothing of histories
+    -- a fault other than Foreign says nothing about histories
     pub short : (e : TableFault) → (e ≡ Foreign → ⊥) → GoesOn old new → Finds old new (Err e) Is
     short e never goes = (λ foreign. absurd (never foreign), goes_keeps old new goes)
 
-  -- what the tables say is what a history says
+  -- what the tables say is what the history says
   pub answers_tell : {A : Type 0} (result : Result A TableFault) (Says : Tables → A → Type 0) (Is : History → A → Type 0)
       → ((h : History) (t : Tables) → Legal h → Holds old.now t → AreRecords h t → (a : A) → Says t a → Is h a) → Answers old new result Says → Finds old new result Is
   answers_tell (Ok a) Says Is means read = passes Is (λ t. Says t a) a (λ h t legal has had says. means h t legal has had a says) read
   answers_tell (Err e) Says Is means read = fails Is e read
 
-  -- ---- from one answer to another
+  -- ---- from one result to another
 
-  -- another answer is made of it
+  -- a result computed from another
   pub finds_ok : {A B : Type 0} (Is : History → A → Type 0) (Also : History → B → Type 0) (a : A) (b : B) → ((h : History) → Legal h → Is h a → Also h b) → Finds old new (Ok a) Is → Finds old new (Ok b) Also
   finds_ok Is Also a b means found = (found.0, λ h legal had. (let it = found.1 h legal had in (it.0, means h legal it.1)))
 
-  -- the answer may be told in other words
+  -- a result that satisfies one relation satisfies a weaker one
   pub finds_as : {A : Type 0} (Is Also : History → A → Type 0) (result : Result A TableFault) → ((h : History) (a : A) → Legal h → Is h a → Also h a) → Finds old new result Is → Finds old new result Also
   finds_as Is Also (Ok a) means found = (found.0, λ h legal had. (let it = found.1 h legal had in (it.0, means h a legal it.1)))
   finds_as Is Also (Err e) means found = found
 
-  -- what was told makes an answer
+  -- what the lookups so far say gives a result
   pub told_makes : {B : Type 0} (Is : History → Type 0) (Also : History → B → Type 0) (b : B) → ((h : History) → Legal h → Is h → Also h b) → Told old new Is → Finds old new (Ok b) Also
   told_makes Is Also b makes told = (told.0, λ h legal rows. (let it = told.1 h legal rows in (it.0, makes h legal it.1)))
 
--- nothing has to be read
+-- a result that needs no read
 pub finds_at_once : (s : State) → IsTrue s.is_open → IsTrue s.in_transaction → {A : Type 0} (Is : History → A → Type 0) (a : A) → ((h : History) → Legal h → Is h a) → Finds s s (Ok a) Is
 finds_at_once s is_open inside Is a is = let same = unchanged s is_open in (unchanged_goes s s inside same, λ h legal had. (same, is h legal))
 
--- ---- one look-up after another
+-- ---- one lookup after another
 
 module _ (old mid new : State) (First : History → Type 0) (before : Told old mid First) where
   held_on : (h : History) → Legal h → HoldsRows newest old.now h → HoldsRows newest mid.now h
@@ -100,7 +100,7 @@ module _ (old mid new : State) (First : History → Type 0) (before : Told old m
     record { was_open = λ is_open. before.0.was_open; committed = λ is_open. after.1.committed is_open ∙ before.0.committed_is },
   )
 
--- two look-ups made into one
+-- two lookups as one
 pub finds_then : (a b c : State) {A B : Type 0} (P : History → A → Type 0) (Q : History → B → Type 0) (x : A) (result : Result B TableFault)
     → Finds a b (Ok x) P → Finds b c result Q → Finds a c result (λ h y. P h x × Q h y)
 finds_then a b c P Q x (Ok y) first second = told_then a b c (λ h. P h x) first y Q second

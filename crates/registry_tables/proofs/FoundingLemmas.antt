@@ -35,7 +35,7 @@ or_chain true false c = refl
 or_chain false true c = refl
 or_chain false false c = refl
 
--- a name is there where it was or is among those put in
+-- a name is present if it was before or is among those inserted
 pub names_each : (names had : List (List ℕ)) (name : List ℕ) → list_any (bytes_eq name) (names_put names had) ≡ (list_any (bytes_eq name) had || list_any (bytes_eq name) names)
 names_each [] had name = elim (list_any (bytes_eq name) had) as (λ b. b ≡ (b || false)) [ true ↦ refl | false ↦ refl ]
 names_each (n ∷ names) had name =
@@ -56,7 +56,7 @@ below_more : (start : ℕ) (spans : List Span) (new : Span) → AllByRecursion (
 below_more start [] new all le = (omega arith, tt)
 below_more start (s ∷ spans) new all le = (let own = new.ordered in omega (arith, all.0), below_more start spans new all.1 le)
 
--- spans that ascend come one after another
+-- ascending spans are inserted in order
 pub spans_in_turn : (start : ℕ) (spans had : List Span) → AllByRecursion (λ (s : Span). s.last + 2 ≤ start) had → IsSpread start spans → spans_put spans had ≡ had ++ spans
 spans_in_turn start [] had below spread = sym (append-nil had)
 spans_in_turn start (s ∷ spans) had below spread =

@@ -1,4 +1,4 @@
--- From the entries of a range to who owns its numbers.
+-- From the entries of a range to the owners of its numbers.
 use Rattle.std.proofs.Common.{◌≡◌, ℕ, Bool, true, false, cond, ◌&&◌, nat_eq, nat_le, List, [], ◌∷◌, map, filter, find, slice_get, Option, Some, None, option_and_then, refl, sym, ap, subst, ◌∙◌, eq-eqb, Ordering, is_gt}
 use Rattle.std.specs.Option.{option_map}
 use Rattle.std.specs.List.{AllByRecursion}
@@ -11,7 +11,7 @@ use Rattle.registry_rules.specs.Number.{is_number}
 use Rattle.registry_rules.specs.FactsOf.{holding_of}
 use Rattle.registry_rules.specs.History.{History}
 use Rattle.registry_rules.specs.Query.{owner_of, is_held, card_of}
-use Rattle.registry_rules.specs.Rows.{entry_of}
+use Rattle.registry_rules.specs.Records.{entry_of}
 use Rattle.registry_rules.specs.Run.{Legal}
 use Rattle.registry_rules.specs.declared.concern.VendorSpan.{VendorSpan}
 use Rattle.registry_rules.specs.declared.record.Card.{Card}
@@ -24,7 +24,7 @@ use Rattle.registry_tables.specs.Finds.{holding_at, AreHoldings}
 use Rattle.registry_tables.specs.Rows.{AreEntries}
 use Rattle.registry_tables.proofs.ViewLemmas.{same_number, number_same}
 
--- ---- what is found in a sorted list, where at most one value is the one that is looked for
+-- ---- lookups in a sorted list with at most one match
 
 module _ {X : Type 0} (p : X → Bool) (cmp : X → X → Ordering) where
   swapped : (a b : Bool) (x y : X) (o : Option X) → (a ≡ true → b ≡ false) → cond b (Some y) (cond a (Some x) o) ≡ cond a (Some x) (cond b (Some y) o)
@@ -55,7 +55,7 @@ pub find_each : {A B : Type 0} (p : B → Bool) (f : A → B) (xs : List A) → 
 find_each p f [] = refl
 find_each p f (x ∷ xs) = ap (λ o. cond (p (f x)) (Some (f x)) o) (find_each p f xs) ∙ found_each (p (f x)) f x (find (λ y. p (f y)) xs)
 
--- ---- an entry tells who owns its number
+-- ---- an entry names the owner of its number
 
 owned : (n : Number) (owner : Option (List ℕ)) (card : Option Card) (held : Bool) → ((org : List ℕ) → owner ≡ Some org → card ≡ None → ⊥)
     → option_map holding_at (option_map (λ entry. (n, entry)) (option_and_then (λ org. option_map (λ card. record { org = org; held = held; card = card }) card) owner))

@@ -9,7 +9,7 @@ use Rattle.table_laws.proofs.FoundLemmas.{apart_put}
 use Rattle.registry_rules.specs.History.{History, with_deed, sooner}
 use Rattle.registry_rules.specs.Query.{kept, given}
 use Rattle.registry_rules.specs.Run.{Legal}
-use Rattle.registry_rules.specs.Spelling.{spelling_of}
+use Rattle.registry_rules.specs.CanonicalForm.{canonical_form}
 use Rattle.registry_rules.specs.Verdict.{kept_of, kept_under, verdict, verdict_by}
 use Rattle.registry_rules.specs.declared.deed.Act.{Act}
 use Rattle.registry_rules.specs.declared.deed.Deed.{Deed}
@@ -29,10 +29,10 @@ never_new : (b : Bool) (text : List ℕ) (refusal : Refusal) (deed : Deed) → c
 never_new true text refusal deed e = absurd cc
 never_new false text refusal deed e = absurd cc
 
--- what is new was not kept before
+-- a new request has no kept reply yet
 new_unkept : (k : Option Kept) (request : Request) (result : Result Act Refusal) (deed : Deed) → verdict_by k request result ≡ New deed → k ≡ None
 new_unkept None request result deed is = refl
-new_unkept (Some other) request result deed is = absurd (never_new (bytes_eq other.order (spelling_of request.order)) other.reply KeyReused deed is)
+new_unkept (Some other) request result deed is = absurd (never_new (bytes_eq other.order (canonical_form request.order)) other.reply KeyReused deed is)
 
 nothing_kept : (o : Option Deed) → option_map kept_of o ≡ None → o ≡ None
 nothing_kept None is = refl
@@ -47,7 +47,7 @@ one_step : (b : Bool) (earlier : Option Deed) (deed : Deed) (x : KeptRow) (row :
 one_step true earlier deed x row none is = rw (none refl) (ap Some (is refl))
 one_step false earlier deed x row none is = refl
 
-module _ (h : History) (deed : Deed) (legal : Legal (with_deed h deed)) (request : Request) (reply : List ℕ) (keeps : IsKeptAs deed request reply) (order : List ℕ) (spelled : order ≡ spelling_of request.order) where
+module _ (h : History) (deed : Deed) (legal : Legal (with_deed h deed)) (request : Request) (reply : List ℕ) (keeps : IsKeptAs deed request reply) (order : List ℕ) (spelled : order ≡ canonical_form request.order) where
   abbrev row : KeptRow
   row = record { caller = request.caller; key = request.key; kept = record { order = order; reply = reply } }
 
@@ -57,7 +57,7 @@ module _ (h : History) (deed : Deed) (legal : Legal (with_deed h deed)) (request
   row_is : (caller key : List ℕ) → request.caller ≡ caller → request.key ≡ key → row ≡ under caller key (kept_of deed)
   row_is caller key a b =
       let kept_is : ◌≡◌ {A = Kept} (record { order = order; reply = reply }) (kept_of deed) =
-      ap (λ o. record { order = o; reply = reply }) (spelled ∙ ap spelling_of (sym keeps.order)) ∙ ap (λ r. record { order = spelling_of deed.order; reply = r }) keeps.said in
+      ap (λ o. record { order = o; reply = reply }) (spelled ∙ ap canonical_form (sym keeps.order)) ∙ ap (λ r. record { order = canonical_form deed.order; reply = r }) keeps.said in
       ap (λ (k : Kept). under request.caller request.key k) kept_is ∙ ap (λ c. under c request.key (kept_of deed)) a ∙ ap (λ k. under caller k (kept_of deed)) b
 
   kept_after : (rows : List KeptRow) → AreKeptReplies h rows → AreKeptReplies (with_deed h deed) (delete_where (λ other. is_kept_under request.caller request.key other) rows ++ row ∷ [])

@@ -1,4 +1,4 @@
--- The lists that are read are those of the history.
+-- The lists read are those of the history.
 use Rattle.std.proofs.Common.{◌≡◌, ℕ, Bool, true, false, List, map, find, nat_eq, Ordering, Less, Equal, Greater, is_eq, refl, sym, ap, subst, ◌∙◌, arith}
 use Rattle.std.specs.Ordering.{nat_cmp, ordering_then}
 use Rattle.std.specs.Cmp.{IsTotalOrder}

@@ -1,4 +1,4 @@
--- One step after another, and which of them a store needs.
+-- Migration step by step, and which steps a store needs.
 use Rattle.std.proofs.Common.{◌≡◌, ◌≤◌, ℕ, ◌⊎◌, inl, inr, IsTrue, Bool, true, false, nat_eq, Option, Some, None, Result, Ok, Err, OnOk, sym, ap, subst, ◌∙◌, arith}
 use Rattle.std.specs.Option.{option_eq}
 use Rattle.std.proofs.lemmas.Bool.{eqb-true}
@@ -34,18 +34,18 @@ two_survive a b c one made two =
     survives_then a b c _ _ (CommitsTwo a) (λ _ db step. first_commits a db step)
     (λ clean db step. (let early : HasCleanDisk b = omega (arith, two.clean) in second_commits a b c early (made early) db step)) one two
 
--- ---- which schema a store has
+-- ---- the schema version of a store
 
 module _ (a : State) (told : Option ℕ) (first : IsTrue a.is_open → HasTables texts_1 a.now.trees → told ≡ Some 1) (second : IsTrue a.is_open → HasTables texts_2 a.now.trees → told ≡ Some 2)
     (third : IsTrue a.is_open → HasTables texts_3 a.now.trees → told ≡ Some 3) where
-  -- its rows tell the version
+  -- the version returned is the one its rows are in
   pub version_told : (version : ℕ) (h : History) → IsTrue a.is_open → Rows version a.now.trees h → told ≡ Some version
   unfolding Rows
   version_told version h is_open (t, inl (is, has), rest, kept) = first is_open has.has ∙ ap Some (sym is)
   version_told version h is_open (t, inr (inl (is, has)), rest, kept) = second is_open has.has ∙ ap Some (sym is)
   version_told version h is_open (t, inr (inr (is, has)), rest, kept) = third is_open has.has ∙ ap Some (sym is)
 
-  -- and there are three
+  -- which is one of three
   pub version_among : (h : History) (version : ℕ) → IsTrue a.is_open → Rows version a.now.trees h → (told ≡ Some 1) ⊎ ((told ≡ Some 2) ⊎ (told ≡ Some 3))
   unfolding Rows
   version_among h version is_open (t, inl (is, has), rest, kept) = inl (first is_open has.has)
@@ -59,7 +59,7 @@ module _ (a : State) (told : Option ℕ) (first : IsTrue a.is_open → HasTables
     pub told_rows : (h : History) (version : ℕ) → IsTrue a.is_open → Rows version a.now.trees h → (n ≡ version) × Rows n a.now.trees h
     told_rows h version is_open rows = let same = same_version n version is (version_told version h is_open rows) in (same, subst (λ v. Rows v a.now.trees h) (sym same) rows)
 
-    -- what was made of the rows in the version that was told stands
+    -- a step from the returned version keeps what was at rest
     pub raised_by : (P : Trees → Type 0) → ((db : Trees) → P db → IsTrue a.is_open × ((h : History) → Rows n a.now.trees h → Rows 3 db h)) → {E : Type 0} (result : Result (Unit {0}) E)
         → OnOk result (IsMadeBy P c) → OnOk result (StaysOpen a c × ((h : History) (version : ℕ) → IsAtRest version a h → IsAtRest 3 c h))
     raised_by P means (Err e) made = tt
@@ -92,7 +92,7 @@ two_later a db step = (step.0, λ h rows. one_of h (step.1 h rows))
     one_of h (inl two) = (2, omega arith, two)
     one_of h (inr three) = (3, omega arith, three)
 
--- ---- a test of what was told
+-- ---- a test of the returned version
 
 pub option_is : (told : Option ℕ) (n : ℕ) → option_eq nat_eq told (Some n) ≡ true → told ≡ Some n
 option_is None n h = absurd cc

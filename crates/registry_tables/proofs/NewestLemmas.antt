@@ -1,11 +1,12 @@
--- A store that is read says that it is of the newest schema.
+-- A read of `meta` returns that the schema is the newest.
 use Rattle.std.proofs.Common.{◌≡◌, ◌≢◌, Bool, true, nat_eq, List, [], ◌∷◌, ◌++◌, IsTrue, Result, Ok, Err, OnOk, MatchResult, refl, sym, ap, subst, ◌∙◌, arith}
 use Rattle.std.specs.List.{list_any}
 use Rattle.std.proofs.lemmas.List.Folds.{list_any-append}
 use Rattle.std.proofs.lemmas.Bool.Decides.{nat_tests}
 use Rattle.sqlite.specs.Store.{Ghosts}
-use Rattle.sqlite.specs.State.{State, HasCleanDisk, Survives}
+use Rattle.sqlite.specs.State.{State, HasCleanDisk}
 use Rattle.sqlite.specs.Held.{Held, state}
+use Rattle.table_laws.specs.Inside.{CommitsNothing}
 use Rattle.registry_schema.specs.declared.fault.TableFault.{TableFault}
 use Rattle.registry_schema.specs.declared.fault.TableFault.TheVariants.{Foreign}
 use Rattle.registry_rows.specs.declared.meta.Meta.{Meta}
@@ -23,7 +24,7 @@ last_passes : {X : Type 0} (p : X → Bool) (xs : List X) (x : X) → p x ≡ tr
 last_passes p xs x is = grind (arith, list_any-append p xs (x ∷ []), is)
 
 module _ (old new : State) (all rest : List Meta) (meta : Meta) (is : all ≡ rest ++ meta ∷ []) (read : Read old new (λ t. all ≡ t.metas)) where
-  -- the last row that was read, where it is of the newest schema, says what the store is
+  -- the last row read is the row of meta, if its version is the newest
   pub meta_told : (result : Result Meta TableFault) → MatchResult result (λ same. (same ≡ meta) × (meta.version ≡ newest)) (λ fault. (fault ≡ Foreign) × (meta.version ≢ newest))
       → Finds old new result (λ h m. m ≡ meta_of h)
   meta_told (Ok m) says = passes old new (λ (h : History) (m : Meta). m ≡ meta_of h) (λ t. all ≡ t.metas) m (λ h t legal has had same. says.0 ∙ only_meta h t had rest meta (sym same ∙ is)) read
@@ -36,9 +37,9 @@ module _ (old new : State) (all rest : List Meta) (meta : Meta) (is : all ≡ re
   meta_newest (Ok m) says = λ t holds. (let same : all ≡ t.metas = (read.1 t holds).1 in subst (λ metas. list_any is_newest metas ≡ true) (sym is ∙ same) (last_passes is_newest rest meta (grind (arith, nat_tests, says.1))))
   meta_newest (Err e) says = tt
 
--- the same of a transaction that is undone
+-- the same for a transaction that is rolled back
 pub newest_all : {S A : Type 0} (g : Ghosts S) (old begun mid end : Held S) → begun ≡ record old { in_transaction = true } → (result : Result A TableFault)
-    → (HasCleanDisk (state g mid) → IsTrue (state g begun).in_transaction → OnOk result (SaysNewest (state g begun).now)) → Survives (state g mid) (state g end) (λ _. ⊥)
+    → (HasCleanDisk (state g mid) → IsTrue (state g begun).in_transaction → OnOk result (SaysNewest (state g begun).now)) → CommitsNothing (state g mid) (state g end)
     → HasCleanDisk (state g end) → OnOk result (SaysNewest (state g old).now)
 newest_all g old begun mid end is result says last clean =
     let early : HasCleanDisk (state g mid) = omega (arith, last.clean) in

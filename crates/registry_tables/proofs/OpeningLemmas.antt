@@ -1,4 +1,4 @@
--- What is read of a store whose tables have the rows of a history.
+-- What is read from tables that hold the rows of a history.
 use Rattle.std.proofs.Common.{◌≡◌, ℕ, ◌<◌, ◌≤◌, pos, ◌<ℤ◌, false, nat_eq, List, [], ◌∷◌, ◌++◌, length, append-nil, append_assoc, length-append, find, Option, Some, None, Result, Ok, Err, IfOk, ◌≢◌, refl, sym, ap, subst, ◌∙◌, arith}
 use Rattle.std.specs.List.{list_any}
 use Rattle.std.specs.Cmp.Lexicographic.{slice_cmp}
@@ -18,17 +18,18 @@ use Rattle.sqlite_keyed.specs.Lists.{sort_by}
 use Rattle.sqlite_keyed.proofs.ListLemmas.{any_from_none, all_weaker}
 use Rattle.registry_rules.specs.FactsOf.{AreVendorsOf}
 use Rattle.registry_rules.specs.History.{History, all_of, with_answer}
-use Rattle.registry_rules.specs.Query.{licences, adds_licence, is_ordered}
+use Rattle.registry_rules.specs.Query.{licences, adds_licence, is_reserved_by_order}
 use Rattle.registry_rules.specs.Run.{Legal}
 use Rattle.registry_rules.specs.Texts.{IsAscending, AreInOrder}
 use Rattle.registry_rules.specs.declared.deed.Act.{Act}
 use Rattle.registry_rules.specs.declared.deed.Act.TheVariants.{LicenceAdded}
 use Rattle.registry_rules.specs.declared.deed.Deed.{Deed}
 use Rattle.registry_rules.specs.declared.founding.Founding.{Founding}
+use Rattle.registry_rules.specs.declared.limits.TheConstants.{MOST_CURATORS, MOST_LICENCES}
 use Rattle.registry_rules.specs.declared.record.Vendor.{Vendor}
 use Rattle.registry_rules.proofs.FollowLemmas.{Follows, legal_follows}
 use Rattle.registry_rules.proofs.RunLemmas.{legal_before, legal_licences}
-use Rattle.registry_rules.proofs.Unrepeated.{NoneTwice, licences_counted, ascending_distinct, vendor_count}
+use Rattle.registry_rules.proofs.NoRepeatLemmas.{NoneTwice, licences_counted, ascending_distinct, vendor_count}
 use Rattle.registry_rows.specs.declared.meta.Meta.{Meta}
 use Rattle.registry_rows.specs.Rows.{by_bytes, by_beginning, is_named}
 use Rattle.registry_schema.specs.declared.fault.TableFault.{TableFault}
@@ -42,7 +43,7 @@ use Rattle.registry_tables.proofs.AscendLemmas.{one_order}
 use Rattle.registry_tables.proofs.SortLemmas.{sorted_up, any_sorted}
 use Rattle.registry_tables.proofs.ViewLemmas.{same_bytes}
 
--- ---- what the store is
+-- ---- meta
 
 alone : {X : Type 0} (xs : List X) (x y : X) → y ∷ [] ≡ xs ++ x ∷ [] → x ≡ y
 alone [] x y is = cc
@@ -76,8 +77,8 @@ module _ (h : History) (names given : List (List ℕ)) (is : given ≡ sort_by b
   pub curators_in_order : IsFounding h.founding → AreCurators h names → (ordered : List (List ℕ)) → AreInOrder given ordered → ordered ≡ h.founding.curators
   curators_in_order valid had ordered in_order = same_names ordered h.founding.curators in_order.ascending valid.curators.ascending (λ name. in_order.same name ∙ any_given name ∙ had.each name)
 
-  pub curators_fit : IsFounding h.founding → AreCurators h names → (1 ≤ length given) × (length given ≤ 64)
-  curators_fit valid had = let same = curators_given valid had in (subst (λ l. 1 ≤ length l) (sym same) valid.curators.some, subst (λ l. length l ≤ 64) (sym same) valid.curators.most)
+  pub curators_fit : IsFounding h.founding → AreCurators h names → (1 ≤ length given) × (length given ≤ MOST_CURATORS)
+  curators_fit valid had = let same = curators_given valid had in (subst (λ l. 1 ≤ length l) (sym same) valid.curators.some, subst (λ l. length l ≤ MOST_CURATORS) (sym same) valid.curators.most)
 
   pub allowed_in_order : Legal h → AreLicences h names → (ordered : List (List ℕ)) → AreInOrder given ordered → AreAllowed h ordered
   allowed_in_order legal had ordered in_order =
@@ -87,19 +88,19 @@ module _ (h : History) (names given : List (List ℕ)) (is : given ≡ sort_by b
   given_counted : Legal h → AreLicences h names → length given ≡ length (licences h)
   given_counted legal had = licences_counted h legal given (λ name. any_given name ∙ had.each name) (ascending_distinct given (given_up had.once))
 
--- ---- no more than 1,024 licences
+-- ---- the number of licences stays within the limit
 
-below_more : (h : History) (caller : List ℕ) (act : Act) (licence : List ℕ) → Follows h caller act → adds_licence act ≡ Some licence → length (licences h) < 1024
+below_more : (h : History) (caller : List ℕ) (act : Act) (licence : List ℕ) → Follows h caller act → adds_licence act ≡ Some licence → length (licences h) < MOST_LICENCES
 below_more h caller (LicenceAdded added) licence can e = grind (arith, nat_tests, can.below)
 below_more h caller _ licence can e = absurd cc
 
-more_fit : (first so_far : List (List ℕ)) (more : Option (List ℕ)) → length (first ++ so_far) ≤ 1024 → ((licence : List ℕ) → more ≡ Some licence → length (first ++ so_far) < 1024)
-    → length (first ++ with_answer so_far more) ≤ 1024
+more_fit : (first so_far : List (List ℕ)) (more : Option (List ℕ)) → length (first ++ so_far) ≤ MOST_LICENCES → ((licence : List ℕ) → more ≡ Some licence → length (first ++ so_far) < MOST_LICENCES)
+    → length (first ++ with_answer so_far more) ≤ MOST_LICENCES
 more_fit first so_far None most below = most
-more_fit first so_far (Some licence) most below = let one = below licence refl in subst (λ l. length l ≤ 1024) (append_assoc first so_far (licence ∷ [])) (omega (arith, one, length-append (first ++ so_far) (licence ∷ [])))
+more_fit first so_far (Some licence) most below = let one = below licence refl in subst (λ l. length l ≤ MOST_LICENCES) (append_assoc first so_far (licence ∷ [])) (omega (arith, one, length-append (first ++ so_far) (licence ∷ [])))
 
-licences_most : (founding : Founding) (deeds : List Deed) → Legal (record { founding = founding; deeds = deeds }) → length (licences (record { founding = founding; deeds = deeds })) ≤ 1024
-licences_most founding [] legal = subst (λ l. length l ≤ 1024) (sym (append-nil founding.licences)) (legal_licences founding [] legal).most
+licences_most : (founding : Founding) (deeds : List Deed) → Legal (record { founding = founding; deeds = deeds }) → length (licences (record { founding = founding; deeds = deeds })) ≤ MOST_LICENCES
+licences_most founding [] legal = subst (λ l. length l ≤ MOST_LICENCES) (sym (append-nil founding.licences)) (legal_licences founding [] legal).most
 licences_most founding (deed ∷ earlier) legal =
     more_fit founding.licences (all_of (λ d. adds_licence d.act) earlier) (adds_licence deed.act) (licences_most founding earlier (legal_before founding deed earlier legal))
     (λ licence e. below_more (record { founding = founding; deeds = earlier }) deed.caller deed.act licence (legal_follows founding deed earlier legal) e)
@@ -107,7 +108,7 @@ licences_most founding (deed ∷ earlier) legal =
 licences_some : (h : History) → Legal h → 1 ≤ length (licences h)
 licences_some h legal = let some = (legal_licences h.founding h.deeds legal).some in omega (arith, some, length-append h.founding.licences (all_of (λ d. adds_licence d.act) h.deeds))
 
-pub licences_fit : (h : History) (names given : List (List ℕ)) → given ≡ sort_by by_bytes names → Legal h → AreLicences h names → (1 ≤ length given) × (length given ≤ 1024)
+pub licences_fit : (h : History) (names given : List (List ℕ)) → given ≡ sort_by by_bytes names → Legal h → AreLicences h names → (1 ≤ length given) × (length given ≤ MOST_LICENCES)
 licences_fit h names given is legal had =
     let counted = given_counted h names given is legal had in
     let some = licences_some h legal in
@@ -138,5 +139,5 @@ fixed_tells old new all (Err e) same kind read = short old new (λ (h : History)
 -- ---- the reserved numbers
 
 pub spans_told : (h : History) (t : Tables) → AreRecords h t → (all : List (ℕ × Span)) → all ≡ sort_by by_beginning t.spans
-    → (n : Number) → list_any (vendor_span_has n) all ≡ is_ordered h n
+    → (n : Number) → list_any (vendor_span_has n) all ≡ is_reserved_by_order h n
 spans_told h t had all is n = ap (list_any (vendor_span_has n)) is ∙ any_sorted by_beginning (vendor_span_has n) t.spans ∙ had.spans.each n

@@ -1,4 +1,4 @@
--- A span that joins the reserved spans of a vendor, or is taken out of them.
+-- Joining a span to the reserved spans of a vendor, and cutting it out of them.
 use Rattle.std.proofs.Common.{◌≡◌, ℕ, ◌+◌, ◌-◌, ◌<◌, ◌≤◌, ◌⊎◌, inl, inr, Bool, true, false, cond, ◌&&◌, ◌||◌, nat_eq, nat_le, List, [], ◌∷◌, ◌++◌, Option, Some, None, MatchOption, refl, sym, ap, subst, ◌∙◌, arith}
 use Rattle.std.specs.List.{AllByRecursion, list_any}
 use Rattle.std.proofs.lemmas.Bool.{and_cases, or_left, or_from, cases_eq, false_from_ne_true, eqb-true, eqb-false, leb-false}
@@ -15,7 +15,7 @@ use Rattle.registry_tables.proofs.SpanLists.{some_of, met_is, missed_is, has_is,
 
 -- ---- tests
 
--- whether a number is of a vendor's span
+-- the number is in the vendor's span
 abbrev pub is_in : ℕ → Span → Number → Bool
 is_in vid span n = nat_eq vid n.vid && span_has span n.pid
 
@@ -45,7 +45,7 @@ parted false false false true false a b c d e g = absurd (none (g refl refl))
     none (inl x) = cc
     none (inr x) = cc
 
--- where the vendor's number is, if it is not in the span
+-- a number of the vendor outside the span is on one side of it
 aside : (vid : ℕ) (span : Span) (n : Number) → is_in vid span n ≡ false → vid ≡ n.vid → (n.pid < span.first) ⊎ (span.last < n.pid)
 aside vid span n out here = go (and_cases (nat_eq vid n.vid) (span_has span n.pid) out)
   where
@@ -64,7 +64,7 @@ one_of false is = is
 pub beside_one : (vid : ℕ) (part : Span) (kept : List (ℕ × Span)) → AllByRecursion (λ k. AreApart k (vid, part)) kept → AreApartFrom (part_of vid (Some part)) kept
 beside_one vid part kept all = all_weaker (λ k. AreApart k (vid, part)) (λ k. AllByRecursion (AreApart k) ((vid, part) ∷ [])) (λ k apart. (apart, tt)) kept all
 
--- spans that are apart still are with a part beside them
+-- spans that are apart stay apart with a part added that is apart from them
 pub ascend_part : (vid : ℕ) (part : Option Span) (spans : List (ℕ × Span)) → IsAscending AreApart spans → AreApartFrom (part_of vid part) spans → IsAscending AreApart (spans ++ part_of vid part)
 ascend_part vid None spans up apart = ascending-append AreApart spans [] up tt apart
 ascend_part vid (Some one) spans up apart = ascending-append AreApart spans ((vid, one) ∷ []) up (tt, tt) apart
@@ -76,14 +76,14 @@ module _ (vid low high : ℕ) (spans found kept : List (ℕ × Span)) (cut : IsC
   ones : AllByRecursion IsOne found
   ones = all_found vid low high spans found kept cut
 
-  -- the one with the least beginning, and the one with the greatest end
+  -- the span found with the least start, and the one with the greatest end
   first_one : list_any (λ s. nat_eq s.1.first least) found ≡ true → (s : ℕ × Span) × (s.1.first ≡ least) × IsOne s
   first_one any = let s = some_of (λ s. nat_eq s.1.first least) IsOne found any ones in (s.0, eqb-true s.0.1.first least s.1, s.2)
 
   last_one : list_any (λ s. nat_eq s.1.last greatest) found ≡ true → (s : ℕ × Span) × (s.1.last ≡ greatest) × IsOne s
   last_one any = let s = some_of (λ s. nat_eq s.1.last greatest) IsOne found any ones in (s.0, eqb-true s.0.1.last greatest s.1, s.2)
 
-  -- a number of those found lies between the ends
+  -- a number of the spans found lies between the ends
   found_between : (n : Number) → list_any (vendor_span_has n) found ≡ true → (vid ≡ n.vid) × (least ≤ n.pid) × (n.pid ≤ greatest)
   found_between n any =
       let Around : ℕ × Span → Type 0 = λ s. (least ≤ s.1.first) × (s.1.last ≤ greatest) in
@@ -97,7 +97,7 @@ module _ (vid low high : ℕ) (spans found kept : List (ℕ × Span)) (cut : IsC
       let r : n.pid ≤ s.0.1.last = has.2 in
       (sym met.0 ∙ has.0, omega arith, omega arith)
 
-  -- a number of the join outside the span is one of those found
+  -- a number of the join outside the span is in one of the spans found
   beyond : span.first ≤ low + 1 → high ≤ span.last + 1 → (n : Number) → vid ≡ n.vid → least ≤ n.pid → n.pid ≤ greatest → (n.pid < span.first) ⊎ (span.last < n.pid) → list_any (vendor_span_has n) found ≡ true
   beyond near_low near_high n here a b (inl below) = go reach.from
     where

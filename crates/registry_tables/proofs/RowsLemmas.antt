@@ -1,4 +1,4 @@
--- Laws of the rows of a history, for the layer above, which needn't look into them.
+-- Laws of the rows of a history, so that the layer above need not unfold them.
 use Rattle.std.proofs.Common.{◌≡◌, ℕ, inl, inr, true, IsTrue, refl, sym, ap, subst, ◌∙◌, arith}
 use Rattle.sqlite_schema.specs.declared.schema.Schema.{Schema}
 use Rattle.sqlite.specs.Effect.{Database}
@@ -40,7 +40,7 @@ rows_sound version db h (t, inl first, had, kept) = (schema_by texts_1, first.1.
 rows_sound version db h (t, inr (inl second), had, kept) = (schema_by texts_2, second.1.has)
 rows_sound version db h (t, inr (inr third), had, kept) = (schema_by texts_3, third.1.has)
 
--- a store with the rows of a history has the table meta
+-- a store that holds the rows of a history has the table meta
 pub rows_have_meta : (version : ℕ) (s : State) (h : History) → IsLive s → IsTrue s.is_open → Rows version s.now.trees h → has_meta_table s.now.schema ≡ true
 unfolding Rows
 rows_have_meta version s h live is_open (t, inl first, had, kept) = ap has_meta_table (has_schema_1 s live is_open first.1.has) ∙ meta_first

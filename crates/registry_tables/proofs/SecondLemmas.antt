@@ -20,14 +20,15 @@ use Rattle.registry_tables.specs.Rows.{newest, meta_of, AreRecords, AreKeptRepli
 use Rattle.table_laws.specs.Making.{HasMore}
 use Rattle.registry_old_rows.specs.Old.{old_span_key, with_version, at_version}
 use Rattle.registry_old_rows.specs.Between.{HoldsFirst, HoldsSecond}
-use Rattle.registry_old_rows.specs.Steps.{Second, IsHeld, TellsOf}
+use Rattle.registry_old_rows.specs.Steps.{Second, IsHeld}
+use Rattle.registry_rows.specs.Steps.{AnswersOf}
 use Rattle.registry_old_rows.proofs.AgreeLemmas.{agree_1}
 use Rattle.registry_tables.specs.Versions.{IsFirst, HoldsOf}
 use Rattle.registry_tables.specs.Raising.{IsMarked, Raises}
 use Rattle.registry_tables.proofs.SpreadLemmas.{owned, owned_listed, spread_apart, put_all_spans}
 use Rattle.registry_tables.proofs.ThirdLemmas.{meta_by}
 
--- the table of spans is there, and empty
+-- the table of spans exists and is empty
 abbrev pub unspanned : Tables → Tables
 unspanned t = record t { spans = [] }
 
@@ -43,11 +44,11 @@ second_begins vid a b t numbers more has =
       };
     }
 
--- the same values with the spans that were made
+-- the same values with these spans
 abbrev pub with_parts : ℕ → List Span → Tables → Tables
 with_parts vid parts t = record t { spans = map (owned vid) parts }
 
--- are the records of the history
+-- the values are still the records of the history
 pub records_with : (h : History) (t : Tables) (numbers : List ℕ) → AreRecords h t → ((n : Number) → list_any (Rattle.registry_tables.specs.Rows.vendor_span_has n) t.spans ≡ Rattle.registry_old_rows.specs.Old.is_listed h.founding.vendor numbers n)
     → (parts : List Span) → IsSpread 1 parts → ((n : ℕ) → spans_have parts n ≡ list_any (nat_eq n) numbers) → AreRecords h (with_parts h.founding.vendor parts t)
 records_with h t numbers had reserved parts spread same = record {
@@ -72,7 +73,7 @@ marked_first db h (t, inl first, had, kept) = (t, first.1, had, kept)
 marked_first db h (t, inr (inl second), had, kept) = absurd (let e = second.0 in omega (arith, e))
 marked_first db h (t, inr (inr third), had, kept) = absurd (let e = third.0 in omega (arith, e))
 
--- what stands after the table is made
+-- the values after the table is created
 abbrev begun_values : History → Tables → List ℕ → Second
 begun_values h t numbers = record { vid = h.founding.vendor; tables = unspanned (with_version 1 t); numbers = numbers }
 
@@ -85,8 +86,8 @@ module _ (a s1 : State) (one : a.now.schema ≡ schema_1 → HasMore schema_1 (s
     named = refl;
   }
 
-  -- a store that does not say that it is of the first schema has no rows in it
-  pub first_refused : (new : State) (e : TableFault) → IsTrue a.is_open → TellsOf s1 new (IsMarked 1 s1.now) (Err e) (λ x (m : Meta). x.tables.metas ≡ m ∷ []) → Raises 1 a new {A = Unit {0}} (Err e)
+  -- a store whose meta does not name the first schema has no rows in it
+  pub first_refused : (new : State) (e : TableFault) → IsTrue a.is_open → AnswersOf s1 new (IsMarked 1 s1.now) (Err e) (λ x (m : Meta). x.tables.metas ≡ m ∷ []) → Raises 1 a new {A = Unit {0}} (Err e)
   first_refused new e was read foreign =
       let none = read.0 foreign in
       (was, λ h rows. (let it = marked_first a.now h rows in none.1 _ (begun_marked h it.0 it.1 it.2)))

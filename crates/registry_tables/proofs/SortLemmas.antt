@@ -1,4 +1,4 @@
--- A sort of values of which no two have one key.
+-- Sorting values with distinct keys.
 use Rattle.std.proofs.Common.{◌≡◌, ℕ, zero, suc, ◌+◌, pos, ◌<ℤ◌, Bool, true, false, cond, ◌||◌, List, [], ◌∷◌, map, find, Option, Some, refl, sym, ap, ◌∙◌, Ordering, Less, Equal, Greater, is_gt, is_eq, arith}
 use Rattle.std.specs.Ordering.{ordering_reverse}
 use Rattle.std.specs.List.{AllByRecursion, list_any}
@@ -9,7 +9,7 @@ use Rattle.sqlite_trees.specs.Tree.{IsAscending}
 use Rattle.sqlite_keyed.specs.Lists.{insert_sorted, sort_by}
 use Rattle.sqlite_keyed.proofs.ListLemmas.{all_weaker}
 
--- ---- what each of the values keeps
+-- ---- what holds for each value
 
 module _ {X : Type 0} (cmp : X → X → Ordering) (P : X → Type 0) where
   all_inserted : (new : X) (xs : List X) → P new → AllByRecursion P xs → AllByRecursion P (insert_sorted cmp new xs)
@@ -37,13 +37,13 @@ module _ {X : Type 0} (cmp : X → X → Ordering) (total : IsTotalOrder cmp) (s
       go Equal is more = absurd (let never = ap is_eq (sym is) ∙ told new x apart.0 in cc)
       go Less is more = ((is, all_weaker (λ y. cmp x y ≡ Less) (λ y. cmp new y ≡ Less) (λ y above. total.trans new x y is above) xs up.0), up)
 
-  -- where no two have one key, the sorted ones ascend
+  -- values with distinct keys ascend when sorted
   pub sorted_up : (xs : List X) → IsAscending (λ a b. same a b ≡ false) xs → IsStrictlySortedBy cmp (sort_by cmp xs)
   unfolding IsStrictlySortedBy
   sorted_up [] once = tt
   sorted_up (x ∷ xs) once = inserted x (sort_by cmp xs) (all_sorted cmp (λ y. same x y ≡ false) xs once.0) (sorted_up xs once.1)
 
--- ---- what is found
+-- ---- lookups
 
 module _ {X : Type 0} (cmp : X → X → Ordering) (test : X → Bool) where
   or_swapped : (a b : Bool) (rest : Bool) → (a || (b || rest)) ≡ (b || (a || rest))
@@ -58,7 +58,7 @@ module _ {X : Type 0} (cmp : X → X → Ordering) (test : X → Bool) where
       elim (is_gt (cmp new x)) as (λ b. list_any test (cond b (x ∷ insert_sorted cmp new xs) (new ∷ x ∷ xs)) ≡ (test new || (test x || list_any test xs)))
       [ true ↦ ap (λ b. test x || b) (any_inserted new xs) ∙ or_swapped (test x) (test new) (list_any test xs) | false ↦ refl ]
 
-  -- a sort keeps what any value passes
+  -- a sort keeps whether any value passes
   pub any_sorted : (xs : List X) → list_any test (sort_by cmp xs) ≡ list_any test xs
   any_sorted [] = refl
   any_sorted (x ∷ xs) = any_inserted x (sort_by cmp xs) ∙ ap (λ b. test x || b) (any_sorted xs)
@@ -75,14 +75,14 @@ module _ {X : Type 0} (cmp : X → X → Ordering) (test : X → Bool) where
         elim (is_gt (cmp new x)) as (λ b. find test (cond b (x ∷ insert_sorted cmp new xs) (new ∷ x ∷ xs)) ≡ cond (test new) (Some new) (cond (test x) (Some x) (find test xs)))
         [ true ↦ ap (λ o. cond (test x) (Some x) o) (find_inserted new xs apart.1) ∙ swapped (test x) (test new) x new (find test xs) (λ a b. (let both = one new x b a in absurd cc)) | false ↦ refl ]
 
-    -- where no two that pass are there, a sort keeps the one that is found
+    -- a sort keeps the value found, if at most one passes
     pub find_sorted : (xs : List X) → IsAscending (λ a b. same a b ≡ false) xs → find test (sort_by cmp xs) ≡ find test xs
     find_sorted [] once = refl
     find_sorted (x ∷ xs) once = find_inserted x (sort_by cmp xs) (all_sorted cmp (λ y. same x y ≡ false) xs once.0) ∙ ap (λ o. cond (test x) (Some x) o) (find_sorted xs once.1)
 
 -- ---- by a key
 
--- the keys of values that ascend by them do
+-- values that ascend by a key have ascending keys
 pub keys_up : {X K : Type 0} (cmp : K → K → Ordering) (key : X → K) (xs : List X) → IsStrictlySortedBy (λ a b. cmp (key a) (key b)) xs → IsStrictlySortedBy cmp (map key xs)
 unfolding IsStrictlySortedBy
 keys_up cmp key [] up = tt
@@ -92,7 +92,7 @@ keys_up {X} cmp key (x ∷ xs) up = (all xs up.0, keys_up cmp key xs up.1)
     all [] h = tt
     all (y ∷ ys) h = (h.0, all ys h.1)
 
--- the same of numbers that are keys of a table
+-- the same for numbers that are keys of a table
 pub numbers_up : {X : Type 0} (key : X → ℕ) (xs : List X) → IsAscending (λ a b. pos (key a) <ℤ pos (key b)) xs → IsStrictlyIncreasing (map key xs)
 numbers_up key [] up k within = absurd (omega (arith, within))
 numbers_up key (x ∷ []) up k within = absurd (omega (arith, within))

@@ -1,4 +1,4 @@
--- Lists of spans that are cut and put together.
+-- Cutting and joining lists of spans.
 use Rattle.std.proofs.Common.{◌≡◌, ℕ, ◌<◌, ◌≤◌, ◌⊎◌, inl, inr, Bool, true, false, not, cond, ◌&&◌, ◌||◌, nat_eq, nat_le, List, [], ◌∷◌, ◌++◌, filter, refl, sym, ap, subst, ◌∙◌, arith}
 use Rattle.std.specs.List.{AllByRecursion, list_any}
 use Rattle.std.proofs.lemmas.Bool.{and_parts, and_from, and_cases, or_left, or_right, eqb-true, eq-eqb, eqb-false, leb-true, leb-false, le-leb}
@@ -42,7 +42,7 @@ module _ {X : Type 0} where
       go true more = ap (λ b. test x || b) more ∙ or_between (test x) (list_any test cut) (list_any test kept)
       go false more = ap (λ b. test x || b) more ∙ or_moved (test x) (list_any test cut) (list_any test kept)
 
-  -- what is kept and what is cut are as two of the list
+  -- each kept value relates to each cut value as two of the list do
   pub crossing : (R : X → X → Type 0) → ((a b : X) → R a b → R b a) → (p : X → Bool) (xs : List X) → IsAscending R xs
       → AllByRecursion (λ s. AllByRecursion (λ k. R k s) (delete_where p xs)) (filter p xs)
   crossing R turn p [] up = tt
@@ -92,7 +92,7 @@ module _ {X : Type 0} where
       go true is more = more
       go false is more = (is, more)
 
--- ---- what the tests tell
+-- ---- what the tests mean
 
 pub met_is : (vid low high : ℕ) (s : ℕ × Span) → meets vid low high s ≡ true → (s.0 ≡ vid) × (low ≤ s.1.last) × (s.1.first ≤ high)
 met_is vid low high s is =
@@ -126,7 +126,7 @@ apart_turned a b (inl other) = inl (λ same. other (sym same))
 apart_turned a b (inr (inl below)) = inr (inr below)
 apart_turned a b (inr (inr above)) = inr (inl above)
 
--- ---- a span that is put beside those that it is apart from
+-- ---- inserting a span that is apart from all others
 
 not_begun : (new k : ℕ × Span) → AreApart k new → not (begins_at new.0 new.1.first k) ≡ true
 not_begun new k apart = go (begins_at new.0 new.1.first k) refl
@@ -144,7 +144,7 @@ pub none_replaced : (new : ℕ × Span) (xs : List (ℕ × Span)) → AllByRecur
 none_replaced new xs apart =
     filter_all (λ k. not (begins_at new.0 new.1.first k)) xs (all_weaker (λ k. AreApart k new) (λ k. not (begins_at new.0 new.1.first k) ≡ true) (not_begun new) xs apart)
 
--- ---- what was found and what is kept of spans that are apart
+-- ---- the spans found and the spans kept
 
 pub record IsCut (vid low high : ℕ) (spans found kept : List (ℕ × Span)) : Type 0 where
   pub met : AllByRecursion (λ s. meets vid low high s ≡ true) found
@@ -168,7 +168,7 @@ is_cut vid low high spans found up is =
           ∙ ap (λ b. b || list_any (vendor_span_has n) kept) (sym (ap (list_any (vendor_span_has n)) is ∙ any_sorted by_beginning (vendor_span_has n) (filter p spans)));
     }
 
--- one of those that were found
+-- one of the spans found
 pub record IsFound (vid low high : ℕ) (found kept : List (ℕ × Span)) (s : ℕ × Span) : Type 0 where
   pub met : meets vid low high s ≡ true
   pub apart : AllByRecursion (λ k. AreApart k s) kept
@@ -182,7 +182,7 @@ all_found vid low high spans found kept cut =
     all_both (λ s. Met s × Apart s) Own (IsFound vid low high found kept) (λ s a own. record { met = a.0; apart = a.1; own = own }) found
     (all_both Met Apart (λ s. Met s × Apart s) (λ s m a. (m, a)) found cut.met cut.apart) (all_own vendor_span_has found)
 
--- ---- how far those that were found reach
+-- ---- how far the spans found reach
 
 edge_more : (key : ℕ × Span → ℕ) (xs : List (ℕ × Span)) (x : ℕ × Span) (own was now : ℕ) → (was ≡ own) ⊎ (list_any (λ s. nat_eq (key s) was) xs ≡ true) → (now ≡ was) ⊎ (now ≡ key x)
     → (now ≡ own) ⊎ (list_any (λ s. nat_eq (key s) now) (xs ++ x ∷ []) ≡ true)

@@ -1,4 +1,4 @@
--- What the calls for spans that an order reserved do to the spans of the tables.
+-- What the calls on reserved spans do to the spans of the tables.
 use Rattle.std.proofs.Common.{◌≡◌, ℕ, ◌+◌, ◌-◌, ◌≤◌, true, false, List, [], ◌∷◌, ◌++◌, filter, Option, Some, None, MatchOption, IfSome, IsSome, ◌↔◌, OnOk, Result, Ok, Err, sym, subst, arith}
 use Rattle.std.specs.List.{AllByRecursion}
 use Rattle.sqlite.specs.State.{State, IsUnchanged}
@@ -29,7 +29,7 @@ part_put old new vid span (Ok a) h = (
       subst (λ l. Holds new.now (with_spans (l ++ (vid, span) ∷ []) t)) (none_replaced (vid, span) t.spans all) (h.1 t has),
 )
 
--- what a step does to the spans that a part is put beside
+-- a step that inserts a part that is apart from all spans
 abbrev pub Puts : State → State → ℕ → Option Span → Type 0
 Puts old new vid part = GoesOn old new × ((t : Tables) → Holds old.now t → AreApartFrom (part_of vid part) t.spans → Holds new.now (with_spans (t.spans ++ part_of vid part) t))
 

@@ -1,4 +1,4 @@
--- The maximal spans of reserved numbers, as rows.
+-- The maximal spans of reserved numbers as rows.
 use Rattle.std.proofs.Common.{◌≡◌, ◌<◌, ◌≤◌, ◌+◌, ℕ, ◌<ℤ◌, inl, inr, Bool, true, false, ◌&&◌, ◌||◌, nat_eq, List, [], ◌∷◌, ◌++◌, map, fold, refl, ap, ap₂, ◌∙◌, arith}
 use Rattle.std.specs.List.{AllByRecursion, list_any}
 use Rattle.std.proofs.lemmas.Int.{ints}
@@ -38,7 +38,7 @@ module _ (vid : ℕ) where
   spread_apart start [] h = tt
   spread_apart start (s ∷ rest) h = (apart_all s rest (spread_lower (s.last + 2) rest h.2 (s.last + 2) (omega arith)), spread_apart (s.last + 2) rest h.2)
 
-  -- and in the order of their keys
+  -- and are in the order of their keys
   pub spread_keyed : (start : ℕ) (parts : List Span) → IsSpread start parts → IsKeyedBy old_span_key (map owned parts)
   spread_keyed start [] h = tt
   spread_keyed start (s ∷ rest) h = (below_all s rest (spread_lower (s.last + 2) rest h.2 (s.last + 2) (omega arith)), spread_keyed (s.last + 2) rest h.2)
@@ -51,7 +51,7 @@ module _ (vid : ℕ) where
   no_and true = refl
   no_and false = refl
 
-  -- a number is in one of the spans where it is of the vendor and in the set
+  -- a number is in one of the spans if it is of the vendor and in the set
   pub owned_have : (n : Number) (parts : List Span) → list_any (vendor_span_has n) (map owned parts) ≡ (nat_eq vid n.vid && spans_have parts n.pid)
   owned_have n [] = no_and (nat_eq vid n.vid)
   owned_have n (s ∷ rest) = ap (λ b. (nat_eq vid n.vid && span_has s n.pid) || b) (owned_have n rest) ∙ and_or (nat_eq vid n.vid) (span_has s n.pid) (spans_have rest n.pid)
@@ -62,7 +62,7 @@ module _ (vid : ℕ) where
   pub owned_listed : (n : Number) (parts : List Span) (numbers : List ℕ) → spans_have parts n.pid ≡ list_any (nat_eq n.pid) numbers → list_any (vendor_span_has n) (map owned parts) ≡ is_listed vid numbers n
   owned_listed n parts numbers same = owned_have n parts ∙ ap₂ ◌&&◌ (turned vid n.vid) same
 
--- a number is in the span of itself alone
+-- a span of one number has only that number
 pub alone_has : (span : Span) (p n : ℕ) → span.first ≡ p → span.last ≡ p → span_has span n ≡ nat_eq n p
 alone_has span p n first last = rw (first, last) (grind (arith, nat_tests))
 
@@ -73,12 +73,12 @@ one_more f ns p = list_any-append f ns (p ∷ []) ∙ ap (λ b. list_any f ns ||
     last true = refl
     last false = refl
 
--- one span more
+-- one more span
 pub put_more : (vid : ℕ) (parts : List Span) (one : Span) (had : List (ℕ × Span))
     → fold (insert_by old_span_key) had (map (owned vid) (parts ++ one ∷ [])) ≡ insert_by old_span_key (fold (insert_by old_span_key) had (map (owned vid) parts)) (vid, one)
 put_more vid [] one had = refl
 put_more vid (s ∷ rest) one had = put_more vid rest one (insert_by old_span_key had (vid, s))
 
--- spans in the order of their keys fill an empty table
+-- spans in the order of their keys fill an empty table in that order
 pub put_all_spans : (vid start : ℕ) (parts : List Span) → IsSpread start parts → fold (insert_by old_span_key) [] (map (owned vid) parts) ≡ map (owned vid) parts
 put_all_spans vid start parts h = in_order old_span_key (λ s. Int (old_span_key s) ∷ []) (λ _. refl) (map (owned vid) parts) (spread_keyed vid start parts h)

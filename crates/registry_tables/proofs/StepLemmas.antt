@@ -1,4 +1,4 @@
--- A step in a transaction, and its commit.
+-- A migration step in a transaction, and its commit.
 use Rattle.std.proofs.Common.{◌≡◌, ◌+◌, ℕ, IsTrue, true, false, Result, Ok, Err, OnOk, refl, sym, subst, ◌∙◌, arith}
 use Rattle.sqlite.specs.Tree.{Trees}
 use Rattle.sqlite.specs.Store.{Ghosts}
@@ -6,7 +6,7 @@ use Rattle.sqlite.specs.State.{HasCleanDisk, Survives, Shows, IsLive}
 use Rattle.sqlite.specs.Held.{Held, state}
 use Rattle.sqlite.proofs.StateLemmas.{survives_then}
 use Rattle.sqlite.proofs.Callers.{survives_begin}
-use Rattle.table_laws.specs.Inside.{GoesOn}
+use Rattle.table_laws.specs.Inside.{CommitsNothing, GoesOn}
 use Rattle.registry_schema.specs.declared.fault.TableFault.TheVariants.{Foreign}
 use Rattle.registry_rules.specs.History.{History}
 use Rattle.registry_tables.specs.Rows.{Rows}
@@ -27,9 +27,9 @@ module _ {S : Type 0} (g : Ghosts S) (version : ℕ) (old begun mid : Held S) (i
   held : (h : History) → IsTrue (state g old).is_open → Rows version (state g old).now.trees h → HoldsOf version (state g begun).now h
   held h is_open rows = subst (λ b. HoldsOf version (state g b).now h) (sym is) (enters version (state g old) h live is_open rows)
 
-  -- what the transaction shows at its end may be committed
+  -- the commit commits what the transaction shows at its end
   module _ (raised : HasCleanDisk (state g mid) → IsTrue (state g begun).in_transaction → GoesOn (state g begun) (state g mid) × ((h : History) → HoldsOf version (state g begun).now h → HoldsOf (version + 1) (state g mid).now h))
-      (first : Survives (state g begun) (state g mid) (λ _. ⊥)) where
+      (first : CommitsNothing (state g begun) (state g mid)) where
     shown : HasCleanDisk (state g mid) → Commits (state g mid).now.trees
     shown clean =
         let it = raised clean inside in
@@ -40,7 +40,7 @@ module _ {S : Type 0} (g : Ghosts S) (version : ℕ) (old begun mid : Held S) (i
       pub step_survives : Survives (state g old) (state g end) Commits
       step_survives =
           survives_then (state g old) (state g mid) (state g end) _ _ Commits (λ _ db none. absurd none) (λ clean db there. subst Commits (sym there) (shown (omega (arith, last.clean))))
-          (survives_begin g old (state g mid) _ (subst (λ b. Survives (state g b) (state g mid) (λ _. ⊥)) is first)) last
+          (survives_begin g old (state g mid) _ (subst (λ b. CommitsNothing (state g b) (state g mid)) is first)) last
 
       pub step_made : {E : Type 0} (result : Result (Unit {0}) E) → (HasCleanDisk (state g end) → OnOk result (Shows (state g mid) (state g end) (state g mid).now (state g mid).now false))
           → HasCleanDisk (state g end) → OnOk result (IsMadeBy Commits (state g end))
@@ -49,7 +49,7 @@ module _ {S : Type 0} (g : Ghosts S) (version : ℕ) (old begun mid : Held S) (i
           let done = ok clean in
           (done.is_open, done.now_is ∙ sym done.committed_is, subst (λ d. Commits d.trees) (sym done.committed_is) (shown (omega (arith, last.clean))))
 
-  -- Foreign comes of the rows of no history
+  -- Foreign comes only from the rows of no history
   pub step_foreign : (HasCleanDisk (state g mid) → IsTrue (state g begun).in_transaction → Raises version (state g begun) (state g mid) {A = Unit {0}} (Err Foreign)) → HasCleanDisk (state g mid)
       → IsTrue (state g old).is_open × ((h : History) → ¬ Rows version (state g old).now.trees h)
   step_foreign refused clean =

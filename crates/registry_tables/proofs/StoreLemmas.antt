@@ -1,4 +1,4 @@
--- Changes of records take the rows of one history to those of another.
+-- Changes take the rows of one history to those of another.
 use Rattle.std.proofs.Common.{◌≡◌, ℕ, Bool, true, false, cond, not, ◌||◌, if◌then◌else◌, List, [], ◌∷◌, ◌++◌, find, nat_eq, Option, Some, Result, Ok, Err, OnOk, refl, sym, ap, subst, ◌∙◌}
 use Rattle.std.specs.List.{list_any}
 use Rattle.std.specs.Option.{option_map}
@@ -12,7 +12,7 @@ use Rattle.usbnum_core.specs.declared.number.Span.{Span}
 use Rattle.table_laws.proofs.FoundLemmas.{apart_put}
 use Rattle.registry_schema.specs.declared.fault.TableFault.{TableFault}
 use Rattle.registry_rules.specs.History.{History}
-use Rattle.registry_rules.specs.Rows.{with_held, with_card, org_changed, petition_changed, entry_changed, ordered_changed, vendor_changed, licence_changed, after_all, LeadsTo}
+use Rattle.registry_rules.specs.Records.{with_held, with_card, org_changed, petition_changed, entry_changed, reserved_changed, vendor_changed, licence_changed, after_all, LeadsTo}
 use Rattle.registry_rules.specs.declared.change.Change.{Change}
 use Rattle.registry_rules.specs.declared.change.Change.TheVariants.{PutOrg, PutPetition, PutEntry, SetHeld, SetCard, ReserveSpan, ReleaseSpan, PutVendor, PutLicence}
 use Rattle.registry_rules.specs.declared.founding.Founding.{Founding}
@@ -28,7 +28,7 @@ use Rattle.registry_tables.specs.Rows.{newest, NoTwo, IsFounding, vendor_span_ha
 use Rattle.registry_tables.proofs.EntryLemmas.{entry_set, entries_once}
 use Rattle.registry_tables.proofs.ViewLemmas.{same_bytes, org_put, entry_put, petition_put, vendor_put}
 
--- ---- a name that is put in
+-- ---- inserting a name
 
 any_kept : (b c : Bool) (rest : List (List ℕ)) (name other : List ℕ) → bytes_eq name other ≡ c → (b ≡ true → c ≡ false) → list_any (bytes_eq name) (cond (not b) (other ∷ rest) rest) ≡ (c || list_any (bytes_eq name) rest)
 any_kept true c rest name other is gone = rw (gone refl) refl
@@ -53,7 +53,7 @@ name_put name last (other ∷ names) = go (bytes_eq other last) (bytes_eq name o
     go false true false x y z more = rw (y, z) refl
     go false false c x y z more = rw y more
 
--- ---- what stands under each key
+-- ---- the value under each key
 
 record IsView (t : Tables) (o : List ℕ → Option Org) (p : ℕ → Option Petition) (e : Number → Option Entry) (v : ℕ → Option Vendor) (l : List ℕ → Bool) : Type 0 where
   orgs : (slug : List ℕ) → find (is_called slug) t.orgs ≡ o slug
@@ -145,7 +145,7 @@ view_all : (cs : List Change) (t : Tables) (o : List ℕ → Option Org) (p : �
 view_all [] t o p e v l was = was
 view_all (c ∷ cs) t o p e v l was = view_all cs (applied c t) _ _ _ _ _ (view_one c t o p e v l was)
 
--- ---- what stays
+-- ---- what is unchanged
 
 record IsRest (a b : Tables) : Type 0 where
   metas : b.metas ≡ a.metas
@@ -171,15 +171,15 @@ rest_all (c ∷ cs) t =
     let later = rest_all cs (applied c t) in
     record { metas = later.metas ∙ first.metas; curators = later.curators ∙ first.curators; fixed = later.fixed ∙ first.fixed; kept = later.kept ∙ first.kept }
 
--- ---- one change more
+-- ---- one more change
 
 applied_more : (cs : List Change) (c : Change) (t : Tables) → applied_all (cs ++ c ∷ []) t ≡ applied c (applied_all cs t)
 applied_more [] c t = refl
 applied_more (x ∷ cs) c t = applied_more cs c (applied x t)
 
-ordered_more : (cs : List Change) (c : Change) (n : Number) (b : Bool) → after_all (ordered_changed n) (cs ++ c ∷ []) b ≡ ordered_changed n c (after_all (ordered_changed n) cs b)
-ordered_more [] c n b = refl
-ordered_more (x ∷ cs) c n b = ordered_more cs c n (ordered_changed n x b)
+reserved_more : (cs : List Change) (c : Change) (n : Number) (b : Bool) → after_all (reserved_changed n) (cs ++ c ∷ []) b ≡ reserved_changed n c (after_all (reserved_changed n) cs b)
+reserved_more [] c n b = refl
+reserved_more (x ∷ cs) c n b = reserved_more cs c n (reserved_changed n x b)
 
 spans_over : (c : Change) (a b : List (ℕ × Span)) (t : Tables) → with_spans b (applied c (with_spans a t)) ≡ with_spans b (applied c t)
 spans_over (PutOrg org) a b t = refl
@@ -192,9 +192,9 @@ spans_over (ReleaseSpan vid span) a b t = refl
 spans_over (PutVendor vid name) a b t = refl
 spans_over (PutLicence name) a b t = refl
 
--- a change that leaves the spans as they are
+-- a change that does not touch the spans
 pub record_made : {A : Type 0} (old new : State) (change made : Change) → change ≡ made → (result : Result A TableFault) → ((t : Tables) → with_spans t.spans (applied made t) ≡ applied made t)
-    → ((n : Number) (b : Bool) → ordered_changed n made b ≡ b) → Changes old new result (applied made) → OnOk result (Makes change old new)
+    → ((n : Number) (b : Bool) → reserved_changed n made b ≡ b) → Changes old new result (applied made) → OnOk result (Makes change old new)
 record_made old new change made is (Err e) same unordered h = tt
 record_made old new change made is (Ok a) same unordered h =
     subst (λ x. Makes x old new) (sym is) (
@@ -202,11 +202,11 @@ record_made old new change made is (Ok a) same unordered h =
       λ t has up. (t.spans, subst (Holds new.now) (sym (same t)) (h.1 t has), record { each = λ n. sym (unordered n (list_any (vendor_span_has n) t.spans)); apart = up }),
     )
 
--- changes are made to the tables and to their spans
+-- the changes are made to the tables and to their spans
 pub record AreMade (cs : List Change) (t : Tables) (db : Database) : Type 0 where
   spans : List (ℕ × Span)
   holds : Holds db (with_spans spans (applied_all cs t))
-  each : (n : Number) → list_any (vendor_span_has n) spans ≡ after_all (ordered_changed n) cs (list_any (vendor_span_has n) t.spans)
+  each : (n : Number) → list_any (vendor_span_has n) spans ≡ after_all (reserved_changed n) cs (list_any (vendor_span_has n) t.spans)
   apart : IsAscending AreApart spans
 
 pub none_made : (t : Tables) (db : Database) → Holds db t → IsAscending AreApart t.spans → AreMade [] t db
@@ -218,7 +218,7 @@ made_more cs c b d t before makes =
     record {
       spans = now.0;
       holds = subst (Holds d.now) (spans_over c before.spans now.0 (applied_all cs t) ∙ ap (with_spans now.0) (sym (applied_more cs c t))) now.1;
-      each = λ n. now.2.each n ∙ ap (ordered_changed n c) (before.each n) ∙ sym (ordered_more cs c n (list_any (vendor_span_has n) t.spans));
+      each = λ n. now.2.each n ∙ ap (reserved_changed n c) (before.each n) ∙ sym (reserved_more cs c n (list_any (vendor_span_has n) t.spans));
       apart = now.2.apart;
     }
 
@@ -240,7 +240,7 @@ module _ (cs : List Change) (h after : History) (founding : after.founding ≡ h
         fixed = rest.fixed ∙ had.fixed ∙ ap (λ (f : Founding). f.fixed) (sym founding);
         orgs = record { each = λ slug. view.orgs slug ∙ leads.orgs slug; once = view.orgs_once };
         vendors = λ vid. view.vendors vid ∙ leads.vendors vid;
-        spans = record { each = λ n. made.each n ∙ ap (after_all (ordered_changed n) cs) (had.spans.each n) ∙ leads.ordered n; apart = made.apart };
+        spans = record { each = λ n. made.each n ∙ ap (after_all (reserved_changed n) cs) (had.spans.each n) ∙ leads.ordered n; apart = made.apart };
         entries = record { each = λ n. view.entries n ∙ ap (option_map (λ entry. (n, entry))) (leads.entries n); once = view.entries_once };
         petitions = λ i. view.petitions i ∙ ap (option_map (λ petition. (i, petition))) (leads.petitions i);
       }

@@ -12,13 +12,14 @@ use Rattle.registry_tables.specs.Rows.{meta_of, AreRecords, AreKeptReplies}
 use Rattle.table_laws.specs.Making.{HasMore}
 use Rattle.registry_old_rows.specs.Old.{with_version, at_version, vendor_in, HasOneVendor}
 use Rattle.registry_old_rows.specs.Between.{HoldsSecond, HoldsBoth}
-use Rattle.registry_old_rows.specs.Steps.{Second, TellsOf}
+use Rattle.registry_old_rows.specs.Steps.{Second}
+use Rattle.registry_rows.specs.Steps.{AnswersOf}
 use Rattle.registry_schema.specs.declared.fault.TableFault.{TableFault}
 use Rattle.registry_old_rows.proofs.AgreeLemmas.{agree_2}
 use Rattle.registry_tables.specs.Versions.{IsSecond, HoldsOf}
 use Rattle.registry_tables.specs.Raising.{emptied, moved, IsMarked, Raises}
 
--- the new tables are there, and empty
+-- the new tables exist and are empty
 pub third_begins : (vid : ℕ) (a b : Database) (o : Tables) → HasMore schema_2 (vendors ∷ spans3 ∷ entries3 ∷ petitions3 ∷ []) a b → HoldsSecond vid a o [] → HoldsBoth vid b o (emptied o)
 third_begins vid a b o more has = record {
   schema = more.is;
@@ -32,7 +33,7 @@ third_begins vid a b o more has = record {
   };
 }
 
--- the old tables are empty, and all stands in the new ones
+-- the old tables are empty, and their rows are in the new ones
 pub third_ends : (vid : ℕ) (c : Database) (o : Tables) → HoldsBoth vid c (moved o) (record o { vendors = [] }) → Holds c (record o { vendors = [] })
 third_ends vid c o has = record {
   schema = has.schema;
@@ -55,11 +56,11 @@ third_ends vid c o has = record {
   };
 }
 
--- the row that names the version, and the founding vendor
+-- the row of meta for a version, with the founding vendor
 abbrev pub meta_by : ℕ → ℕ → List ℕ → Meta
 meta_by version vid name = record { version = version; vendor = vid; name = name }
 
--- with the founding vendor and the number of the schema the values are those of before
+-- inserting the founding vendor and the row of meta gives the same values
 pub same_values : (db : Database) (t : Tables) (h : History) → AreRecords h t → HasOneVendor t → (meta : Meta) → meta ≡ at_version 2 (meta_of h)
     → Holds db (record (with_version 2 t) { vendors = insert_by vendor_key [] (record { vid = meta.vendor; name = meta.name }); metas = insert_by meta_key (map (at_version 2) t.metas) (meta_by 3 meta.vendor meta.name) }) → Holds db t
 same_values db t h had one meta is holds =
@@ -68,7 +69,7 @@ same_values db t h had one meta is holds =
     let only : (record { vid = meta.vendor; name = meta.name } ∷ []) ≡ t.vendors = ap (λ (m : Meta). vendor_in m ∷ []) is ∙ sym (one ∙ ap (map vendor_in) had.metas) in
     subst (λ vs. Holds db (record t { vendors = vs })) only (subst (λ ms. Holds db (record t { vendors = record { vid = meta.vendor; name = meta.name } ∷ []; metas = ms })) metas holds)
 
--- a history whose rows are held in the second schema is one of a store that is marked so
+-- a history held in the second schema is in a store marked with version 2
 pub marked_second : (db : Database) (h : History) → HoldsOf 2 db h → (t : Tables) × IsSecond h.founding.vendor db t × AreRecords h t × AreKeptReplies h t.kept
 unfolding HoldsOf
 marked_second db h (t, inl first, had, kept) = absurd (let e = first.0 in omega (arith, e))
@@ -78,7 +79,7 @@ marked_second db h (t, inr (inr third), had, kept) = absurd (let e = third.0 in 
 pub as_marked : (db : Database) (h : History) (t : Tables) → IsSecond h.founding.vendor db t → AreRecords h t → IsMarked 2 db (record { vid = h.founding.vendor; tables = with_version 2 t; numbers = [] })
 as_marked db h t second had = record { held = second.holds; meta = at_version 2 (meta_of h); only = ap (map (at_version 2)) had.metas; named = refl }
 
--- the calls of the step, one after another
+-- the calls of the step in order
 module _ (a s1 s2 s3 s4 s5 : State) (meta : Meta) where
   pub third_raised : ((x : Second) → IsMarked 2 a.now x → IsUnchanged a s1 × (x.tables.metas ≡ meta ∷ []))
       → (s1.now.schema ≡ schema_2 → HasMore schema_2 (vendors ∷ spans3 ∷ entries3 ∷ petitions3 ∷ []) s1.now s2.now)
@@ -100,7 +101,7 @@ module _ (a s1 s2 s3 s4 s5 : State) (meta : Meta) where
       let ended = third_ends meta.vendor s3.now o (three o begun) in
       (t, inr (inr (refl, same_values s5.now t h it.2 it.1.one meta is (five _ (four _ ended)))), it.2, it.3)
 
-pub third_refused : (old new : State) (e : TableFault) → TellsOf old new (IsMarked 2 old.now) (Err e) (λ x (m : Meta). x.tables.metas ≡ m ∷ []) → Raises 2 old new {A = Unit {0}} (Err e)
+pub third_refused : (old new : State) (e : TableFault) → AnswersOf old new (IsMarked 2 old.now) (Err e) (λ x (m : Meta). x.tables.metas ≡ m ∷ []) → Raises 2 old new {A = Unit {0}} (Err e)
 third_refused old new e read foreign =
     let none = read.0 foreign in
     (none.0.was_open, λ h rows. (let it = marked_second old.now h rows in none.1 _ (as_marked old.now h it.0 it.1 it.2)))

@@ -1,4 +1,4 @@
--- What is found under a key after a value was put in.
+-- What is found under a key after an insert.
 use Rattle.std.proofs.Common.{◌≡◌, ℤ, Bool, true, false, cond, if◌then◌else◌, List, [], ◌∷◌, ◌++◌, find, Option, Some, refl, sym, ap, subst, ◌∙◌, int_cmp, Ordering, Less, Equal, Greater, arith}
 use Rattle.std.specs.Ordering.{match_ordering}
 use Rattle.std.proofs.lemmas.Int.{ints}
@@ -6,7 +6,7 @@ use Rattle.sqlite_keyed.specs.Keyed.{insert_by}
 use Rattle.sqlite_keyed.specs.Lists.{delete_where}
 use Rattle.table_laws.proofs.FoundLemmas.{found_put, found_other}
 
--- of values whose rowids are no part of them
+-- for values that do not contain their rowid
 module _ {K X : Type 0} (key : X → K) (test : K → X → Bool) (own : (x : X) → test (key x) x ≡ true) (tells : (k : K) (x : X) → test k x ≡ true → k ≡ key x) where
   other_key : (k : K) (x y : X) → test k x ≡ false → test (key x) y ≡ true → test k y ≡ false
   other_key k x y apart here = go (test k y) refl
@@ -24,7 +24,7 @@ module _ {K X : Type 0} (key : X → K) (test : K → X → Bool) (own : (x : X)
       go true is = subst (λ l. find (test l) (delete_where (λ y. test (key x) y) xs ++ x ∷ []) ≡ Some x) (sym (tells k x is)) (found_put (test (key x)) x (own x) xs)
       go false is = found_other (test (key x)) x (test k) (λ y h. other_key k x y is h) is xs
 
--- of values whose key is a number
+-- for values whose key is a number
 module _ {K X : Type 0} (key : X → ℤ) (test : K → X → Bool) (tells : (k : K) (x y : X) → test k x ≡ true → test k y ≡ true → key x ≡ key y)
     (level : (k : K) (x y : X) → key x ≡ key y → test k x ≡ test k y) where
   swapped : (a b : Bool) (x y : X) (o : Option X) → (a ≡ true → b ≡ true → ⊥) → cond a (Some x) (cond b (Some y) o) ≡ cond b (Some y) (cond a (Some x) o)

@@ -1,4 +1,4 @@
--- From trees to the database of a connection, and back, in each schema.
+-- From the trees to the database of a connection and back, in each schema.
 use Rattle.std.proofs.Common.{inl, inr, ℕ, IsTrue, sym, subst}
 use Rattle.sqlite.specs.Effect.{Database}
 use Rattle.sqlite.specs.State.{State, IsLive}

@@ -1,6 +1,6 @@
 -- What the calls on the tables do.
-use Rattle.std.specs.Prelude.{◌≡◌, false, IsTrue, Result, Err}
-use Rattle.sqlite.specs.State.{State}
+use Rattle.std.specs.Prelude.{◌≡◌, false, IsTrue, IfOk, Result, Err}
+use Rattle.sqlite.specs.State.{State, HasCleanDisk}
 use Rattle.sqlite.specs.Effect.{Database}
 use Rattle.registry_schema.specs.Meta.{has_meta_table}
 use Rattle.registry_schema.specs.declared.fault.TableFault.{TableFault}
@@ -11,7 +11,7 @@ use Rattle.registry_rules.specs.Run.{Legal}
 use Rattle.registry_rules.specs.declared.deed.Deed.{Deed}
 use Rattle.registry_rules.specs.declared.order.Request.{Request}
 use Rattle.std.specs.Prelude.{List, ℕ}
-use Rattle.table_laws.specs.Inside.{GoesOn}
+use Rattle.table_laws.specs.Inside.{CommitsNothing, GoesOn}
 use Rattle.sqlite_keyed.specs.Keyed.{insert_by}
 use Rattle.registry_rules.specs.declared.founding.Founding.{Founding}
 use Rattle.registry_rows.specs.Rows.{meta_key, vendor_key}
@@ -19,7 +19,7 @@ use Rattle.registry_rows.specs.Tables.{Tables, Holds}
 use Rattle.registry_tables.specs.Changed.{names_put, spans_put}
 use Rattle.registry_tables.specs.Rows.{newest, Rows}
 
--- no table of the database is called meta
+-- the database has no table called meta
 abbrev pub HasNoMeta : Database → Type 0
 HasNoMeta db = has_meta_table db.schema ≡ false
 
@@ -31,7 +31,7 @@ pub record IsKeptAs (deed : Deed) (request : Request) (reply : List ℕ) : Type 
   pub said : reply ≡ act_text deed.act
 
 module _ (old new : State) where
-  -- the connection was open, and the list is that of each history whose rows it had
+  -- the connection was open, and the list is that of each history whose rows it showed
   abbrev pub Lists : {A : Type 0} → (History → A → Type 0) → A → Type 0
   Lists Is list = IsTrue old.is_open × ((h : History) → Legal h → Rows newest old.now.trees h → Is h list)
 
@@ -39,15 +39,22 @@ module _ (old new : State) where
   abbrev pub KeepsAll : Type 0
   KeepsAll = IsTrue new.is_open → IsTrue old.is_open × (new.now ≡ old.committed) × (new.committed ≡ old.committed)
 
-  -- Foreign comes only of an open connection with the rows of no history
+  -- Foreign comes only from an open connection that shows the rows of no history
   abbrev pub IsForeign : {A : Type 0} → Result A TableFault → Type 0
   IsForeign result = result ≡ Err Foreign → IsTrue old.is_open × ((h : History) → Legal h → ¬ Rows newest old.now.trees h)
 
--- the transaction goes on, and the tables are changed so
+-- a look-up in a transaction of its own, which is rolled back: the result is that of each history whose rows were shown, and nothing changes
+pub record IsLookUp {A : Type 0} (old new : State) (result : Result A TableFault) (Is : History → A → Type 0) : Type 0 where
+  pub answer : HasCleanDisk new → IfOk result (Lists old new Is)
+  pub same : HasCleanDisk new → KeepsAll old new
+  pub foreign : HasCleanDisk new → IsForeign old new result
+  pub survives : CommitsNothing old new
+
+-- the transaction goes on, and this function gives its tables after the call
 abbrev pub PutsIn : State → State → (Tables → Tables) → Type 0
 PutsIn old new after = GoesOn old new × ((t : Tables) → Holds old.now t → Holds new.now (after t))
 
--- what the founding's rows are
+-- the tables after the rows of a founding are inserted
 abbrev pub with_founding : Founding → Tables → Tables
 with_founding founding t = record t {
   metas = insert_by meta_key t.metas (record { version = newest; vendor = founding.vendor; name = founding.name });

@@ -1,4 +1,4 @@
--- What a look-up within a transaction answers.
+-- What a lookup within a transaction returns.
 use Rattle.std.specs.Prelude.{◌≡◌, List, true, IsTrue, Result, Ok, Err}
 use Rattle.sqlite.specs.State.{State, IsUnchanged, KeepsCommit}
 use Rattle.usbnum_core.specs.Spans.{span_has}
@@ -15,20 +15,20 @@ use Rattle.registry_rules.specs.declared.record.Holding.{Holding}
 use Rattle.registry_tables.specs.Rows.{newest, HoldsRows}
 
 module _ (old new : State) where
-  -- The transaction goes on, and where a history's rows are held nothing has changed and the answer is the history's. It is
-  -- Foreign only of an open connection that holds the rows of no history, and a fault commits nothing.
+  -- The transaction goes on; if it holds a history's rows, nothing changes and the result is the history's. Foreign comes
+  -- only from an open connection that holds the rows of no history, and a fault commits nothing.
   abbrev pub Finds : {A : Type 0} → Result A TableFault → (History → A → Type 0) → Type 0
   Finds (Ok a) Is = GoesOn old new × ((h : History) → Legal h → HoldsRows newest old.now h → IsUnchanged old new × Is h a)
   Finds (Err e) Is = (e ≡ Foreign → IsTrue old.is_open × ((h : History) → Legal h → ¬ HoldsRows newest old.now h)) × KeepsCommit old new
 
--- who owns a number that has an entry, and whether it is held
+-- the owner of a number that has an entry, and whether the number is held
 abbrev pub holding_at : Number × Entry → Holding
 holding_at e = record { number = e.0; org = e.1.org; held = e.1.held }
 
--- the number is one of the vendor's span
+-- the vendor's span has the number
 abbrev pub IsWithin : Number → VendorSpan → Type 0
 IsWithin n range = (range.vid ≡ n.vid) × (span_has range.span n.pid ≡ true)
 
--- of each number within the range the holdings say what the history does
+-- for each number in the range the holdings are those of the history
 abbrev pub AreHoldings : VendorSpan → History → List Holding → Type 0
 AreHoldings range h holdings = (n : Number) → IsWithin n range → holding_in holdings n ≡ holding_of h n

@@ -1,4 +1,4 @@
--- One step from a schema to the next.
+-- One migration step, from a schema to the next.
 use Rattle.std.specs.Prelude.{◌≡◌, ◌≤◌, ◌⊎◌, ℕ, ◌+◌, [], ◌∷◌, Some, Result, Ok, Err, IsTrue}
 use Rattle.sqlite.specs.Effect.{Database}
 use Rattle.sqlite.specs.State.{State}
@@ -15,7 +15,7 @@ use Rattle.registry_old_rows.specs.Steps.{Second, IsHeld}
 use Rattle.registry_tables.specs.Rows.{newest, Rows}
 use Rattle.registry_tables.specs.Versions.{HoldsOf}
 
--- a store of the second schema's tables whose one row of meta names this schema
+-- the values are held in the tables of the second schema, and the one row of meta names this version
 pub record IsMarked (version : ℕ) (db : Database) (x : Second) : Type 0 where
   pub held : IsHeld db x
   pub meta : Meta
@@ -23,7 +23,7 @@ pub record IsMarked (version : ℕ) (db : Database) (x : Second) : Type 0 where
   pub named : meta.version ≡ version
 
 module _ (version : ℕ) (old new : State) where
-  -- The transaction goes on and the rows of each history are those of the next schema. It is Foreign only of an open
+  -- The transaction goes on, and the rows of each history become those of the next schema. Foreign comes only from an open
   -- connection that holds the rows of no history in this schema.
   abbrev pub Raises : {A : Type 0} → Result A TableFault → Type 0
   Raises (Ok a) = GoesOn old new × ((h : History) → HoldsOf version old.now h → HoldsOf (version + 1) new.now h)
@@ -33,11 +33,11 @@ module _ (version : ℕ) (old new : State) where
 abbrev pub CommitsStep : ℕ → State → Trees → Type 0
 CommitsStep version old db = IsTrue old.is_open × ((h : History) → Rows version old.now.trees h → Rows (version + 1) db h)
 
--- what two steps make in the end
+-- what two steps end in
 abbrev pub EndsTwo : State → Trees → Type 0
 EndsTwo old db = IsTrue old.is_open × ((h : History) → Rows 1 old.now.trees h → Rows newest db h)
 
--- and what they may commit
+-- what two steps may commit
 abbrev pub CommitsTwo : State → Trees → Type 0
 CommitsTwo old db = IsTrue old.is_open × ((h : History) → Rows 1 old.now.trees h → Rows 2 db h ⊎ Rows newest db h)
 
@@ -49,25 +49,25 @@ CommitsLater old db = IsTrue old.is_open × ((h : History) (version : ℕ) → R
 abbrev pub IsNamedOlder : State → Type 0
 IsNamedOlder s = (version_named s.now.schema.tables ≡ Some 1) ⊎ (version_named s.now.schema.tables ≡ Some 2)
 
--- a connection is open where it was
+-- a connection is open now if and only if it was open before
 abbrev pub StaysOpen : State → State → Type 0
 StaysOpen old new = (IsTrue old.is_open → IsTrue new.is_open) × (IsTrue new.is_open → IsTrue old.is_open)
 
--- while it is open the connection shows the rows of the history, in this schema, and they are committed
+-- while it is open the connection shows the rows of the history in this schema, and they are committed
 abbrev pub IsAtRest : ℕ → State → History → Type 0
 IsAtRest version s h = IsTrue s.is_open → (s.now ≡ s.committed) × Rows version s.committed.trees h
 
--- no span, entry or petition in the tables of the third schema, and no vendor
+-- the new tables of the third schema, still empty
 abbrev pub emptied : Tables → Tables
 emptied t = record t { vendors = []; spans = []; entries = []; petitions = [] }
 
 abbrev pub moved : Tables → Tables
 moved o = record o { spans = []; entries = []; petitions = [] }
 
--- the transaction goes on, and what stood in the tables of the second schema stands in those of the third
+-- the transaction goes on, and the rows of the second schema's tables move to those of the third
 abbrev pub MovesAll : ℕ → State → State → Type 0
 MovesAll vid old new = GoesOn old new × ((o : Tables) → HoldsBoth vid old.now o (emptied o) → HoldsBoth vid new.now (moved o) (record o { vendors = [] }))
 
--- the connection is open and at rest, and its tables are as this says
+-- the connection is open and at rest, and its tables satisfy P
 abbrev pub IsMadeBy : (Trees → Type 0) → State → Type 0
 IsMadeBy P s = IsTrue s.is_open × (s.now ≡ s.committed) × P s.committed.trees

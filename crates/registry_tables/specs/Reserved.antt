@@ -1,10 +1,10 @@
--- Spans of vendors that are put together and apart.
+-- Joining and cutting the spans of vendors.
 use Rattle.std.specs.Prelude.{◌≡◌, ℕ, ◌≤◌, ◌⊎◌, true, List, [], ◌∷◌, Option, Some, None, nat_eq}
 use Rattle.std.specs.List.{AllByRecursion, list_any}
 use Rattle.usbnum_core.specs.declared.number.Span.{Span}
 use Rattle.registry_tables.specs.Rows.{AreApart}
 
--- the least and the greatest number of the span and of those that were found
+-- the least and the greatest number of the span and of the spans found
 pub record Reaches (span : Span) (found : List (ℕ × Span)) (least greatest : ℕ) : Type 0 where
   pub below : least ≤ span.first
   pub above : span.last ≤ greatest
@@ -12,7 +12,7 @@ pub record Reaches (span : Span) (found : List (ℕ × Span)) (least greatest : 
   pub from : (least ≡ span.first) ⊎ (list_any (λ s. nat_eq s.1.first least) found ≡ true)
   pub to : (greatest ≡ span.last) ⊎ (list_any (λ s. nat_eq s.1.last greatest) found ≡ true)
 
--- the part as one of the vendor's spans, if there is one
+-- the part as one of the vendor's spans, if any
 abbrev pub part_of : ℕ → Option Span → List (ℕ × Span)
 part_of vid None = []
 part_of vid (Some span) = (vid, span) ∷ []

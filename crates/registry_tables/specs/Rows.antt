@@ -1,4 +1,4 @@
--- A store has the rows of a history.
+-- The rows of a history in a store.
 use Rattle.std.specs.Prelude.{◌≡◌, ◌≢◌, ℕ, ◌+◌, ◌<◌, ◌⊎◌, Bool, false, List, [], ◌∷◌, ◌&&◌, nat_eq, find}
 use Rattle.std.specs.Option.{option_map}
 use Rattle.std.specs.List.{list_any}
@@ -11,8 +11,8 @@ use Rattle.usbnum_core.specs.declared.number.Span.{Span}
 use Rattle.registry_rules.specs.History.{History}
 use Rattle.registry_rules.specs.Texts.{IsCurators}
 use Rattle.registry_rules.specs.declared.founding.Founding.{Founding}
-use Rattle.registry_rules.specs.Query.{org_of, petition_of, vendor_of, is_ordered, is_licence}
-use Rattle.registry_rules.specs.Rows.{entry_of}
+use Rattle.registry_rules.specs.Query.{org_of, petition_of, vendor_of, is_reserved_by_order, is_licence}
+use Rattle.registry_rules.specs.Records.{entry_of}
 use Rattle.registry_rules.specs.Verdict.{kept_under}
 use Rattle.registry_rules.specs.declared.record.Org.{Org}
 use Rattle.registry_rules.specs.declared.record.Entry.{Entry}
@@ -30,7 +30,7 @@ use Rattle.registry_old_rows.specs.Old.{AreFirst, AreSecond, with_version, HasOn
 abbrev pub newest : ℕ
 newest = 3
 
--- no two of the values are the same by the test
+-- no two of the values are the same by this test
 abbrev pub NoTwo : {X : Type 0} → (X → X → Bool) → List X → Type 0
 NoTwo same = IsAscending (λ a b. same a b ≡ false)
 
@@ -38,16 +38,16 @@ NoTwo same = IsAscending (λ a b. same a b ≡ false)
 abbrev pub vendor_span_has : Number → ℕ × Span → Bool
 vendor_span_has n s = nat_eq s.0 n.vid && span_has s.1 n.pid
 
--- there is a number between the two spans, or they are of two vendors
+-- a number lies between the two spans, or their vendors differ
 abbrev pub AreApart : ℕ × Span → ℕ × Span → Type 0
 AreApart a b = (a.0 ≢ b.0) ⊎ ((a.1.last + 1 < b.1.first) ⊎ (b.1.last + 1 < a.1.first))
 
--- a founding's curators and fixed numbers are such
+-- a founding has valid curators and fixed numbers
 pub record IsFounding (founding : Founding) : Type 0 where
   pub curators : IsCurators founding.curators
   pub fixed : IsSpread 1 founding.fixed
 
--- what is found under each key is what the history says, and no key has two rows
+-- each key finds what the history says, and no key has two rows
 module _ (h : History) where
   pub record AreCurators (names : List (List ℕ)) : Type 0 where
     pub each : (name : List ℕ) → list_any (bytes_eq name) names ≡ list_any (bytes_eq name) h.founding.curators
@@ -61,9 +61,9 @@ module _ (h : History) where
     pub each : (slug : List ℕ) → find (is_called slug) orgs ≡ org_of h slug
     pub once : NoTwo (λ a b. is_called b.slug a) orgs
 
-  -- the spans are maximal ones of the numbers that an order reserved
+  -- the spans are the maximal spans of the numbers that orders reserved
   pub record AreSpans (spans : List (ℕ × Span)) : Type 0 where
-    pub each : (n : Number) → list_any (vendor_span_has n) spans ≡ is_ordered h n
+    pub each : (n : Number) → list_any (vendor_span_has n) spans ≡ is_reserved_by_order h n
     pub apart : IsAscending AreApart spans
 
   pub record AreEntries (entries : List (Number × Entry)) : Type 0 where
@@ -80,11 +80,11 @@ module _ (h : History) where
     pub each : (caller key : List ℕ) → find (is_kept_under caller key) rows ≡ option_map (λ kept. record { caller = caller; key = key; kept = kept }) (kept_under h caller key)
     pub once : NoTwo (λ a b. is_kept_under b.caller b.key a) rows
 
--- the one row that says what the store is
+-- the one row of meta
 abbrev pub meta_of : History → Meta
 meta_of h = record { version = newest; vendor = h.founding.vendor; name = h.founding.name }
 
--- all tables but the kept replies have the rows of the history
+-- all tables apart from the kept replies hold the rows of the history
 pub record AreRecords (h : History) (t : Tables) : Type 0 where
   pub founding : IsFounding h.founding
   pub metas : t.metas ≡ meta_of h ∷ []
@@ -103,8 +103,8 @@ pub record AreRecords (h : History) (t : Tables) : Type 0 where
 abbrev pub AreRowsOfSpans : ℕ → Tables → List ℕ → Type 0
 AreRowsOfSpans vid t numbers = (n : Number) → list_any (vendor_span_has n) t.spans ≡ is_listed vid numbers n
 
--- The trees have the tables of the first schema and nothing else, and in them these values: the vendor, which is the
--- founding one, stands in `meta` alone, and each number that an order reserved has a row.
+-- The trees have exactly the tables of the first schema, with these values. Only `meta` names the vendor, the founding one,
+-- and each number that an order reserved has a row.
 pub record HasFirst (vid : ℕ) (db : Trees) (t : Tables) : Type 0 where
   pub has : HasTables texts_1 db
   pub one : HasOneVendor t
@@ -112,26 +112,26 @@ pub record HasFirst (vid : ℕ) (db : Trees) (t : Tables) : Type 0 where
   pub rows : AreFirst vid db (with_version 1 t) numbers
   pub reserved : AreRowsOfSpans vid t numbers
 
--- The same of the second schema: the numbers that an order reserved stand in spans, and `reserved` is empty.
+-- The same for the second schema: the numbers that orders reserved are in spans, and `reserved` is empty.
 pub record HasSecond (vid : ℕ) (db : Trees) (t : Tables) : Type 0 where
   pub has : HasTables texts_2 db
   pub one : HasOneVendor t
   pub rows : AreSecond vid db (with_version 2 t) []
 
--- The trees have the tables of the schema of this number and nothing else, and these values in them. In the third, the
--- newest, the vendor stands in each row that is one vendor's, and the tables that it replaces are empty.
+-- The trees have exactly the tables of this schema version, with these values. In the third, the newest, each row of a
+-- vendor names it, and the tables that were replaced are empty.
 abbrev pub HasValues : ℕ → ℕ → Trees → Tables → Type 0
 HasValues version vid db t = ((version ≡ 1) × HasFirst vid db t) ⊎ (((version ≡ 2) × HasSecond vid db t) ⊎ ((version ≡ newest) × HasRows db t))
 
--- The trees have the tables of the schema of this number and nothing else, and in them the rows of the history and no
--- others. Below the newest a store is still to be migrated; a history with a second vendor has no rows there.
+-- The trees have exactly the tables of this schema version, and hold exactly the rows of the history. Below the newest
+-- version a store is still to be migrated; a history with a second vendor has no rows there.
 unfoldable pub Rows : ℕ → Trees → History → Type 0
 Rows version db h = (t : Tables) × HasValues version h.founding.vendor db t × AreRecords h t × AreKeptReplies h t.kept
 
--- the rows of the newest in a database, whose schema is known
+-- a database whose schema is known holds the rows of the history, in the newest schema
 unfoldable pub HoldsRows : ℕ → Database → History → Type 0
 HoldsRows version db h = (version ≡ newest) × (t : Tables) × Holds db t × AreRecords h t × AreKeptReplies h t.kept
 
--- in the middle of a request: the kept replies are still those of the first history, all else is that of the second
+-- in the middle of a request: the kept replies are still those of the first history, all other rows those of the second
 unfoldable pub HoldsUnkept : Database → History → History → Type 0
 HoldsUnkept db h after = (t : Tables) × Holds db t × AreRecords after t × AreKeptReplies h t.kept

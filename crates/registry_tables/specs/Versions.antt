@@ -1,4 +1,4 @@
--- A database, whose schema is known, has the rows of a history in each schema.
+-- A database whose schema is known has the rows of a history, in each schema.
 use Rattle.std.specs.Prelude.{◌≡◌, ◌⊎◌, ℕ, List, []}
 use Rattle.sqlite.specs.Effect.{Database}
 use Rattle.registry_rules.specs.History.{History}
@@ -7,22 +7,22 @@ use Rattle.registry_old_rows.specs.Old.{with_version, HasOneVendor}
 use Rattle.registry_old_rows.specs.Between.{HoldsFirst, HoldsSecond}
 use Rattle.registry_tables.specs.Rows.{newest, AreRowsOfSpans, AreRecords, AreKeptReplies}
 
--- the values in a database of the first schema
+-- the database holds these values, in the first schema
 pub record IsFirst (vid : ℕ) (db : Database) (t : Tables) : Type 0 where
   pub one : HasOneVendor t
   pub numbers : List ℕ
   pub holds : HoldsFirst vid db (with_version 1 t) numbers
   pub reserved : AreRowsOfSpans vid t numbers
 
--- in one of the second
+-- the same in the second
 pub record IsSecond (vid : ℕ) (db : Database) (t : Tables) : Type 0 where
   pub one : HasOneVendor t
   pub holds : HoldsSecond vid db (with_version 2 t) []
 
--- in one of the schema of this number
+-- the same in the schema of this version
 abbrev pub HoldsValues : ℕ → ℕ → Database → Tables → Type 0
 HoldsValues version vid db t = ((version ≡ 1) × IsFirst vid db t) ⊎ (((version ≡ 2) × IsSecond vid db t) ⊎ ((version ≡ newest) × Holds db t))
 
--- the rows of the history and no others
+-- the database holds exactly the rows of the history
 unfoldable pub HoldsOf : ℕ → Database → History → Type 0
 HoldsOf version db h = (t : Tables) × HoldsValues version h.founding.vendor db t × AreRecords h t × AreKeptReplies h t.kept

@@ -1,11 +1,11 @@
-//! What a deed changes.
+//! The changes of a deed.
 
 ghost use Rattle.std.specs.Prelude.{◌≡◌, ◌≢◌, IsTrue, OnOk, Err};
-ghost use Rattle.sqlite.specs.State.{HasCleanDisk, Survives};
+ghost use Rattle.sqlite.specs.State.{HasCleanDisk};
 ghost use Rattle.sqlite.specs.Held.{state};
-ghost use Rattle.table_laws.specs.Inside.{GoesOn};
+ghost use Rattle.table_laws.specs.Inside.{CommitsNothing, GoesOn};
 ghost use Rattle.registry_rules.specs.History.{History};
-ghost use Rattle.registry_rules.specs.Rows.{LeadsTo};
+ghost use Rattle.registry_rules.specs.Records.{LeadsTo};
 ghost use Rattle.registry_rules.specs.Run.{Legal};
 ghost use Rattle.registry_tables.specs.Changed.{Makes};
 ghost use Rattle.registry_tables.specs.Rows.{newest, HoldsRows, HoldsUnkept};
@@ -29,7 +29,7 @@ fn make<S: Alter>(
     ensures made { HasCleanDisk (state S.Store tx.new.conn.now) → IsTrue (state S.Store tx.old.conn.now).in_transaction
         → OnOk result (Makes change.now (state S.Store tx.old.conn.now) (state S.Store tx.new.conn.now)) }
     ensures kind { result ≢ Err TableFault.Foreign }
-    ensures survives { Survives (state S.Store tx.old.conn.now) (state S.Store tx.new.conn.now) (λ _. ⊥) }
+    ensures survives { CommitsNothing (state S.Store tx.old.conn.now) (state S.Store tx.new.conn.now) }
 {
     match change {
         Change::PutOrg(org) => put_org(tx, org),
@@ -44,11 +44,12 @@ fn make<S: Alter>(
     }
 }
 
-/// Makes the changes of a deed, in turn. The reply that is kept with the deed is for `keep_reply`.
+/// Makes the changes of a deed in order, all but its kept reply, which `keep_reply` writes.
 ///
-/// The fault is that of the first change that is not made: `TableFault::NoMemory` where it finds no room, or
-/// `TableFault::Store` where the store refuses or fails. Some of the changes may be made then, so the transaction is to be
-/// rolled back. It is never `TableFault::Foreign`.
+/// # Errors
+///
+/// `TableFault::NoMemory` if out of memory, `TableFault::Store` if the store refuses or fails;
+/// never `TableFault::Foreign`. Some of the changes may be made then, so roll the transaction back.
 pub fn store<S: Alter>(
     alloc: Global,
     tx: &mut Transaction<'_, S>,
@@ -61,7 +62,7 @@ pub fn store<S: Alter>(
         → OnOk result ((h after : History) → Legal h → Legal after → after.founding ≡ h.founding → HoldsRows newest (state S.Store tx.old.conn.now).now h
         → LeadsTo changes.now h after → HoldsUnkept (state S.Store tx.new.conn.now).now h after) }
     ensures kind { result ≢ Err TableFault.Foreign }
-    ensures survives { Survives (state S.Store tx.old.conn.now) (state S.Store tx.new.conn.now) (λ _. ⊥) }
+    ensures survives { CommitsNothing (state S.Store tx.old.conn.now) (state S.Store tx.new.conn.now) }
 {
     for change in changes {
         match make(alloc, tx, change) {

@@ -1,4 +1,4 @@
-//! A new store.
+//! Creates the tables of a new registry.
 
 ghost use Rattle.std.specs.Prelude.{◌≡◌, ◌≢◌, false, IsTrue, OnOk, Err};
 ghost use Rattle.sqlite.specs.State.{HasCleanDisk, Survives};
@@ -9,12 +9,13 @@ ghost use Rattle.registry_tables.specs.Rows.{newest, Rows};
 ghost use Rattle.registry_tables.specs.Calls.{HasNoMeta};
 
 use crate::TableFault;
+use crate::committing::commit;
 use crate::founding::write_founding;
 use registry_rules::Founding;
-use registry_schema::{create_tables, fault_of, is_empty};
+use registry_schema::{create_tables, is_empty};
 use sqlite::{Alter, Connection};
 
-// The tables and the founding's rows, in one transaction.
+// Creates the tables and writes the founding's rows, in one transaction.
 fn create_in_empty<S: Alter>(
     conn: &mut Connection<S>,
     founding: &Founding,
@@ -29,21 +30,22 @@ fn create_in_empty<S: Alter>(
     ensures survives { Survives (state S.Store conn.old) (state S.Store conn.new) (λ db. IsTrue (state S.Store conn.old).is_open × HasNoMeta (state S.Store conn.old).now
         × Rows newest db (founded founding.now)) }
 {
+    // For the proof only: the schema that the connection shows.
     let _schema = conn.schema();
     let mut tx = conn.transaction();
     create_tables(&mut tx)?;
     write_founding(&mut tx, founding)?;
-    match tx.commit() {
-        Ok(()) => Ok(()),
-        Err(error) => Err(fault_of(error)),
-    }
+    commit(tx)
 }
 
-/// Makes all tables and writes the founding's rows, in one transaction. A store that has any table or view is refused
-/// with `TableFault::Store`, and then nothing is written.
+/// Creates all tables and writes the founding's rows, in one transaction.
 ///
-/// `TableFault::NoMemory` comes where the store finds no room, `TableFault::Store` else where it refuses or fails. After
-/// either a crash leaves what it could before, or all of it. It is never `TableFault::Foreign`.
+/// # Errors
+///
+/// `TableFault::Store` if the database has any table or view, and nothing is written.
+/// `TableFault::NoMemory` if the store is out of memory, and `TableFault::Store` if it refuses or
+/// fails otherwise; a crash then leaves what it could before, or all of it. Never
+/// `TableFault::Foreign`.
 pub fn create<S: Alter>(conn: &mut Connection<S>, founding: &Founding) -> Result<(), TableFault>
     requires { conn.old.in_transaction ≡ false }
     ensures idle { conn.new.in_transaction ≡ false }

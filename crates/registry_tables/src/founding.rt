@@ -1,8 +1,9 @@
 //! The rows of a founding.
 
 ghost use Rattle.std.specs.Prelude.{◌≡◌, ◌≢◌, IsTrue, OnOk, Err};
-ghost use Rattle.sqlite.specs.State.{HasCleanDisk, Survives};
+ghost use Rattle.sqlite.specs.State.{HasCleanDisk};
 ghost use Rattle.sqlite.specs.Held.{state};
+ghost use Rattle.table_laws.specs.Inside.{CommitsNothing};
 ghost use Rattle.registry_tables.specs.Rows.{IsFounding};
 ghost use Rattle.registry_tables.specs.Changed.{names_put, spans_put};
 ghost use Rattle.registry_tables.specs.Calls.{PutsIn, with_founding};
@@ -18,7 +19,7 @@ fn add_curators<S: Alter>(tx: &mut Transaction<'_, S>, names: &[Slug]) -> Result
     ensures added { HasCleanDisk (state S.Store tx.new.conn.now) → IsTrue (state S.Store tx.old.conn.now).in_transaction → IsTrue (state S.Store tx.old.conn.now).is_open
         → OnOk result (PutsIn (state S.Store tx.old.conn.now) (state S.Store tx.new.conn.now) (λ t. record t { curators = names_put names.now t.curators })) }
     ensures kind { result ≢ Err TableFault.Foreign }
-    ensures survives { Survives (state S.Store tx.old.conn.now) (state S.Store tx.new.conn.now) (λ _. ⊥) }
+    ensures survives { CommitsNothing (state S.Store tx.old.conn.now) (state S.Store tx.new.conn.now) }
 {
     for name in names {
         match put_curator(tx, name) {
@@ -34,7 +35,7 @@ fn add_licences<S: Alter>(tx: &mut Transaction<'_, S>, names: &[Title]) -> Resul
     ensures added { HasCleanDisk (state S.Store tx.new.conn.now) → IsTrue (state S.Store tx.old.conn.now).in_transaction → IsTrue (state S.Store tx.old.conn.now).is_open
         → OnOk result (PutsIn (state S.Store tx.old.conn.now) (state S.Store tx.new.conn.now) (λ t. record t { licences = names_put names.now t.licences })) }
     ensures kind { result ≢ Err TableFault.Foreign }
-    ensures survives { Survives (state S.Store tx.old.conn.now) (state S.Store tx.new.conn.now) (λ _. ⊥) }
+    ensures survives { CommitsNothing (state S.Store tx.old.conn.now) (state S.Store tx.new.conn.now) }
 {
     for name in names {
         match put_licence(tx, name) {
@@ -50,7 +51,7 @@ fn add_fixed<S: Alter>(tx: &mut Transaction<'_, S>, spans: &[Span]) -> Result<()
     ensures added { HasCleanDisk (state S.Store tx.new.conn.now) → IsTrue (state S.Store tx.old.conn.now).in_transaction → IsTrue (state S.Store tx.old.conn.now).is_open
         → OnOk result (PutsIn (state S.Store tx.old.conn.now) (state S.Store tx.new.conn.now) (λ t. record t { fixed = spans_put spans.now t.fixed })) }
     ensures kind { result ≢ Err TableFault.Foreign }
-    ensures survives { Survives (state S.Store tx.old.conn.now) (state S.Store tx.new.conn.now) (λ _. ⊥) }
+    ensures survives { CommitsNothing (state S.Store tx.old.conn.now) (state S.Store tx.new.conn.now) }
 {
     for span in spans {
         match put_fixed(tx, *span) {
@@ -61,7 +62,7 @@ fn add_fixed<S: Alter>(tx: &mut Transaction<'_, S>, spans: &[Span]) -> Result<()
     Ok(())
 }
 
-/// Writes the founding's rows.
+/// Writes the rows of a founding.
 pub fn write_founding<S: Alter>(
     tx: &mut Transaction<'_, S>,
     founding: &Founding,
@@ -71,7 +72,7 @@ pub fn write_founding<S: Alter>(
         → OnOk result (PutsIn (state S.Store tx.old.conn.now) (state S.Store tx.new.conn.now) (with_founding founding.now)) }
     ensures valid { OnOk result (IsFounding founding.now) }
     ensures kind { result ≢ Err TableFault.Foreign }
-    ensures survives { Survives (state S.Store tx.old.conn.now) (state S.Store tx.new.conn.now) (λ _. ⊥) }
+    ensures survives { CommitsNothing (state S.Store tx.old.conn.now) (state S.Store tx.new.conn.now) }
 {
     put_meta(tx, 3, founding.vendor, &founding.name)?;
     add_curators(tx, founding.curators.as_slice())?;

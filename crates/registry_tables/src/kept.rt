@@ -1,9 +1,9 @@
-//! The reply that is kept of an accepted request.
+//! The kept reply of an accepted request.
 
 ghost use Rattle.std.specs.Prelude.{◌≡◌, ◌≢◌, IsTrue, OnOk, Err};
-ghost use Rattle.sqlite.specs.State.{HasCleanDisk, Survives};
+ghost use Rattle.sqlite.specs.State.{HasCleanDisk};
 ghost use Rattle.sqlite.specs.Held.{state};
-ghost use Rattle.table_laws.specs.Inside.{GoesOn};
+ghost use Rattle.table_laws.specs.Inside.{CommitsNothing, GoesOn};
 ghost use Rattle.registry_rules.specs.History.{History, with_deed};
 ghost use Rattle.registry_rules.specs.Run.{Legal};
 ghost use Rattle.registry_rules.specs.declared.deed.Deed.{Deed};
@@ -12,20 +12,22 @@ ghost use Rattle.registry_tables.specs.Calls.{IsKeptAs};
 
 use crate::TableFault;
 use registry_rows::put_kept;
-use registry_rules::{Request, Text, request_bytes};
+use registry_rules::{ReplyText, Request, request_bytes};
 use sqlite::{Alter, Transaction};
 use std::alloc::Global;
 
-/// Keeps the order's spelling and the reply under the request's caller and key. With what `store` did before, the
-/// rows are then those of the history with the deed.
+/// Keeps the canonical form of the order and the reply under the request's caller and key. After
+/// `store` the rows are then those of the history with the deed.
 ///
-/// `TableFault::NoMemory` comes where the spelling or the row finds no room, `TableFault::Store` where the store refuses or
-/// fails. After either the transaction is to be rolled back. It is never `TableFault::Foreign`.
+/// # Errors
+///
+/// `TableFault::NoMemory` if out of memory for the canonical form or the row, `TableFault::Store`
+/// if the store refuses or fails; never `TableFault::Foreign`. Roll the transaction back then.
 pub fn keep_reply<S: Alter>(
     alloc: Global,
     tx: &mut Transaction<'_, S>,
     request: &Request,
-    reply: &Text,
+    reply: &ReplyText,
 ) -> Result<(), TableFault>
     ensures same_reference { tx.new.conn.ghost_name ≡ tx.old.conn.ghost_name }
     ensures goes_on { HasCleanDisk (state S.Store tx.new.conn.now) → IsTrue (state S.Store tx.old.conn.now).in_transaction
@@ -34,7 +36,7 @@ pub fn keep_reply<S: Alter>(
         → OnOk result ((h : History) (deed : Deed) → Legal (with_deed h deed) → IsKeptAs deed request.now reply.now
         → HoldsUnkept (state S.Store tx.old.conn.now).now h (with_deed h deed) → HoldsRows newest (state S.Store tx.new.conn.now).now (with_deed h deed)) }
     ensures kind { result ≢ Err TableFault.Foreign }
-    ensures survives { Survives (state S.Store tx.old.conn.now) (state S.Store tx.new.conn.now) (λ _. ⊥) }
+    ensures survives { CommitsNothing (state S.Store tx.old.conn.now) (state S.Store tx.new.conn.now) }
 {
     match request_bytes(alloc, request) {
         Ok(order) => put_kept(tx, &request.caller, &request.key, &order, reply),

@@ -1,9 +1,8 @@
-//! The lists of all that is kept of a history.
+//! Lists of all organisations, petitions, numbers and vendors.
 
-ghost use Rattle.std.specs.Prelude.{◌≡◌, false, IfOk};
-ghost use Rattle.sqlite.specs.State.{HasCleanDisk, Survives};
+ghost use Rattle.std.specs.Prelude.{◌≡◌, false};
 ghost use Rattle.sqlite.specs.Held.{state};
-ghost use Rattle.registry_tables.specs.Calls.{Lists, KeepsAll, IsForeign};
+ghost use Rattle.registry_tables.specs.Calls.{IsLookUp};
 ghost use Rattle.registry_tables.specs.Lists.{IsOrgList, IsPetitionList, IsNumberList, IsVendorList};
 
 use crate::TableFault;
@@ -12,18 +11,18 @@ use sqlite::{Alter, Connection};
 use std::alloc::Global;
 use usbnum_core::Number;
 
-/// All organisations, by slug. Nothing is written.
+/// Returns all organisations, in order of slug. Writes nothing.
 ///
-/// `TableFault::Foreign` comes only where the tables are those of no history, `TableFault::NoMemory` where the rows or
-/// the list find no room, `TableFault::Store` where the store refuses or fails.
+/// # Errors
+///
+/// `TableFault::Foreign` only if the tables hold the rows of no history, `TableFault::NoMemory` if
+/// out of memory for the rows or the list, `TableFault::Store` if the store refuses or fails.
 pub fn list_orgs<S: Alter>(alloc: Global, conn: &mut Connection<S>) -> Result<Vec<Org>, TableFault>
     requires { conn.old.in_transaction ≡ false }
     ensures idle { conn.new.in_transaction ≡ false }
-    ensures answer { HasCleanDisk (state S.Store conn.new) → IfOk result (λ list. Lists (state S.Store conn.old) (state S.Store conn.new) IsOrgList list.items) }
-    ensures same { HasCleanDisk (state S.Store conn.new) → KeepsAll (state S.Store conn.old) (state S.Store conn.new) }
-    ensures foreign { HasCleanDisk (state S.Store conn.new) → IsForeign (state S.Store conn.old) (state S.Store conn.new) result }
-    ensures survives { Survives (state S.Store conn.old) (state S.Store conn.new) (λ _. ⊥) }
+    ensures looked_up { IsLookUp (state S.Store conn.old) (state S.Store conn.new) result (λ h list. IsOrgList h list.items) }
 {
+    // For the proof only: the schema that the connection shows.
     let _schema = conn.schema();
     let mut tx = conn.transaction();
     let orgs = registry_rows::list_orgs(alloc, &mut tx);
@@ -31,21 +30,21 @@ pub fn list_orgs<S: Alter>(alloc: Global, conn: &mut Connection<S>) -> Result<Ve
     orgs
 }
 
-/// All petitions, by number. Nothing is written.
+/// Returns all petitions, in order of number. Writes nothing.
 ///
-/// `TableFault::Foreign` comes only where the tables are those of no history, `TableFault::NoMemory` where the rows or
-/// the list find no room, `TableFault::Store` where the store refuses or fails.
+/// # Errors
+///
+/// `TableFault::Foreign` only if the tables hold the rows of no history, `TableFault::NoMemory` if
+/// out of memory for the rows or the list, `TableFault::Store` if the store refuses or fails.
 pub fn list_petitions<S: Alter>(
     alloc: Global,
     conn: &mut Connection<S>,
 ) -> Result<Vec<(u32, Petition)>, TableFault>
     requires { conn.old.in_transaction ≡ false }
     ensures idle { conn.new.in_transaction ≡ false }
-    ensures answer { HasCleanDisk (state S.Store conn.new) → IfOk result (λ list. Lists (state S.Store conn.old) (state S.Store conn.new) IsPetitionList list.items) }
-    ensures same { HasCleanDisk (state S.Store conn.new) → KeepsAll (state S.Store conn.old) (state S.Store conn.new) }
-    ensures foreign { HasCleanDisk (state S.Store conn.new) → IsForeign (state S.Store conn.old) (state S.Store conn.new) result }
-    ensures survives { Survives (state S.Store conn.old) (state S.Store conn.new) (λ _. ⊥) }
+    ensures looked_up { IsLookUp (state S.Store conn.old) (state S.Store conn.new) result (λ h list. IsPetitionList h list.items) }
 {
+    // For the proof only: the schema that the connection shows.
     let _schema = conn.schema();
     let mut tx = conn.transaction();
     let petitions = registry_rows::list_petitions(alloc, &mut tx);
@@ -53,21 +52,21 @@ pub fn list_petitions<S: Alter>(
     petitions
 }
 
-/// All numbers that have an owner, by vendor and then by product. Nothing is written.
+/// Returns all numbers that have an owner, in order of vendor and then product. Writes nothing.
 ///
-/// `TableFault::Foreign` comes only where the tables are those of no history, `TableFault::NoMemory` where the rows or
-/// the list find no room, `TableFault::Store` where the store refuses or fails.
+/// # Errors
+///
+/// `TableFault::Foreign` only if the tables hold the rows of no history, `TableFault::NoMemory` if
+/// out of memory for the rows or the list, `TableFault::Store` if the store refuses or fails.
 pub fn list_numbers<S: Alter>(
     alloc: Global,
     conn: &mut Connection<S>,
 ) -> Result<Vec<(Number, Entry)>, TableFault>
     requires { conn.old.in_transaction ≡ false }
     ensures idle { conn.new.in_transaction ≡ false }
-    ensures answer { HasCleanDisk (state S.Store conn.new) → IfOk result (λ list. Lists (state S.Store conn.old) (state S.Store conn.new) IsNumberList list.items) }
-    ensures same { HasCleanDisk (state S.Store conn.new) → KeepsAll (state S.Store conn.old) (state S.Store conn.new) }
-    ensures foreign { HasCleanDisk (state S.Store conn.new) → IsForeign (state S.Store conn.old) (state S.Store conn.new) result }
-    ensures survives { Survives (state S.Store conn.old) (state S.Store conn.new) (λ _. ⊥) }
+    ensures looked_up { IsLookUp (state S.Store conn.old) (state S.Store conn.new) result (λ h list. IsNumberList h list.items) }
 {
+    // For the proof only: the schema that the connection shows.
     let _schema = conn.schema();
     let mut tx = conn.transaction();
     let numbers = registry_rows::list_entries(alloc, &mut tx);
@@ -75,21 +74,21 @@ pub fn list_numbers<S: Alter>(
     numbers
 }
 
-/// All vendors, the founding one included, by number. Nothing is written.
+/// Returns all vendors, the founding one included, in order of vendor ID. Writes nothing.
 ///
-/// `TableFault::Foreign` comes only where the tables are those of no history, `TableFault::NoMemory` where the rows or
-/// the list find no room, `TableFault::Store` where the store refuses or fails.
+/// # Errors
+///
+/// `TableFault::Foreign` only if the tables hold the rows of no history, `TableFault::NoMemory` if
+/// out of memory for the rows or the list, `TableFault::Store` if the store refuses or fails.
 pub fn list_vendors<S: Alter>(
     alloc: Global,
     conn: &mut Connection<S>,
 ) -> Result<Vec<Vendor>, TableFault>
     requires { conn.old.in_transaction ≡ false }
     ensures idle { conn.new.in_transaction ≡ false }
-    ensures answer { HasCleanDisk (state S.Store conn.new) → IfOk result (λ list. Lists (state S.Store conn.old) (state S.Store conn.new) IsVendorList list.items) }
-    ensures same { HasCleanDisk (state S.Store conn.new) → KeepsAll (state S.Store conn.old) (state S.Store conn.new) }
-    ensures foreign { HasCleanDisk (state S.Store conn.new) → IsForeign (state S.Store conn.old) (state S.Store conn.new) result }
-    ensures survives { Survives (state S.Store conn.old) (state S.Store conn.new) (λ _. ⊥) }
+    ensures looked_up { IsLookUp (state S.Store conn.old) (state S.Store conn.new) result (λ h list. IsVendorList h list.items) }
 {
+    // For the proof only: the schema that the connection shows.
     let _schema = conn.schema();
     let mut tx = conn.transaction();
     let vendors = registry_rows::list_vendors(alloc, &mut tx);

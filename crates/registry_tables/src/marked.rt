@@ -1,9 +1,10 @@
-//! Of which schema a store says that it is.
+//! The schema version that the table `meta` names.
 
 ghost use Rattle.std.specs.Prelude.{◌≡◌, ◌≢◌, [], ◌∷◌, IsTrue, MatchResult, Err};
-ghost use Rattle.sqlite.specs.State.{HasCleanDisk, Survives};
+ghost use Rattle.sqlite.specs.State.{HasCleanDisk};
 ghost use Rattle.sqlite.specs.Held.{state};
-ghost use Rattle.registry_old_rows.specs.Steps.{TellsOf};
+ghost use Rattle.table_laws.specs.Inside.{CommitsNothing};
+ghost use Rattle.registry_rows.specs.Steps.{AnswersOf};
 ghost use Rattle.registry_tables.specs.Raising.{IsMarked};
 
 use registry_old_rows::list_old_metas;
@@ -22,7 +23,7 @@ fn of_version(meta: Meta, version: u32) -> Result<Meta, TableFault>
     }
 }
 
-/// What the store is, where it says that it is of this schema.
+/// Returns the row of `meta`, if it names this version.
 pub(crate) fn old_meta<S: Alter>(
     alloc: Global,
     tx: &mut Transaction<'_, S>,
@@ -30,8 +31,8 @@ pub(crate) fn old_meta<S: Alter>(
 ) -> Result<Meta, TableFault>
     ensures same_reference { tx.new.conn.ghost_name ≡ tx.old.conn.ghost_name }
     ensures told { HasCleanDisk (state S.Store tx.new.conn.now) → IsTrue (state S.Store tx.old.conn.now).in_transaction
-        → TellsOf (state S.Store tx.old.conn.now) (state S.Store tx.new.conn.now) (IsMarked version (state S.Store tx.old.conn.now).now) result (λ x meta. x.tables.metas ≡ meta ∷ []) }
-    ensures survives { Survives (state S.Store tx.old.conn.now) (state S.Store tx.new.conn.now) (λ _. ⊥) }
+        → AnswersOf (state S.Store tx.old.conn.now) (state S.Store tx.new.conn.now) (IsMarked version (state S.Store tx.old.conn.now).now) result (λ x meta. x.tables.metas ≡ meta ∷ []) }
+    ensures survives { CommitsNothing (state S.Store tx.old.conn.now) (state S.Store tx.new.conn.now) }
 {
     let mut metas = list_old_metas(alloc, tx)?;
     match metas.pop() {

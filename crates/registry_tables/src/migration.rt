@@ -1,9 +1,9 @@
-//! From an older schema to the newest, one version at a time.
+//! Migration from an older schema to the newest, one version at a time.
 
 ghost use Rattle.std.specs.Prelude.{◌≡◌, ◌≢◌, ◌⊎◌, ℕ, Ok, false, IsTrue, OnOk, Err};
 ghost use Rattle.sqlite.specs.State.{HasCleanDisk, Survives};
 ghost use Rattle.sqlite.specs.Held.{state};
-ghost use Rattle.table_laws.specs.Inside.{GoesOn};
+ghost use Rattle.table_laws.specs.Inside.{CommitsNothing, GoesOn};
 ghost use Rattle.table_laws.specs.Making.{HasTables};
 ghost use Rattle.registry_schema.specs.Texts.{texts_3};
 ghost use Rattle.registry_rules.specs.History.{History};
@@ -12,11 +12,11 @@ ghost use Rattle.registry_tables.specs.Raising.{IsMadeBy, CommitsStep, CommitsTw
 
 use crate::second::first_to_second;
 use crate::third::second_to_third;
-use registry_schema::{TableFault, fault_of, version_of};
+use registry_schema::{TableFault, version_of};
 use sqlite::{Alter, Connection, Transaction};
 use std::alloc::Global;
 
-// Two steps, each in its transaction.
+// Takes two steps, each in its own transaction.
 fn first_to_third<S: Alter>(alloc: Global, conn: &mut Connection<S>) -> Result<(), TableFault>
     requires { conn.old.in_transaction ≡ false }
     ensures idle { conn.new.in_transaction ≡ false }
@@ -28,26 +28,23 @@ fn first_to_third<S: Alter>(alloc: Global, conn: &mut Connection<S>) -> Result<(
     second_to_third(alloc, conn)
 }
 
-// Whether the store answers, by a statement that reads no table.
+// Checks that the store works, with a statement that reads no table.
 fn try_store<S: Alter>(tx: &mut Transaction<'_, S>) -> Result<(), TableFault>
     ensures same_reference { tx.new.conn.ghost_name ≡ tx.old.conn.ghost_name }
     ensures answered { HasCleanDisk (state S.Store tx.new.conn.now) → IsTrue (state S.Store tx.old.conn.now).in_transaction → OnOk result (GoesOn (state S.Store tx.old.conn.now) (state S.Store tx.new.conn.now)) }
     ensures fault { result ≢ Err TableFault.Foreign }
-    ensures survives { Survives (state S.Store tx.old.conn.now) (state S.Store tx.new.conn.now) (λ _. ⊥) }
+    ensures survives { CommitsNothing (state S.Store tx.old.conn.now) (state S.Store tx.new.conn.now) }
 {
-    let ran = tx.query_all("SELECT 1", &[]);
-    match ran {
-        Ok(_) => Ok(()),
-        Err(error) => Err(fault_of(error)),
-    }
+    tx.query_all("SELECT 1", &[])?;
+    Ok(())
 }
 
-// The fault of tables of no schema: Foreign, where the store still answers. Nothing is written.
+// Returns the fault for tables of no schema: Foreign if the store still works. Writes nothing.
 fn unknown<S: Alter>(conn: &mut Connection<S>) -> TableFault
     requires { conn.old.in_transaction ≡ false }
     ensures idle { conn.new.in_transaction ≡ false }
     ensures open { HasCleanDisk (state S.Store conn.new) → result ≡ TableFault.Foreign → IsTrue (state S.Store conn.old).is_open }
-    ensures survives { Survives (state S.Store conn.old) (state S.Store conn.new) (λ _. ⊥) }
+    ensures survives { CommitsNothing (state S.Store conn.old) (state S.Store conn.new) }
 {
     let mut tx = conn.transaction();
     let ran = try_store(&mut tx);
@@ -58,11 +55,11 @@ fn unknown<S: Alter>(conn: &mut Connection<S>) -> TableFault
     }
 }
 
-/// Brings the tables of an older schema to the newest, one version at a time, each in a transaction of its own.
+/// Brings the tables of an older schema to the newest, one version at a time, each step in its own
+/// transaction. Commits nothing if the names of the tables are not those of an older schema.
 ///
-/// `TableFault::Foreign` comes only where the tables are those of no history in any schema. After a fault a crash leaves
-/// the rows of the same history, in the schema that they had or in a later one. Nothing is committed where the names of the
-/// tables are not those of an older schema.
+/// `TableFault::Foreign` comes only if the tables hold the rows of no history in any schema. After
+/// a fault a crash leaves the rows of the same history, in the schema that they had or a later one.
 pub fn migrate<S: Alter>(alloc: Global, conn: &mut Connection<S>) -> Result<(), TableFault>
     requires { conn.old.in_transaction ≡ false }
     ensures idle { conn.new.in_transaction ≡ false }
@@ -71,7 +68,7 @@ pub fn migrate<S: Alter>(alloc: Global, conn: &mut Connection<S>) -> Result<(), 
     ensures newest { IsTrue (state S.Store conn.old).is_open → HasTables texts_3 (state S.Store conn.old).now.trees → (result ≡ Ok _) × (conn.new ≡ conn.old) }
     ensures foreign { HasCleanDisk (state S.Store conn.new) → result ≡ Err TableFault.Foreign → IsTrue (state S.Store conn.old).is_open × ((h : History) (version : ℕ) → ¬ Rows version (state S.Store conn.old).now.trees h) }
     ensures survives { Survives (state S.Store conn.old) (state S.Store conn.new) (CommitsLater (state S.Store conn.old)) }
-    ensures untouched { IsNamedOlder (state S.Store conn.old) ⊎ Survives (state S.Store conn.old) (state S.Store conn.new) (λ _. ⊥) }
+    ensures untouched { IsNamedOlder (state S.Store conn.old) ⊎ CommitsNothing (state S.Store conn.old) (state S.Store conn.new) }
 {
     let version = version_of(conn);
     if version == Some(1) {

@@ -1,10 +1,11 @@
-//! From the first schema to the second.
+//! The step from the first schema to the second.
 
 ghost use Rattle.std.specs.Prelude.{◌≡◌, ◌≢◌, ℕ, [], map, fold, nat_eq, false, IsTrue, OnOk, IfOk, Err};
 ghost use Rattle.std.specs.List.{list_any};
 ghost use Rattle.sqlite.specs.State.{HasCleanDisk, Survives};
 ghost use Rattle.sqlite.specs.Held.{state};
 ghost use Rattle.sqlite_keyed.specs.Keyed.{insert_by};
+ghost use Rattle.table_laws.specs.Inside.{CommitsNothing};
 ghost use Rattle.usbnum_core.specs.Number.{IsNumber};
 ghost use Rattle.usbnum_core.specs.Spans.{spans_have};
 ghost use Rattle.registry_rules.specs.History.{History};
@@ -13,7 +14,7 @@ ghost use Rattle.registry_old_rows.specs.Steps.{Turns};
 ghost use Rattle.registry_tables.specs.Rows.{Rows};
 ghost use Rattle.registry_tables.specs.Raising.{Raises, CommitsStep, IsMadeBy};
 
-use crate::finish::finish;
+use crate::committing::commit;
 use crate::marked::old_meta;
 use registry_old_rows::{Reserved, empty_reserved, list_reserved, put_old_meta, put_old_span};
 use registry_schema::{TableFault, add_second};
@@ -21,7 +22,7 @@ use sqlite::{Alter, Connection, Transaction};
 use std::alloc::Global;
 use usbnum_core::{Span, Spans};
 
-// The numbers as a set.
+// Returns the numbers as a set.
 fn spans_of(alloc: Global, numbers: &[Reserved]) -> Result<Spans, TableFault>
     ensures same { IfOk result (λ set. (n : ℕ) → spans_have set n ≡ list_any (nat_eq n) (map (λ one. one.pid) numbers.now)) }
     ensures kind { result ≢ Err TableFault.Foreign }
@@ -38,13 +39,13 @@ fn spans_of(alloc: Global, numbers: &[Reserved]) -> Result<Spans, TableFault>
     Ok(set)
 }
 
-// The spans, as the founding vendor's.
+// Writes the spans as those of the founding vendor.
 fn put_spans<S: Alter>(tx: &mut Transaction<'_, S>, parts: &[Span]) -> Result<(), TableFault>
     ensures same_reference { tx.new.conn.ghost_name ≡ tx.old.conn.ghost_name }
     ensures put { (vid : ℕ) → IsNumber vid → HasCleanDisk (state S.Store tx.new.conn.now) → IsTrue (state S.Store tx.old.conn.now).in_transaction → IsTrue (state S.Store tx.old.conn.now).is_open
         → OnOk result (Turns vid (λ t. record t { spans = fold (insert_by old_span_key) t.spans (map (λ part. (vid, part)) parts.now) }) (λ numbers. numbers) (state S.Store tx.old.conn.now) (state S.Store tx.new.conn.now)) }
     ensures kind { result ≢ Err TableFault.Foreign }
-    ensures survives { Survives (state S.Store tx.old.conn.now) (state S.Store tx.new.conn.now) (λ _. ⊥) }
+    ensures survives { CommitsNothing (state S.Store tx.old.conn.now) (state S.Store tx.new.conn.now) }
 {
     for part in parts {
         match put_old_span(tx, *part) {
@@ -55,11 +56,11 @@ fn put_spans<S: Alter>(tx: &mut Transaction<'_, S>, parts: &[Span]) -> Result<()
     Ok(())
 }
 
-// The spans of the numbers that have a row, in place of the rows.
+// Replaces the rows of reserved numbers with rows of spans.
 fn raise_second<S: Alter>(alloc: Global, tx: &mut Transaction<'_, S>) -> Result<(), TableFault>
     ensures same_reference { tx.new.conn.ghost_name ≡ tx.old.conn.ghost_name }
     ensures raised { HasCleanDisk (state S.Store tx.new.conn.now) → IsTrue (state S.Store tx.old.conn.now).in_transaction → Raises 1 (state S.Store tx.old.conn.now) (state S.Store tx.new.conn.now) result }
-    ensures survives { Survives (state S.Store tx.old.conn.now) (state S.Store tx.new.conn.now) (λ _. ⊥) }
+    ensures survives { CommitsNothing (state S.Store tx.old.conn.now) (state S.Store tx.new.conn.now) }
 {
     add_second(tx)?;
     let meta = old_meta(alloc, tx, 1)?;
@@ -71,7 +72,7 @@ fn raise_second<S: Alter>(alloc: Global, tx: &mut Transaction<'_, S>) -> Result<
     Ok(())
 }
 
-/// One step, in one transaction with one commit.
+/// Takes the step in one transaction with one commit.
 pub(crate) fn first_to_second<S: Alter>(
     alloc: Global,
     conn: &mut Connection<S>,
@@ -82,8 +83,9 @@ pub(crate) fn first_to_second<S: Alter>(
     ensures foreign { HasCleanDisk (state S.Store conn.new) → result ≡ Err TableFault.Foreign → IsTrue (state S.Store conn.old).is_open × ((h : History) → ¬ Rows 1 (state S.Store conn.old).now.trees h) }
     ensures survives { Survives (state S.Store conn.old) (state S.Store conn.new) (CommitsStep 1 (state S.Store conn.old)) }
 {
+    // For the proof only: the schema that the connection shows.
     let _schema = conn.schema();
     let mut tx = conn.transaction();
     raise_second(alloc, &mut tx)?;
-    finish(tx)
+    commit(tx)
 }

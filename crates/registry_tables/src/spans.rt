@@ -1,10 +1,10 @@
-//! The numbers that an order reserved, kept as maximal spans.
+//! The numbers that orders reserved, stored as maximal spans.
 
 ghost use Rattle.std.specs.Prelude.{◌≡◌, ◌≢◌, ◌+◌, ◌≤◌, ◌++◌, IsTrue, IfOk, OnOk, MatchOption, Err, filter};
-ghost use Rattle.sqlite.specs.State.{HasCleanDisk, Survives, IsUnchanged};
+ghost use Rattle.sqlite.specs.State.{HasCleanDisk, IsUnchanged};
 ghost use Rattle.sqlite.specs.Held.{state};
 ghost use Rattle.sqlite_keyed.specs.Lists.{sort_by};
-ghost use Rattle.table_laws.specs.Inside.{GoesOn};
+ghost use Rattle.table_laws.specs.Inside.{CommitsNothing, GoesOn};
 ghost use Rattle.registry_rows.specs.Rows.{meets, by_beginning};
 ghost use Rattle.registry_rows.specs.Tables.{Tables, Holds};
 ghost use Rattle.registry_tables.specs.Changed.{with_spans, Makes};
@@ -17,8 +17,8 @@ use sqlite::{Alter, Transaction};
 use std::alloc::Global;
 use usbnum_core::{Pid, Span, Vid};
 
-// The vendor's spans that have any of the numbers from the low to the high one. Rows that are no spans are a fault of the
-// store: the rows were read when it was opened.
+// Returns the vendor's spans that have any of the numbers from the low to the high one. Rows that
+// are not spans are a fault of the store: they were sound when it was opened.
 fn spans_meeting<S: Alter>(
     alloc: Global,
     tx: &mut Transaction<'_, S>,
@@ -32,7 +32,7 @@ fn spans_meeting<S: Alter>(
         × ((t : Tables) → Holds (state S.Store tx.old.conn.now).now t → IsUnchanged (state S.Store tx.old.conn.now) (state S.Store tx.new.conn.now)
         × (found.items ≡ sort_by by_beginning (filter (meets vid low high) t.spans)))) }
     ensures kind { result ≢ Err TableFault.Foreign }
-    ensures survives { Survives (state S.Store tx.old.conn.now) (state S.Store tx.new.conn.now) (λ _. ⊥) }
+    ensures survives { CommitsNothing (state S.Store tx.old.conn.now) (state S.Store tx.new.conn.now) }
 {
     match find_spans(alloc, tx, vid, low, high) {
         Ok(found) => Ok(found),
@@ -41,7 +41,7 @@ fn spans_meeting<S: Alter>(
     }
 }
 
-// The least and the greatest number of the span and of those that were found.
+// Returns the least and the greatest number of the span and of the spans found.
 fn reach(found: &[(Vid, Span)], span: &Span) -> (Pid, Pid)
     ensures { Reaches span.now found.now result.0 result.1 }
 {
@@ -54,7 +54,7 @@ fn reach(found: &[(Vid, Span)], span: &Span) -> (Pid, Pid)
     (least, greatest)
 }
 
-// The numbers from the least one on that are before the first, if there are any.
+// Returns the numbers from the least one on that are before the first, if any.
 fn before(least: Pid, first: Pid) -> Option<Span>
     ensures { MatchOption result (first ≤ least) (λ part. (part.first ≡ least) × (part.last + 1 ≡ first)) }
 {
@@ -62,7 +62,7 @@ fn before(least: Pid, first: Pid) -> Option<Span>
     Span::new(least, end)
 }
 
-// The numbers after the last, up to the greatest, if there are any.
+// Returns the numbers after the last one, up to the greatest, if any.
 fn after(last: Pid, greatest: Pid) -> Option<Span>
     ensures { MatchOption result (greatest ≤ last) (λ part. (part.first ≡ last + 1) × (part.last ≡ greatest)) }
 {
@@ -70,7 +70,7 @@ fn after(last: Pid, greatest: Pid) -> Option<Span>
     Span::new(start, greatest)
 }
 
-// Puts the part in, if there is one, beside the spans that it is apart from.
+// Inserts the part, if any, which is apart from all spans.
 fn put_part<S: Alter>(
     tx: &mut Transaction<'_, S>,
     vid: Vid,
@@ -82,7 +82,7 @@ fn put_part<S: Alter>(
         × ((t : Tables) → Holds (state S.Store tx.old.conn.now).now t → AreApartFrom (part_of vid part) t.spans
         → Holds (state S.Store tx.new.conn.now).now (with_spans (t.spans ++ part_of vid part) t))) }
     ensures kind { result ≢ Err TableFault.Foreign }
-    ensures survives { Survives (state S.Store tx.old.conn.now) (state S.Store tx.new.conn.now) (λ _. ⊥) }
+    ensures survives { CommitsNothing (state S.Store tx.old.conn.now) (state S.Store tx.new.conn.now) }
 {
     match part {
         Some(span) => put_span(tx, vid, span),
@@ -90,7 +90,7 @@ fn put_part<S: Alter>(
     }
 }
 
-/// Puts in the numbers of the span: it joins the vendor's spans that overlap it or touch it.
+/// Reserves the numbers of the span: merges it with the vendor's spans that overlap or touch it.
 pub(crate) fn reserve_span<S: Alter>(
     alloc: Global,
     tx: &mut Transaction<'_, S>,
@@ -101,7 +101,7 @@ pub(crate) fn reserve_span<S: Alter>(
     ensures made { HasCleanDisk (state S.Store tx.new.conn.now) → IsTrue (state S.Store tx.old.conn.now).in_transaction
         → OnOk result (Makes (Change.ReserveSpan vid span.now) (state S.Store tx.old.conn.now) (state S.Store tx.new.conn.now)) }
     ensures kind { result ≢ Err TableFault.Foreign }
-    ensures survives { Survives (state S.Store tx.old.conn.now) (state S.Store tx.new.conn.now) (λ _. ⊥) }
+    ensures survives { CommitsNothing (state S.Store tx.old.conn.now) (state S.Store tx.new.conn.now) }
 {
     let low = u32::from(span.first().get()) - 1;
     let high = u32::from(span.last().get()) + 1;
@@ -111,7 +111,7 @@ pub(crate) fn reserve_span<S: Alter>(
     put_part(tx, vid, Span::new(least, greatest))
 }
 
-/// Takes out the numbers of the span: of the vendor's spans that overlap it what is on either side stays.
+/// Releases the numbers of the span: cuts it out of the vendor's spans that overlap it.
 pub(crate) fn release_span<S: Alter>(
     alloc: Global,
     tx: &mut Transaction<'_, S>,
@@ -122,7 +122,7 @@ pub(crate) fn release_span<S: Alter>(
     ensures made { HasCleanDisk (state S.Store tx.new.conn.now) → IsTrue (state S.Store tx.old.conn.now).in_transaction
         → OnOk result (Makes (Change.ReleaseSpan vid span.now) (state S.Store tx.old.conn.now) (state S.Store tx.new.conn.now)) }
     ensures kind { result ≢ Err TableFault.Foreign }
-    ensures survives { Survives (state S.Store tx.old.conn.now) (state S.Store tx.new.conn.now) (λ _. ⊥) }
+    ensures survives { CommitsNothing (state S.Store tx.old.conn.now) (state S.Store tx.new.conn.now) }
 {
     let low = u32::from(span.first().get());
     let high = u32::from(span.last().get());

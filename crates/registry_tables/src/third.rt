@@ -1,13 +1,14 @@
-//! From the second schema to the third.
+//! The step from the second schema to the third.
 
 ghost use Rattle.std.specs.Prelude.{◌≡◌, ◌≢◌, false, IsTrue, OnOk, Err};
 ghost use Rattle.sqlite.specs.State.{HasCleanDisk, Survives};
 ghost use Rattle.sqlite.specs.Held.{state};
+ghost use Rattle.table_laws.specs.Inside.{CommitsNothing};
 ghost use Rattle.registry_rules.specs.History.{History};
 ghost use Rattle.registry_tables.specs.Rows.{Rows};
 ghost use Rattle.registry_tables.specs.Raising.{MovesAll, Raises, CommitsStep, IsMadeBy};
 
-use crate::finish::finish;
+use crate::committing::commit;
 use crate::marked::old_meta;
 use registry_old_rows::{
     copy_entries, copy_petitions, copy_spans, empty_entries, empty_petitions, empty_spans,
@@ -18,12 +19,12 @@ use sqlite::{Alter, Connection, Transaction};
 use std::alloc::Global;
 use usbnum_core::Vid;
 
-// What stands in the tables of the second schema, with this vendor into those of the third.
+// Moves the rows of the second schema's tables to those of the third, with this vendor.
 fn move_rows<S: Alter>(tx: &mut Transaction<'_, S>, vid: Vid) -> Result<(), TableFault>
     ensures same_reference { tx.new.conn.ghost_name ≡ tx.old.conn.ghost_name }
     ensures moved { HasCleanDisk (state S.Store tx.new.conn.now) → IsTrue (state S.Store tx.old.conn.now).in_transaction → OnOk result (MovesAll vid (state S.Store tx.old.conn.now) (state S.Store tx.new.conn.now)) }
     ensures fault { result ≢ Err TableFault.Foreign }
-    ensures survives { Survives (state S.Store tx.old.conn.now) (state S.Store tx.new.conn.now) (λ _. ⊥) }
+    ensures survives { CommitsNothing (state S.Store tx.old.conn.now) (state S.Store tx.new.conn.now) }
 {
     copy_spans(tx, vid)?;
     copy_entries(tx, vid)?;
@@ -34,11 +35,11 @@ fn move_rows<S: Alter>(tx: &mut Transaction<'_, S>, vid: Vid) -> Result<(), Tabl
     Ok(())
 }
 
-// The tables of the third schema, with the founding vendor in each row.
+// Creates the tables of the third schema, with the founding vendor in each row.
 fn raise_third<S: Alter>(alloc: Global, tx: &mut Transaction<'_, S>) -> Result<(), TableFault>
     ensures same_reference { tx.new.conn.ghost_name ≡ tx.old.conn.ghost_name }
     ensures raised { HasCleanDisk (state S.Store tx.new.conn.now) → IsTrue (state S.Store tx.old.conn.now).in_transaction → Raises 2 (state S.Store tx.old.conn.now) (state S.Store tx.new.conn.now) result }
-    ensures survives { Survives (state S.Store tx.old.conn.now) (state S.Store tx.new.conn.now) (λ _. ⊥) }
+    ensures survives { CommitsNothing (state S.Store tx.old.conn.now) (state S.Store tx.new.conn.now) }
 {
     let meta = old_meta(alloc, tx, 2)?;
     add_third(tx)?;
@@ -48,7 +49,7 @@ fn raise_third<S: Alter>(alloc: Global, tx: &mut Transaction<'_, S>) -> Result<(
     Ok(())
 }
 
-/// One step, in one transaction with one commit.
+/// Takes the step in one transaction with one commit.
 pub(crate) fn second_to_third<S: Alter>(
     alloc: Global,
     conn: &mut Connection<S>,
@@ -59,8 +60,9 @@ pub(crate) fn second_to_third<S: Alter>(
     ensures foreign { HasCleanDisk (state S.Store conn.new) → result ≡ Err TableFault.Foreign → IsTrue (state S.Store conn.old).is_open × ((h : History) → ¬ Rows 2 (state S.Store conn.old).now.trees h) }
     ensures survives { Survives (state S.Store conn.old) (state S.Store conn.new) (CommitsStep 2 (state S.Store conn.old)) }
 {
+    // For the proof only: the schema that the connection shows.
     let _schema = conn.schema();
     let mut tx = conn.transaction();
     raise_third(alloc, &mut tx)?;
-    finish(tx)
+    commit(tx)
 }

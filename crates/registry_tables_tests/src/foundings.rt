@@ -1,4 +1,4 @@
-//! A store is founded once, and is read only where it says that it is of the newest schema.
+//! A store is founded once, and is read only if it names the newest schema.
 
 use crate::stores::{Calls, check, create_in};
 use crate::values::founding;
@@ -14,7 +14,7 @@ struct Foundings<'a> {
     founding: &'a Founding,
 }
 
-// Whether the store has nothing in it, whether it has a registry, and of which schema.
+// Adds whether the store is empty, whether it has a registry, and its schema version.
 fn add_state<S: Alter>(conn: &Connection<S>, text: &mut String) -> bool {
     writeln!(
         text,
@@ -37,7 +37,12 @@ fn add_opening<S: Alter>(alloc: Global, conn: &mut Connection<S>, text: &mut Str
 }
 
 impl Calls for Foundings<'_> {
-    fn tell<S: Alter>(&self, alloc: Global, conn: &mut Connection<S>, text: &mut String) -> bool {
+    fn write_text<S: Alter>(
+        &self,
+        alloc: Global,
+        conn: &mut Connection<S>,
+        text: &mut String,
+    ) -> bool {
         add_state(conn, text)
             && writeln!(text, "{:?}", create_in(conn, self.founding)).is_ok()
             && add_state(conn, text)

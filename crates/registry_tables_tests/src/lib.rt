@@ -1,5 +1,5 @@
-//! The tables of a registry by example, over a store in memory and over one of files: each call once with ample memory,
-//! and the rows of spans.
+//! Tests of the tables of a registry, over a store in memory and one of files: each call once with
+//! ample memory, and the rows of spans.
 #![tactic(auto)]
 
 #[cfg(test)]

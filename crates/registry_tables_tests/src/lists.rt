@@ -1,4 +1,4 @@
-//! Each change, and what the rows and the lists are then.
+//! Each kind of change, and the rows and lists after it.
 
 use crate::stores::{Calls, add_answer, check, create_in, make};
 use crate::values::{
@@ -67,7 +67,7 @@ fn add_entries(
     Ok(())
 }
 
-// Each kind of change, and records that are put in the place of others.
+// Returns each kind of change, and records that replace others.
 fn changes(alloc: Global, number: Number, other: Number) -> Result<Vec<Change>, Fail> {
     let mut all = Vec::new(alloc);
     add_vendors_and_licences(alloc, other, &mut all)?;
@@ -96,7 +96,7 @@ const QUERIES: [&str; 14] = [
     "SELECT * FROM petitions3 ORDER BY id",
 ];
 
-// The rows of all tables, then the lists, and then the totals.
+// The rows of all tables, then the lists, then the totals.
 const ANSWERS: &str = r#"1|3|4617|InterBiometrics|
 cora|
 BSD|
@@ -129,7 +129,7 @@ struct Changed<'a> {
     changes: &'a [Change],
 }
 
-fn tell_rows<S: Alter>(conn: &mut Connection<S>, text: &mut String) -> bool {
+fn write_rows<S: Alter>(conn: &mut Connection<S>, text: &mut String) -> bool {
     for query in QUERIES {
         if !add_answer(conn, query, text) {
             return false;
@@ -138,7 +138,7 @@ fn tell_rows<S: Alter>(conn: &mut Connection<S>, text: &mut String) -> bool {
     true
 }
 
-fn tell_orgs<S: Alter>(alloc: Global, conn: &mut Connection<S>, text: &mut String) -> bool {
+fn write_orgs<S: Alter>(alloc: Global, conn: &mut Connection<S>, text: &mut String) -> bool {
     if !conn.is_autocommit() {
         return false;
     }
@@ -148,7 +148,7 @@ fn tell_orgs<S: Alter>(alloc: Global, conn: &mut Connection<S>, text: &mut Strin
     }
 }
 
-fn tell_petitions<S: Alter>(alloc: Global, conn: &mut Connection<S>, text: &mut String) -> bool {
+fn write_petitions<S: Alter>(alloc: Global, conn: &mut Connection<S>, text: &mut String) -> bool {
     if !conn.is_autocommit() {
         return false;
     }
@@ -158,7 +158,7 @@ fn tell_petitions<S: Alter>(alloc: Global, conn: &mut Connection<S>, text: &mut 
     }
 }
 
-fn tell_numbers<S: Alter>(alloc: Global, conn: &mut Connection<S>, text: &mut String) -> bool {
+fn write_numbers<S: Alter>(alloc: Global, conn: &mut Connection<S>, text: &mut String) -> bool {
     if !conn.is_autocommit() {
         return false;
     }
@@ -168,7 +168,7 @@ fn tell_numbers<S: Alter>(alloc: Global, conn: &mut Connection<S>, text: &mut St
     }
 }
 
-fn tell_vendors<S: Alter>(alloc: Global, conn: &mut Connection<S>, text: &mut String) -> bool {
+fn write_vendors<S: Alter>(alloc: Global, conn: &mut Connection<S>, text: &mut String) -> bool {
     if !conn.is_autocommit() {
         return false;
     }
@@ -196,7 +196,7 @@ fn describe(totals: &Totals, vid: Vid, text: &mut String) -> bool {
         .is_ok()
 }
 
-fn tell_totals<S: Alter>(
+fn write_totals<S: Alter>(
     alloc: Global,
     conn: &mut Connection<S>,
     vid: Vid,
@@ -212,15 +212,20 @@ fn tell_totals<S: Alter>(
 }
 
 impl Calls for Changed<'_> {
-    fn tell<S: Alter>(&self, alloc: Global, conn: &mut Connection<S>, text: &mut String) -> bool {
+    fn write_text<S: Alter>(
+        &self,
+        alloc: Global,
+        conn: &mut Connection<S>,
+        text: &mut String,
+    ) -> bool {
         create_in(conn, self.founding).is_ok()
             && make(alloc, conn, self.changes)
-            && tell_rows(conn, text)
-            && tell_orgs(alloc, conn, text)
-            && tell_petitions(alloc, conn, text)
-            && tell_numbers(alloc, conn, text)
-            && tell_vendors(alloc, conn, text)
-            && tell_totals(alloc, conn, self.founding.vendor, text)
+            && write_rows(conn, text)
+            && write_orgs(alloc, conn, text)
+            && write_petitions(alloc, conn, text)
+            && write_numbers(alloc, conn, text)
+            && write_vendors(alloc, conn, text)
+            && write_totals(alloc, conn, self.founding.vendor, text)
     }
 }
 

@@ -1,8 +1,10 @@
-//! What is looked up for a request, and the reply that is kept of one.
+//! The facts that are looked up for a request, and its kept reply.
 
 use crate::stores::{Calls, add_answer, check, create_in, make};
 use crate::values::{a_number, founding, put_entry, put_org, put_petition, slug};
-use registry_rules::{Change, Facts, Founding, Order, PetitionState, Request, Text, Totals};
+use registry_rules::{
+    Change, Facts, Founding, Order, PetitionState, ReplyText, Request, Return, Totals, Withdraw,
+};
 use registry_tables::{facts_for, keep_reply, totals};
 use sqlite::{Alter, Connection};
 use std::alloc::Global;
@@ -10,12 +12,13 @@ use std::process::Abort;
 use std::test::Fail;
 use usbnum_core::{Key, Pid};
 
-// A founding and changes, a reply, the request that it is kept of and the others that facts are looked up for.
+// A founding and changes, a reply, the request that it is kept for and the others whose facts are
+// looked up.
 #[derive(Clone, Copy)]
 struct Lookups<'a> {
     founding: &'a Founding,
     changes: &'a [Change],
-    reply: &'a Text,
+    reply: &'a ReplyText,
     accepted: &'a Request,
     others: &'a [Request],
 }
@@ -24,7 +27,7 @@ fn keep<S: Alter>(
     alloc: Global,
     conn: &mut Connection<S>,
     request: &Request,
-    reply: &Text,
+    reply: &ReplyText,
 ) -> bool {
     if !conn.is_autocommit() {
         return false;
@@ -36,7 +39,7 @@ fn keep<S: Alter>(
     }
 }
 
-// What was found under keys.
+// Adds what was found by keys.
 fn describe(facts: &Facts<'_>, text: &mut String) -> bool {
     let kept = facts.kept.as_ref().map(|kept| kept.reply.as_str());
     let org = facts.org.as_ref().map(|org| org.title.as_str());
@@ -84,7 +87,12 @@ fn add_all_facts<S: Alter>(
 }
 
 impl Calls for Lookups<'_> {
-    fn tell<S: Alter>(&self, alloc: Global, conn: &mut Connection<S>, text: &mut String) -> bool {
+    fn write_text<S: Alter>(
+        &self,
+        alloc: Global,
+        conn: &mut Connection<S>,
+        text: &mut String,
+    ) -> bool {
         create_in(conn, self.founding).is_ok()
             && make(alloc, conn, self.changes)
             && keep(alloc, conn, self.accepted, self.reply)
@@ -112,16 +120,16 @@ fn request(alloc: Global, caller: &str, order: Order) -> Result<Request, Fail> {
 }
 
 fn withdrawal(alloc: Global, caller: &str) -> Result<Request, Fail> {
-    request(alloc, caller, Order::Withdraw { petition: 1 })
+    request(alloc, caller, Order::Withdraw(Withdraw { petition: 1 }))
 }
 
-// The same of another caller, and one on a number.
+// Returns the same request of another caller, and one about a number.
 fn others(alloc: Global) -> Result<Vec<Request>, Fail> {
     let number = Pid::new(0x11).ok_or("no number")?;
-    let returned = Order::Return {
+    let returned = Order::Return(Return {
         number,
         vendor: None,
-    };
+    });
     let returned = request(alloc, "bob", returned)?;
     let mut all = Vec::new(alloc);
     all.push(withdrawal(alloc, "bob")?)?;
@@ -146,7 +154,7 @@ fn look_up(
 ) -> Result<(), Fail> {
     let accepted = withdrawal(alloc, "ann")?;
     let others = others(alloc)?;
-    let reply = Text::new(format!(in alloc; "withdrawn petition 1")?);
+    let reply = ReplyText::new(format!(in alloc; "withdrawn petition 1")?);
     let lookups = Lookups {
         founding,
         changes,

@@ -1,4 +1,4 @@
-//! A store that is lowered to an older schema comes up again with the rows that it had.
+//! A store that is lowered to an older schema is migrated back to the rows that it had.
 
 use crate::stores::{Calls, add_answer, check, create_in, make};
 use crate::values::{a_number, founding, put_entry, put_org, put_petition, put_petition_for, span};
@@ -10,7 +10,8 @@ use std::alloc::Global;
 use std::test::Fail;
 use usbnum_core::Pid;
 
-// From the newest schema to the second, and from there to the first, where only numbers from 2000 to 20ff are reserved.
+// From the newest schema to the second, and from there to the first, where only the numbers 2000 to
+// 20ff are reserved.
 const TO_SECOND: &str =
     "INSERT INTO entries SELECT pid, org, held, title, licence, site, source FROM entries3 ORDER BY pid;
 INSERT INTO petitions SELECT id, org, want, title, licence, site, source, state, pid FROM petitions3 ORDER BY id;
@@ -23,7 +24,7 @@ const TO_FIRST: &str =
 DROP TABLE spans;
 UPDATE meta SET version = 1";
 
-// A reply that is kept.
+// A kept reply.
 const KEPT: &str = "INSERT INTO kept VALUES ('ann', 'k1', x'656e726f6c', 'enrolled acme')";
 
 const QUERIES: [&str; 14] = [
@@ -71,11 +72,11 @@ fn raise<S: Alter>(alloc: Global, conn: &mut Connection<S>, text: &mut String) -
     writeln!(text, "{:?}", migrate(alloc, conn)).is_ok()
 }
 
-fn tell_version<S: Alter>(conn: &Connection<S>, text: &mut String) -> bool {
+fn write_version<S: Alter>(conn: &Connection<S>, text: &mut String) -> bool {
     writeln!(text, "{:?}", version_of(conn)).is_ok()
 }
 
-fn tell_rows<S: Alter>(conn: &mut Connection<S>, queries: &[&str], text: &mut String) -> bool {
+fn write_rows<S: Alter>(conn: &mut Connection<S>, queries: &[&str], text: &mut String) -> bool {
     for query in queries {
         if !add_answer(conn, query, text) {
             return false;
@@ -88,7 +89,7 @@ fn opens<S: Alter>(alloc: Global, conn: &mut Connection<S>) -> bool {
     conn.is_autocommit() && totals(alloc, conn).is_ok()
 }
 
-// A store with these changes, after these statements.
+// A store after these changes and then these statements.
 #[derive(Clone, Copy)]
 struct Old<'a> {
     founding: &'a Founding,
@@ -105,17 +106,22 @@ impl Old<'_> {
 }
 
 impl Calls for Old<'_> {
-    fn tell<S: Alter>(&self, alloc: Global, conn: &mut Connection<S>, text: &mut String) -> bool {
+    fn write_text<S: Alter>(
+        &self,
+        alloc: Global,
+        conn: &mut Connection<S>,
+        text: &mut String,
+    ) -> bool {
         self.make_in(alloc, conn)
-            && tell_version(conn, text)
+            && write_version(conn, text)
             && raise(alloc, conn, text)
-            && tell_version(conn, text)
-            && tell_rows(conn, &QUERIES, text)
+            && write_version(conn, text)
+            && write_rows(conn, &QUERIES, text)
             && opens(alloc, conn)
     }
 }
 
-// What stores of each schema tell.
+// The number of statements run first, and the schema version after them.
 const STORES: [(usize, &str); 3] = [(1, "Some(3)\n"), (2, "Some(2)\n"), (3, "Some(1)\n")];
 
 // Acme asks for two numbers; the first is granted and returned. 240 numbers are reserved.
@@ -165,7 +171,7 @@ fn a_lowered_store_comes_up_again(rt: HostRuntime) -> Result<(), Fail> {
     Ok(())
 }
 
-// A store that is of no schema.
+// A store of no schema.
 #[derive(Clone, Copy)]
 struct Odd<'a> {
     old: Old<'a>,
@@ -178,16 +184,21 @@ const SEEN: [&str; 3] = [
 ];
 
 impl Calls for Odd<'_> {
-    fn tell<S: Alter>(&self, alloc: Global, conn: &mut Connection<S>, text: &mut String) -> bool {
+    fn write_text<S: Alter>(
+        &self,
+        alloc: Global,
+        conn: &mut Connection<S>,
+        text: &mut String,
+    ) -> bool {
         self.old.make_in(alloc, conn)
-            && tell_version(conn, text)
+            && write_version(conn, text)
             && raise(alloc, conn, text)
-            && tell_version(conn, text)
-            && tell_rows(conn, &SEEN, text)
+            && write_version(conn, text)
+            && write_rows(conn, &SEEN, text)
     }
 }
 
-// What makes a store odd after how many statements, and what it tells.
+// The number of schemas to go down, the statement that then makes the store odd, and the text.
 const ODD: [(usize, &str, &str); 7] = [
     (
         2,

@@ -1,4 +1,4 @@
-//! The reserved numbers by the rows that stand.
+//! The rows of reserved numbers.
 
 use crate::stores::{Calls, add_answer, check, create_in, make};
 use crate::values::{founding, span};
@@ -44,7 +44,12 @@ struct Changed<'a> {
 }
 
 impl Calls for Changed<'_> {
-    fn tell<S: Alter>(&self, alloc: Global, conn: &mut Connection<S>, text: &mut String) -> bool {
+    fn write_text<S: Alter>(
+        &self,
+        alloc: Global,
+        conn: &mut Connection<S>,
+        text: &mut String,
+    ) -> bool {
         create_in(conn, self.founding).is_ok()
             && make(alloc, conn, self.changes)
             && add_answer(conn, "SELECT lo, hi FROM spans3 ORDER BY vid, lo", text)

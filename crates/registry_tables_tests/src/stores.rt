@@ -1,4 +1,4 @@
-//! The two stores that calls are made over, and their rows as lines.
+//! The two stores that each test uses, and their rows as lines.
 
 use registry_rules::{Change, Founding};
 use registry_tables::{TableFault, create, store};
@@ -8,40 +8,49 @@ use sqlite_disk::Memory;
 use std::alloc::Global;
 use std::process::Abort;
 
-/// Calls that are made over a store.
+/// Calls on a store.
 pub trait Calls {
-    /// Makes them, and adds what they tell; false where one fails.
-    fn tell<S: Alter>(&self, alloc: Global, conn: &mut Connection<S>, text: &mut String) -> bool;
+    /// Makes the calls and adds what they return. Returns false if one fails.
+    fn write_text<S: Alter>(
+        &self,
+        alloc: Global,
+        conn: &mut Connection<S>,
+        text: &mut String,
+    ) -> bool;
 }
 
-fn told<S: Alter, C: Calls>(alloc: Global, conn: &mut Connection<S>, calls: &C) -> Option<String> {
+fn listing<S: Alter, C: Calls>(
+    alloc: Global,
+    conn: &mut Connection<S>,
+    calls: &C,
+) -> Option<String> {
     let mut text = String::new(alloc);
-    if calls.tell(alloc, conn, &mut text) {
+    if calls.write_text(alloc, conn, &mut text) {
         Some(text)
     } else {
         None
     }
 }
 
-// What the calls tell over a new store in memory.
+// Returns the text of the calls over a new store in memory.
 fn over_memory<C: Calls>(alloc: Global, calls: &C) -> Option<String> {
     match Connection::open_in_memory(alloc) {
-        Ok(mut conn) => told(alloc, &mut conn, calls),
+        Ok(mut conn) => listing(alloc, &mut conn, calls),
         Err(_) => None,
     }
 }
 
-// The same over a new store of a file and its log.
+// Returns the text of the calls over a new store of a file and its log.
 fn over_files<C: Calls>(alloc: Global, calls: &C) -> Option<String> {
     let log = Memory::new(alloc);
     let db = Memory::new(alloc);
     match Connection::open_files(alloc, Files { log, db }, Options::new(1)) {
-        Ok(mut conn) => told(alloc, &mut conn, calls),
+        Ok(mut conn) => listing(alloc, &mut conn, calls),
         Err(_) => None,
     }
 }
 
-/// The calls tell this text over both stores.
+/// Checks that the calls give this text over both stores.
 pub fn check<C: Calls>(rt: &impl Abort, alloc: Global, calls: &C, wanted: &str) {
     let in_memory = over_memory(alloc, calls);
     assert_eq!(rt; in_memory.as_deref(), Some(wanted), "over memory");
@@ -79,7 +88,7 @@ fn add_text(bytes: &[u8], text: &mut String) -> bool {
     }
 }
 
-// In quotes, and a tab as \t.
+// Adds the bytes in quotes, with a tab as \t.
 fn add_quoted(bytes: &[u8], text: &mut String) -> bool {
     match std::str::from_utf8(bytes) {
         Ok(part) => write!(text, "{part:?}").is_ok(),
@@ -113,7 +122,7 @@ fn add_rows(rows: &[Row], text: &mut String) -> bool {
     rows.iter().all(|row| add_row(row, text))
 }
 
-/// Adds a line for each row that the query answers.
+/// Adds a line for each row that the query returns.
 pub fn add_answer<S: Alter>(conn: &mut Connection<S>, query: &str, text: &mut String) -> bool {
     match conn.query_all(query, &[]) {
         Ok(rows) => add_rows(&rows, text),

@@ -1,4 +1,4 @@
-//! What stores are founded with, and what is put in.
+//! The foundings and records of the tests.
 
 use registry_rules::{
     Card, Change, Curators, Entry, Founding, Licences, Org, Petition, PetitionState, Terms,
@@ -23,7 +23,7 @@ pub fn span(first: u16, last: u16) -> Option<Span> {
     Span::new(Pid::new(first)?, Pid::new(last)?)
 }
 
-/// The number 0011 of the vendor.
+/// Returns the number 0011 of the vendor.
 pub fn a_number(vid: u16) -> Option<Number> {
     Some(Number {
         vid: Vid::new(vid)?,
@@ -31,7 +31,7 @@ pub fn a_number(vid: u16) -> Option<Number> {
     })
 }
 
-/// The vendor 1209, whose numbers up to 0010 are fixed.
+/// Returns a founding of the vendor 1209, with the numbers up to 0010 fixed.
 pub fn founding(alloc: Global) -> Result<Founding, Fail> {
     let curators = vec![in alloc; slug(alloc, "cora")?]?;
     let licences = vec![in alloc; title(alloc, "MIT")?]?;
@@ -61,7 +61,7 @@ fn card(alloc: Global, text: &str) -> Result<Card, Fail> {
     })
 }
 
-/// The organisation acme, by this title.
+/// Returns the change that puts the organisation acme with this title.
 pub fn put_org(alloc: Global, text: &str) -> Result<Change, Fail> {
     Ok(Change::PutOrg(Org {
         slug: slug(alloc, "acme")?,
@@ -71,12 +71,13 @@ pub fn put_org(alloc: Global, text: &str) -> Result<Change, Fail> {
     }))
 }
 
-/// A petition of acme for any number of the vendor 1209, in this state.
+/// Returns the change that puts a petition of acme for any number of the vendor 1209, in this
+/// state.
 pub fn put_petition(alloc: Global, id: u32, state: PetitionState) -> Result<Change, Fail> {
     put_petition_for(alloc, id, None, state)
 }
 
-/// The same, for this number where there is one.
+/// Returns the same for a particular number, if given.
 pub fn put_petition_for(
     alloc: Global,
     id: u32,
@@ -94,7 +95,7 @@ pub fn put_petition_for(
     Ok(Change::PutPetition { id, petition })
 }
 
-/// The number, held by acme, under this title.
+/// Returns the change that puts the number, held by acme, with this title.
 pub fn put_entry(alloc: Global, number: Number, text: &str) -> Result<Change, Fail> {
     let entry = Entry {
         org: slug(alloc, "acme")?,

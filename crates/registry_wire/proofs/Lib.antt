@@ -1,4 +1,4 @@
-pub mod Items
+pub mod ItemLemmas
 pub mod SpanLemmas
 pub mod StampLemmas
-pub mod Trees
+pub mod TreeLemmas

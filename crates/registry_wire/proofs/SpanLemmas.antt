@@ -1,4 +1,4 @@
--- The span that is made of two numbers is the one that they stand for.
+-- The span made from two numbers is that of their definition.
 use Rattle.std.proofs.Common.{◌≡◌, ℕ, ◌≤◌, ◌↔◌, Option, Some, None, IsSome, IfSome, refl, ap}
 use Rattle.std.proofs.Math.Bridge.{le_prop}
 use mathlib.Core.HLevel.{is_prop→PathP}

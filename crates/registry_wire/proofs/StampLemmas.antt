@@ -7,7 +7,7 @@ use Rattle.usbids_text.specs.Moments.{Moment, is_moment}
 use Rattle.usbids_text.specs.Writing.{date_text, time_text}
 use Rattle.registry_wire.specs.Stamps.{moment_text, digit_of, two_of, four_of, sound, moment_at, moment_of}
 
--- ---- a text that was written is read
+-- ---- a written text is read
 
 digit_back : (d : ℕ) → d < 10 → digit_of (48 + d) ≡ Some d
 digit_back d small = grind (arith, nat_tests)
@@ -44,7 +44,7 @@ moment_back m valid =
     let second : m.second < 100 = grind (arith, nat_tests) in
     rw (four_back m.year year, two_back m.month month, two_back m.day day, two_back m.hour hour, two_back m.minute minute, two_back m.second second, valid)
 
--- ---- a text that is read was written so
+-- ---- a text that is read is the written one
 
 opened : {A B : Type 0} (found : Option A) (next : A → Option B) (y : B) → option_and_then next found ≡ Some y → (x : A) × ((found ≡ Some x) × (next x ≡ Some y))
 opened None next y e = absurd cc

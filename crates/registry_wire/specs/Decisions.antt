@@ -1,4 +1,4 @@
--- Whether a text is of a kind can be decided.
+-- Decides whether a text is of a kind.
 use Rattle.std.proofs.Common.{◌≡◌, ◌≢◌, ℕ, ◌-◌, ◌≤◌, Bool, true, false, List, [], ◌∷◌, length, ◌⊎◌, inl, inr, Option, Some, None, refl, ap, codes}
 use Rattle.std.specs.Prelude.{All, slice_get, nat_eq}
 use Rattle.std.specs.List.{starts_with}
@@ -37,7 +37,7 @@ each P decided (byte ∷ text) = map_dec (λ h. All-cons P byte text h.0 h.1) (�
 utf8 : (text : List ℕ) → Dec (IsUtf8 text)
 utf8 text = map_dec (IsUtf8-from_is_utf8 text) (is_utf8-from_IsUtf8 text) (is_true (is_utf8 text))
 
--- whether there is a byte, and it is this one
+-- whether there is a byte and it equals this one
 is_byte : (found : Option ℕ) (byte : ℕ) → Dec (found ≡ Some byte)
 is_byte None byte = no (λ e. absurd cc)
 is_byte (Some x) byte = map_dec (λ e. ap (λ (y : ℕ). Some y) e) (λ e. cc) (ℕ_discrete x byte)

@@ -1,4 +1,4 @@
--- What the fields and the orders are called in JSON.
+-- The names of fields, headers and orders.
 use Rattle.std.specs.Prelude.{ℕ, List, codes, bytes_eq, Option, Some, None, if◌then◌else◌}
 use Rattle.registry_wire.specs.declared.field.Field.{Field}
 use Rattle.registry_wire.specs.declared.field.Field.TheVariants as fields
@@ -26,7 +26,7 @@ name_of fields.Last = codes "last"
 name_of fields.Vendor = codes "vendor"
 name_of fields.Name = codes "name"
 
--- the key of a founding file that is bad, or `toml`
+-- the bad key of a founding file, or `toml`
 abbrev pub fault_name : FoundingFault → List ℕ
 fault_name faults.Toml = codes "toml"
 fault_name faults.Vendor = codes "vendor"
@@ -40,7 +40,7 @@ abbrev pub header_name : Header → List ℕ
 header_name headers.Caller = codes "registry-caller"
 header_name headers.Key = codes "registry-key"
 
--- the kind of order that a name stands for
+-- the kind of order with this name
 abbrev pub kind_of : List ℕ → Option Kind
 kind_of name =
     if bytes_eq name (codes "enrol") then Some Enrol

@@ -1,4 +1,4 @@
--- What a founding file says, by the TOML that its bytes are.
+-- The founding in a founding file, from the TOML of its bytes.
 use Rattle.std.specs.Prelude.{◌≡◌, ℕ, ◌&&◌, ◌==◌, nat_le, List, [], ◌∷◌, length, Option, Some, None, option_and_then, option_map, Result, Ok, Err, if◌then◌else◌}
 use Rattle.std.specs.List.{list_any}
 use Rattle.std.specs.Str.{is_utf8}
@@ -8,6 +8,7 @@ use Rattle.usbnum_core.specs.Number.{number_of}
 use Rattle.usbnum_core.specs.Spans.{span_has, spans_have}
 use Rattle.usbnum_core.specs.declared.number.Span.{Span}
 use Rattle.registry_rules.specs.Texts.{AreInOrder}
+use Rattle.registry_rules.specs.declared.limits.TheConstants.{MOST_CURATORS, MOST_LICENCES}
 use Rattle.registry_rules.specs.declared.founding.Founding.{Founding}
 use Rattle.registry_wire.specs.declared.refusal.WireRefusal.{WireRefusal}
 use Rattle.registry_wire.specs.declared.refusal.WireRefusal.TheVariants.{BadFounding}
@@ -18,7 +19,7 @@ use Rattle.registry_wire.specs.Fields.{fault_name}
 use Rattle.registry_wire.specs.Kinds.{slug_of, title_of}
 use Rattle.registry_wire.specs.Spans.{span_of}
 
--- what the file lists, as it stands there
+-- the values of a founding file, as listed in the file
 pub record Listed : Type 0 where
   pub vendor : ℕ
   pub name : List ℕ
@@ -37,18 +38,19 @@ slug_from found = option_and_then slug_of (as_str found)
 abbrev pub title_from : Data → Option (List ℕ)
 title_from found = option_and_then title_of (as_str found)
 
--- the span that goes on with nothing, or with a hyphen and its last number
+-- the span from `first`, alone or followed by a hyphen and its last number
 abbrev pub span_after : ℕ → List ℕ → Option Span
 span_after first [] = span_of first first
 span_after first (byte ∷ last) = if byte == 45 then option_and_then (span_of first) (number_of last) else None
 
--- the span that a text spells: the four digits of its first number, and then those of its last one after a hyphen, or nothing
-unfoldable pub span_spelled : List ℕ → Option Span
-span_spelled (a ∷ b ∷ c ∷ d ∷ rest) = option_and_then (λ first. span_after first rest) (number_of (a ∷ b ∷ c ∷ d ∷ []))
-span_spelled _ = None
+-- the span of a text: the four digits of its first number, alone or followed by a hyphen and the digits of its last
+-- number
+unfoldable pub span_written : List ℕ → Option Span
+span_written (a ∷ b ∷ c ∷ d ∷ rest) = option_and_then (λ first. span_after first rest) (number_of (a ∷ b ∷ c ∷ d ∷ []))
+span_written _ = None
 
 abbrev pub span_from : Data → Option Span
-span_from found = option_and_then span_spelled (as_str found)
+span_from found = option_and_then span_written (as_str found)
 
 -- ---- the values of the file
 
@@ -59,16 +61,16 @@ value_in key table = get_member (fault_name key) table
 unfoldable pub one_in : {A : Type 0} → (Data → Option A) → FoundingFault → Members → Result A WireRefusal
 one_in kind key table = present (BadFounding key) (option_and_then kind (value_in key table))
 
--- the items of an array, where all are of the kind
+-- the items of an array, if all are of the kind
 unfoldable pub all_of : {A : Type 0} → (Data → Option A) → Items → Option (List A)
 all_of kind no_items = Some []
 all_of kind (item first others) = option_and_then (λ x. option_map (λ xs. x ∷ xs) (all_of kind others)) (kind first)
 
--- at least one item, and at most so many
+-- one to `most` items
 abbrev pub counted : {A : Type 0} → ℕ → List A → Option (List A)
 counted most items = if nat_le 1 (length items) && nat_le (length items) most then Some items else None
 
--- an array of one to so many items of the kind
+-- an array of one to `most` items of the kind
 unfoldable pub some_in : {A : Type 0} → (Data → Option A) → ℕ → FoundingFault → Members → Result (List A) WireRefusal
 some_in kind most key table = present (BadFounding key) (option_and_then (counted most) (option_and_then (all_of kind) (option_and_then as_array (value_in key table))))
 
@@ -76,33 +78,34 @@ abbrev pub spans_if_given : Option Data → Option (List Span)
 spans_if_given None = Some []
 spans_if_given (Some found) = option_and_then (all_of span_from) (as_array found)
 
--- the fixed spans; where the key is absent there are none
+-- the fixed spans, empty if the key is absent
 unfoldable pub fixed_in : Members → Result (List Span) WireRefusal
 fixed_in table = present (BadFounding Fixed) (spans_if_given (value_in Fixed table))
 
--- the values, in the order in which they are looked at
+-- the values, in the order in which they are checked
 unfoldable pub listed_in : Members → Result Listed WireRefusal
 listed_in table = do
   vendor ← one_in number_from Vendor table
   name ← one_in title_from Name table
-  curators ← some_in slug_from 64 Curators table
-  licences ← some_in title_from 1024 Licences table
+  curators ← some_in slug_from MOST_CURATORS Curators table
+  licences ← some_in title_from MOST_LICENCES Licences table
   fixed ← fixed_in table
   Ok (record { vendor = vendor; name = name; curators = curators; licences = licences; fixed = fixed })
 
 -- ---- whole files
 
--- the table that the bytes are in TOML
+-- the TOML table of the bytes
 unfoldable pub table_of : List ℕ → Result Members WireRefusal
 table_of bytes = present (BadFounding Toml) (if is_utf8 bytes then parse_document bytes else None)
 
--- what the bytes list, or the first fault that they have
+-- the values that the bytes list, or their first fault
 unfoldable pub founding_listed : List ℕ → Result Listed WireRefusal
 founding_listed bytes = do
   table ← table_of bytes
   listed_in table
 
--- a founding with what was listed: each curator and licence once and in the order of their bytes, and the numbers of all fixed spans
+-- the founding has the listed values: each curator and licence once, in the order of their bytes, and the numbers of
+-- all fixed spans
 pub record Founds (listed : Listed) (founding : Founding) : Type 0 where
   pub vendor : founding.vendor ≡ listed.vendor
   pub name : founding.name ≡ listed.name
@@ -110,7 +113,7 @@ pub record Founds (listed : Listed) (founding : Founding) : Type 0 where
   pub licences : AreInOrder listed.licences founding.licences
   pub fixed : (n : ℕ) → spans_have founding.fixed n ≡ list_any (λ span. span_has span n) listed.fixed
 
--- what was read is the founding with what the bytes list, or their first fault
+-- the result is the founding with the values that the bytes list, or their first fault
 abbrev pub ReadsAs : Result Founding WireRefusal → Result Listed WireRefusal → Type 0
 ReadsAs (Ok founding) listed = (l : Listed) × (listed ≡ Ok l) × Founds l founding
 ReadsAs (Err refusal) listed = listed ≡ Err refusal

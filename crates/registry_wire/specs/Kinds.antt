@@ -1,16 +1,16 @@
--- The values that a text is.
+-- Texts as slugs, keys, titles and links.
 use Rattle.std.specs.Prelude.{ℕ, ◌||◌, nat_le, List, length, bytes_eq, codes, Option, Some, None, Result, Ok, Err, if◌then◌else◌}
 use Rattle.url.specs.Parser.{parse_url}
 use Rattle.url.specs.Parts.{Parts, serialize}
 use Rattle.url.specs.declared.error.ParseError.{ParseError}
 use Rattle.registry_wire.specs.Decisions.{slug_or_not, key_or_not, title_or_not, link_or_not}
 
--- the text, where what is decided of it holds
+-- the text, if the decided property holds
 abbrev pub where_it_holds : {P : Type 0} → Dec P → List ℕ → Option (List ℕ)
 where_it_holds (yes holds) text = Some text
 where_it_holds (no fails) text = None
 
--- the slug, the key or the title that a text is: the text itself, where it is one
+-- the text as a slug, a key or a title, if it is one
 unfoldable pub slug_of : List ℕ → Option (List ℕ)
 slug_of text = where_it_holds (slug_or_not text) text
 
@@ -20,7 +20,7 @@ key_of text = where_it_holds (key_or_not text) text
 unfoldable pub title_of : List ℕ → Option (List ℕ)
 title_of text = where_it_holds (title_or_not text) text
 
--- the link that a URL of the web is: its own text, where that is one
+-- an HTTP or HTTPS URL as a link: the URL's own text, if that is a link
 unfoldable pub web_address : Parts → Option (List ℕ)
 web_address url =
     if bytes_eq url.scheme (codes "http") || bytes_eq url.scheme (codes "https")
@@ -31,6 +31,6 @@ abbrev pub link_of_parsed : Result Parts ParseError → Option (List ℕ)
 link_of_parsed (Ok url) = web_address url
 link_of_parsed (Err e) = None
 
--- the link that a text of at most 4,096 bytes is: that of the URL that it spells
+-- the link of a text of at most 4,096 bytes, which is read as a URL
 unfoldable pub link_of : List ℕ → Option (List ℕ)
 link_of text = if nat_le (length text) 4096 then link_of_parsed (parse_url None text) else None

@@ -1,4 +1,4 @@
--- What a listing holds, in contracts.
+-- A listing as a value.
 use Rattle.registry_wire.specs.declared.founding.Listing.{Listing}
 use Rattle.registry_wire.specs.Founding.{Listed}
 

@@ -1,9 +1,9 @@
 -- Replies and refusals as JSON.
-use Rattle.std.specs.Prelude.{ℕ, List, ◌++◌, codes, Option, Some, None}
+use Rattle.std.specs.Prelude.{ℕ, List, codes, Option, Some, None}
 use Rattle.serde_json.specs.Data.{Data, string, number, unsigned, object, Members, member, no_members}
 use Rattle.registry_rules.specs.declared.verdict.Reply.{Reply}
 use Rattle.registry_rules.specs.declared.verdict.Reply.TheVariants.{Done, Refused}
-use Rattle.registry_rules.specs.Reply.{refusal_number, refusal_name, refusal_detail}
+use Rattle.registry_rules.specs.Reply.{refusal_number, refusal_name, refusal_detail, name_and_detail}
 use Rattle.usbids_text.specs.Faults.{line_fault_text}
 use Rattle.registry_wire.specs.declared.refusal.WireRefusal.{WireRefusal}
 use Rattle.registry_wire.specs.declared.refusal.WireRefusal.TheVariants.{BadHead, BadLength, TooLarge, ShortBody, NoRoute, WrongMethod, BadHeader, BadJson, BadField, BadList, StoreFault, NoMemory, BadFounding}
@@ -25,7 +25,7 @@ number_of StoreFault = 30
 number_of NoMemory = 31
 number_of (BadFounding fault) = 32
 
--- and its name
+-- the name of a refusal
 abbrev pub name_of : WireRefusal → List ℕ
 name_of BadHead = codes "BadHead"
 name_of BadLength = codes "BadLength"
@@ -48,6 +48,10 @@ detail_of (BadField field) = Some (fields.name_of field)
 detail_of (BadList fault) = Some (line_fault_text fault)
 detail_of (BadFounding fault) = Some (fields.fault_name fault)
 detail_of _ = None
+
+-- BadJson, or BadField: title
+abbrev pub refusal_text : WireRefusal → List ℕ
+refusal_text refusal = name_and_detail (name_of refusal) (detail_of refusal)
 
 abbrev pub with_detail : Option (List ℕ) → Members → Members
 with_detail None others = others

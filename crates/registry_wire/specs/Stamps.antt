@@ -7,7 +7,7 @@ use Rattle.usbids_text.specs.Writing.{date_text, time_text}
 abbrev pub moment_text : Moment → List ℕ
 moment_text m = date_text 45 m ++ (32 ∷ time_text m)
 
--- ---- how a text is read; the contract of the whole names none of these
+-- ---- reading a text; the contract of `stamp_from_text` names none of these
 
 abbrev pub digit_of : ℕ → Option ℕ
 digit_of byte = if nat_le 48 byte && nat_le byte 57 then Some (byte - 48) else None
@@ -25,7 +25,7 @@ found >>= next = option_and_then next found
 abbrev pub sound : Moment → Option Moment
 sound m = if is_moment m then Some m else None
 
--- a moment of this day, at the time that the bytes spell
+-- a moment on this day, at the time in the bytes
 unfoldable pub moment_at : ℕ → ℕ → ℕ → List ℕ → Option Moment
 moment_at year month day (a ∷ b ∷ colon ∷ c ∷ d ∷ other ∷ e ∷ f ∷ []) =
     if colon == 58 && other == 58 then (do

@@ -1,3 +1,5 @@
+//! The fields of a request in JSON, by name.
+
 /// A field of a request in JSON.
 #[derive(Clone, Copy, Debug, PartialEq, Eq)]
 pub enum Field {
@@ -21,7 +23,7 @@ impl Field {
     ghost use Rattle.std.specs.Prelude.{◌≡◌};
     ghost use Rattle.registry_wire.specs.Fields.{name_of};
 
-    /// The field's name in JSON.
+    /// Returns the field's name in JSON.
     pub fn name(self) -> &'static str
         ensures { result.now ≡ name_of self }
     {

@@ -1,3 +1,5 @@
+//! Reads one field of a request in JSON as a value of its kind.
+
 ghost use Rattle.std.specs.Prelude.{◌≡◌, option_copied, option_map, option_and_then};
 ghost use Rattle.usbnum_core.specs.Number.{number_of};
 ghost use Rattle.serde_json.specs.View.{view};
@@ -7,16 +9,15 @@ ghost use Rattle.registry_wire.specs.Reading.{wanted, text_in, given_in, slug_in
 
 use crate::kind::{Kind, kind_of};
 use crate::link::link_of;
+use crate::rejection::{Rejection, present};
 use crate::span::span_of;
-use crate::stop::{Stop, present};
-use crate::text::{key_of, slug_of, title_of};
 use crate::{Field, WireRefusal};
 use serde_json::Value;
 use std::alloc::Global;
 use usbnum_core::{Key, Link, Pid, Slug, Span, Title, Vid, parse_pid, parse_vid};
 
-// The value of a field, or that the field is bad.
-fn wanted<T>(field: Field, found: Option<T>) -> Result<T, Stop>
+// The value of a field, or the refusal that the field is bad.
+fn wanted<T>(field: Field, found: Option<T>) -> Result<T, Rejection>
     ensures { Gives result (wanted field found) }
 {
     present(WireRefusal::BadField(field), found)
@@ -32,38 +33,38 @@ fn text_at(value: &Value, field: Field) -> Option<&str>
     }
 }
 
-#[tactic(auto, unfolding(crate::specs::Reading::slug_in))]
-pub(crate) fn slug_at(alloc: Global, value: &Value, field: Field) -> Result<Slug, Stop>
+#[tactic(auto, unfolding(crate::specs::Reading::slug_in, crate::specs::Kinds::slug_of))]
+pub(crate) fn slug_at(alloc: Global, value: &Value, field: Field) -> Result<Slug, Rejection>
     ensures { Gives result (slug_in field (view value.now)) }
 {
     let Some(text) = text_at(value, field) else {
         return wanted(field, None);
     };
-    wanted(field, slug_of(alloc, text.as_bytes())?)
+    wanted(field, Slug::new(alloc, text.as_bytes())?)
 }
 
-#[tactic(auto, unfolding(crate::specs::Reading::key_in))]
-pub(crate) fn key_at(alloc: Global, value: &Value, field: Field) -> Result<Key, Stop>
+#[tactic(auto, unfolding(crate::specs::Reading::key_in, crate::specs::Kinds::key_of))]
+pub(crate) fn key_at(alloc: Global, value: &Value, field: Field) -> Result<Key, Rejection>
     ensures { Gives result (key_in field (view value.now)) }
 {
     let Some(text) = text_at(value, field) else {
         return wanted(field, None);
     };
-    wanted(field, key_of(alloc, text.as_bytes())?)
+    wanted(field, Key::new(alloc, text.as_bytes())?)
 }
 
-#[tactic(auto, unfolding(crate::specs::Reading::title_in))]
-pub(crate) fn title_at(alloc: Global, value: &Value, field: Field) -> Result<Title, Stop>
+#[tactic(auto, unfolding(crate::specs::Reading::title_in, crate::specs::Kinds::title_of))]
+pub(crate) fn title_at(alloc: Global, value: &Value, field: Field) -> Result<Title, Rejection>
     ensures { Gives result (title_in field (view value.now)) }
 {
     let Some(text) = text_at(value, field) else {
         return wanted(field, None);
     };
-    wanted(field, title_of(alloc, text.as_bytes())?)
+    wanted(field, Title::new(alloc, text.as_bytes())?)
 }
 
 #[tactic(auto, unfolding(crate::specs::Reading::link_in))]
-pub(crate) fn link_at(alloc: Global, value: &Value, field: Field) -> Result<Link, Stop>
+pub(crate) fn link_at(alloc: Global, value: &Value, field: Field) -> Result<Link, Rejection>
     ensures { Gives result (link_in field (view value.now)) }
 {
     let Some(text) = text_at(value, field) else {
@@ -73,7 +74,7 @@ pub(crate) fn link_at(alloc: Global, value: &Value, field: Field) -> Result<Link
 }
 
 #[tactic(auto, unfolding(crate::specs::Reading::kind_in))]
-pub(crate) fn kind_at(value: &Value) -> Result<Kind, Stop>
+pub(crate) fn kind_at(value: &Value) -> Result<Kind, Rejection>
     ensures { Gives result (kind_in (view value.now)) }
 {
     let Some(text) = text_at(value, Field::Order) else {
@@ -83,7 +84,7 @@ pub(crate) fn kind_at(value: &Value) -> Result<Kind, Stop>
 }
 
 #[tactic(auto, unfolding(crate::specs::Reading::number_in))]
-pub(crate) fn pid_at(value: &Value, field: Field) -> Result<Pid, Stop>
+pub(crate) fn pid_at(value: &Value, field: Field) -> Result<Pid, Rejection>
     ensures { Gives result (number_in field (view value.now)) }
 {
     let Some(text) = text_at(value, field) else {
@@ -93,7 +94,7 @@ pub(crate) fn pid_at(value: &Value, field: Field) -> Result<Pid, Stop>
 }
 
 #[tactic(auto, unfolding(crate::specs::Reading::number_in))]
-pub(crate) fn vid_at(value: &Value, field: Field) -> Result<Vid, Stop>
+pub(crate) fn vid_at(value: &Value, field: Field) -> Result<Vid, Rejection>
     ensures { Gives result (number_in field (view value.now)) }
 {
     let Some(text) = text_at(value, field) else {
@@ -123,7 +124,7 @@ fn vid_of(value: &Value) -> Option<Vid>
 }
 
 #[tactic(auto, unfolding(crate::specs::Reading::optional_number_in))]
-pub(crate) fn optional_pid_at(value: &Value, field: Field) -> Result<Option<Pid>, Stop>
+pub(crate) fn optional_pid_at(value: &Value, field: Field) -> Result<Option<Pid>, Rejection>
     ensures { Gives result (optional_number_in field (view value.now)) }
 {
     match given_at(value, field) {
@@ -133,7 +134,7 @@ pub(crate) fn optional_pid_at(value: &Value, field: Field) -> Result<Option<Pid>
 }
 
 #[tactic(auto, unfolding(crate::specs::Reading::optional_number_in))]
-pub(crate) fn optional_vid_at(value: &Value, field: Field) -> Result<Option<Vid>, Stop>
+pub(crate) fn optional_vid_at(value: &Value, field: Field) -> Result<Option<Vid>, Rejection>
     ensures { Gives result (optional_number_in field (view value.now)) }
 {
     match given_at(value, field) {
@@ -142,7 +143,7 @@ pub(crate) fn optional_vid_at(value: &Value, field: Field) -> Result<Option<Vid>
     }
 }
 
-// The number of a petition, which is at least 1 and has at most 32 bits.
+// The number of a petition: 1 to 4,294,967,295.
 fn petition_of(number: u64) -> Option<u32>
     ensures { result ≡ petition_of number }
 {
@@ -164,7 +165,7 @@ fn whole_at(value: &Value, field: Field) -> Option<u64>
 }
 
 #[tactic(auto, unfolding(crate::specs::Reading::petition_in))]
-pub(crate) fn petition_at(value: &Value) -> Result<u32, Stop>
+pub(crate) fn petition_at(value: &Value) -> Result<u32, Rejection>
     ensures { Gives result (petition_in (view value.now)) }
 {
     match whole_at(value, Field::Petition) {
@@ -174,7 +175,7 @@ pub(crate) fn petition_at(value: &Value) -> Result<u32, Stop>
 }
 
 #[tactic(auto, unfolding(crate::specs::Reading::span_in))]
-pub(crate) fn span_at(value: &Value) -> Result<Span, Stop>
+pub(crate) fn span_at(value: &Value) -> Result<Span, Rejection>
     ensures { Gives result (span_in (view value.now)) }
 {
     let first = pid_at(value, Field::First)?;

@@ -1,3 +1,5 @@
+//! Reads the founding of a registry from a TOML file.
+
 ghost use Rattle.std.specs.Prelude.{◌≡◌, ◌≤◌, ℕ, length, IfOk, option_map};
 ghost use Rattle.std.specs.List.{list_any};
 ghost use Rattle.toml.specs.Data.{get_member};
@@ -7,15 +9,16 @@ ghost use Rattle.usbnum_core.specs.Spans.{span_has, spans_have};
 ghost use Rattle.registry_wire.specs.Founding.{value_in, one_in, some_in, fixed_in, listed_in, table_of, founding_listed, Founds, ReadsAs};
 ghost use Rattle.registry_wire.specs.Listing.{seen};
 
-use crate::stop::{Stop, present};
+use crate::rejection::{Rejection, present};
 use crate::toml_value::{FromToml, all_of};
 use crate::{FoundingFault, WireRefusal};
+use registry_rules::limits::{MOST_CURATORS, MOST_LICENCES};
 use registry_rules::{Curators, Founding, Licences};
 use std::alloc::Global;
 use toml::{Table, Value};
 use usbnum_core::{NoMemory, Slug, Span, Spans, Title, Vid};
 
-// What a founding file lists, as it stands there.
+// The values of a founding file, as listed in the file.
 #[derive(Debug, Drop)]
 struct Listing {
     vendor: Vid,
@@ -33,7 +36,7 @@ fn value_at<'a>(table: &'a Table, key: FoundingFault) -> Option<&'a Value>
 }
 
 #[tactic(auto, unfolding(crate::specs::Founding::one_in))]
-fn one_at<T: FromToml>(alloc: Global, table: &Table, key: FoundingFault) -> Result<T, Stop>
+fn one_at<T: FromToml>(alloc: Global, table: &Table, key: FoundingFault) -> Result<T, Rejection>
     ensures { Gives result (one_in T.kind key (table_view table.now)) }
 {
     let Some(found) = value_at(table, key) else {
@@ -42,76 +45,76 @@ fn one_at<T: FromToml>(alloc: Global, table: &Table, key: FoundingFault) -> Resu
     present(WireRefusal::BadFounding(key), T::read(alloc, found)?)
 }
 
-// An array of at least one item and at most so many.
+// An array of one to `most` items.
 #[tactic(auto, unfolding(crate::specs::Founding::some_in))]
 fn some_at<T: FromToml>(
     alloc: Global,
     table: &Table,
     key: FoundingFault,
     most: usize,
-) -> Result<Vec<T>, Stop>
+) -> Result<Vec<T>, Rejection>
     ensures reading { GivesSeen (λ list. list.items) result (some_in T.kind most key (table_view table.now)) }
     ensures counted { IfOk result (λ list. (1 ≤ length list.items) × (length list.items ≤ most)) }
 {
     let Some(found) = value_at(table, key) else {
-        return Err(Stop::Refused(WireRefusal::BadFounding(key)));
+        return Err(Rejection::Refused(WireRefusal::BadFounding(key)));
     };
     let Some(array) = found.as_array() else {
-        return Err(Stop::Refused(WireRefusal::BadFounding(key)));
+        return Err(Rejection::Refused(WireRefusal::BadFounding(key)));
     };
     match all_of(alloc, array)? {
         Some(list) => {
             if list.is_empty() || list.len() > most {
-                return Err(Stop::Refused(WireRefusal::BadFounding(key)));
+                return Err(Rejection::Refused(WireRefusal::BadFounding(key)));
             }
             Ok(list)
         }
-        None => Err(Stop::Refused(WireRefusal::BadFounding(key))),
+        None => Err(Rejection::Refused(WireRefusal::BadFounding(key))),
     }
 }
 
 #[tactic(auto, unfolding(crate::specs::Founding::fixed_in))]
-fn fixed_at(alloc: Global, table: &Table) -> Result<Vec<Span>, Stop>
+fn fixed_at(alloc: Global, table: &Table) -> Result<Vec<Span>, Rejection>
     ensures { GivesSeen (λ list. list.items) result (fixed_in (table_view table.now)) }
 {
     let Some(found) = value_at(table, FoundingFault::Fixed) else {
         return Ok(Vec::new(alloc));
     };
     let Some(array) = found.as_array() else {
-        return Err(Stop::Refused(WireRefusal::BadFounding(FoundingFault::Fixed)));
+        return Err(Rejection::Refused(WireRefusal::BadFounding(FoundingFault::Fixed)));
     };
     match all_of(alloc, array)? {
         Some(list) => Ok(list),
-        None => Err(Stop::Refused(WireRefusal::BadFounding(FoundingFault::Fixed))),
+        None => Err(Rejection::Refused(WireRefusal::BadFounding(FoundingFault::Fixed))),
     }
 }
 
 #[tactic(auto, unfolding(crate::specs::Founding::table_of))]
-fn table_of(alloc: Global, bytes: &[u8]) -> Result<Table, Stop>
+fn table_of(alloc: Global, bytes: &[u8]) -> Result<Table, Rejection>
     ensures { GivesSeen table_view result (table_of bytes.now) }
 {
     match toml::table_from_slice(alloc, bytes) {
         Ok(table) => Ok(table),
         Err(error) => {
             if error.is_memory() {
-                Err(Stop::OutOfMemory)
+                Err(Rejection::OutOfMemory)
             } else {
-                Err(Stop::Refused(WireRefusal::BadFounding(FoundingFault::Toml)))
+                Err(Rejection::Refused(WireRefusal::BadFounding(FoundingFault::Toml)))
             }
         }
     }
 }
 
 #[tactic(auto, unfolding(crate::specs::Founding::listed_in))]
-fn listing_at(alloc: Global, table: &Table) -> Result<Listing, Stop>
+fn listing_at(alloc: Global, table: &Table) -> Result<Listing, Rejection>
     ensures reading { GivesSeen seen result (listed_in (table_view table.now)) }
-    ensures curators { IfOk result (λ listing. (1 ≤ length listing.curators.items) × (length listing.curators.items ≤ 64)) }
-    ensures licences { IfOk result (λ listing. (1 ≤ length listing.licences.items) × (length listing.licences.items ≤ 1024)) }
+    ensures curators { IfOk result (λ listing. (1 ≤ length listing.curators.items) × (length listing.curators.items ≤ MOST_CURATORS)) }
+    ensures licences { IfOk result (λ listing. (1 ≤ length listing.licences.items) × (length listing.licences.items ≤ MOST_LICENCES)) }
 {
     let vendor = one_at(alloc, table, FoundingFault::Vendor)?;
     let name = one_at(alloc, table, FoundingFault::Name)?;
-    let curators = some_at(alloc, table, FoundingFault::Curators, 64)?;
-    let licences = some_at(alloc, table, FoundingFault::Licences, 1024)?;
+    let curators = some_at(alloc, table, FoundingFault::Curators, MOST_CURATORS)?;
+    let licences = some_at(alloc, table, FoundingFault::Licences, MOST_LICENCES)?;
     let fixed = fixed_at(alloc, table)?;
     Ok(Listing {
         vendor,
@@ -123,10 +126,10 @@ fn listing_at(alloc: Global, table: &Table) -> Result<Listing, Stop>
 }
 
 #[tactic(auto, unfolding(crate::specs::Founding::founding_listed))]
-fn read_listing(alloc: Global, bytes: &[u8]) -> Result<Listing, Stop>
+fn read_listing(alloc: Global, bytes: &[u8]) -> Result<Listing, Rejection>
     ensures reading { GivesSeen seen result (founding_listed bytes.now) }
-    ensures curators { IfOk result (λ listing. (1 ≤ length listing.curators.items) × (length listing.curators.items ≤ 64)) }
-    ensures licences { IfOk result (λ listing. (1 ≤ length listing.licences.items) × (length listing.licences.items ≤ 1024)) }
+    ensures curators { IfOk result (λ listing. (1 ≤ length listing.curators.items) × (length listing.curators.items ≤ MOST_CURATORS)) }
+    ensures licences { IfOk result (λ listing. (1 ≤ length listing.licences.items) × (length listing.licences.items ≤ MOST_LICENCES)) }
 {
     let table = table_of(alloc, bytes)?;
     listing_at(alloc, &table)
@@ -144,8 +147,8 @@ fn spans_of(alloc: Global, listed: &[Span]) -> Result<Spans, NoMemory>
 }
 
 fn founding_of(alloc: Global, listing: Listing) -> Result<Founding, NoMemory>
-    requires curators { (1 ≤ length listing.curators.items) × (length listing.curators.items ≤ 64) }
-    requires licences { (1 ≤ length listing.licences.items) × (length listing.licences.items ≤ 1024) }
+    requires curators { (1 ≤ length listing.curators.items) × (length listing.curators.items ≤ MOST_CURATORS) }
+    requires licences { (1 ≤ length listing.licences.items) × (length listing.licences.items ≤ MOST_LICENCES) }
     ensures { IfOk result (Founds (seen listing)) }
 {
     let fixed = spans_of(alloc, &listing.fixed)?;
@@ -164,10 +167,11 @@ fn founding_of(alloc: Global, listing: Listing) -> Result<Founding, NoMemory>
     })
 }
 
-/// What a registry is founded with by a founding file: TOML with `vendor` (four digits), `name`,
-/// `curators` (1 to 64), `licences` (1 to 1,024) and `fixed`, an array of texts `NNNN` or
-/// `NNNN-NNNN` that may be absent; other keys are ignored. Repeats are counted and kept once.
-/// Otherwise the first of these keys that is missing or bad, or that the bytes are no TOML.
+/// Reads the founding of a registry from a founding file. This is TOML with `vendor` (four digits),
+/// `name`, `curators` (one to `MOST_CURATORS`), `licences` (one to `MOST_LICENCES`) and optionally
+/// `fixed`, an array of texts `NNNN` or `NNNN-NNNN`; other keys are ignored. Repeats count towards
+/// the limits and are kept once. Returns a refusal if the bytes are not TOML, or for the first of
+/// these keys that is missing or bad.
 pub fn founding_from_toml(
     alloc: Global,
     bytes: &[u8],
@@ -176,7 +180,7 @@ pub fn founding_from_toml(
 {
     match read_listing(alloc, bytes) {
         Ok(listing) => Ok(Ok(founding_of(alloc, listing)?)),
-        Err(Stop::Refused(refusal)) => Ok(Err(refusal)),
-        Err(Stop::OutOfMemory) => Err(NoMemory),
+        Err(Rejection::Refused(refusal)) => Ok(Err(refusal)),
+        Err(Rejection::OutOfMemory) => Err(NoMemory),
     }
 }

@@ -1,7 +1,9 @@
+//! The kinds of order in JSON, by name.
+
 ghost use Rattle.std.specs.Prelude.{◌≡◌};
 ghost use Rattle.registry_wire.specs.Fields.{kind_of};
 
-// What an order in JSON is called by its field `order`.
+// The kind of order that the field `order` names.
 #[derive(Clone, Copy, Debug, PartialEq, Eq)]
 pub(crate) enum Kind {
     Enrol,
@@ -18,7 +20,7 @@ pub(crate) enum Kind {
     AddLicence,
 }
 
-// The kind of order that a name stands for.
+// The kind of order with this name.
 pub(crate) fn kind_of(name: &str) -> Option<Kind>
     ensures { result ≡ kind_of name.now }
 {

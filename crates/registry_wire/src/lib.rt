@@ -1,4 +1,4 @@
-//! What comes from outside, read as requests or refused, and the texts of replies.
+//! Reads requests and files from outside, or refuses them, and writes replies as text.
 #![tactic(auto)]
 
 pub use field::Field;
@@ -17,10 +17,9 @@ mod kind;
 mod link;
 mod orders;
 mod refusal;
+mod rejection;
 mod reply;
 mod request;
 mod span;
 mod stamp;
-mod stop;
-mod text;
 mod toml_value;

@@ -1,3 +1,5 @@
+//! Reads web addresses, in their canonical form.
+
 ghost use Rattle.std.specs.Prelude.{◌≡◌, ◌||◌, IfOk, bytes_eq, codes};
 ghost use Rattle.registry_wire.specs.Kinds.{link_of, web_address};
 
@@ -11,7 +13,7 @@ fn is_web(scheme: &str) -> bool
     scheme == "http" || scheme == "https"
 }
 
-// The link that a URL of the web is.
+// An HTTP or HTTPS URL as a link.
 #[tactic(auto, unfolding(crate::specs::Kinds::web_address))]
 fn web_address(alloc: Global, url: &Url) -> Result<Option<Link>, NoMemory>
     ensures { IfOk result (λ found. found ≡ web_address url.now) }
@@ -22,7 +24,7 @@ fn web_address(alloc: Global, url: &Url) -> Result<Option<Link>, NoMemory>
     Link::new(alloc, url.as_str().as_bytes())
 }
 
-// The link that a text is.
+// Reads a link, in its canonical form, from a URL of at most 4,096 bytes.
 #[tactic(auto, unfolding(crate::specs::Kinds::link_of))]
 pub(crate) fn link_of(alloc: Global, text: &str) -> Result<Option<Link>, NoMemory>
     ensures { IfOk result (λ found. found ≡ link_of text.now) }

@@ -1,43 +1,50 @@
-ghost use Rattle.std.specs.Prelude.{◌≡◌, IfOk};
+//! The refusals of input that come before the rules.
+
+ghost use Rattle.std.specs.Prelude.{◌≡◌, IfOk, Some};
+ghost use Rattle.registry_wire.specs.Fields.{fault_name};
+ghost use Rattle.registry_wire.specs.Replies.{refusal_text};
 
 use crate::Field;
-use registry_rules::Text;
+use registry_rules::ReplyText;
 use std::alloc::Global;
+use std::error::Error;
+use std::fmt;
 use usbids_text::LineFault;
 use usbnum_core::NoMemory;
 
-/// Why what came from outside is not acted on. The rules' own refusals are `registry_rules::Refusal`.
+/// The reason why input from outside is not acted on. The refusals of the rules are
+/// `registry_rules::Refusal`.
 #[derive(Clone, Copy, Debug, PartialEq, Eq)]
 pub enum WireRefusal {
-    /// An HTTP message has no head that can be read.
+    /// An HTTP message has no valid head.
     BadHead,
-    /// It does not say how long its body is.
+    /// The message does not give the length of its body.
     BadLength,
-    /// Its body is longer than its route takes.
+    /// The body is longer than its route allows.
     TooLarge,
-    /// Its body ends early.
+    /// The body ends early.
     ShortBody,
-    /// Its path is none that is served.
+    /// The path is not served.
     NoRoute,
-    /// Its path is served, but not by its method.
+    /// The path is served, but not with this method.
     WrongMethod,
-    /// It does not name its caller, or its key, once.
+    /// The message does not have this header exactly once with a valid value.
     BadHeader(Header),
-    /// The bytes are no JSON object.
+    /// The bytes are not a JSON object.
     BadJson,
-    /// The first field that is missing, or no value of its kind.
+    /// A field is missing or not a value of its kind; the first such field.
     BadField(Field),
-    /// A list of USB numbers has a faulty line, the first of which is named.
+    /// A list of USB numbers has a faulty line; the first such line.
     BadList(LineFault),
     /// The store failed.
     StoreFault,
-    /// Memory is short.
+    /// Out of memory.
     NoMemory,
-    /// A founding file is no TOML, or the first key that is missing or bad.
+    /// A founding file is not TOML, or a key is missing or bad; the first such key.
     BadFounding(FoundingFault),
 }
 
-/// A header of an HTTP message that says whose request it is, and under which key.
+/// An HTTP header that names the caller of a request, or its key.
 #[derive(Clone, Copy, Debug, PartialEq, Eq)]
 pub enum Header {
     Caller,
@@ -48,7 +55,7 @@ impl Header {
     ghost use Rattle.std.specs.Prelude.{◌≡◌};
     ghost use Rattle.registry_wire.specs.Fields.{header_name};
 
-    /// The header's name, in lower case.
+    /// Returns the header's name, in lower case.
     pub fn name(self) -> &'static str
         ensures { result.now ≡ header_name self }
     {
@@ -59,10 +66,10 @@ impl Header {
     }
 }
 
-/// What is wrong with a founding file.
+/// The fault of a founding file: the bad key, or bytes that are not TOML.
 #[derive(Clone, Copy, Debug, PartialEq, Eq)]
 pub enum FoundingFault {
-    /// It is no TOML.
+    /// The bytes are not TOML.
     Toml,
     Vendor,
     Name,
@@ -75,7 +82,7 @@ impl FoundingFault {
     ghost use Rattle.std.specs.Prelude.{◌≡◌};
     ghost use Rattle.registry_wire.specs.Fields.{fault_name};
 
-    /// The bad key, or `toml`.
+    /// Returns the bad key, or `toml`.
     pub fn name(self) -> &'static str
         ensures { result.now ≡ fault_name self }
     {
@@ -94,8 +101,8 @@ impl WireRefusal {
     ghost use Rattle.std.specs.Prelude.{◌≡◌, IfOk};
     ghost use Rattle.registry_wire.specs.Replies.{number_of, name_of, detail_of};
 
-    /// The refusal's number.
-    pub fn number(self) -> u16
+    /// Returns the refusal's number.
+    pub fn number(self) -> u8
         ensures { result ≡ number_of self }
     {
         match self {
@@ -115,7 +122,7 @@ impl WireRefusal {
         }
     }
 
-    /// The refusal's name.
+    /// Returns the refusal's name.
     pub fn name(self) -> &'static str
         ensures { result.now ≡ name_of self }
     {
@@ -136,23 +143,52 @@ impl WireRefusal {
         }
     }
 
-    /// What the refusal is about: the name of the bad header or field, the line of a list with its fault,
-    /// as `line 2: NoParent`, or the bad key of a founding file.
-    pub fn detail(self, alloc: Global) -> Result<Option<Text>, NoMemory>
+    /// Returns the subject of the refusal: the name of the bad header or field, the line of a list
+    /// with its fault, for example `line 2: NoParent`, or the bad key of a founding file.
+    pub fn detail(self, alloc: Global) -> Result<Option<ReplyText>, NoMemory>
         ensures { IfOk result (λ detail. detail ≡ detail_of self) }
     {
         Ok(match self {
             WireRefusal::BadHeader(header) => Some(text_of(alloc, header.name())?),
             WireRefusal::BadField(field) => Some(text_of(alloc, field.name())?),
-            WireRefusal::BadList(fault) => Some(Text::new(format!(in alloc; "{fault}")?)),
+            WireRefusal::BadList(fault) => Some(ReplyText::new(format!(in alloc; "{fault}")?)),
             WireRefusal::BadFounding(fault) => Some(text_of(alloc, fault.name())?),
             _ => None,
         })
     }
 }
 
-fn text_of(alloc: Global, text: &str) -> Result<Text, NoMemory>
+/// The bad key, or `toml`.
+impl fmt::Display for FoundingFault {
+    ghost output = { λ fault. Some (fault_name fault) };
+
+    fn fmt<W: fmt::Write>(&self, f: &mut fmt::Formatter<W>) -> fmt::Result {
+        f.write_str(self.name())
+    }
+}
+
+impl Error for FoundingFault {}
+
+/// The name, and after a colon the detail: `BadField: title`.
+impl fmt::Display for WireRefusal {
+    ghost output = { λ refusal. Some (refusal_text refusal) };
+
+    fn fmt<W: fmt::Write>(&self, f: &mut fmt::Formatter<W>) -> fmt::Result {
+        let name = self.name();
+        match self {
+            WireRefusal::BadHeader(header) => write!(f, "{name}: {}", header.name()),
+            WireRefusal::BadField(field) => write!(f, "{name}: {}", field.name()),
+            WireRefusal::BadList(fault) => write!(f, "{name}: {fault}"),
+            WireRefusal::BadFounding(fault) => write!(f, "{name}: {fault}"),
+            _ => f.write_str(name),
+        }
+    }
+}
+
+impl Error for WireRefusal {}
+
+fn text_of(alloc: Global, text: &str) -> Result<ReplyText, NoMemory>
     ensures { IfOk result (λ copy. copy ≡ text.now) }
 {
-    Ok(Text::new(String::from_str(alloc, text)?))
+    Ok(ReplyText::new(String::from_str(alloc, text)?))
 }

@@ -1,3 +1,5 @@
+//! Writes replies and refusals as lines of JSON.
+
 ghost use Rattle.std.specs.Prelude.{◌≡◌, IfOk, option_copied};
 ghost use Rattle.std.specs.String.{string_bytes};
 ghost use Rattle.serde_json.specs.View.{view};
@@ -6,15 +8,15 @@ ghost use Rattle.registry_rules.specs.Reply.{refusal_number, refusal_name, refus
 ghost use Rattle.registry_wire.specs.Replies.{refused_data, refusal_data, reply_data};
 
 use crate::WireRefusal;
-use registry_rules::{Refusal, Reply, Text};
+use registry_rules::{Refusal, Reply, ReplyText};
 use serde_json::{Value, json};
 use std::alloc::{AllocError, Global};
 use usbnum_core::NoMemory;
 
-// What a refusal is as an object, with its members in the order of their keys' bytes.
+// A refusal as an object, with its members in the order of their keys' bytes.
 fn refused_value(
     alloc: Global,
-    number: u16,
+    number: u8,
     name: &str,
     detail: Option<&str>,
 ) -> Result<Value, AllocError>
@@ -31,7 +33,7 @@ fn rule_value(alloc: Global, refusal: &Refusal) -> Result<Value, NoMemory>
 {
     refused_for(
         alloc,
-        u16::from(refusal.number()),
+        refusal.number(),
         refusal.name(),
         refusal.detail(alloc)?,
     )
@@ -49,12 +51,12 @@ fn reply_value(alloc: Global, reply: &Reply) -> Result<Value, NoMemory>
     }
 }
 
-// A refusal whose detail is a text.
+// A refusal with its detail, if it has one.
 fn refused_for(
     alloc: Global,
-    number: u16,
+    number: u8,
     name: &str,
-    detail: Option<Text>,
+    detail: Option<ReplyText>,
 ) -> Result<Value, NoMemory>
     ensures { IfOk result (λ value. view value ≡ refused_data number name.now detail) }
 {
@@ -75,8 +77,8 @@ fn refusal_value(alloc: Global, refusal: WireRefusal) -> Result<Value, NoMemory>
     )
 }
 
-/// A reply as one line of JSON, without a line end: `{"done":TEXT}`, or for a refusal
-/// `{"name":NAME,"refused":NUMBER}`, with `"detail":DETAIL` first where there is one.
+/// Returns a reply as one line of JSON, without a line feed: `{"done":TEXT}`, or for a refusal
+/// `{"name":NAME,"refused":NUMBER}`, with `"detail":DETAIL` first if it has a detail.
 pub fn reply_json(alloc: Global, reply: &Reply) -> Result<String, NoMemory>
     ensures { IfOk result (λ text. string_bytes text ≡ compact_text (reply_data reply.now)) }
 {
@@ -84,7 +86,7 @@ pub fn reply_json(alloc: Global, reply: &Reply) -> Result<String, NoMemory>
     Ok(value.to_string(alloc)?)
 }
 
-/// Why bytes are no request, as JSON in the form of a refused reply.
+/// Returns a refusal as JSON, in the form of a refused reply.
 pub fn refusal_json(alloc: Global, refusal: WireRefusal) -> Result<String, NoMemory>
     ensures { IfOk result (λ text. string_bytes text ≡ compact_text (refusal_data refusal)) }
 {

@@ -1,3 +1,5 @@
+//! Reads requests from a line of JSON or from the body of a message.
+
 ghost use Rattle.std.specs.Prelude.{◌≡◌, IfOk};
 ghost use Rattle.serde_json.specs.View.{view};
 ghost use Rattle.registry_wire.specs.Gives.{Gives, GivesSeen};
@@ -5,16 +7,16 @@ ghost use Rattle.registry_wire.specs.Reading.{object_of, body_reading, line_read
 
 use crate::fields::{key_at, slug_at};
 use crate::orders::order_at;
-use crate::stop::Stop;
+use crate::rejection::Rejection;
 use crate::{Field, WireRefusal};
 use registry_rules::Request;
 use serde_json::Value;
 use std::alloc::Global;
 use usbnum_core::{Key, NoMemory, Slug};
 
-// The JSON object that the bytes are.
+// Reads the bytes as a JSON object.
 #[tactic(auto, unfolding(crate::specs::Reading::object_of))]
-fn object_of(alloc: Global, bytes: &[u8]) -> Result<Value, Stop>
+fn object_of(alloc: Global, bytes: &[u8]) -> Result<Value, Rejection>
     ensures { GivesSeen view result (object_of bytes.now) }
 {
     match Value::from_slice(alloc, bytes) {
@@ -22,21 +24,21 @@ fn object_of(alloc: Global, bytes: &[u8]) -> Result<Value, Stop>
             if value.is_object() {
                 Ok(value)
             } else {
-                Err(Stop::Refused(WireRefusal::BadJson))
+                Err(Rejection::Refused(WireRefusal::BadJson))
             }
         }
         Err(error) => {
             if error.is_memory() {
-                Err(Stop::OutOfMemory)
+                Err(Rejection::OutOfMemory)
             } else {
-                Err(Stop::Refused(WireRefusal::BadJson))
+                Err(Rejection::Refused(WireRefusal::BadJson))
             }
         }
     }
 }
 
 #[tactic(auto, unfolding(crate::specs::Reading::line_reading))]
-fn read_line(alloc: Global, bytes: &[u8]) -> Result<Request, Stop>
+fn read_line(alloc: Global, bytes: &[u8]) -> Result<Request, Rejection>
     ensures { Gives result (line_reading bytes.now) }
 {
     let value = object_of(alloc, bytes)?;
@@ -47,7 +49,7 @@ fn read_line(alloc: Global, bytes: &[u8]) -> Result<Request, Stop>
 }
 
 #[tactic(auto, unfolding(crate::specs::Reading::body_reading))]
-fn read_body(alloc: Global, caller: Slug, key: Key, bytes: &[u8]) -> Result<Request, Stop>
+fn read_body(alloc: Global, caller: Slug, key: Key, bytes: &[u8]) -> Result<Request, Rejection>
     ensures { Gives result (body_reading caller key bytes.now) }
 {
     let value = object_of(alloc, bytes)?;
@@ -55,18 +57,18 @@ fn read_body(alloc: Global, caller: Slug, key: Key, bytes: &[u8]) -> Result<Requ
     Ok(Request { caller, key, order })
 }
 
-/// The request that a line of JSON is, with its caller and key as fields, or why it is none.
+/// Reads a request from a line of JSON, with its caller and key as fields, or returns a refusal.
 pub fn line_request(alloc: Global, line: &[u8]) -> Result<Result<Request, WireRefusal>, NoMemory>
     ensures { IfOk result (λ read. read ≡ line_reading line.now) }
 {
     match read_line(alloc, line) {
         Ok(request) => Ok(Ok(request)),
-        Err(Stop::Refused(refusal)) => Ok(Err(refusal)),
-        Err(Stop::OutOfMemory) => Err(NoMemory),
+        Err(Rejection::Refused(refusal)) => Ok(Err(refusal)),
+        Err(Rejection::OutOfMemory) => Err(NoMemory),
     }
 }
 
-/// The request of a caller, under a key, whose order is a body of JSON, or why it is none.
+/// Reads a request from a body of JSON, with this caller and key, or returns a refusal.
 pub fn request_from_json(
     alloc: Global,
     caller: Slug,
@@ -77,7 +79,7 @@ pub fn request_from_json(
 {
     match read_body(alloc, caller, key, body) {
         Ok(request) => Ok(Ok(request)),
-        Err(Stop::Refused(refusal)) => Ok(Err(refusal)),
-        Err(Stop::OutOfMemory) => Err(NoMemory),
+        Err(Rejection::Refused(refusal)) => Ok(Err(refusal)),
+        Err(Rejection::OutOfMemory) => Err(NoMemory),
     }
 }

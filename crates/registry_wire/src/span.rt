@@ -1,3 +1,5 @@
+//! A span by its first and last number.
+
 ghost use Rattle.std.specs.Prelude.{◌≡◌};
 ghost use Rattle.registry_wire.specs.Spans.{span_of};
 

@@ -1,3 +1,5 @@
+//! Reads the stamp of a list from `yyyy-mm-dd hh:mm:ss`.
+
 ghost use Rattle.std.specs.Prelude.{◌≡◌, ◌≢◌, ◌<◌, true, IfSome, MatchOption};
 ghost use Rattle.usbids_text.specs.Moments.{Moment, is_moment};
 ghost use Rattle.registry_wire.specs.Stamps.{moment_text, digit_of, two_of, four_of, moment_at, moment_of};
@@ -33,7 +35,7 @@ fn four_of(a: u8, b: u8, c: u8, d: u8) -> Option<u16>
     Some(u16::from(high) * 100 + u16::from(low))
 }
 
-// A stamp of this day, at the time that the bytes spell.
+// A stamp on this day, at the time in the bytes.
 #[tactic(auto, unfolding(crate::specs::Stamps::moment_at))]
 fn moment_at(year: u16, month: u8, day: u8, time: &[u8]) -> Option<Stamp>
     ensures { result ≡ moment_at year month day time.now }
@@ -66,8 +68,8 @@ fn moment_of(text: &[u8]) -> Option<Stamp>
     moment_at(year, month, day, time)
 }
 
-/// The stamp that a text is: exactly `yyyy-mm-dd hh:mm:ss` in decimal digits, or None where it is
-/// none in the ranges of a stamp.
+/// Reads a stamp from a text of exactly the form `yyyy-mm-dd hh:mm:ss`, in decimal digits. Returns
+/// None for another form, or if a part is out of range.
 pub fn stamp_from_text(text: &[u8]) -> Option<Stamp>
     ensures { MatchOption result ((m : Moment) → is_moment m ≡ true → moment_text m ≢ text.now) (λ m. moment_text m ≡ text.now) }
 {

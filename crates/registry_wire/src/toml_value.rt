@@ -1,14 +1,15 @@
+//! Reads the values of a founding file.
+
 ghost use Rattle.std.specs.Prelude.{◌≡◌, IfOk, option_map};
 ghost use Rattle.toml.specs.View.{view, items_view};
-ghost use Rattle.registry_wire.specs.Founding.{number_from, slug_from, title_from, span_from, span_after, span_spelled, all_of};
+ghost use Rattle.registry_wire.specs.Founding.{number_from, slug_from, title_from, span_from, span_after, span_written, all_of};
 
 use crate::span::span_of;
-use crate::text::{slug_of, title_of};
 use std::alloc::Global;
 use toml::Value;
 use usbnum_core::{NoMemory, Pid, Slug, Span, Title, Vid, parse_pid, parse_vid};
 
-// What is read from one value of TOML.
+// A type that is read from one TOML value.
 pub(crate) trait FromToml: Drop {
     ghost use Rattle.std.specs.Prelude.{Option};
     ghost use Rattle.toml.specs.Data.{Data};
@@ -33,9 +34,10 @@ impl FromToml for Vid {
 impl FromToml for Slug {
     ghost kind = { slug_from };
 
+    #[tactic(auto, unfolding(crate::specs::Kinds::slug_of))]
     fn read(alloc: Global, value: &Value) -> Result<Option<Slug>, NoMemory> {
         match value.as_str() {
-            Some(text) => slug_of(alloc, text.as_bytes()),
+            Some(text) => Slug::new(alloc, text.as_bytes()),
             None => Ok(None),
         }
     }
@@ -44,15 +46,16 @@ impl FromToml for Slug {
 impl FromToml for Title {
     ghost kind = { title_from };
 
+    #[tactic(auto, unfolding(crate::specs::Kinds::title_of))]
     fn read(alloc: Global, value: &Value) -> Result<Option<Title>, NoMemory> {
         match value.as_str() {
-            Some(text) => title_of(alloc, text.as_bytes()),
+            Some(text) => Title::new(alloc, text.as_bytes()),
             None => Ok(None),
         }
     }
 }
 
-// The span that begins with a number and goes on with nothing, or with a hyphen and its last number.
+// The span that begins with a number, alone or followed by a hyphen and its last number.
 fn span_after(first: Pid, rest: &[u8]) -> Option<Span>
     ensures { result ≡ span_after first rest.now }
 {
@@ -63,10 +66,10 @@ fn span_after(first: Pid, rest: &[u8]) -> Option<Span>
     }
 }
 
-// The span that a text spells: one number, or the first and the last with a hyphen between them.
-#[tactic(auto, unfolding(crate::specs::Founding::span_spelled))]
-fn span_spelled(text: &[u8]) -> Option<Span>
-    ensures { result ≡ span_spelled text.now }
+// The span of a text: one number, or the first and the last with a hyphen between them.
+#[tactic(auto, unfolding(crate::specs::Founding::span_written))]
+fn span_written(text: &[u8]) -> Option<Span>
+    ensures { result ≡ span_written text.now }
 {
     let [a, b, c, d, rest @ ..] = text else {
         return None;
@@ -79,13 +82,13 @@ impl FromToml for Span {
 
     fn read(_alloc: Global, value: &Value) -> Result<Option<Span>, NoMemory> {
         match value.as_str() {
-            Some(text) => Ok(span_spelled(text.as_bytes())),
+            Some(text) => Ok(span_written(text.as_bytes())),
             None => Ok(None),
         }
     }
 }
 
-// The values of an array, where all are of the kind.
+// The values of an array, if all are of the kind.
 pub(crate) fn all_of<T: FromToml>(
     alloc: Global,
     values: &[Value],

@@ -1,4 +1,6 @@
-use crate::lines::spelled;
+//! Founding files, imports and stamps, and the result of reading each.
+
+use crate::lines::canonical;
 use registry_rules::Founding;
 use registry_wire::{
     FoundingFault, WireRefusal, founding_from_toml, import_request, stamp_from_text,
@@ -10,7 +12,7 @@ use std::test::Fail;
 use usbids_text::read_all;
 use usbnum_core::{Key, NoMemory, Slug, Vid};
 
-// Founding files, and what they are read as.
+// Founding files, and the result of reading each.
 const FOUNDINGS: [(&str, &str); 26] = [
     (
         "vendor = \"1209\"\nname = \"Shared products\"\ncurators = [\"cora\"]\nlicences = [\"MIT\", \"GPL-3.0-only\"]\nfixed = [\"0001-0010\"]\n",
@@ -88,7 +90,7 @@ const FOUNDINGS: [(&str, &str); 26] = [
     ),
 ];
 
-// What a founding file is read as: its values, or the key that is bad.
+// Reads a founding file, and returns its values or the bad key.
 fn read(alloc: Global, bytes: &[u8]) -> Result<String, NoMemory> {
     match founding_from_toml(alloc, bytes)? {
         Ok(founding) => shown(alloc, &founding),
@@ -123,7 +125,7 @@ fn foundings(rt: HostRuntime) -> Result<(), Fail> {
     Ok(())
 }
 
-// A founding with one value so many times.
+// Reads a founding file that repeats one curator and one licence this often.
 fn repeated(alloc: Global, curators: u32, licences: u32) -> Result<String, NoMemory> {
     let mut text = String::from_str(alloc, "vendor = \"1209\"\nname = \"n\"\ncurators = [")?;
     for _ in 0..curators {
@@ -137,7 +139,7 @@ fn repeated(alloc: Global, curators: u32, licences: u32) -> Result<String, NoMem
     read(alloc, text.as_bytes())
 }
 
-// Repeats count, though they are kept once.
+// Repeats count towards the limits, though they are kept once.
 #[test]
 fn counts(rt: HostRuntime) -> Result<(), Fail> {
     let alloc = rt.alloc();
@@ -147,7 +149,7 @@ fn counts(rt: HostRuntime) -> Result<(), Fail> {
     Ok(())
 }
 
-// What cora imports for acme from a list.
+// Returns the request by which `cora` imports a list for `acme`.
 fn imported(
     alloc: Global,
     founding: Vid,
@@ -159,7 +161,7 @@ fn imported(
     let key = Key::new(alloc, b"i1")?.ok_or("no key")?;
     let org = Slug::new(alloc, b"acme")?.ok_or("no organisation")?;
     let request = import_request(alloc, caller, key, org, founding, named, &list)?;
-    Ok(spelled(alloc, &request)?)
+    Ok(canonical(alloc, &request)?)
 }
 
 #[test]

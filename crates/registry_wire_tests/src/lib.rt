@@ -1,4 +1,4 @@
-//! Requests, replies and founding files by example: what no clause says.
+//! Tests of requests, replies and founding files: what no contract says.
 #![tactic(auto)]
 
 #[cfg(test)]

@@ -1,3 +1,5 @@
+//! Request lines, and the request or the refusal that results.
+
 use registry_rules::{Request, request_bytes};
 use registry_wire::{line_request, refusal_json};
 use std::alloc::Global;
@@ -5,18 +7,18 @@ use std::process::Abort;
 use std::test::Fail;
 use usbnum_core::NoMemory;
 
-/// The caller, the key and the order's spelling, with tabs between them.
-pub(crate) fn spelled(alloc: Global, request: &Request) -> Result<Vec<u8>, NoMemory> {
+/// Returns the caller, the key and the order's canonical form, with tabs between them.
+pub(crate) fn canonical(alloc: Global, request: &Request) -> Result<Vec<u8>, NoMemory> {
     let (caller, key) = (request.caller.as_str(), request.key.as_str());
     let mut text = format!(in alloc; "{caller}\t{key}\t")?.into_bytes();
     text.extend_from_slice(request_bytes(alloc, request)?.as_bytes())?;
     Ok(text)
 }
 
-// What a line is read as: a request, or the refusal.
+// Reads a line, and returns the request or the refusal.
 fn read(alloc: Global, line: &[u8]) -> Result<Vec<u8>, NoMemory> {
     match line_request(alloc, line)? {
-        Ok(request) => spelled(alloc, &request),
+        Ok(request) => canonical(alloc, &request),
         Err(refusal) => Ok(refusal_json(alloc, refusal)?.into_bytes()),
     }
 }

@@ -1,10 +1,12 @@
-use registry_rules::{NumberName, Refusal, Reply, Text};
+//! Replies and refusals, and the line that is written for each.
+
+use registry_rules::{NumberName, Refusal, Reply, ReplyText};
 use registry_wire::{Field, FoundingFault, Header, WireRefusal, refusal_json, reply_json};
 use std::alloc::Global;
 use std::process::Abort;
 use std::test::Fail;
 use usbids_text::{LineFault, Why};
-use usbnum_core::{NoMemory, Pid, Slug, Vid};
+use usbnum_core::{NoMemory, Number, Pid, Slug, Vid};
 
 fn expect_refused(
     rt: &impl Abort,
@@ -20,7 +22,7 @@ fn expect_refused(
 #[test]
 fn done(rt: HostRuntime) -> Result<(), Fail> {
     let text = String::from_str(rt.alloc(), "added licence \"x\" \\ é")?;
-    let text = reply_json(rt.alloc(), &Reply::Done(Text::new(text)))?;
+    let text = reply_json(rt.alloc(), &Reply::Done(ReplyText::new(text)))?;
     assert_eq!(rt; text.as_str(), r#"{"done":"added licence \"x\" \\ é"}"#);
     Ok(())
 }
@@ -151,16 +153,21 @@ fn refused_by_the_rules(rt: HostRuntime) -> Result<(), Fail> {
         r#"{"detail":"bolt","name":"NumberOwned","refused":9}"#,
     )?;
     let pid = Pid::new(0x11).expect(&rt, "a number");
-    let near = NumberName { vendor: None, pid };
+    let founding = Vid::new(0x1209).expect(&rt, "a vendor");
+    let near = NumberName {
+        number: Number { vid: founding, pid },
+        foreign: false,
+    };
     expect_refused(
         &rt,
         alloc,
         Refusal::RangeOwned(near),
         r#"{"detail":"0011","name":"RangeOwned","refused":15}"#,
     )?;
+    let other = Vid::new(0xcafe).expect(&rt, "a vendor");
     let far = NumberName {
-        vendor: Vid::new(0xcafe),
-        pid,
+        number: Number { vid: other, pid },
+        foreign: true,
     };
     expect_refused(
         &rt,
@@ -171,7 +178,7 @@ fn refused_by_the_rules(rt: HostRuntime) -> Result<(), Fail> {
     Ok(())
 }
 
-// What is refused past the rules, and its text.
+// Refusals outside the rules, and their texts.
 const BY_THE_WIRE: [(WireRefusal, &str); 14] = [
     (WireRefusal::BadHead, r#"{"name":"BadHead","refused":20}"#),
     (

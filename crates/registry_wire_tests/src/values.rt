@@ -1,3 +1,5 @@
+//! Single fields at the limits of their values.
+
 use registry_rules::Order;
 use registry_wire::{line_request, refusal_json};
 use std::alloc::Global;
@@ -5,15 +7,23 @@ use std::process::Abort;
 use std::test::Fail;
 use usbnum_core::NoMemory;
 
-// The title, the site or the petition that an order has, or the refusal.
+// Returns the licence, the site or the petition of an order.
+fn text_of(alloc: Global, order: &Order) -> Result<String, NoMemory> {
+    match order {
+        Order::AddLicence(it) => Ok(String::from_str(alloc, it.licence.as_str())?),
+        Order::AmendOrg(it) => Ok(String::from_str(alloc, it.site.as_str())?),
+        Order::Decline(it) => {
+            let petition = it.petition;
+            Ok(format!(in alloc; "{petition}")?)
+        }
+        _ => Ok(String::new(alloc)),
+    }
+}
+
+// Reads a line, and returns the licence, the site or the petition of its order, or the refusal.
 fn value(alloc: Global, line: &str) -> Result<String, NoMemory> {
     match line_request(alloc, line.as_bytes())? {
-        Ok(request) => match &request.order {
-            Order::AddLicence { licence } => Ok(String::from_str(alloc, licence.as_str())?),
-            Order::AmendOrg { site, .. } => Ok(String::from_str(alloc, site.as_str())?),
-            Order::Decline { petition } => Ok(format!(in alloc; "{petition}")?),
-            _ => Ok(String::new(alloc)),
-        },
+        Ok(request) => text_of(alloc, &request.order),
         Err(refusal) => refusal_json(alloc, refusal),
     }
 }
@@ -39,7 +49,7 @@ fn petition(alloc: Global, text: &str) -> Result<String, NoMemory> {
     value(alloc, &line)
 }
 
-// So many times a text.
+// Repeats a text `count` times.
 fn times(alloc: Global, count: u32, text: &str) -> Result<String, NoMemory> {
     let mut all = String::new(alloc);
     for _ in 0..count {
@@ -101,13 +111,13 @@ fn links(rt: HostRuntime) -> Result<(), Fail> {
     assert_eq!(rt; site(alloc, &long)?.as_str(), long.as_str());
     let longer = format!(in alloc; "{long}a")?;
     assert_eq!(rt; site(alloc, &longer)?.as_str(), BAD_SITE);
-    // A slash and two dots take away what they follow, so that a long text has a short link.
-    let spelled = format!(in alloc; "{front}{}", times(alloc, 1359, "/..")?)?;
-    let spelled = format!(in alloc; "{spelled}{}", times(alloc, 2, "?")?)?;
-    assert_eq!(rt; spelled.len(), 4096);
-    assert_eq!(rt; site(alloc, &spelled)?.as_str(), "http://a.example/??");
-    let spelled = format!(in alloc; "{spelled}?")?;
-    assert_eq!(rt; site(alloc, &spelled)?.as_str(), BAD_SITE);
+    // A slash and two dots remove the part before them, so a long text has a short link.
+    let canonical = format!(in alloc; "{front}{}", times(alloc, 1359, "/..")?)?;
+    let canonical = format!(in alloc; "{canonical}{}", times(alloc, 2, "?")?)?;
+    assert_eq!(rt; canonical.len(), 4096);
+    assert_eq!(rt; site(alloc, &canonical)?.as_str(), "http://a.example/??");
+    let canonical = format!(in alloc; "{canonical}?")?;
+    assert_eq!(rt; site(alloc, &canonical)?.as_str(), BAD_SITE);
     Ok(())
 }
 
@@ -134,7 +144,7 @@ fn petitions(rt: HostRuntime) -> Result<(), Fail> {
     Ok(())
 }
 
-// An order with an unknown field of so many nested arrays.
+// Reads an order with an unknown field of `depth` nested arrays.
 fn nested(alloc: Global, depth: u32) -> Result<String, NoMemory> {
     let opened = times(alloc, depth, "[")?;
     let closed = times(alloc, depth, "]")?;

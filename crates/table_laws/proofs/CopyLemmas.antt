@@ -1,4 +1,4 @@
--- What the rows of a query do to the values of a table when INSERT puts them in.
+-- What INSERT of a query's rows does to the values of a table.
 use Rattle.std.proofs.Common.{◌≡◌, ℤ, pos, ◌<ℤ◌, append-nil, append_assoc, List, [], ◌∷◌, ◌++◌, map, fold, refl, sym, ap, subst, ◌∙◌}
 use Rattle.std.specs.List.{AllByRecursion}
 use Rattle.std.proofs.lemmas.List.{map-append}
@@ -13,7 +13,7 @@ use Rattle.sqlite_typed.proofs.RowLemmas.{puts-map}
 use Rattle.table_laws.specs.Stored.{StoresUnnumbered}
 use Rattle.table_laws.proofs.UnnumberedLemmas.{insert_above, below_next, numbered_row, next_is, all_added}
 
--- ---- values whose rowids are no part of them
+-- ---- values that do not contain the rowid
 
 module _ {X : Type 0} (IsValid : X → Type 0) (row : X → Row) where
   abbrev place : ℤ × X → ℤ
@@ -25,7 +25,7 @@ module _ {X : Type 0} (IsValid : X → Type 0) (row : X → Row) where
   abbrev without_rowid : X → Row
   without_rowid x = Null ∷ row x
 
-  -- the values come after those that are there, each with the next rowid
+  -- the values are appended, each with the next rowid
   pub appends : (news : List X) (rows : List Row) (xs : List X) → StoresUnnumbered IsValid row rows xs → AllByRecursion IsValid news
       → StoresUnnumbered IsValid row (put_all rows (numbered Chosen rows (map without_rowid news))) (xs ++ news)
   appends [] rows xs h valid = subst (StoresUnnumbered IsValid row rows) (sym (append-nil xs)) h

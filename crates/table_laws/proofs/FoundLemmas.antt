@@ -1,4 +1,4 @@
--- What is found after a row was put in, in place of those with its key.
+-- What is found after a row replaces those with its key.
 use Rattle.std.proofs.Common.{◌≡◌, Bool, true, false, not, cond, List, [], ◌∷◌, ◌++◌, find, Some, refl}
 use Rattle.sqlite_trees.specs.Tree.{IsAscending}
 use Rattle.sqlite_trees.proofs.ListLemmas.{all-append}
@@ -28,7 +28,7 @@ module _ {X : Type 0} (p : X → Bool) (x : X) where
       go false true is tested more = rw tested
       go false false is tested more = rw tested more
 
--- no two rows have one key, and none has after the put
+-- no two rows have the same key, before and after the insert
 module _ {X : Type 0} (same : X → X → Bool) (x : X) where
   abbrev pub AreApart : List X → Type 0
   AreApart = IsAscending (λ a b. same a b ≡ false)

@@ -1,4 +1,4 @@
--- What the calls of a transaction leave of it.
+-- What the calls of a transaction leave.
 use Rattle.std.proofs.Common.{◌≡◌, ◌⊎◌, inl, inr, ℕ, Bool, true, cond, IsTrue, List, Option, Some, None, refl, ap, subst, ◌∙◌}
 use Rattle.sqlite.specs.Order.{Row}
 use Rattle.sqlite.specs.declared.error.Error.{Error}
@@ -53,6 +53,6 @@ unfolding Shown
 query_keeps old new sql params rows plain h =
     let bare = subst IsPlain h.1.is plain in (subst (ShowsRows old new sql h.0 (timed params h.0.formats h.1.now) rows) bare.0 h.2).3
 
--- one call of a transaction and then another
+-- one call of a transaction after another
 pub goes_then : (a b c : State) → GoesOn a b → GoesOn b c → GoesOn a c
 goes_then a b c p q = record { was_open = p.was_open; is_open = q.is_open; now_is = refl; committed_is = q.committed_is ∙ p.committed_is; mode = q.mode }

@@ -1,4 +1,4 @@
--- What a query shows in the falling order of the keys.
+-- What a query shows in descending order of the keys.
 use Rattle.std.proofs.Common.{◌≡◌, ℕ, ℤ, ◌<ℤ◌, Bool, false, List, [], ◌∷◌, ◌++◌, map, filter, reverse, refl, sym, ap, ◌∙◌, int_cmp, is_eq, Ordering, Less, Greater, None}
 use Rattle.std.specs.List.{AllByRecursion, list_all}
 use Rattle.std.specs.Ordering.{ordering_reverse}
@@ -24,9 +24,9 @@ module _ {X : Type 0} (key : X → ℤ) where
   turned : (a b : X) → int_cmp (key a) (key b) ≡ Less → falling a b ≡ Greater
   turned a b less = int_cmp_total.antisymm (key b) (key a) ∙ ap ordering_reverse less
 
-  all-reverse : (P : X → Type 0) (xs : List X) → AllByRecursion P xs → AllByRecursion P (reverse xs)
-  all-reverse P [] all = tt
-  all-reverse P (x ∷ xs) all = rw (reverse-append (x ∷ []) xs) (all-append P (reverse xs) (x ∷ []) (all-reverse P xs all.1) (all.0, tt))
+  all_reverse : (P : X → Type 0) (xs : List X) → AllByRecursion P xs → AllByRecursion P (reverse xs)
+  all_reverse P [] all = tt
+  all_reverse P (x ∷ xs) all = rw (reverse-append (x ∷ []) xs) (all-append P (reverse xs) (x ∷ []) (all_reverse P xs all.1) (all.0, tt))
 
   insert_falling : (new : X) (xs : List X) → AllByRecursion (λ y. key new <ℤ key y) xs → insert_sorted falling new xs ≡ xs ++ new ∷ []
   insert_falling new [] above = refl
@@ -35,7 +35,7 @@ module _ {X : Type 0} (key : X → ℤ) where
   pub sort_falling : (xs : List X) → IsKeyedBy key xs → sort_by falling xs ≡ reverse xs
   sort_falling [] up = refl
   sort_falling (x ∷ xs) up =
-      ap (insert_sorted falling x) (sort_falling xs up.1) ∙ insert_falling x (reverse xs) (all-reverse (λ y. key x <ℤ key y) xs up.0) ∙ sym (reverse-append (x ∷ []) xs)
+      ap (insert_sorted falling x) (sort_falling xs up.1) ∙ insert_falling x (reverse xs) (all_reverse (λ y. key x <ℤ key y) xs up.0) ∙ sym (reverse-append (x ∷ []) xs)
 
   no_tie_turned : (a b : X) → int_cmp (key a) (key b) ≡ Less → IsNoTie (falling a b)
   no_tie_turned a b less = record { apart = ap is_eq (turned a b less) }

@@ -19,7 +19,7 @@ use Rattle.table_laws.specs.Making.{IsBlank, HasMade, HasMore, Adds, AddsTo}
 use Rattle.table_laws.proofs.InsideLemmas.{goes_then}
 use Rattle.table_laws.proofs.PartLemmas.{same_ok, went}
 
--- under the schema the text is one CREATE TABLE, of this table
+-- under the schema the text is a single CREATE TABLE, of this table
 pub record Makes (schema : Schema) (sql : List ℕ) (table : Table) : Type 0 where
   pub command : command_of (understood schema sql) ≡ CreateTable
   pub whole : statement_of sql (understood schema sql) ≡ sql
@@ -46,7 +46,7 @@ creates old new schema has sql table makes count h =
       others = subst (λ (d : Database). KeepsRows schema.tables old.now.trees d.trees) (sym now) (subst (λ (s : Schema). KeepsRows s.tables old.now.trees first.0.trees) has made.others);
     }
 
--- where no table had a row, none has
+-- if no table had a row before, none has one after
 pub adds_blank : (old new : State) (schema : Schema) (sql : List ℕ) (table : Table) → Makes schema sql table → (count : ℕ) → Executes sql [] old new (Ok count) → IsBlank schema old.now
     → IsBlank (created schema table) new.now
 adds_blank old new schema sql table makes count h blank =
@@ -59,13 +59,13 @@ adds_blank old new schema sql table makes count h blank =
           (made.empty, tt);
     }
 
--- one step of making the tables and then another
+-- one step of creating the tables after another
 pub adds_then : (before mid after : Schema) (a b c : State) → Adds before mid a b → Adds mid after b c → Adds before after a c
 adds_then before mid after a b c p q = (goes_then a b c p.0 q.0, λ blank. q.1 (p.1 blank))
 
--- ---- beside tables that have rows
+-- ---- added to tables that have rows
 
--- one table more
+-- one added table
 pub has_one : (schema : Schema) (table : Table) (old new : Database) → table.tree ≡ next_tree schema → HasMade schema table old new → HasMore schema (table ∷ []) old new
 has_one schema table old new at made = record { is = made.is; sound = made.sound; kept = made.others; empty = (subst (λ n. new.trees n ≡ []) (sym at) made.empty, tt) }
 
@@ -77,7 +77,7 @@ pub kept_then : (xs : List Table) (a b c : Trees) → KeepsRows xs a b → Keeps
 kept_then [] a b c p q = tt
 kept_then (x ∷ xs) a b c p q = (q.0 ∙ p.0, kept_then xs a b c p.1 q.1)
 
--- where no table had a row, none has
+-- if no table had a row before, none has one after
 pub adds_more : (schema : Schema) (added : List Table) (a b : State) → (fold created schema added).tables ≡ schema.tables ++ added → AddsTo schema added a b → Adds schema (fold created schema added) a b
 adds_more schema added a b tables adds = (
   adds.0,

@@ -22,9 +22,9 @@ use Rattle.sqlite_keyed.proofs.KeyedLemmas.{same_int, all-insert_by, IsKeyedBy-i
 use Rattle.sqlite_typed.proofs.RowLemmas.{puts-map, deletes-map}
 use Rattle.sqlite_typed.proofs.TestLemmas.{at_ints}
 use Rattle.table_laws.specs.Stored.{Stores}
-use Rattle.table_laws.proofs.KeyedLemmas.{insert_by-without_keys}
+use Rattle.table_laws.proofs.KeyedLemmas.{insert_by_without_keys}
 
--- an index takes two numbers for one where they are
+-- an index compares integers by their values
 pub equal_ints : (a b : ℤ) → equal (first_key plain).collation (Int a) (Int b) ≡ int_eq a b
 equal_ints a b = ap (λ (k : Key). equal k.collation (Int a) (Int b)) first_key-plain ∙ at_ints false Eq a b
 
@@ -43,7 +43,7 @@ module _ {X : Type 0} (IsValid : X → Type 0) (key : X → ℤ) (row : X → Ro
   ids_from k [] all = tt
   ids_from k (r ∷ rs) all = (all.0, ids_from k rs all.1)
 
-  -- what conflicts has the key, where no index is unique
+  -- without a unique index, each conflict is with the row that has the key
   conflict_ids : (indexes : List Index) (table : Table) (xs : List X) (x : X) (found : List Row) → ((new old : Row) → list_any (shares None table new old) indexes ≡ false)
       → AreConflicts None indexes table (map row xs) (row x) found → AllByRecursion (λ id. id ≡ key x) (ids_of found)
   conflict_ids indexes table xs x found free is =
@@ -55,7 +55,7 @@ module _ {X : Type 0} (IsValid : X → Type 0) (key : X → ℤ) (row : X → Ro
       let same : int_eq (key y.0) (key x) ≡ true = sym (equal_ints (key y.0) (key x)) ∙ sym (ap₂ (equal (first_key plain).collation) own (keyed x)) ∙ tied in
       ap (λ q. id_in (rowid q)) h.3 ∙ ap id_in own ∙ same_int _ _ same))
 
-  -- the value takes the place of the one with its key, or comes between its neighbours
+  -- the value replaces the one with its key, or goes between its neighbours
   pub replaces_numbered : (indexes : List Index) (table : Table) (rows : List Row) (xs : List X) (x : X) (found : List Row) → ((new old : Row) → list_any (shares None table new old) indexes ≡ false)
       → Stores IsValid key row rows xs → IsValid x → AreConflicts None indexes table rows (row x) found
       → Stores IsValid key row (put_all (without_all rows (ids_of found)) (row x ∷ [])) (insert_by key xs x)
@@ -63,7 +63,7 @@ module _ {X : Type 0} (IsValid : X → Type 0) (key : X → ℤ) (row : X → Ro
       let ids = conflict_ids indexes table xs x found free (subst (λ all. AreConflicts None indexes table all (row x) found) h.rows_are is) in
       record {
         rows_are = ap (λ all. put_all (without_all all (ids_of found)) (row x ∷ [])) h.rows_are ∙ ap (λ all. put_row (row x) all) (deletes-map key row keyed (ids_of found) xs)
-            ∙ puts-map key row keyed (x ∷ []) (fold (without_key key) xs (ids_of found)) ∙ ap (map row) (insert_by-without_keys key (ids_of found) xs x ids h.keyed);
+            ∙ puts-map key row keyed (x ∷ []) (fold (without_key key) xs (ids_of found)) ∙ ap (map row) (insert_by_without_keys key (ids_of found) xs x ids h.keyed);
         keyed = IsKeyedBy-insert_by key xs x h.keyed;
         valid = all-insert_by key IsValid xs x valid h.valid;
       }

@@ -1,4 +1,4 @@
--- What a query on one table shows of the values that it stores, in the order of their keys.
+-- What a query on one table shows of the values that the table stores, in the order of their keys.
 use Rattle.std.proofs.Common.{◌≡◌, ℕ, ℤ, Bool, List, [], ◌∷◌, map, filter, find, slice_get, Option, Some, None, false, refl, sym, ap, subst, ◌∙◌, int_cmp}
 use Rattle.std.specs.List.{AllByRecursion, list_all}
 use Rattle.std.specs.Option.{option_map}
@@ -30,11 +30,11 @@ module _ {X : Type 0} (IsValid : X → Type 0) (key : X → ℤ) (row : X → Ro
   shows_rows q params p show tests shows order rows answer =
       sym (map-id rows) ∙ answer_by_keys (on_table q) db params source p tests (λ r. r) show shows refl refl order rows answer
 
--- the first of the rows is that of the first value that passes
+-- the first row is that of the first value that passes
 pub first_row : {X : Type 0} (show : X → Row) (p : X → Bool) (xs : List X) (rows : List Row) → rows ≡ map show (filter p xs) → slice_get rows 0 ≡ option_map show (find p xs)
 first_row show p xs rows h = ap (λ l. slice_get l 0) h ∙ slice_get-map show (filter p xs) 0 ∙ ap (option_map show) (slice_get-filter p xs)
 
--- what is there, and what is not
+-- if no row was found, no value was; and likewise if one was
 pub none_there : {X : Type 0} (show : X → Row) (o : Option X) → option_map show o ≡ None → o ≡ None
 none_there show None h = refl
 none_there show (Some x) h = absurd cc
@@ -46,7 +46,7 @@ some_there show (Some x) row h = (x, refl, cc)
 pub valid_there : {X : Type 0} (IsValid : X → Type 0) (p : X → Bool) (xs : List X) (x : X) → AllByRecursion IsValid xs → find p xs ≡ Some x → IsValid x
 valid_there IsValid p xs x all h = all_has IsValid xs x all (has_found p xs x h).0
 
--- the first row stands for the first value that passes
+-- the first row stores the first value that passes
 pub found_first : {X : Type 0} (IsValid : X → Type 0) (show : X → Row) (p : X → Bool) (xs : List X) (rows : List Row) (row : Row) → rows ≡ map show (filter p xs) → slice_get rows 0 ≡ Some row
     → AllByRecursion IsValid xs → (x : X) × (find p xs ≡ Some x) × (row ≡ show x) × IsValid x
 found_first IsValid show p xs rows row h first all =

@@ -11,22 +11,22 @@ use Rattle.sqlite_catalog.specs.Listing.{IsSound}
 use Rattle.sqlite_schema.specs.declared.schema.Keys.{Keys}
 use Rattle.sqlite_rules.specs.Action.{works}
 
--- no foreign key of the schema acts
+-- the schema has no foreign key action
 abbrev pub IsUntied : Schema → Type 0
 IsUntied schema = (keys : Keys) (tree : ℕ) (olds news : List Row) → works schema keys 0 tree olds news ≡ []
 
--- the table has these rows, and each other table has the rows that it had
+-- the table has these rows, and each other table keeps its rows
 pub record Sets (schema : Schema) (tree : ℕ) (old new : Database) (rows : List Row) : Type 0 where
   pub same_schema : new.schema ≡ schema
   pub sound : IsSound schema new.trees
   pub rows_are : new.trees tree ≡ rows
   pub others : AllByRecursion (λ (t : Table). t.tree ≢ tree → new.trees t.tree ≡ old.trees t.tree) schema.tables
 
--- the trees with these rows in the place of a tree's
+-- the trees with these rows in one tree
 abbrev pub with_rows : Trees → ℕ → List Row → Trees
 with_rows db tree rows n = if nat_eq n tree then rows else db n
 
--- the tables have the same rows in both
+-- the tables have the same rows in both trees
 abbrev pub AgreeOn : List Table → Trees → Trees → Type 0
 AgreeOn tables a b = AllByRecursion (λ (t : Table). a t.tree ≡ b t.tree) tables
 
@@ -41,6 +41,6 @@ others_agree (t ∷ ts) tree old new rows here others = (
   others_agree ts tree old new rows here others.1,
 )
 
--- after the statement the tables have the rows of before, but for the one
+-- after the statement all tables but this one have their rows of before
 pub sets_agree : (schema : Schema) (tree : ℕ) (old new : Database) (rows : List Row) → Sets schema tree old new rows → AgreeOn schema.tables new.trees (with_rows old.trees tree rows)
 sets_agree schema tree old new rows sets = others_agree schema.tables tree old.trees new.trees rows sets.rows_are sets.others

@@ -1,4 +1,4 @@
--- What a query in the order of some columns and then of the rowid shows of values whose rowids are no part of them.
+-- What a query ordered by some columns and then the rowid shows of values that do not contain the rowid.
 use Rattle.std.proofs.Common.{◌≡◌, ℕ, ℤ, ◌<ℤ◌, Bool, true, false, cond, List, [], ◌∷◌, map, filter, None, refl, sym, ap, ◌∙◌, int_cmp, Ordering, Less, Equal, Greater, is_gt}
 use Rattle.std.specs.List.{AllByRecursion, list_all}
 use Rattle.std.specs.Ordering.{ordering_then}
@@ -17,7 +17,7 @@ use Rattle.table_laws.specs.Stored.{StoresUnnumbered}
 use Rattle.table_laws.proofs.ReadLemmas.{source}
 
 module _ {X : Type 0} (cmp : X → X → Ordering) where
-  -- the order, and that in which they came where it leaves a tie
+  -- this order, with ties in the order of insertion
   abbrev pub or_as_they_came : ℤ × X → ℤ × X → Ordering
   or_as_they_came a b = ordering_then (cmp a.1 b.1) (int_cmp a.0 b.0)
 
@@ -28,14 +28,14 @@ module _ {X : Type 0} (cmp : X → X → Ordering) where
   first p = p.0
 
   module _ (P : ℤ × X → Type 0) where
-    all-insert : (new : ℤ × X) (xs : List (ℤ × X)) → P new → AllByRecursion P xs → AllByRecursion P (insert_sorted or_as_they_came new xs)
-    all-insert new [] h all = (h, tt)
-    all-insert new (x ∷ xs) h all =
-        elim (is_gt (or_as_they_came new x)) as (λ b. AllByRecursion P (cond b (x ∷ insert_sorted or_as_they_came new xs) (new ∷ x ∷ xs))) [ true ↦ (all.0, all-insert new xs h all.1) | false ↦ (h, all) ]
+    all_insert : (new : ℤ × X) (xs : List (ℤ × X)) → P new → AllByRecursion P xs → AllByRecursion P (insert_sorted or_as_they_came new xs)
+    all_insert new [] h all = (h, tt)
+    all_insert new (x ∷ xs) h all =
+        elim (is_gt (or_as_they_came new x)) as (λ b. AllByRecursion P (cond b (x ∷ insert_sorted or_as_they_came new xs) (new ∷ x ∷ xs))) [ true ↦ (all.0, all_insert new xs h all.1) | false ↦ (h, all) ]
 
-    all-sort : (xs : List (ℤ × X)) → AllByRecursion P xs → AllByRecursion P (sort_by or_as_they_came xs)
-    all-sort [] all = tt
-    all-sort (x ∷ xs) all = all-insert x (sort_by or_as_they_came xs) all.0 (all-sort xs all.1)
+    all_sort : (xs : List (ℤ × X)) → AllByRecursion P xs → AllByRecursion P (sort_by or_as_they_came xs)
+    all_sort [] all = tt
+    all_sort (x ∷ xs) all = all_insert x (sort_by or_as_they_came xs) all.0 (all_sort xs all.1)
 
   before_tie : (o : Ordering) → is_gt (ordering_then o Less) ≡ is_gt o
   before_tie Less = refl
@@ -49,11 +49,11 @@ module _ {X : Type 0} (cmp : X → X → Ordering) where
       (elim (is_gt (cmp new.1 x.1)) as (λ b. map second (cond b (x ∷ insert_sorted or_as_they_came new xs) (new ∷ x ∷ xs)) ≡ cond b (x.1 ∷ insert_sorted cmp new.1 (map second xs)) (new.1 ∷ x.1 ∷ map second xs))
       [ true ↦ ap (λ l. x.1 ∷ l) (insert_values new xs above.1) | false ↦ refl ])
 
-  -- the sort is stable, so that the rowids make no difference
+  -- the sort is stable, so the rowids make no difference
   pub sort_values : (xs : List (ℤ × X)) → IsKeyedBy first xs → map second (sort_by or_as_they_came xs) ≡ sort_by cmp (map second xs)
   sort_values [] up = refl
   sort_values (x ∷ xs) up =
-      insert_values x (sort_by or_as_they_came xs) (all-sort (λ (y : ℤ × X). x.0 <ℤ y.0) xs up.0) ∙ ap (insert_sorted cmp x.1) (sort_values xs up.1)
+      insert_values x (sort_by or_as_they_came xs) (all_sort (λ (y : ℤ × X). x.0 <ℤ y.0) xs up.0) ∙ ap (insert_sorted cmp x.1) (sort_values xs up.1)
 
 module _ {X : Type 0} (IsValid : X → Type 0) (row : X → Row) (db : Trees) (tree : ℕ) (xs : List X) (h : StoresUnnumbered IsValid row (db tree) xs)
     (q : Query) (params : Row) (p : X → Bool) (show : X → Row)

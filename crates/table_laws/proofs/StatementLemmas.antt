@@ -36,17 +36,17 @@ use Rattle.table_laws.proofs.DeleteLemmas.{ids_query}
 use Rattle.table_laws.proofs.UpdateLemmas.{update_query, updates_unnumbered}
 use Rattle.table_laws.proofs.InsideLemmas.{query_keeps}
 
--- under the schema the text is one INSERT OR REPLACE of these terms into the table at this place
+-- under the schema the text is a single INSERT OR REPLACE of these terms into the table at this place
 pub record IsPut (schema : Schema) (at : ℕ) (sql : List ℕ) (terms : List Term) (width : ℕ) : Type 0 where
   pub is : command_of (understood schema sql) ≡ InsertOr at Replace (Values terms width) []
   pub plain : IsPlain (understood schema sql)
 
--- under the schema the text is one UPDATE of the table at this place: these terms in place of each row WHERE the others
+-- under the schema the text is a single UPDATE of the table at this place, of the rows WHERE `terms`, to `news`
 pub record IsUpdate (schema : Schema) (at tree : ℕ) (sql : List ℕ) (terms news : List Term) : Type 0 where
   pub is : command_of (understood schema sql) ≡ Update at (record { lets = []; body = update_query tree terms news })
   pub plain : IsPlain (understood schema sql)
 
--- under the schema the text is one DELETE from the table at this place WHERE these terms
+-- under the schema the text is a single DELETE from the table at this place WHERE these terms
 pub record IsDelete (schema : Schema) (at tree : ℕ) (sql : List ℕ) (terms : List Term) : Type 0 where
   pub is : command_of (understood schema sql) ≡ Delete at (record { lets = []; body = ids_query tree terms })
   pub plain : IsPlain (understood schema sql)
@@ -75,7 +75,7 @@ table_query tree terms columns order limit = record {
 abbrev pub no_limit : ℤ
 no_limit = negsuc 0
 
--- a query changes nothing, and what it shows is an answer
+-- a query changes nothing and shows its result
 pub answers : (schema : Schema) (sql : List ℕ) (q : Query) (names : List (List ℕ)) → IsSelect schema sql q names → (params : Row) (old new : State) → old.now.schema ≡ schema → (rows : List Row)
     → Shown sql params old new rows → IsUnchanged old new × IsAnswer q (overlay old.now.trees []) params rows
 answers schema sql q names text params old new has rows h = (

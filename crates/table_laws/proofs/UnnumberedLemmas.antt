@@ -1,4 +1,4 @@
--- What the statements of each kind do to values whose rowids are no part of them.
+-- What each kind of statement does to values that do not contain the rowid.
 use Rattle.std.proofs.Common.{◌≡◌, ◌⊎◌, inl, inr, ℕ, ℤ, pos, ◌<ℤ◌, ◌+ℤ◌, Bool, true, false, not, ◌&&◌, ◌||◌, cond, List, [], ◌∷◌, ◌++◌, map, filter, fold, None, refl, sym, ap, subst, ◌∙◌, arith, int_cmp, int_eq, Ordering}
 use Rattle.std.specs.List.{AllByRecursion, list_any, list_all}
 use Rattle.std.proofs.lemmas.Int.{ints}
@@ -36,7 +36,7 @@ same_tests false true f g = g refl
 same_tests false false f g = refl
 
 module _ {X : Type 0} where
-  -- a test that all pass keeps all
+  -- a test that all pass keeps all values
   pub kept_all : (xs : List X) → filter (λ _. true) xs ≡ xs
   kept_all [] = refl
   kept_all (x ∷ xs) = ap (λ l. x ∷ l) (kept_all xs)
@@ -77,7 +77,7 @@ module _ {X : Type 0} (key : X → ℤ) where
   removes_listed [] xs = sym (kept_all xs)
   removes_listed (id ∷ ids) xs = removes_listed ids (without_key key xs id) ∙ without_both (λ x. int_eq (key x) id) (λ x. list_any (λ i. int_eq (key x) i) ids) xs
 
-  -- no two have one key
+  -- no two values have the same key
   pub is_unique : (xs : List X) → IsKeyedBy key xs → (x y : X) → Has xs x → Has xs y → key x ≡ key y → x ≡ y
   is_unique [] up x y h k same = absurd h
   is_unique (z ∷ xs) up x y (inl h) (inl k) same = h ∙ sym k
@@ -91,7 +91,7 @@ module _ {X : Type 0} (key : X → ℤ) where
       absurd (omega (arith, ints))
   is_unique (z ∷ xs) up x y (inr h) (inr k) same = is_unique xs up.1 x y h k same
 
-  -- what is above all comes last
+  -- a value above all others goes to the end
   pub insert_above : (xs : List X) (new : X) → AllByRecursion (λ x. key x <ℤ key new) xs → insert_by key xs new ≡ xs ++ new ∷ []
   insert_above [] new h = refl
   insert_above (x ∷ xs) new h = rw (Less-from_lt (key x) (key new) h.0, insert_above xs new h.1)
@@ -123,7 +123,7 @@ module _ {X : Type 0} (IsValid : X → Type 0) (row : X → Row) (indexes : List
   abbrev as_row : ℤ × X → Row
   as_row = numbered_row IsValid row
 
-  -- a new rowid is on no row, so a conflict is one of the key
+  -- a new rowid is on no row, so a conflict is on the key
   by_index : (new old : ℤ × X) → old.0 <ℤ new.0 → conflicts None indexes table (as_row new) (as_row old) ≡ true → list_any (shares None table (as_row new) (as_row old)) indexes ≡ true
   by_index new old under hits = go (or_cases _ _ hits)
     where
@@ -134,7 +134,7 @@ module _ {X : Type 0} (IsValid : X → Type 0) (row : X → Row) (indexes : List
       go (inl here) = let level : old.0 ≡ new.0 = same_int old.0 new.0 (sym (equal_ints old.0 new.0) ∙ (and_parts _ _ here).0) in absurd (omega (arith, ints))
       go (inr here) = here
 
-  -- what is taken out has the key, and all that has it
+  -- the rows removed are exactly those with the key
   takes : (all : List (ℤ × X)) (new : ℤ × X) (found : List Row) → IsKeyedBy place all → AllByRecursion (λ (y : ℤ × X). y.0 <ℤ new.0) all
       → AreConflicts None indexes table (map as_row all) (as_row new) found
       → fold (without_key place) all (ids_of found) ≡ delete_where (λ (p : ℤ × X). same p.1 new.1) all
@@ -159,7 +159,7 @@ module _ {X : Type 0} (IsValid : X → Type 0) (row : X → Row) (indexes : List
           let under : z.0.0 <ℤ new.0 = all_has (λ (w : ℤ × X). w.0 <ℤ new.0) all z.0 below z.1 in
           ap (λ (w : ℤ × X). same w.1 new.1) one ∙ sym (shared new z.0) ∙ by_index new z.0 under hits
 
-  -- INSERT OR REPLACE takes out what has the key, and puts its row at the end
+  -- INSERT OR REPLACE removes the row with the key and appends its own
   pub replaces_unnumbered : (rows : List Row) (xs : List X) (x : X) (found : List Row) → StoresUnnumbered IsValid row rows xs → IsValid x
       → AreConflicts None indexes table rows (Int (next_rowid rows) ∷ row x) found
       → StoresUnnumbered IsValid row (put_all (without_all rows (ids_of found)) ((Int (next_rowid rows) ∷ row x) ∷ [])) (delete_where (λ y. same y x) xs ++ x ∷ [])
@@ -222,7 +222,7 @@ module _ {X : Type 0} (IsValid : X → Type 0) (row : X → Row) (db : Trees) (t
     picked : map value (filter (λ (y : ℤ × X). p y.1) h.numbered) ≡ filter p xs
     picked = sym (filter-map p value h.numbered) ∙ ap (filter p) h.values_are
 
-    -- ORDER BY rowid: in the order in which they came
+    -- ORDER BY rowid is the order of insertion
     pub shows_unnumbered : ((a b : ℤ × X) → tied a b ≡ int_cmp a.0 b.0) → (rows : List Row) → IsAnswer (one_table q) db params rows
         → rows ≡ page q params (map show (filter p xs))
     shows_unnumbered order rows answer =

@@ -33,7 +33,7 @@ module _ {X : Type 0} (key : X → ℤ) where
   abbrev differs : X → X → Type 0
   differs a b = int_eq (key a) (key b) ≡ false
 
-  -- what is put in may be put in any order, where no two have one key
+  -- values with distinct keys may be inserted in either order
   either_first : (a b : X) → differs a b → (xs : List X) → insert_by key (insert_by key xs a) b ≡ insert_by key (insert_by key xs b) a
   either_first a b apart [] = go (int_cmp (key a) (key b)) (int_cmp (key b) (key a)) refl refl
     where
@@ -91,7 +91,7 @@ module _ {X : Type 0} (key : X → ℤ) where
   puts_past [] x xs above = refl
   puts_past (n ∷ news) x xs above = rw (Less-from_lt (key x) (key n) above.0) (puts_past news x (insert_by key xs n) above.1)
 
-  -- taken out and put in changed is changed in place
+  -- removing values and inserting them changed is changing them in place
   pub puts_back : (p : X → Bool) (f : X → X) → ((x : X) → key (f x) ≡ key x) → (xs : List X) → IsKeyedBy key xs → fold (insert_by key) (delete_where p xs) (map f (filter p xs)) ≡ update_where p f xs
   puts_back p f keeps [] up = refl
   puts_back p f keeps (x ∷ xs) up = go (p x) (puts_back p f keeps xs up.1)
@@ -115,7 +115,7 @@ all_updated P p f keeps (x ∷ xs) all = (elim (p x) as (λ b. P (cond b (f x) x
 
 -- ---- UPDATE
 
--- the rowids of the rows WHERE these terms, each with the row that takes its place
+-- the rowids of the rows WHERE these terms, each with the row that replaces it
 abbrev pub update_query : ℕ → List Term → List Term → Query
 update_query tree terms news = record {
   from = inner tree end;
@@ -177,7 +177,7 @@ module _ {X : Type 0} (IsValid : X → Type 0) (key : X → ℤ) (row : X → Ro
           valid = all_updated IsValid p f valid xs stored.valid;
         }
 
--- ---- where the rowids are no part of the values
+-- ---- values that do not contain the rowid
 
 module _ {X : Type 0} (IsValid : X → Type 0) (row : X → Row) (db : Trees) (tree : ℕ) (xs : List X) (h : StoresUnnumbered IsValid row (db tree) xs) where
   values_updated : (p : X → Bool) (f : X → X) (ys : List (ℤ × X)) → map (λ (y : ℤ × X). y.1) (update_where (λ (y : ℤ × X). p y.1) (λ (y : ℤ × X). (y.0, f y.1)) ys) ≡ update_where p f (map (λ (y : ℤ × X). y.1) ys)

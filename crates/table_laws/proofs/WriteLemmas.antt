@@ -1,5 +1,5 @@
--- What INSERT OR REPLACE of one row, INSERT of the rows of a query, UPDATE and DELETE do to the rows of a table,
--- whatever its columns are.
+-- What INSERT OR REPLACE of one row, INSERT of a query's rows, UPDATE and DELETE do to the rows of a table with any
+-- columns.
 use Rattle.std.proofs.Common.{◌≡◌, ◌≢◌, inl, inr, ℕ, ℤ, ◌/◌, length, append-nil, List, [], ◌∷◌, map, drop, slice_get, Option, Some, None, Ok, refl, sym, ap, subst, ◌∙◌}
 use Rattle.std.specs.List.{AllByRecursion}
 use Rattle.sqlite.specs.Order.{Row}
@@ -30,7 +30,7 @@ use Rattle.table_laws.specs.Shape.{bare_table}
 use Rattle.table_laws.proofs.PartLemmas.{same_ok, went}
 use Rattle.table_laws.proofs.SetLemmas.{IsUntied, Sets}
 
--- where no foreign key acts, an edit is applied as it stands
+-- without foreign key actions an edit is applied as it is
 edits : (schema : Schema) → IsUntied schema → (keys : Keys) (db next : Trees) (edit : Edit) → Edited schema keys db edit (Ok next) → Applies schema keys db edit next
 edits schema untied keys db next edit h = one_step schema keys db next edit (untied keys edit.table.tree (taken_by db edit) edit.news) h
 
@@ -51,7 +51,7 @@ module _ (schema : Schema) (untied : IsUntied schema) (at tree : ℕ) (name : Li
     abbrev task : Task
     task = record { limit = old.step_limit; keys = (mode_of old).keys; schema = schema; table = table; params = params }
 
-    -- the rows were written to these trees, which are the new ones
+    -- the rows were written to these trees, which are now those of the database
     abbrev Ran : Command → Type 0
     Ran command = (w : Written) × WritesRows task old.now.trees command (Ok w) × (new.now ≡ record { schema = schema; trees = w.trees })
 
@@ -66,7 +66,7 @@ module _ (schema : Schema) (untied : IsUntied schema) (at tree : ℕ) (name : Li
     stays_sound : (command : Command) → Writes old new None command text params count → new.now.schema ≡ schema → IsSound schema new.now.trees
     stays_sound command w same = subst (λ s. IsSound s new.now.trees) same w.sound
 
-    -- the row that INSERT OR REPLACE puts in
+    -- the row that INSERT OR REPLACE inserts
     abbrev pub new_row : Row → Row
     new_row source = with_rowid Chosen (old.now.trees tree) (cast_row table (mended Replace table source))
 
@@ -79,7 +79,7 @@ module _ (schema : Schema) (untied : IsUntied schema) (at tree : ℕ) (name : Li
           subst (Others db) (sym same) all.tables,
         )
 
-    -- the row goes in, and the rows with its keys are taken out before
+    -- the row is inserted after the rows with its keys are removed
     clears : (one : Row) (db : Trees) (found : List Row) (done : Written) → Clears task Replace one db found (Ok done)
         → (done.trees tree ≡ put_all (without_all (db tree) (ids_of found)) (cast_row table one ∷ [])) × Others db done.trees
     clears one db [] done h = puts one db done h
@@ -103,7 +103,7 @@ module _ (schema : Schema) (untied : IsUntied schema) (at tree : ℕ) (name : Li
         let kept = clears one db found.0 done found.2 in
         (found.0, found.1, kept.0, kept.1)
 
-    -- INSERT OR REPLACE of one row takes out the rows that conflict with it, and puts it in
+    -- INSERT OR REPLACE of one row removes the rows that conflict with it, and inserts it
     pub replaces : (terms : List Term) (width : ℕ) (source : Row) → value_rows params width (length terms / width) terms ≡ source ∷ []
         → Writes old new None (InsertOr at Replace (Values terms width) []) text params count
         → (found : List Row) × AreConflicts None schema.indexes table (old.now.trees tree) (new_row source) found
@@ -135,7 +135,7 @@ module _ (schema : Schema) (untied : IsUntied schema) (at tree : ℕ) (name : Li
           },
         )
 
-    -- INSERT puts in the rows of its query, in their order, each with the next rowid where it has none
+    -- INSERT inserts the rows of its query in order, each with the next rowid unless it has one
     pub inserts : (q : Program) → Writes old new None (Insert at (Query q)) text params count
         → (found : List Row) × Answers (record { schema = schema; trees = old.now.trees }) q params found
         × Sets schema tree old.now new.now (put_all (old.now.trees tree) (numbered Chosen (old.now.trees tree) (map (λ s. cast_row table s) found)))
@@ -164,7 +164,7 @@ module _ (schema : Schema) (untied : IsUntied schema) (at tree : ℕ) (name : Li
           },
         )
 
-    -- DELETE takes out the rows that its query finds
+    -- DELETE removes the rows that its query finds
     pub deletes : (q : Program) → Writes old new None (Delete at q) text params count
         → (found : List Row) × Answers (record { schema = schema; trees = old.now.trees }) q params found × Sets schema tree old.now new.now (without_all (old.now.trees tree) (ids_of found))
     deletes q w =
@@ -191,7 +191,7 @@ module _ (schema : Schema) (untied : IsUntied schema) (at tree : ℕ) (name : Li
     given_rows rows [] = refl
     given_rows rows (r ∷ rs) = ap (λ l. r ∷ l) (given_rows (put_row r rows) rs)
 
-    -- UPDATE takes out the rows that its query finds, and puts in what the query has after their rowids
+    -- UPDATE removes the rows that its query finds, and inserts the new rows that the query returns with them
     pub updates : (q : Program) → Writes old new None (Update at q) text params count
         → (found : List Row) × Answers (record { schema = schema; trees = old.now.trees }) q params found
         × Sets schema tree old.now new.now (put_all (without_all (old.now.trees tree) (ids_of found)) (map (λ s. cast_row table (drop 1 s)) found))

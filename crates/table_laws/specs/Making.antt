@@ -1,4 +1,4 @@
--- The tables that CREATE TABLE texts make.
+-- The tables that CREATE TABLE texts create.
 use Rattle.std.specs.Prelude.{◌≡◌, ℕ, List, [], fold, Result, Ok, Err}
 use Rattle.std.specs.List.{AllByRecursion}
 use Rattle.sqlite_schema.specs.declared.schema.Table.{Table}
@@ -20,39 +20,39 @@ abbrev pub with_made : Schema → Result Table CompileError → Schema
 with_made schema (Ok table) = created schema table
 with_made schema (Err e) = schema
 
--- the schema that CREATE TABLE by these texts makes of an empty database, one after the other
+-- the schema after CREATE TABLE by these texts, in order, on an empty database
 abbrev pub schema_by : List (List ℕ) → Schema
 schema_by = fold (λ schema text. with_made schema (table_defined_by text)) no_schema
 
--- The trees list the tables that these texts make one after the other, with the indexes of their keys, and nothing
--- else, and their rows obey them.
+-- The trees list exactly the tables that these texts create in order, with the indexes of their keys, and their rows obey
+-- the tables.
 abbrev pub HasTables : List (List ℕ) → Trees → Type 0
 HasTables texts db = IsSound (schema_by texts) db
 
--- the database has the tables of the schema, and no row in them
+-- the database has exactly the tables of the schema, without rows
 pub record IsBlank (schema : Schema) (db : Database) : Type 0 where
   pub is : db.schema ≡ schema
   pub sound : IsSound schema db.trees
   pub none : AllByRecursion (λ (t : Table). db.trees t.tree ≡ []) schema.tables
 
--- the transaction goes on, and a database with the empty tables of the first schema has those of the second
+-- the transaction goes on, and the empty tables of the first schema become those of the second
 abbrev pub Adds : Schema → Schema → State → State → Type 0
 Adds before after old new = GoesOn old new × (IsBlank before old.now → IsBlank after new.now)
 
--- the table is there beside those of the schema, which keep their rows, and is empty
+-- the schema with this table added: its other tables keep their rows, and this one is empty
 pub record HasMade (schema : Schema) (table : Table) (old new : Database) : Type 0 where
   pub is : new.schema ≡ created schema table
   pub sound : IsSound (created schema table) new.trees
   pub empty : new.trees (next_tree schema) ≡ []
   pub others : KeepsRows schema.tables old.trees new.trees
 
--- the database has the tables of the schema with the rows that they had, and these tables after them, which are empty
+-- the schema with these tables added: its other tables keep their rows, and these are empty
 pub record HasMore (schema : Schema) (added : List Table) (old new : Database) : Type 0 where
   pub is : new.schema ≡ fold created schema added
   pub sound : IsSound (fold created schema added) new.trees
   pub kept : KeepsRows schema.tables old.trees new.trees
   pub empty : AllByRecursion (λ (t : Table). new.trees t.tree ≡ []) added
 
--- the transaction goes on, and a database of the schema gets these tables
+-- the transaction goes on, and adds these tables to a database of the schema
 abbrev pub AddsTo : Schema → List Table → State → State → Type 0
 AddsTo schema added old new = GoesOn old new × (old.now.schema ≡ schema → HasMore schema added old.now new.now)

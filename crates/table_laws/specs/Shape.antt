@@ -32,7 +32,7 @@ text_or_null name = column_of name Text false
 abbrev pub blob : List ℕ → Column
 blob name = column_of name Blob true
 
--- a STRICT table with no CHECK, no reference, no default and no AUTOINCREMENT
+-- a STRICT table without CHECK, foreign key, default or AUTOINCREMENT
 abbrev pub bare_table : ℕ → List ℕ → List Column → Option ℕ → List ℕ → List (List ℕ) → Table
 bare_table tree name columns key primary uniques = record {
   name = name;
@@ -53,6 +53,6 @@ bare_table tree name columns key primary uniques = record {
 abbrev pub numbered_table : ℕ → List ℕ → List Column → Table
 numbered_table tree name columns = bare_table tree name columns (Some 0) (0 ∷ []) []
 
--- a table with a PRIMARY KEY of these places, which has an index of its own in the next tree
+-- a table whose PRIMARY KEY is these columns, with an index of its own in the next tree
 abbrev pub keyed_table : ℕ → List ℕ → List ℕ → List Column → Table
 keyed_table tree name key columns = bare_table tree name columns None key (key ∷ [])

@@ -1,3 +1,3 @@
-//! What SQL statements of each kind do to a table, as changes of the values that its rows stand for, whatever the
-//! columns are. It has definitions and lemmas alone, and no code.
+//! What each kind of SQL statement does to a table with any columns, as changes of the values that
+//! its rows store. Definitions and lemmas only, no code.
 #![tactic(auto)]

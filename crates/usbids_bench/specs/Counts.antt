@@ -1,9 +1,9 @@
--- How many entries of each depth a document has.
+-- The number of entries of each depth in a document.
 use Rattle.std.specs.Prelude.{ℕ, ◌-◌, ◌^◌, min, List, length}
 use Rattle.std.specs.List.{sum_by}
 use Rattle.usbids_text.specs.Entries.{MidEntry, TopEntry}
 
--- a count, which stays at its greatest value
+-- a count, which stays at 2^64 - 1
 abbrev pub counted : ℕ → ℕ
 counted n = min n (2 ^ 64 - 1)
 

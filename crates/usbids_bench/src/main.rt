@@ -1,22 +1,21 @@
-//! Reads a list of USB numbers, writes it, and reads again what was written.
+//! Reads a list of USB numbers, writes it, and reads the written text again.
 //!
-//! `usbids_bench FILE [TIMES]` says how many entries the list has and whether what was written is
-//! read as the same document. With TIMES it prints the microseconds of that many reads and writes;
-//! with 0 it reads once, in pieces, and keeps no text.
+//! `usbids_bench FILE [TIMES]` prints the number of entries in the list, and whether the written
+//! text is read as the same document. With TIMES it prints the microseconds of that many reads and
+//! writes. With 0 it reads the file once, in pieces, and keeps no text.
 #![tactic(auto)]
 
 ghost use Rattle.std.specs.Prelude.{◌≡◌, length, IfOk, None};
 ghost use Rattle.usbids_text.specs.Writing.{written};
 ghost use Rattle.usbids_bench.specs.Counts.{counted, leaves_below, mids_in, leaves_in};
 
+use byte_streams::{Broken, Inlet, Outlet, Source};
 use std::alloc::{AllocError, Global};
 use std::time::Instant;
 use std::{fs, io};
-use usbids_text::{
-    Broken, Document, Inlet, Mid, Outlet, ReadFault, Reader, Source, WriteFault, read_all, write,
-};
+use usbids_text::{Document, Mid, ReadFault, Reader, WriteFault, read_all, write};
 
-/// What a list has.
+/// The number of entries of each depth.
 #[derive(Clone, Copy, Debug, PartialEq, Eq)]
 struct Counts {
     tops: usize,
@@ -53,7 +52,7 @@ fn counts_of(document: &Document) -> Counts
     }
 }
 
-// The document's text. It fails only where memory is short.
+// Returns the document's text. Fails only when it runs out of memory.
 fn text_of(alloc: Global, document: &Document) -> Result<Vec<u8>, WriteFault>
     ensures { IfOk result (λ text. text.items ≡ written document.now None) }
 {
@@ -62,8 +61,8 @@ fn text_of(alloc: Global, document: &Document) -> Result<Vec<u8>, WriteFault>
     Ok(sink.into_inner())
 }
 
-// Whether the text that is written is read as the document that it was written for: a text spells
-// one document, so the texts of both are compared.
+// Returns whether the text is read as the document that it was written for. It compares the texts
+// of both documents, as a text is the text of at most one document.
 fn is_read_again(alloc: Global, text: &[u8]) -> bool {
     match read_all(alloc, text) {
         Ok(document) => match text_of(alloc, &document) {
@@ -94,17 +93,17 @@ fn report(rt: &HostRuntime, document: &Document) -> io::Result<()> {
 fn time_read(rt: &HostRuntime, bytes: &[u8]) -> io::Result<()> {
     let start = Instant::now(rt)?;
     let read = read_all(rt.alloc(), bytes);
-    let spent = start.elapsed(rt)?;
+    let elapsed = start.elapsed(rt)?;
     drop(read);
-    println!(rt; "read {}", spent.as_micros())
+    println!(rt; "read {}", elapsed.as_micros())
 }
 
 fn time_write(rt: &HostRuntime, document: &Document) -> io::Result<()> {
     let start = Instant::now(rt)?;
     let text = text_of(rt.alloc(), document);
-    let spent = start.elapsed(rt)?;
+    let elapsed = start.elapsed(rt)?;
     drop(text);
-    println!(rt; "write {}", spent.as_micros())
+    println!(rt; "write {}", elapsed.as_micros())
 }
 
 fn time(rt: &HostRuntime, bytes: &[u8], times: u32) -> io::Result<()> {
@@ -119,8 +118,8 @@ fn time(rt: &HostRuntime, bytes: &[u8], times: u32) -> io::Result<()> {
     Ok(())
 }
 
-// Feeds the next piece of a list, and answers whether there was one. A fault of the list is told at
-// its end too.
+// Feeds the next piece of a list, and returns whether there was one. Faults are reported at the
+// end.
 fn feed_next<R: Source>(source: &mut R, reader: &mut Reader) -> Result<bool, Broken> {
     let mut piece = [0u8; 8192];
     match source.take(&mut piece) {

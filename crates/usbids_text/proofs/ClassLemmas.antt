@@ -1,4 +1,4 @@
--- The entry of a line that has no line feed keeps to what an entry keeps to.
+-- The entry of a line without a line feed is valid.
 use Rattle.std.proofs.Common.{◌≡◌, ℕ, zero, suc, ◌+◌, ◌*◌, ◌^◌, ◌<◌, ◌≤◌, Bool, true, false, List, [], ◌∷◌, length, drop, get_or, Option, Some, None, refl, sym, ap, ◌∙◌, inl, inr, arith, drop-cons}
 use Rattle.std.specs.Prelude.{◌&&◌, ◌==◌, not, nat_le, nat_lt, Ok, Err, option_and_then, is_some, position, unwrap_or}
 use Rattle.std.specs.List.{list_all}
@@ -13,114 +13,114 @@ use Rattle.usbids_text.specs.declared.kind.Depth.{Depth}
 use Rattle.usbids_text.specs.declared.kind.Depth.TheVariants.{Zero, One, Two}
 use Rattle.usbids_text.specs.declared.kind.Kind.TheVariants.{Vendor, Tagged}
 use Rattle.usbids_text.specs.Words.{is_separator, is_tail, is_inner, trimmed, before, word, past_separators, after_word, number_from, code_in, is_four, is_tag, is_code, begins_well, ends_well, is_name}
-use Rattle.usbids_text.specs.Entries.{Row, is_depth, is_row}
+use Rattle.usbids_text.specs.Entries.{EntryLine, is_depth, is_line}
 use Rattle.usbids_text.specs.Lines.{short_enough, with_code, below, tagged, top, after_tab, by_tabs, is_comment, class_of}
-use Rattle.usbids_text.proofs.EntryLemmas.{both, and-both}
+use Rattle.usbids_text.proofs.EntryLemmas.{both, and_both}
 
 -- bytes without a line feed that end well
 record IsPlain (bytes : List ℕ) : Type 0 where
   inner : list_all is_inner bytes ≡ true
   ends : ends_well bytes ≡ true
 
-inner-drop : (n : ℕ) (bytes : List ℕ) → list_all is_inner bytes ≡ true → list_all is_inner (drop n bytes) ≡ true
-inner-drop zero bytes e = e
-inner-drop (suc n) [] e = ap (list_all is_inner) (drop-nil (suc n)) ∙ e
-inner-drop (suc n) (b ∷ bytes) e = inner-drop n bytes (both (is_inner b) (list_all is_inner bytes) e).1
+inner_drop : (n : ℕ) (bytes : List ℕ) → list_all is_inner bytes ≡ true → list_all is_inner (drop n bytes) ≡ true
+inner_drop zero bytes e = e
+inner_drop (suc n) [] e = ap (list_all is_inner) (drop-nil (suc n)) ∙ e
+inner_drop (suc n) (b ∷ bytes) e = inner_drop n bytes (both (is_inner b) (list_all is_inner bytes) e).1
 
-ends-tail : (b : ℕ) (bytes : List ℕ) → ends_well (b ∷ bytes) ≡ true → ends_well bytes ≡ true
+ends_tail : (b : ℕ) (bytes : List ℕ) → ends_well (b ∷ bytes) ≡ true → ends_well bytes ≡ true
 unfolding ends_well
-ends-tail b [] e = refl
-ends-tail b (c ∷ bytes) e = e
+ends_tail b [] e = refl
+ends_tail b (c ∷ bytes) e = e
 
-ends-drop : (n : ℕ) (bytes : List ℕ) → ends_well bytes ≡ true → ends_well (drop n bytes) ≡ true
-ends-drop zero bytes e = e
-ends-drop (suc n) [] e = ap ends_well (drop-nil (suc n)) ∙ e
-ends-drop (suc n) (b ∷ bytes) e = ends-drop n bytes (ends-tail b bytes e)
+ends_drop : (n : ℕ) (bytes : List ℕ) → ends_well bytes ≡ true → ends_well (drop n bytes) ≡ true
+ends_drop zero bytes e = e
+ends_drop (suc n) [] e = ap ends_well (drop-nil (suc n)) ∙ e
+ends_drop (suc n) (b ∷ bytes) e = ends_drop n bytes (ends_tail b bytes e)
 
-plain-drop : (n : ℕ) (bytes : List ℕ) → IsPlain bytes → IsPlain (drop n bytes)
-plain-drop n bytes p = record { inner = inner-drop n bytes p.inner; ends = ends-drop n bytes p.ends }
+plain_drop : (n : ℕ) (bytes : List ℕ) → IsPlain bytes → IsPlain (drop n bytes)
+plain_drop n bytes p = record { inner = inner_drop n bytes p.inner; ends = ends_drop n bytes p.ends }
 
-plain-tail : (b : ℕ) (bytes : List ℕ) → IsPlain (b ∷ bytes) → IsPlain bytes
-plain-tail b bytes p = record { inner = (both (is_inner b) (list_all is_inner bytes) p.inner).1; ends = ends-tail b bytes p.ends }
+plain_tail : (b : ℕ) (bytes : List ℕ) → IsPlain (b ∷ bytes) → IsPlain bytes
+plain_tail b bytes p = record { inner = (both (is_inner b) (list_all is_inner bytes) p.inner).1; ends = ends_tail b bytes p.ends }
 
-plain-after : (bytes : List ℕ) → IsPlain bytes → IsPlain (after_word bytes)
+plain_after : (bytes : List ℕ) → IsPlain bytes → IsPlain (after_word bytes)
 unfolding after_word
-plain-after bytes p = plain-drop (before (λ b. not (is_separator b)) (drop (before is_separator bytes) bytes)) (drop (before is_separator bytes) bytes) (plain-drop (before is_separator bytes) bytes p)
+plain_after bytes p = plain_drop (before (λ b. not (is_separator b)) (drop (before is_separator bytes) bytes)) (drop (before is_separator bytes) bytes) (plain_drop (before is_separator bytes) bytes p)
 
-inner-trimmed : (bytes : List ℕ) → list_all is_inner bytes ≡ true → list_all is_inner (trimmed bytes) ≡ true
+inner_trimmed : (bytes : List ℕ) → list_all is_inner bytes ≡ true → list_all is_inner (trimmed bytes) ≡ true
 unfolding trimmed
-inner-trimmed [] e = refl
-inner-trimmed (b ∷ bytes) e = elim (cases_Bool (list_all is_tail (b ∷ bytes))) [
+inner_trimmed [] e = refl
+inner_trimmed (b ∷ bytes) e = elim (cases_Bool (list_all is_tail (b ∷ bytes))) [
   | inl all ↦ rw all refl
-  | inr some ↦ let parts = both (is_inner b) (list_all is_inner bytes) e in rw some (and-both (is_inner b) (list_all is_inner (trimmed bytes)) parts.0 (inner-trimmed bytes parts.1))
+  | inr some ↦ let parts = both (is_inner b) (list_all is_inner bytes) e in rw some (and_both (is_inner b) (list_all is_inner (trimmed bytes)) parts.0 (inner_trimmed bytes parts.1))
 ]
 
-trimmed-all : (bytes : List ℕ) → list_all is_tail bytes ≡ true → trimmed bytes ≡ []
+trimmed_all : (bytes : List ℕ) → list_all is_tail bytes ≡ true → trimmed bytes ≡ []
 unfolding trimmed
-trimmed-all [] e = refl
-trimmed-all (b ∷ bytes) e = rw e refl
+trimmed_all [] e = refl
+trimmed_all (b ∷ bytes) e = rw e refl
 
-pub trimmed-some : (b : ℕ) (bytes : List ℕ) → list_all is_tail (b ∷ bytes) ≡ false → trimmed (b ∷ bytes) ≡ b ∷ trimmed bytes
+pub trimmed_some : (b : ℕ) (bytes : List ℕ) → list_all is_tail (b ∷ bytes) ≡ false → trimmed (b ∷ bytes) ≡ b ∷ trimmed bytes
 unfolding trimmed
-trimmed-some b bytes e = rw e refl
+trimmed_some b bytes e = rw e refl
 
-not-and : (a b : Bool) → (a && b) ≡ false → b ≡ true → a ≡ false
-not-and true b e f = sym f ∙ e
-not-and false b e f = refl
+not_and_left : (a b : Bool) → (a && b) ≡ false → b ≡ true → a ≡ false
+not_and_left true b e f = sym f ∙ e
+not_and_left false b e f = refl
 
-ends-one : (b : ℕ) → is_tail b ≡ false → ends_well (b ∷ []) ≡ true
+ends_one : (b : ℕ) → is_tail b ≡ false → ends_well (b ∷ []) ≡ true
 unfolding ends_well
-ends-one b e = ap not e
+ends_one b e = ap not e
 
-ends-more : (b c : ℕ) (bytes : List ℕ) → ends_well (c ∷ bytes) ≡ true → ends_well (b ∷ (c ∷ bytes)) ≡ true
+ends_more : (b c : ℕ) (bytes : List ℕ) → ends_well (c ∷ bytes) ≡ true → ends_well (b ∷ (c ∷ bytes)) ≡ true
 unfolding ends_well
-ends-more b c bytes e = e
+ends_more b c bytes e = e
 
-ends-nil : ends_well [] ≡ true
+ends_nil : ends_well [] ≡ true
 unfolding ends_well
-ends-nil = refl
+ends_nil = refl
 
-pub ends-trimmed : (bytes : List ℕ) → ends_well (trimmed bytes) ≡ true
-ends-trimmed [] = ap ends_well (trimmed-all [] refl) ∙ ends-nil
-ends-trimmed (b ∷ []) = elim (cases_Bool (list_all is_tail (b ∷ []))) [
-  | inl all ↦ ap ends_well (trimmed-all (b ∷ []) all) ∙ ends-nil
-  | inr some ↦ ap ends_well (trimmed-some b [] some ∙ ap (λ (l : List ℕ). b ∷ l) (trimmed-all [] refl)) ∙ ends-one b (not-and (is_tail b) true some refl)
+pub ends_trimmed : (bytes : List ℕ) → ends_well (trimmed bytes) ≡ true
+ends_trimmed [] = ap ends_well (trimmed_all [] refl) ∙ ends_nil
+ends_trimmed (b ∷ []) = elim (cases_Bool (list_all is_tail (b ∷ []))) [
+  | inl all ↦ ap ends_well (trimmed_all (b ∷ []) all) ∙ ends_nil
+  | inr some ↦ ap ends_well (trimmed_some b [] some ∙ ap (λ (l : List ℕ). b ∷ l) (trimmed_all [] refl)) ∙ ends_one b (not_and_left (is_tail b) true some refl)
 ]
-ends-trimmed (b ∷ (c ∷ bytes)) = elim (cases_Bool (list_all is_tail (c ∷ bytes))) [
+ends_trimmed (b ∷ (c ∷ bytes)) = elim (cases_Bool (list_all is_tail (c ∷ bytes))) [
   | inl rest ↦ elim (cases_Bool (list_all is_tail (b ∷ (c ∷ bytes)))) [
-    | inl all ↦ ap ends_well (trimmed-all (b ∷ (c ∷ bytes)) all) ∙ ends-nil
-    | inr some ↦ ap ends_well (trimmed-some b (c ∷ bytes) some ∙ ap (λ (l : List ℕ). b ∷ l) (trimmed-all (c ∷ bytes) rest)) ∙ ends-one b (not-and (is_tail b) (list_all is_tail (c ∷ bytes)) some rest)
+    | inl all ↦ ap ends_well (trimmed_all (b ∷ (c ∷ bytes)) all) ∙ ends_nil
+    | inr some ↦ ap ends_well (trimmed_some b (c ∷ bytes) some ∙ ap (λ (l : List ℕ). b ∷ l) (trimmed_all (c ∷ bytes) rest)) ∙ ends_one b (not_and_left (is_tail b) (list_all is_tail (c ∷ bytes)) some rest)
   ]
   | inr rest ↦
-      let some : list_all is_tail (b ∷ (c ∷ bytes)) ≡ false = rw rest (and-no (is_tail b)) in
-      let below : ends_well (c ∷ trimmed bytes) ≡ true = ap ends_well (sym (trimmed-some c bytes rest)) ∙ ends-trimmed (c ∷ bytes) in
-      ap ends_well (trimmed-some b (c ∷ bytes) some ∙ ap (λ (l : List ℕ). b ∷ l) (trimmed-some c bytes rest)) ∙ ends-more b c (trimmed bytes) below
+      let some : list_all is_tail (b ∷ (c ∷ bytes)) ≡ false = rw rest (and_no (is_tail b)) in
+      let below : ends_well (c ∷ trimmed bytes) ≡ true = ap ends_well (sym (trimmed_some c bytes rest)) ∙ ends_trimmed (c ∷ bytes) in
+      ap ends_well (trimmed_some b (c ∷ bytes) some ∙ ap (λ (l : List ℕ). b ∷ l) (trimmed_some c bytes rest)) ∙ ends_more b c (trimmed bytes) below
 ]
   where
-    and-no : (a : Bool) → (a && false) ≡ false
-    and-no true = refl
-    and-no false = refl
+    and_no : (a : Bool) → (a && false) ≡ false
+    and_no true = refl
+    and_no false = refl
 
--- what is left after separators begins with none
-begins-at : (bytes : List ℕ) (i : ℕ) → i < length bytes → not (is_separator (get_or bytes i 0)) ≡ true → begins_well (drop i bytes) ≡ true
-begins-at bytes i h e = rw (drop-cons bytes i 0 h) e
+-- the bytes after separators do not begin with a separator
+begins_well_at : (bytes : List ℕ) (i : ℕ) → i < length bytes → not (is_separator (get_or bytes i 0)) ≡ true → begins_well (drop i bytes) ≡ true
+begins_well_at bytes i h e = rw (drop-cons bytes i 0 h) e
 
-begins-past : (bytes : List ℕ) (o : Option ℕ) → position (λ b. not (is_separator b)) bytes ≡ o → begins_well (drop (unwrap_or o (length bytes)) bytes) ≡ true
-begins-past bytes None e = rw (drop-length bytes) refl
-begins-past bytes (Some i) e = let found = position-Some (λ b. not (is_separator b)) bytes i 0 e in begins-at bytes i found.0 found.1
+begins_past : (bytes : List ℕ) (o : Option ℕ) → position (λ b. not (is_separator b)) bytes ≡ o → begins_well (drop (unwrap_or o (length bytes)) bytes) ≡ true
+begins_past bytes None e = rw (drop-length bytes) refl
+begins_past bytes (Some i) e = let found = position-Some (λ b. not (is_separator b)) bytes i 0 e in begins_well_at bytes i found.0 found.1
 
-begins-after : (bytes : List ℕ) → begins_well (past_separators bytes) ≡ true
+begins_after : (bytes : List ℕ) → begins_well (past_separators bytes) ≡ true
 unfolding before
-begins-after bytes = begins-past bytes (position (λ b. not (is_separator b)) bytes) refl
+begins_after bytes = begins_past bytes (position (λ b. not (is_separator b)) bytes) refl
 
-hex-small : (b d : ℕ) → hex_value b ≡ Some d → d < 16
-hex-small b d e = grind (arith, nat_tests)
+hex_small : (b d : ℕ) → hex_value b ≡ Some d → d < 16
+hex_small b d e = grind (arith, nat_tests)
 
--- digits after n spell a number that n and their count bound
-bound-step : (bytes : List ℕ) (b n c : ℕ) → ((m x : ℕ) → number_from m bytes ≡ Some x → x < (m + 1) * 16 ^ length bytes) → (o : Option ℕ) → hex_value b ≡ o → option_and_then (λ d. number_from (n * 16 + d) bytes) o ≡ Some c → c < (n + 1) * 16 ^ length (b ∷ bytes)
-bound-step bytes b n c each None e f = absurd cc
-bound-step bytes b n c each (Some d) e f =
-    let small = hex-small b d e in
+-- n and the number of further digits bound the value
+bound_step : (bytes : List ℕ) (b n c : ℕ) → ((m x : ℕ) → number_from m bytes ≡ Some x → x < (m + 1) * 16 ^ length bytes) → (o : Option ℕ) → hex_value b ≡ o → option_and_then (λ d. number_from (n * 16 + d) bytes) o ≡ Some c → c < (n + 1) * 16 ^ length (b ∷ bytes)
+bound_step bytes b n c each None e f = absurd cc
+bound_step bytes b n c each (Some d) e f =
+    let small = hex_small b d e in
     let p : ℕ = 16 ^ length bytes in
     let below : c < (n * 16 + d + 1) * p = each (n * 16 + d) c f in
     let wide : n * 16 + d + 1 ≤ (n + 1) * 16 = omega arith in
@@ -129,78 +129,78 @@ bound-step bytes b n c each (Some d) e f =
     let same : (n + 1) * 16 ^ length (b ∷ bytes) ≡ (n + 1) * 16 * p = ap (λ (k : ℕ). (n + 1) * k) power ∙ sym (mul_assoc (n + 1) 16 p) in
     omega arith
 
-number-bound : (bytes : List ℕ) (n c : ℕ) → number_from n bytes ≡ Some c → c < (n + 1) * 16 ^ length bytes
+number_bound : (bytes : List ℕ) (n c : ℕ) → number_from n bytes ≡ Some c → c < (n + 1) * 16 ^ length bytes
 unfolding number_from
-number-bound [] n c e = let same : n ≡ c = cc in omega (arith, pow-zero 16)
-number-bound (b ∷ bytes) n c e = bound-step bytes b n c (λ m x f. number-bound bytes m x f) (hex_value b) refl e
+number_bound [] n c e = let same : n ≡ c = cc in omega (arith, pow-zero 16)
+number_bound (b ∷ bytes) n c e = bound_step bytes b n c (λ m x f. number_bound bytes m x f) (hex_value b) refl e
 
-pub code-fits : (bytes : List ℕ) (c : ℕ) → code_in bytes ≡ Some c → is_code c (length bytes) ≡ true
+pub code_fits : (bytes : List ℕ) (c : ℕ) → code_in bytes ≡ Some c → is_code c (length bytes) ≡ true
 unfolding code_in
-code-fits bytes c e = elim (cases_Bool (nat_le 1 (length bytes) && nat_le (length bytes) 4)) [
+code_fits bytes c e = elim (cases_Bool (nat_le 1 (length bytes) && nat_le (length bytes) 4)) [
   | inl counted ↦
       let spelt : number_from 0 bytes ≡ Some c = sym (rw counted refl) ∙ e in
-      let bound = number-bound bytes 0 c spelt in
+      let bound = number_bound bytes 0 c spelt in
       let below : nat_lt c (16 ^ length bytes) ≡ true = lt-ltb c (16 ^ length bytes) (omega arith) in
-      and-both (nat_le 1 (length bytes) && nat_le (length bytes) 4) (nat_lt c (16 ^ length bytes)) counted below
+      and_both (nat_le 1 (length bytes) && nat_le (length bytes) 4) (nat_lt c (16 ^ length bytes)) counted below
   | inr other ↦ let none : None ≡ Some c = sym (rw other refl) ∙ e in absurd cc
 ]
 
--- the entry that is read where a code is due
-short-row : (row found : Row) → is_code row.code row.digits ≡ true → list_all is_inner row.name ≡ true → begins_well row.name ≡ true → ends_well row.name ≡ true → is_depth row.depth row.digits ≡ true → short_enough row ≡ Ok (Some found) → is_row found ≡ true
-unfolding is_row is_name
-short-row row found code inner begins ends depth e = elim (cases_Bool (nat_le (length row.name) 65000)) [
+-- the entry that is read from a code and a name
+short_entry : (entry_line found : EntryLine) → is_code entry_line.code entry_line.digits ≡ true → list_all is_inner entry_line.name ≡ true → begins_well entry_line.name ≡ true → ends_well entry_line.name ≡ true → is_depth entry_line.depth entry_line.digits ≡ true → short_enough entry_line ≡ Ok (Some found) → is_line found ≡ true
+unfolding is_line is_name
+short_entry entry_line found code inner begins ends depth e = elim (cases_Bool (nat_le (length entry_line.name) 65000)) [
   | inl short ↦
-      let read : Ok (Some row) ≡ Ok (Some found) = sym (rw short refl) ∙ e in
-      let same : row ≡ found = cc in
-      ap is_row (sym same) ∙ rw (code, short, inner, begins, ends, depth) refl
+      let read : Ok (Some entry_line) ≡ Ok (Some found) = sym (rw short refl) ∙ e in
+      let same : entry_line ≡ found = cc in
+      ap is_line (sym same) ∙ rw (code, short, inner, begins, ends, depth) refl
   | inr long ↦ let read : Err LineTooLong ≡ Ok (Some found) = sym (rw long refl) ∙ e in absurd cc
 ]
 
-code-row : (depth : Depth) (bytes : List ℕ) (o : Option ℕ) (found : Row) → IsPlain bytes → is_depth depth (length (word bytes)) ≡ true → code_in (word bytes) ≡ o → with_code depth bytes o ≡ Ok (Some found) → is_row found ≡ true
+code_entry : (depth : Depth) (bytes : List ℕ) (o : Option ℕ) (found : EntryLine) → IsPlain bytes → is_depth depth (length (word bytes)) ≡ true → code_in (word bytes) ≡ o → with_code depth bytes o ≡ Ok (Some found) → is_line found ≡ true
 unfolding after_word
-code-row depth bytes None found plain deep code e = absurd cc
-code-row depth bytes (Some n) found plain deep code e =
-    let after = plain-after bytes plain in
-    short-row (record { depth = depth; code = n; digits = length (word bytes); name = after_word bytes }) found (code-fits (word bytes) n code) after.inner (begins-after (drop (before is_separator bytes) bytes)) after.ends deep e
+code_entry depth bytes None found plain deep code e = absurd cc
+code_entry depth bytes (Some n) found plain deep code e =
+    let after = plain_after bytes plain in
+    short_entry (record { depth = depth; code = n; digits = length (word bytes); name = after_word bytes }) found (code_fits (word bytes) n code) after.inner (begins_after (drop (before is_separator bytes) bytes)) after.ends deep e
 
-below-row : (depth : Depth) (bytes : List ℕ) (found : Row) → IsPlain bytes → is_depth depth (length (word bytes)) ≡ true → below depth bytes ≡ Ok (Some found) → is_row found ≡ true
+below_entry : (depth : Depth) (bytes : List ℕ) (found : EntryLine) → IsPlain bytes → is_depth depth (length (word bytes)) ≡ true → below depth bytes ≡ Ok (Some found) → is_line found ≡ true
 unfolding below
-below-row depth bytes found plain deep e = code-row depth bytes (code_in (word bytes)) found plain deep refl e
+below_entry depth bytes found plain deep e = code_entry depth bytes (code_in (word bytes)) found plain deep refl e
 
-four-long : (bytes : List ℕ) → is_four bytes ≡ true → (length bytes == 4) ≡ true
+four_long : (bytes : List ℕ) → is_four bytes ≡ true → (length bytes == 4) ≡ true
 unfolding is_four
-four-long bytes e = (both (length bytes == 4) (is_some (code_in bytes)) e).0
+four_long bytes e = (both (length bytes == 4) (is_some (code_in bytes)) e).0
 
-top-row : (bytes : List ℕ) (found : Row) → IsPlain bytes → top bytes ≡ Ok (Some found) → is_row found ≡ true
+top_line_is : (bytes : List ℕ) (found : EntryLine) → IsPlain bytes → top bytes ≡ Ok (Some found) → is_line found ≡ true
 unfolding top tagged
-top-row bytes found plain e = elim (cases_Bool (is_four (word bytes))) [
-  | inl four ↦ below-row (Zero Vendor) bytes found plain (four-long (word bytes) four) (sym (rw four refl) ∙ e)
+top_line_is bytes found plain e = elim (cases_Bool (is_four (word bytes))) [
+  | inl four ↦ below_entry (Zero Vendor) bytes found plain (four_long (word bytes) four) (sym (rw four refl) ∙ e)
   | inr other ↦ elim (cases_Bool (is_tag (word bytes))) [
-    | inl tag ↦ below-row (Zero (Tagged (word bytes))) (after_word bytes) found (plain-after bytes plain) tag (sym (rw (other, tag) refl) ∙ e)
+    | inl tag ↦ below_entry (Zero (Tagged (word bytes))) (after_word bytes) found (plain_after bytes plain) tag (sym (rw (other, tag) refl) ∙ e)
     | inr none ↦ let read : Err BadTop ≡ Ok (Some found) = sym (rw (other, none) refl) ∙ e in absurd cc
   ]
 ]
 
-after-tab-row : (bytes : List ℕ) (found : Row) → IsPlain bytes → after_tab bytes ≡ Ok (Some found) → is_row found ≡ true
-after-tab-row [] found plain e = below-row One [] found plain refl e
-after-tab-row (b ∷ bytes) found plain e = elim (cases_Bool (b == 9)) [
-  | inl tab ↦ below-row Two bytes found (plain-tail b bytes plain) refl (sym (rw tab refl) ∙ e)
-  | inr other ↦ below-row One (b ∷ bytes) found plain refl (sym (rw other refl) ∙ e)
+after_tab_entry : (bytes : List ℕ) (found : EntryLine) → IsPlain bytes → after_tab bytes ≡ Ok (Some found) → is_line found ≡ true
+after_tab_entry [] found plain e = below_entry One [] found plain refl e
+after_tab_entry (b ∷ bytes) found plain e = elim (cases_Bool (b == 9)) [
+  | inl tab ↦ below_entry Two bytes found (plain_tail b bytes plain) refl (sym (rw tab refl) ∙ e)
+  | inr other ↦ below_entry One (b ∷ bytes) found plain refl (sym (rw other refl) ∙ e)
 ]
 
-by-tabs-row : (bytes : List ℕ) (found : Row) → IsPlain bytes → by_tabs bytes ≡ Ok (Some found) → is_row found ≡ true
-by-tabs-row [] found plain e = absurd cc
-by-tabs-row (b ∷ bytes) found plain e = elim (cases_Bool (b == 9)) [
-  | inl tab ↦ after-tab-row bytes found (plain-tail b bytes plain) (sym (rw tab refl) ∙ e)
-  | inr other ↦ top-row (b ∷ bytes) found plain (sym (rw other refl) ∙ e)
+by_tabs_entry : (bytes : List ℕ) (found : EntryLine) → IsPlain bytes → by_tabs bytes ≡ Ok (Some found) → is_line found ≡ true
+by_tabs_entry [] found plain e = absurd cc
+by_tabs_entry (b ∷ bytes) found plain e = elim (cases_Bool (b == 9)) [
+  | inl tab ↦ after_tab_entry bytes found (plain_tail b bytes plain) (sym (rw tab refl) ∙ e)
+  | inr other ↦ top_line_is (b ∷ bytes) found plain (sym (rw other refl) ∙ e)
 ]
 
-pub class-row : (line : List ℕ) (found : Row) → list_all is_inner line ≡ true → class_of line ≡ Ok (Some found) → is_row found ≡ true
+pub class_entry : (line : List ℕ) (found : EntryLine) → list_all is_inner line ≡ true → class_of line ≡ Ok (Some found) → is_line found ≡ true
 unfolding class_of
-class-row line found inner e = elim (cases_Bool (nat_lt 65536 (length line))) [
+class_entry line found inner e = elim (cases_Bool (nat_lt 65536 (length line))) [
   | inl long ↦ let read : Err LineTooLong ≡ Ok (Some found) = sym (rw long refl) ∙ e in absurd cc
   | inr short ↦ elim (cases_Bool (is_comment (past_separators (trimmed line)))) [
     | inl comment ↦ let read : Ok None ≡ Ok (Some found) = sym (rw (short, comment) refl) ∙ e in absurd cc
-    | inr other ↦ by-tabs-row (trimmed line) found (record { inner = inner-trimmed line inner; ends = ends-trimmed line }) (sym (rw (short, other) refl) ∙ e)
+    | inr other ↦ by_tabs_entry (trimmed line) found (record { inner = inner_trimmed line inner; ends = ends_trimmed line }) (sym (rw (short, other) refl) ∙ e)
   ]
 ]

@@ -1,4 +1,4 @@
--- What is fed byte by byte is what the lines of the whole give.
+-- Bytes fed one by one give the same as the lines of the whole text.
 use Rattle.std.proofs.Common.{◌≡◌, ℕ, ◌<◌, ◌≤◌, true, false, List, [], ◌∷◌, ◌++◌, length, refl, sym, ap, ◌∙◌, inl, inr, arith, append_assoc, length-append}
 use Rattle.std.specs.Prelude.{◌==◌, nat_lt, is_some}
 use Rattle.std.proofs.lemmas.Bool.{cases_Bool, le-ltb, lt-ltb, ltb-false, ltb-true}
@@ -10,115 +10,115 @@ use Rattle.usbids_text.proofs.InnerLemmas.{Pieces}
 use Rattle.usbids_text.specs.Cut.{prefixed, cut}
 use Rattle.usbids_text.specs.Outcome.{done, over, outcome}
 
--- no byte is a line feed
+-- none of the bytes is a line feed
 abbrev pub IsPart : List ℕ → Type 0
 IsPart [] = Unit {0}
 IsPart (b ∷ bytes) = ((b == 10) ≡ false) × IsPart bytes
 
-pub IsPart-push : (p : List ℕ) (b : ℕ) → IsPart p → (b == 10) ≡ false → IsPart (p ++ b ∷ [])
-IsPart-push [] b h e = (e, tt)
-IsPart-push (x ∷ p) b h e = (h.0, IsPart-push p b h.1 e)
+pub is_part_push : (p : List ℕ) (b : ℕ) → IsPart p → (b == 10) ≡ false → IsPart (p ++ b ∷ [])
+is_part_push [] b h e = (e, tt)
+is_part_push (x ∷ p) b h e = (h.0, is_part_push p b h.1 e)
 
-prefixed-prefixed : (x : ℕ) (p : List ℕ) (ls : List (List ℕ)) (rest : List ℕ) → prefixed (x ∷ []) (prefixed p ls rest).0 (prefixed p ls rest).1 ≡ prefixed (x ∷ p) ls rest
-prefixed-prefixed x p [] rest = refl
-prefixed-prefixed x p (l ∷ ls) rest = refl
+prefixed_prefixed : (x : ℕ) (p : List ℕ) (ls : List (List ℕ)) (rest : List ℕ) → prefixed (x ∷ []) (prefixed p ls rest).0 (prefixed p ls rest).1 ≡ prefixed (x ∷ p) ls rest
+prefixed_prefixed x p [] rest = refl
+prefixed_prefixed x p (l ∷ ls) rest = refl
 
-prefixed-nil : (ls : List (List ℕ)) (rest : List ℕ) → (ls, rest) ≡ prefixed [] ls rest
-prefixed-nil [] rest = refl
-prefixed-nil (l ∷ ls) rest = refl
+prefixed_nil : (ls : List (List ℕ)) (rest : List ℕ) → (ls, rest) ≡ prefixed [] ls rest
+prefixed_nil [] rest = refl
+prefixed_nil (l ∷ ls) rest = refl
 
-cut-part : (p t : List ℕ) → IsPart p → cut (p ++ t) ≡ prefixed p (cut t).0 (cut t).1
+cut_part : (p t : List ℕ) → IsPart p → cut (p ++ t) ≡ prefixed p (cut t).0 (cut t).1
 unfolding cut
-cut-part [] t h = prefixed-nil (cut t).0 (cut t).1
-cut-part (x ∷ p) t h = rw (h.0, cut-part p t h.1) (prefixed-prefixed x p (cut t).0 (cut t).1)
+cut_part [] t h = prefixed_nil (cut t).0 (cut t).1
+cut_part (x ∷ p) t h = rw (h.0, cut_part p t h.1) (prefixed_prefixed x p (cut t).0 (cut t).1)
 
-pub done-fault : (h : Held) (ls : List (List ℕ)) → is_some h.fault ≡ true → done h ls ≡ h
+pub done_fault : (h : Held) (ls : List (List ℕ)) → is_some h.fault ≡ true → done h ls ≡ h
 unfolding done
-done-fault h [] e = refl
-done-fault h (l ∷ ls) e = rw e (done-fault h ls e)
+done_fault h [] e = refl
+done_fault h (l ∷ ls) e = rw e (done_fault h ls e)
 
-outcome-fault : (h : Held) (t : List ℕ) → is_some h.fault ≡ true → outcome h t ≡ h
+outcome_fault : (h : Held) (t : List ℕ) → is_some h.fault ≡ true → outcome h t ≡ h
 unfolding outcome
-outcome-fault h t e = rw (done-fault h (cut t).0 e, e) refl
+outcome_fault h t e = rw (done_fault h (cut t).0 e, e) refl
 
 -- a line that is too long is faulty
-pub line_done-long : (h : Held) (l : List ℕ) → 65536 < length l → line_done h l ≡ refused h LineTooLong
+pub line_done_long : (h : Held) (l : List ℕ) → 65536 < length l → line_done h l ≡ refused h LineTooLong
 unfolding line_done class_of
-line_done-long h l long = let test : nat_lt 65536 (length l) ≡ true = lt-ltb 65536 (length l) long in rw test refl
+line_done_long h l long = let test : nat_lt 65536 (length l) ≡ true = lt-ltb 65536 (length l) long in rw test refl
 
 long_first : (h : Held) (p : List ℕ) (ls : List (List ℕ)) (rest : List ℕ) → is_some h.fault ≡ false → 65536 < length p → over (done h (prefixed p ls rest).0) (prefixed p ls rest).1 ≡ refused h LineTooLong
 unfolding done
 long_first h p [] rest e long = let test : nat_lt 65536 (length (p ++ rest)) ≡ true = lt-ltb 65536 (length (p ++ rest)) (omega (arith, length-append p rest)) in rw (e, test) refl
-long_first h p (l ∷ ls) rest e long = rw (e, line_done-long h (p ++ l) (omega (arith, length-append p l)), done-fault (refused h LineTooLong) ls refl) refl
+long_first h p (l ∷ ls) rest e long = rw (e, line_done_long h (p ++ l) (omega (arith, length-append p l)), done_fault (refused h LineTooLong) ls refl) refl
 
-pub took-faulty : (s : Fed) (b : ℕ) → is_some s.held.fault ≡ true → took s b ≡ s
+pub took_faulty : (s : Fed) (b : ℕ) → is_some s.held.fault ≡ true → took s b ≡ s
 unfolding took
-took-faulty s b e = rw e refl
+took_faulty s b e = rw e refl
 
-pub took-lf : (p : List ℕ) (h : Held) (b : ℕ) → is_some h.fault ≡ false → (b == 10) ≡ true → took (record { pending = p; held = h }) b ≡ record { pending = []; held = line_done h p }
+pub took_lf : (p : List ℕ) (h : Held) (b : ℕ) → is_some h.fault ≡ false → (b == 10) ≡ true → took (record { pending = p; held = h }) b ≡ record { pending = []; held = line_done h p }
 unfolding took
-took-lf p h b e lf = rw (e, lf) refl
+took_lf p h b e lf = rw (e, lf) refl
 
-pub took-more : (p : List ℕ) (h : Held) (b : ℕ) → is_some h.fault ≡ false → (b == 10) ≡ false → nat_lt (length p) 65536 ≡ true → took (record { pending = p; held = h }) b ≡ record { pending = p ++ b ∷ []; held = h }
+pub took_more : (p : List ℕ) (h : Held) (b : ℕ) → is_some h.fault ≡ false → (b == 10) ≡ false → nat_lt (length p) 65536 ≡ true → took (record { pending = p; held = h }) b ≡ record { pending = p ++ b ∷ []; held = h }
 unfolding took
-took-more p h b e lf room = rw (e, lf, room) refl
+took_more p h b e lf room = rw (e, lf, room) refl
 
-pub took-long : (p : List ℕ) (h : Held) (b : ℕ) → is_some h.fault ≡ false → (b == 10) ≡ false → nat_lt (length p) 65536 ≡ false → took (record { pending = p; held = h }) b ≡ record { pending = []; held = refused h LineTooLong }
+pub took_long : (p : List ℕ) (h : Held) (b : ℕ) → is_some h.fault ≡ false → (b == 10) ≡ false → nat_lt (length p) 65536 ≡ false → took (record { pending = p; held = h }) b ≡ record { pending = []; held = refused h LineTooLong }
 unfolding took
-took-long p h b e lf room = rw (e, lf, room) refl
+took_long p h b e lf room = rw (e, lf, room) refl
 
-pub fed-fault : (s : Fed) (t : List ℕ) → is_some s.held.fault ≡ true → (fed s t).held ≡ s.held
+pub fed_fault : (s : Fed) (t : List ℕ) → is_some s.held.fault ≡ true → (fed s t).held ≡ s.held
 unfolding fed
-fed-fault s [] e = refl
-fed-fault s (b ∷ t) e = ap (λ (x : Fed). (fed x t).held) (took-faulty s b e) ∙ fed-fault s t e
+fed_fault s [] e = refl
+fed_fault s (b ∷ t) e = ap (λ (x : Fed). (fed x t).held) (took_faulty s b e) ∙ fed_fault s t e
 
-cut-lf : (b : ℕ) (t : List ℕ) → (b == 10) ≡ true → cut (b ∷ t) ≡ ([] ∷ (cut t).0, (cut t).1)
+cut_lf : (b : ℕ) (t : List ℕ) → (b == 10) ≡ true → cut (b ∷ t) ≡ ([] ∷ (cut t).0, (cut t).1)
 unfolding cut
-cut-lf b t lf = rw lf refl
+cut_lf b t lf = rw lf refl
 
-pub cut-line : (p : List ℕ) (b : ℕ) (t : List ℕ) → IsPart p → (b == 10) ≡ true → cut (p ++ b ∷ t) ≡ (p ∷ (cut t).0, (cut t).1)
-cut-line p b t part lf =
-    cut-part p (b ∷ t) part ∙ (ap (λ (c : Pieces). prefixed p c.0 c.1) (cut-lf b t lf) ∙ ap (λ (l : List ℕ). (l ∷ (cut t).0, (cut t).1)) (append-nil p))
+pub cut_line : (p : List ℕ) (b : ℕ) (t : List ℕ) → IsPart p → (b == 10) ≡ true → cut (p ++ b ∷ t) ≡ (p ∷ (cut t).0, (cut t).1)
+cut_line p b t part lf =
+    cut_part p (b ∷ t) part ∙ (ap (λ (c : Pieces). prefixed p c.0 c.1) (cut_lf b t lf) ∙ ap (λ (l : List ℕ). (l ∷ (cut t).0, (cut t).1)) (append-nil p))
 
-pub cut-open : (p : List ℕ) → IsPart p → cut (p ++ []) ≡ ([], p)
+pub cut_open : (p : List ℕ) → IsPart p → cut (p ++ []) ≡ ([], p)
 unfolding cut
-cut-open p part = cut-part p [] part ∙ ap (λ (l : List ℕ). ([], l)) (append-nil p)
+cut_open p part = cut_part p [] part ∙ ap (λ (l : List ℕ). ([], l)) (append-nil p)
 
-done-line : (h : Held) (l : List ℕ) (ls : List (List ℕ)) → is_some h.fault ≡ false → done h (l ∷ ls) ≡ done (line_done h l) ls
+done_line : (h : Held) (l : List ℕ) (ls : List (List ℕ)) → is_some h.fault ≡ false → done h (l ∷ ls) ≡ done (line_done h l) ls
 unfolding done
-done-line h l ls e = rw e refl
+done_line h l ls e = rw e refl
 
--- a whole line, and then the others
-outcome-line : (p : List ℕ) (h : Held) (b : ℕ) (t : List ℕ) → IsPart p → is_some h.fault ≡ false → (b == 10) ≡ true → outcome h (p ++ b ∷ t) ≡ outcome (line_done h p) t
+-- a complete line, and then the rest
+outcome_line : (p : List ℕ) (h : Held) (b : ℕ) (t : List ℕ) → IsPart p → is_some h.fault ≡ false → (b == 10) ≡ true → outcome h (p ++ b ∷ t) ≡ outcome (line_done h p) t
 unfolding outcome
-outcome-line p h b t part e lf =
-    ap (λ (c : Pieces). over (done h c.0) c.1) (cut-line p b t part lf) ∙ ap (λ (k : Held). over k (cut t).1) (done-line h p (cut t).0 e)
+outcome_line p h b t part e lf =
+    ap (λ (c : Pieces). over (done h c.0) c.1) (cut_line p b t part lf) ∙ ap (λ (k : Held). over k (cut t).1) (done_line h p (cut t).0 e)
 
-over-short : (h : Held) (p : List ℕ) → length p ≤ 65536 → over h p ≡ h
-over-short h p short =
+over_short : (h : Held) (p : List ℕ) → length p ≤ 65536 → over h p ≡ h
+over_short h p short =
     let test : nat_lt 65536 (length p) ≡ false = le-ltb 65536 (length p) short in
     elim (cases_Bool (is_some h.fault)) [ inl e ↦ rw e refl | inr e ↦ rw (e, test) refl ]
 
-outcome-long : (p : List ℕ) (h : Held) (t : List ℕ) → IsPart p → is_some h.fault ≡ false → 65536 < length p → outcome h (p ++ t) ≡ refused h LineTooLong
+outcome_long : (p : List ℕ) (h : Held) (t : List ℕ) → IsPart p → is_some h.fault ≡ false → 65536 < length p → outcome h (p ++ t) ≡ refused h LineTooLong
 unfolding outcome
-outcome-long p h t part e long = rw (cut-part p t part) (long_first h p (cut t).0 (cut t).1 e long)
+outcome_long p h t part e long = rw (cut_part p t part) (long_first h p (cut t).0 (cut t).1 e long)
 
-outcome-start : (p : List ℕ) (h : Held) → IsPart p → length p ≤ 65536 → outcome h (p ++ []) ≡ h
+outcome_start : (p : List ℕ) (h : Held) → IsPart p → length p ≤ 65536 → outcome h (p ++ []) ≡ h
 unfolding outcome done
-outcome-start p h part short = ap (λ (c : Pieces). over (done h c.0) c.1) (cut-open p part) ∙ over-short h p short
+outcome_start p h part short = ap (λ (c : Pieces). over (done h c.0) c.1) (cut_open p part) ∙ over_short h p short
 
 pub fed_outcome : (p : List ℕ) (h : Held) (t : List ℕ) → IsPart p → length p ≤ 65536 → (fed (record { pending = p; held = h }) t).held ≡ outcome h (p ++ t)
 unfolding fed
-fed_outcome p h [] part short = sym (outcome-start p h part short)
+fed_outcome p h [] part short = sym (outcome_start p h part short)
 fed_outcome p h (b ∷ t) part short =
     elim (cases_Bool (is_some h.fault)) [
-      | inl e ↦ fed-fault (record { pending = p; held = h }) (b ∷ t) e ∙ sym (outcome-fault h (p ++ b ∷ t) e)
+      | inl e ↦ fed_fault (record { pending = p; held = h }) (b ∷ t) e ∙ sym (outcome_fault h (p ++ b ∷ t) e)
       | inr e ↦ elim (cases_Bool (b == 10)) [
-        | inl lf ↦ ap (λ (x : Fed). (fed x t).held) (took-lf p h b e lf) ∙ (fed_outcome [] (line_done h p) t tt (omega arith) ∙ sym (outcome-line p h b t part e lf))
+        | inl lf ↦ ap (λ (x : Fed). (fed x t).held) (took_lf p h b e lf) ∙ (fed_outcome [] (line_done h p) t tt (omega arith) ∙ sym (outcome_line p h b t part e lf))
         | inr other ↦ elim (cases_Bool (nat_lt (length p) 65536)) [
-          | inl room ↦ ap (λ (x : Fed). (fed x t).held) (took-more p h b e other room) ∙ (fed_outcome (p ++ b ∷ []) h t (IsPart-push p b part other) (omega (arith, ltb-true (length p) 65536 room, length-append p (b ∷ []))) ∙ ap (outcome h) (append_assoc p (b ∷ []) t))
-          | inr full ↦ ap (λ (x : Fed). (fed x t).held) (took-long p h b e other full) ∙ (fed-fault (record { pending = []; held = refused h LineTooLong }) t refl
-              ∙ (sym (outcome-long (p ++ b ∷ []) h t (IsPart-push p b part other) e (omega (arith, ltb-false (length p) 65536 full, length-append p (b ∷ [])))) ∙ ap (outcome h) (append_assoc p (b ∷ []) t)))
+          | inl room ↦ ap (λ (x : Fed). (fed x t).held) (took_more p h b e other room) ∙ (fed_outcome (p ++ b ∷ []) h t (is_part_push p b part other) (omega (arith, ltb-true (length p) 65536 room, length-append p (b ∷ []))) ∙ ap (outcome h) (append_assoc p (b ∷ []) t))
+          | inr full ↦ ap (λ (x : Fed). (fed x t).held) (took_long p h b e other full) ∙ (fed_fault (record { pending = []; held = refused h LineTooLong }) t refl
+              ∙ (sym (outcome_long (p ++ b ∷ []) h t (is_part_push p b part other) e (omega (arith, ltb-false (length p) 65536 full, length-append p (b ∷ [])))) ∙ ap (outcome h) (append_assoc p (b ∷ []) t)))
         ]
       ]
     ]

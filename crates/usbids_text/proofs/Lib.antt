@@ -1,4 +1,3 @@
-pub mod EndLemmas
 pub mod WordLemmas
 pub mod EntryLemmas
 pub mod ClassLemmas

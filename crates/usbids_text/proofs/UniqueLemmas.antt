@@ -1,4 +1,4 @@
--- A text spells one document, or has one first fault, and never both.
+-- A text is the text of one document, or has one first fault, and never both.
 use Rattle.std.proofs.Common.{◌≡◌, ℕ, true, false, List, [], ◌∷◌, ◌++◌, Option, Some, None, refl, sym, ap, ◌∙◌, inl, inr, append_assoc}
 use Rattle.std.specs.Prelude.{◌==◌, ◌&&◌, ◌||◌, not, Result, Ok, Err, is_some, if◌then◌else◌}
 use Rattle.std.specs.List.{list_all}
@@ -6,32 +6,32 @@ use Rattle.std.proofs.lemmas.List.{append-nil}
 use Rattle.usbids_text.specs.declared.line.Why.{Why}
 use Rattle.usbids_text.specs.declared.kind.Kind.{Kind}
 use Rattle.usbids_text.specs.declared.kind.Kind.TheVariants.{Vendor, Tagged}
-use Rattle.usbids_text.specs.Entries.{Row, LeafEntry, MidEntry, TopEntry, leaf_row, mid_row, top_row, leaves_rows, mids_rows, tops_rows, preorder, is_vendor, has_four, is_sound_top, IsSound}
+use Rattle.usbids_text.specs.Entries.{EntryLine, LeafEntry, MidEntry, TopEntry, leaf_line, mid_line, top_line, leaves_lines, mids_lines, tops_lines, preorder, is_vendor, has_four, is_sound_top, IsSound}
 use Rattle.usbids_text.specs.Lines.{class_of}
-use Rattle.usbids_text.specs.Documents.{misplaced, Spell, FaultIn, fault_of, entries, with_line}
+use Rattle.usbids_text.specs.Documents.{misplaced, AreLinesOf, FaultIn, fault_of, entries, with_line}
 use Rattle.usbids_text.specs.declared.fault.LineFault.{LineFault}
 use Rattle.usbids_text.specs.declared.fault.ReadFault.TheVariants.{Line}
 use Rattle.usbids_text.specs.Feeding.{Held, line_done, with_class, with_fault, refused, start}
 use Rattle.usbids_text.specs.Outcome.{done}
-use Rattle.usbids_text.proofs.CutLemmas.{done-fault}
-use Rattle.usbids_text.proofs.DocumentLemmas.{IsOpen, IsOpenAt, misplaced-same}
-use Rattle.usbids_text.proofs.RunLemmas.{joined, entries-append, verdict_of, done-good}
+use Rattle.usbids_text.proofs.CutLemmas.{done_fault}
+use Rattle.usbids_text.proofs.DocumentLemmas.{IsOpen, IsOpenAt, misplaced_same}
+use Rattle.usbids_text.proofs.RunLemmas.{joined, entries_append, verdict_of, done_good}
 use Rattle.usbids_text.specs.Opens.{Open, with_mid, whole, put, misplaced_in, with_leaf, none_open}
 use Rattle.usbids_text.proofs.EntryLemmas.{both}
-use Rattle.usbids_text.proofs.InnerLemmas.{AreInner, AreInner-before}
+use Rattle.usbids_text.proofs.InnerLemmas.{AreInner, are_inner_before}
 
-abbrev placed_at : Open → Row → Option Why → Option Open
-placed_at o row None = Some (put o row)
-placed_at o row (Some why) = None
+abbrev placed_at : Open → EntryLine → Option Why → Option Open
+placed_at o entry_line None = Some (put o entry_line)
+placed_at o entry_line (Some why) = None
 
-abbrev tried : Option Open → Row → Option Open
-tried None row = None
-tried (Some o) row = placed_at o row (misplaced_in o row)
+abbrev tried : Option Open → EntryLine → Option Open
+tried None entry_line = None
+tried (Some o) entry_line = placed_at o entry_line (misplaced_in o entry_line)
 
--- the entries put at their places, as long as each has one
-unfoldable run : Option Open → List Row → Option Open
+-- puts the entries in their places, if each has one
+unfoldable run : Option Open → List EntryLine → Option Open
 run o [] = o
-run o (row ∷ rows) = run (tried o row) rows
+run o (entry_line ∷ entry_lines) = run (tried o entry_line) entry_lines
 
 abbrev at : List TopEntry → Option TopEntry → Option MidEntry → Open
 at tops top mid = record { tops = tops; top = top; mid = mid }
@@ -39,64 +39,64 @@ at tops top mid = record { tops = tops; top = top; mid = mid }
 abbrev with_leaves : MidEntry → List LeafEntry → MidEntry
 with_leaves m ls = record m { leaves = m.leaves ++ ls }
 
-run-append : (o : Option Open) (a b : List Row) → run o (a ++ b) ≡ run (run o a) b
+run_append : (o : Option Open) (a b : List EntryLine) → run o (a ++ b) ≡ run (run o a) b
 unfolding run
-run-append o [] b = refl
-run-append o (x ∷ a) b = run-append (tried o x) a b
+run_append o [] b = refl
+run_append o (x ∷ a) b = run_append (tried o x) a b
 
-run-none : (rows : List Row) → run None rows ≡ None
+run_none : (entry_lines : List EntryLine) → run None entry_lines ≡ None
 unfolding run
-run-none [] = refl
-run-none (x ∷ rows) = run-none rows
+run_none [] = refl
+run_none (x ∷ entry_lines) = run_none entry_lines
 
-tried-leaf : (tops : List TopEntry) (t : TopEntry) (m : MidEntry) (l : LeafEntry) → tried (Some (at tops (Some t) (Some m))) (leaf_row l) ≡ Some (at tops (Some t) (Some (with_leaf m l)))
+tried_leaf : (tops : List TopEntry) (t : TopEntry) (m : MidEntry) (l : LeafEntry) → tried (Some (at tops (Some t) (Some m))) (leaf_line l) ≡ Some (at tops (Some t) (Some (with_leaf m l)))
 unfolding put misplaced_in
-tried-leaf tops t m l = refl
+tried_leaf tops t m l = refl
 
-run-leaves : (tops : List TopEntry) (t : TopEntry) (m : MidEntry) (ls : List LeafEntry) → run (Some (at tops (Some t) (Some m))) (leaves_rows ls) ≡ Some (at tops (Some t) (Some (with_leaves m ls)))
-unfolding leaves_rows run
-run-leaves tops t m [] = ap (λ (x : List LeafEntry). Some (at tops (Some t) (Some (record m { leaves = x })))) (sym (append-nil m.leaves))
-run-leaves tops t m (l ∷ ls) =
-    ap (λ (o : Option Open). run o (leaves_rows ls)) (tried-leaf tops t m l) ∙ (run-leaves tops t (with_leaf m l) ls
+run_leaves : (tops : List TopEntry) (t : TopEntry) (m : MidEntry) (ls : List LeafEntry) → run (Some (at tops (Some t) (Some m))) (leaves_lines ls) ≡ Some (at tops (Some t) (Some (with_leaves m ls)))
+unfolding leaves_lines run
+run_leaves tops t m [] = ap (λ (x : List LeafEntry). Some (at tops (Some t) (Some (record m { leaves = x })))) (sym (append-nil m.leaves))
+run_leaves tops t m (l ∷ ls) =
+    ap (λ (o : Option Open). run o (leaves_lines ls)) (tried_leaf tops t m l) ∙ (run_leaves tops t (with_leaf m l) ls
     ∙ ap (λ (x : List LeafEntry). Some (at tops (Some t) (Some (record m { leaves = x })))) (append_assoc m.leaves (l ∷ []) ls))
 
 abbrev with_mids : TopEntry → List MidEntry → TopEntry
 with_mids t ms = record t { mids = t.mids ++ ms }
 
--- all entries had a place, and these are the tops then
+-- all entries had a place, and these are the tops
 record Ran (o : Option Open) (tops : List TopEntry) : Type 0 where
   ends : Open
   is : o ≡ Some ends
   tops_are : whole ends ≡ tops
   opens : IsOpen ends
 
-four-split : (kind : Kind) (m : MidEntry) (ms : List MidEntry) → (not (is_vendor kind) || list_all has_four (m ∷ ms)) ≡ true → ((is_vendor kind && not (m.digits == 4)) ≡ false) × ((not (is_vendor kind) || list_all has_four ms) ≡ true)
-four-split (Tagged tag) m ms e = (refl, refl)
-four-split Vendor m ms e = let parts = both (m.digits == 4) (list_all has_four ms) e in (ap not parts.0, parts.1)
+four_split : (kind : Kind) (m : MidEntry) (ms : List MidEntry) → (not (is_vendor kind) || list_all has_four (m ∷ ms)) ≡ true → ((is_vendor kind && not (m.digits == 4)) ≡ false) × ((not (is_vendor kind) || list_all has_four ms) ≡ true)
+four_split (Tagged tag) m ms e = (refl, refl)
+four_split Vendor m ms e = let parts = both (m.digits == 4) (list_all has_four ms) e in (ap not parts.0, parts.1)
 
-tried-mid : (tops : List TopEntry) (t : TopEntry) (mid : Option MidEntry) (m : MidEntry) → (is_vendor t.kind && not (m.digits == 4)) ≡ false → tried (Some (at tops (Some t) mid)) (mid_row m) ≡ Some (at tops (Some (with_mid t mid)) (Some (record m { leaves = [] })))
+tried_mid : (tops : List TopEntry) (t : TopEntry) (mid : Option MidEntry) (m : MidEntry) → (is_vendor t.kind && not (m.digits == 4)) ≡ false → tried (Some (at tops (Some t) mid)) (mid_line m) ≡ Some (at tops (Some (with_mid t mid)) (Some (record m { leaves = [] })))
 unfolding put misplaced_in
-tried-mid tops t mid m e = rw e refl
+tried_mid tops t mid m e = rw e refl
 
-kind-same : (t : TopEntry) (mid : Option MidEntry) → (with_mid t mid).kind ≡ t.kind
-kind-same t None = refl
-kind-same t (Some m) = refl
+kind_same : (t : TopEntry) (mid : Option MidEntry) → (with_mid t mid).kind ≡ t.kind
+kind_same t None = refl
+kind_same t (Some m) = refl
 
-run-mids : (ms : List MidEntry) (tops : List TopEntry) (t : TopEntry) (mid : Option MidEntry) → IsOpenAt tops (Some t) mid → (not (is_vendor t.kind) || list_all has_four ms) ≡ true → Ran (run (Some (at tops (Some t) mid)) (mids_rows ms)) (tops ++ with_mids (with_mid t mid) ms ∷ [])
-unfolding mids_rows run
-run-mids [] tops t mid opens four = record {
+run_mids : (ms : List MidEntry) (tops : List TopEntry) (t : TopEntry) (mid : Option MidEntry) → IsOpenAt tops (Some t) mid → (not (is_vendor t.kind) || list_all has_four ms) ≡ true → Ran (run (Some (at tops (Some t) mid)) (mids_lines ms)) (tops ++ with_mids (with_mid t mid) ms ∷ [])
+unfolding mids_lines run
+run_mids [] tops t mid opens four = record {
   ends = at tops (Some t) mid;
   is = refl;
   tops_are = ap (λ (x : List MidEntry). tops ++ record (with_mid t mid) { mids = x } ∷ []) (sym (append-nil (with_mid t mid).mids));
   opens = opens;
 }
-run-mids (m ∷ ms) tops t mid opens four =
-    let parts = four-split t.kind m ms four in
-    let one : run (Some (at tops (Some t) mid)) (mids_rows (m ∷ ms)) ≡ run (Some (at tops (Some (with_mid t mid)) (Some m))) (mids_rows ms) =
-    ap (λ (o : Option Open). run o (leaves_rows m.leaves ++ mids_rows ms)) (tried-mid tops t mid m parts.0)
-    ∙ (run-append (Some (at tops (Some (with_mid t mid)) (Some (record m { leaves = [] })))) (leaves_rows m.leaves) (mids_rows ms)
-    ∙ ap (λ (o : Option Open). run o (mids_rows ms)) (run-leaves tops (with_mid t mid) (record m { leaves = [] }) m.leaves)) in
-    let rest = run-mids ms tops (with_mid t mid) (Some m) tt (ap (λ (k : Kind). not (is_vendor k) || list_all has_four ms) (kind-same t mid) ∙ parts.1) in
+run_mids (m ∷ ms) tops t mid opens four =
+    let parts = four_split t.kind m ms four in
+    let one : run (Some (at tops (Some t) mid)) (mids_lines (m ∷ ms)) ≡ run (Some (at tops (Some (with_mid t mid)) (Some m))) (mids_lines ms) =
+    ap (λ (o : Option Open). run o (leaves_lines m.leaves ++ mids_lines ms)) (tried_mid tops t mid m parts.0)
+    ∙ (run_append (Some (at tops (Some (with_mid t mid)) (Some (record m { leaves = [] })))) (leaves_lines m.leaves) (mids_lines ms)
+    ∙ ap (λ (o : Option Open). run o (mids_lines ms)) (run_leaves tops (with_mid t mid) (record m { leaves = [] }) m.leaves)) in
+    let rest = run_mids ms tops (with_mid t mid) (Some m) tt (ap (λ (k : Kind). not (is_vendor k) || list_all has_four ms) (kind_same t mid) ∙ parts.1) in
     record {
       ends = rest.ends;
       is = one ∙ rest.is;
@@ -104,21 +104,21 @@ run-mids (m ∷ ms) tops t mid opens four =
       opens = rest.opens;
     }
 
-tried-top : (o : Open) (t : TopEntry) → tried (Some o) (top_row t) ≡ Some (at (whole o) (Some (record t { mids = [] })) None)
+tried_top : (o : Open) (t : TopEntry) → tried (Some o) (top_line t) ≡ Some (at (whole o) (Some (record t { mids = [] })) None)
 unfolding put misplaced_in
-tried-top o t = refl
+tried_top o t = refl
 
-run-tops : (ts : List TopEntry) (o : Open) → IsOpen o → list_all is_sound_top ts ≡ true → Ran (run (Some o) (tops_rows ts)) (whole o ++ ts)
-unfolding tops_rows run
-run-tops [] o opens sound = record { ends = o; is = refl; tops_are = sym (append-nil (whole o)); opens = opens }
-run-tops (t ∷ ts) o opens sound =
+run_tops : (ts : List TopEntry) (o : Open) → IsOpen o → list_all is_sound_top ts ≡ true → Ran (run (Some o) (tops_lines ts)) (whole o ++ ts)
+unfolding tops_lines run
+run_tops [] o opens sound = record { ends = o; is = refl; tops_are = sym (append-nil (whole o)); opens = opens }
+run_tops (t ∷ ts) o opens sound =
     let parts = both (is_sound_top t) (list_all is_sound_top ts) sound in
-    let mids = run-mids t.mids (whole o) (record t { mids = [] }) None refl parts.0 in
-    let rest = run-tops ts mids.ends mids.opens parts.1 in
-    let one : run (Some o) (tops_rows (t ∷ ts)) ≡ run (Some mids.ends) (tops_rows ts) =
-    ap (λ (x : Option Open). run x (mids_rows t.mids ++ tops_rows ts)) (tried-top o t)
-    ∙ (run-append (Some (at (whole o) (Some (record t { mids = [] })) None)) (mids_rows t.mids) (tops_rows ts)
-    ∙ ap (λ (x : Option Open). run x (tops_rows ts)) mids.is) in
+    let mids = run_mids t.mids (whole o) (record t { mids = [] }) None refl parts.0 in
+    let rest = run_tops ts mids.ends mids.opens parts.1 in
+    let one : run (Some o) (tops_lines (t ∷ ts)) ≡ run (Some mids.ends) (tops_lines ts) =
+    ap (λ (x : Option Open). run x (mids_lines t.mids ++ tops_lines ts)) (tried_top o t)
+    ∙ (run_append (Some (at (whole o) (Some (record t { mids = [] })) None)) (mids_lines t.mids) (tops_lines ts)
+    ∙ ap (λ (x : Option Open). run x (tops_lines ts)) mids.is) in
     record {
       ends = rest.ends;
       is = one ∙ rest.is;
@@ -126,82 +126,82 @@ run-tops (t ∷ ts) o opens sound =
       opens = rest.opens;
     }
 
-run-document : (d : List TopEntry) → IsSound d → Ran (run (Some (none_open [])) (preorder d)) d
-run-document d sound = run-tops d (none_open []) refl sound.fours
+run_document : (d : List TopEntry) → IsSound d → Ran (run (Some (none_open [])) (preorder d)) d
+run_document d sound = run_tops d (none_open []) refl sound.fours
 
 -- a list of entries is the preorder of one document
-pub one-document : (a b : List TopEntry) → IsSound a → IsSound b → preorder a ≡ preorder b → a ≡ b
-one-document a b sa sb e =
-    let ra = run-document a sa in
-    let rb = run-document b sb in
+pub document_is_one : (a b : List TopEntry) → IsSound a → IsSound b → preorder a ≡ preorder b → a ≡ b
+document_is_one a b sa sb e =
+    let ra = run_document a sa in
+    let rb = run_document b sb in
     let ends : Some ra.ends ≡ Some rb.ends = sym ra.is ∙ (ap (run (Some (none_open []))) e ∙ rb.is) in
     let same : ra.ends ≡ rb.ends = cc in
     sym ra.tops_are ∙ (ap whole same ∙ rb.tops_are)
 
-pub one-spelt : (ls : List (List ℕ)) (a b : List TopEntry) → Spell ls a → Spell ls b → a ≡ b
-one-spelt ls a b sa sb = let e : Some (preorder a) ≡ Some (preorder b) = sym sa.rows ∙ sb.rows in one-document a b sa.sound sb.sound (cc)
+pub one_spelt : (ls : List (List ℕ)) (a b : List TopEntry) → AreLinesOf ls a → AreLinesOf ls b → a ≡ b
+one_spelt ls a b sa sb = let e : Some (preorder a) ≡ Some (preorder b) = sym sa.entry_lines ∙ sb.entry_lines in document_is_one a b sa.sound sb.sound (cc)
 
-tried-misplaced : (o : Open) (row : Row) (why : Why) → misplaced_in o row ≡ Some why → tried (Some o) row ≡ None
-tried-misplaced o row why e = rw e refl
+tried_misplaced : (o : Open) (entry_line : EntryLine) (why : Why) → misplaced_in o entry_line ≡ Some why → tried (Some o) entry_line ≡ None
+tried_misplaced o entry_line why e = rw e refl
 
-no-place : (d before : List TopEntry) (row : Row) (more : List Row) (why : Why) → IsSound d → IsSound before → misplaced before row ≡ Some why → preorder before ++ row ∷ more ≡ preorder d → ⊥
+no_place : (d before : List TopEntry) (entry_line : EntryLine) (more : List EntryLine) (why : Why) → IsSound d → IsSound before → misplaced before entry_line ≡ Some why → preorder before ++ entry_line ∷ more ≡ preorder d → ⊥
 unfolding run
-no-place d before row more why sd sb bad e =
-    let rd = run-document d sd in
-    let rb = run-document before sb in
+no_place d before entry_line more why sd sb bad e =
+    let rd = run_document d sd in
+    let rb = run_document before sb in
     let doc : whole rb.ends ≡ before = rb.tops_are in
-    let place : misplaced_in rb.ends row ≡ Some why = misplaced-same rb.ends row rb.opens ∙ (ap (λ (x : List TopEntry). misplaced x row) doc ∙ bad) in
-    let stops : run (Some (none_open [])) (preorder before ++ row ∷ more) ≡ None =
-    run-append (Some (none_open [])) (preorder before) (row ∷ more) ∙ (ap (λ (o : Option Open). run (tried o row) more) rb.is ∙ (ap (λ (o : Option Open). run o more) (tried-misplaced rb.ends row why place) ∙ run-none more)) in
+    let place : misplaced_in rb.ends entry_line ≡ Some why = misplaced_same rb.ends entry_line rb.opens ∙ (ap (λ (x : List TopEntry). misplaced x entry_line) doc ∙ bad) in
+    let stops : run (Some (none_open [])) (preorder before ++ entry_line ∷ more) ≡ None =
+    run_append (Some (none_open [])) (preorder before) (entry_line ∷ more) ∙ (ap (λ (o : Option Open). run (tried o entry_line) more) rb.is ∙ (ap (λ (o : Option Open). run o more) (tried_misplaced rb.ends entry_line why place) ∙ run_none more)) in
     let goes : None ≡ Some rd.ends = sym stops ∙ (ap (run (Some (none_open []))) e ∙ rd.is) in
     absurd cc
 
-faulty-row : (d before : List TopEntry) (c : Result (Option Row) Why) (more : Option (List Row)) (why : Why) → IsSound d → IsSound before → fault_of before c ≡ Some why → joined (Some (preorder before)) (with_line c more) ≡ Some (preorder d) → ⊥
-faulty-row d before (Err w) more why sd sb bad e = absurd cc
-faulty-row d before (Ok None) more why sd sb bad e = absurd cc
-faulty-row d before (Ok (Some row)) None why sd sb bad e = absurd cc
-faulty-row d before (Ok (Some row)) (Some more) why sd sb bad e = no-place d before row more why sd sb bad (cc)
+faulty_entry : (d before : List TopEntry) (c : Result (Option EntryLine) Why) (more : Option (List EntryLine)) (why : Why) → IsSound d → IsSound before → fault_of before c ≡ Some why → joined (Some (preorder before)) (with_line c more) ≡ Some (preorder d) → ⊥
+faulty_entry d before (Err w) more why sd sb bad e = absurd cc
+faulty_entry d before (Ok None) more why sd sb bad e = absurd cc
+faulty_entry d before (Ok (Some entry_line)) None why sd sb bad e = absurd cc
+faulty_entry d before (Ok (Some entry_line)) (Some more) why sd sb bad e = no_place d before entry_line more why sd sb bad (cc)
 
--- lines that spell a document have no fault
-pub never-both : (ls : List (List ℕ)) (d : List TopEntry) (n : ℕ) (why : Why) → Spell ls d → FaultIn ls n why → ⊥
+-- the lines of a document have no fault
+pub not_both_at_once : (ls : List (List ℕ)) (d : List TopEntry) (n : ℕ) (why : Why) → AreLinesOf ls d → FaultIn ls n why → ⊥
 unfolding entries
-never-both ls d n why s f =
-    faulty-row d f.doc (class_of f.line) (entries f.after) why s.sound f.spells.sound f.faulty
-    (ap (λ (r : Option (List Row)). joined r (with_line (class_of f.line) (entries f.after))) (sym f.spells.rows) ∙ (sym (entries-append f.before (f.line ∷ f.after)) ∙ (ap entries (sym f.cut) ∙ s.rows)))
+not_both_at_once ls d n why s f =
+    faulty_entry d f.doc (class_of f.line) (entries f.after) why s.sound f.lines_of.sound f.faulty
+    (ap (λ (r : Option (List EntryLine)). joined r (with_line (class_of f.line) (entries f.after))) (sym f.lines_of.entry_lines) ∙ (sym (entries_append f.before (f.line ∷ f.after)) ∙ (ap entries (sym f.cut) ∙ s.entry_lines)))
 
-with_class-faulty : (h : Held) (c : Result (Option Row) Why) (why : Why) → IsOpen h.built → fault_of (whole h.built) c ≡ Some why → with_class h c ≡ refused h why
-with_class-faulty h (Err w) why opens e = ap (refused h) (cc)
-with_class-faulty h (Ok None) why opens e = absurd cc
-with_class-faulty h (Ok (Some row)) why opens e = ap (with_fault h row) (misplaced-same h.built row opens ∙ e)
+with_class_faulty : (h : Held) (c : Result (Option EntryLine) Why) (why : Why) → IsOpen h.built → fault_of (whole h.built) c ≡ Some why → with_class h c ≡ refused h why
+with_class_faulty h (Err w) why opens e = ap (refused h) (cc)
+with_class_faulty h (Ok None) why opens e = absurd cc
+with_class_faulty h (Ok (Some entry_line)) why opens e = ap (with_fault h entry_line) (misplaced_same h.built entry_line opens ∙ e)
 
-done-append : (h : Held) (a b : List (List ℕ)) → done h (a ++ b) ≡ done (done h a) b
+done_append : (h : Held) (a b : List (List ℕ)) → done h (a ++ b) ≡ done (done h a) b
 unfolding done
-done-append h [] b = refl
-done-append h (l ∷ a) b = done-append (if is_some h.fault then h else line_done h l) a b
+done_append h [] b = refl
+done_append h (l ∷ a) b = done_append (if is_some h.fault then h else line_done h l) a b
 
-faulty-line : (h : Held) (l : List ℕ) (after : List (List ℕ)) (why : Why) → h.fault ≡ None → IsOpen h.built → fault_of (whole h.built) (class_of l) ≡ Some why → done h (l ∷ after) ≡ refused h why
+faulty_line : (h : Held) (l : List ℕ) (after : List (List ℕ)) (why : Why) → h.fault ≡ None → IsOpen h.built → fault_of (whole h.built) (class_of l) ≡ Some why → done h (l ∷ after) ≡ refused h why
 unfolding line_done
-faulty-line h l after why clear opens e =
-    done-good h l after clear ∙ (ap (λ (k : Held). done k after) (with_class-faulty h (class_of l) why opens e) ∙ done-fault (refused h why) after refl)
+faulty_line h l after why clear opens e =
+    done_good h l after clear ∙ (ap (λ (k : Held). done k after) (with_class_faulty h (class_of l) why opens e) ∙ done_fault (refused h why) after refl)
 
--- lines with a fault give that fault
-pub fault-found : (ls : List (List ℕ)) (n : ℕ) (why : Why) → AreInner ls → FaultIn ls n why → (done start.held ls).fault ≡ Some (Line (record { line = n; why = why }))
-fault-found ls n why inner f = elim (verdict_of f.before (AreInner-before ls f.before (f.line ∷ f.after) f.cut inner)) [
-  | inr b ↦ absurd (never-both f.before f.doc b.fault.line b.fault.why f.spells b.faulty)
+-- a reader of lines with a fault has that fault
+pub fault_found : (ls : List (List ℕ)) (n : ℕ) (why : Why) → AreInner ls → FaultIn ls n why → (done start.held ls).fault ≡ Some (Line (record { line = n; why = why }))
+fault_found ls n why inner f = elim (verdict_of f.before (are_inner_before ls f.before (f.line ∷ f.after) f.cut inner)) [
+  | inr b ↦ absurd (not_both_at_once f.before f.doc b.fault.line b.fault.why f.lines_of b.faulty)
   | inl g ↦
       let h : Held = done start.held f.before in
-      let same : f.doc ≡ whole h.built = one-spelt f.before f.doc (whole h.built) f.spells g.spells in
-      let stop : done h (f.line ∷ f.after) ≡ refused h why = faulty-line h f.line f.after why g.clear g.opens (ap (λ (d : List TopEntry). fault_of d (class_of f.line)) (sym same) ∙ f.faulty) in
+      let same : f.doc ≡ whole h.built = one_spelt f.before f.doc (whole h.built) f.lines_of g.lines_of in
+      let stop : done h (f.line ∷ f.after) ≡ refused h why = faulty_line h f.line f.after why g.clear g.opens (ap (λ (d : List TopEntry). fault_of d (class_of f.line)) (sym same) ∙ f.faulty) in
       let number : h.line ≡ n = g.number ∙ sym f.number in
-      ap (λ (x : List (List ℕ)). (done start.held x).fault) f.cut ∙ (ap (λ (k : Held). k.fault) (done-append start.held f.before (f.line ∷ f.after) ∙ stop)
+      ap (λ (x : List (List ℕ)). (done start.held x).fault) f.cut ∙ (ap (λ (k : Held). k.fault) (done_append start.held f.before (f.line ∷ f.after) ∙ stop)
       ∙ ap (λ (m : ℕ). Some (Line (record { line = m; why = why }))) number)
 ]
 
 abbrev fault_at_line : ℕ → Why → LineFault
 fault_at_line n why = record { line = n; why = why }
 
-pub one-fault : (ls : List (List ℕ)) (m n : ℕ) (w v : Why) → AreInner ls → FaultIn ls m w → FaultIn ls n v → (m ≡ n) × (w ≡ v)
-one-fault ls m n w v inner a b =
-    let e : Some (Line (record { line = m; why = w })) ≡ Some (Line (record { line = n; why = v })) = sym (fault-found ls m w inner a) ∙ fault-found ls n v inner b in
+pub fault_is_one : (ls : List (List ℕ)) (m n : ℕ) (w v : Why) → AreInner ls → FaultIn ls m w → FaultIn ls n v → (m ≡ n) × (w ≡ v)
+fault_is_one ls m n w v inner a b =
+    let e : Some (Line (record { line = m; why = w })) ≡ Some (Line (record { line = n; why = v })) = sym (fault_found ls m w inner a) ∙ fault_found ls n v inner b in
     let same : fault_at_line m w ≡ fault_at_line n v = cc in
     (ap (λ (x : LineFault). x.line) same, ap (λ (x : LineFault). x.why) same)

@@ -1,4 +1,4 @@
--- What a builder holds.
+-- A builder's state, as a value.
 use Rattle.usbids_text.specs.declared.builder.Builder.{Builder}
 use Rattle.usbids_text.specs.Opens.{Open}
 

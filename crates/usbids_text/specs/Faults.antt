@@ -1,4 +1,4 @@
--- How it is told why a text is not read.
+-- The messages for the faults of a text.
 use Rattle.std.specs.Prelude.{ℕ, List, ◌++◌, codes}
 use Rattle.std.specs.Fmt.{decimal}
 use Rattle.usbids_text.specs.declared.fault.LineFault.{LineFault}
@@ -7,18 +7,18 @@ use Rattle.usbids_text.specs.declared.fault.ReadFault.TheVariants as fault
 use Rattle.usbids_text.specs.declared.line.Why.{Why}
 use Rattle.usbids_text.specs.declared.line.Why.TheVariants.{BadTop, BadCode, NoParent, LineTooLong}
 
--- what is wrong with a line
+-- the name of a line's fault
 abbrev pub why_text : Why → List ℕ
 why_text BadTop = codes "BadTop"
 why_text BadCode = codes "BadCode"
 why_text NoParent = codes "NoParent"
 why_text LineTooLong = codes "LineTooLong"
 
--- line 2: NoParent
+-- for example `line 2: NoParent`
 abbrev pub line_fault_text : LineFault → List ℕ
 line_fault_text fault = codes "line " ++ decimal fault.line ++ codes ": " ++ why_text fault.why
 
--- the faulty line, or want of memory
+-- the faulty line, or out of memory
 abbrev pub read_fault_text : ReadFault → List ℕ
 read_fault_text (fault.Line line) = line_fault_text line
 read_fault_text fault.NoMemory = codes "out of memory"

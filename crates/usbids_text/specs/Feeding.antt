@@ -1,15 +1,15 @@
--- A text that comes in pieces.
+-- The state of a reader that takes a text in pieces.
 use Rattle.std.specs.Prelude.{ℕ, ◌+◌, ◌==◌, nat_lt, List, [], ◌∷◌, ◌++◌, length, Option, Some, None, is_some, Result, Ok, Err, if◌then◌else◌}
 use Rattle.usbids_text.specs.declared.line.Why.{Why}
 use Rattle.usbids_text.specs.declared.line.Why.TheVariants.{LineTooLong}
 use Rattle.usbids_text.specs.declared.fault.ReadFault.{ReadFault}
 use Rattle.usbids_text.specs.declared.fault.ReadFault.TheVariants.{Line}
-use Rattle.usbids_text.specs.Entries.{Row}
+use Rattle.usbids_text.specs.Entries.{EntryLine}
 use Rattle.usbids_text.specs.Lines.{class_of}
 use Rattle.usbids_text.specs.Documents.{next}
 use Rattle.usbids_text.specs.Opens.{Open, none_open, put, misplaced_in}
 
--- what the whole lines so far give: the number of the next line, the document, and the first fault
+-- the state after the complete lines so far: the number of the next line, the document, and the first fault
 pub record Held : Type 0 where
   pub line : ℕ
   pub built : Open
@@ -18,20 +18,20 @@ pub record Held : Type 0 where
 abbrev pub refused : Held → Why → Held
 refused h why = record h { fault = Some (Line (record { line = h.line; why = why })) }
 
-abbrev pub with_fault : Held → Row → Option Why → Held
-with_fault h row None = record h { line = next h.line; built = put h.built row }
-with_fault h row (Some why) = refused h why
+abbrev pub with_fault : Held → EntryLine → Option Why → Held
+with_fault h entry_line None = record h { line = next h.line; built = put h.built entry_line }
+with_fault h entry_line (Some why) = refused h why
 
-abbrev pub with_class : Held → Result (Option Row) Why → Held
+abbrev pub with_class : Held → Result (Option EntryLine) Why → Held
 with_class h (Ok None) = record h { line = next h.line }
-with_class h (Ok (Some row)) = with_fault h row (misplaced_in h.built row)
+with_class h (Ok (Some entry_line)) = with_fault h entry_line (misplaced_in h.built entry_line)
 with_class h (Err why) = refused h why
 
--- after one more line
+-- the state after one more line
 unfoldable pub line_done : Held → List ℕ → Held
 line_done h line = with_class h (class_of line)
 
--- what the bytes so far give: those of the line that is not whole yet, and what the lines before it give
+-- the state after the bytes so far: the bytes of the incomplete line, and the state after the lines before it
 pub record Fed : Type 0 where
   pub pending : List ℕ
   pub held : Held
@@ -40,25 +40,25 @@ abbrev pub longer : Fed → ℕ → Fed
 longer s b = if nat_lt (length s.pending) 65536 then record s { pending = s.pending ++ b ∷ [] }
     else record { pending = []; held = refused s.held LineTooLong }
 
--- after one more byte; a line that is too long is faulty before its end
+-- the state after one more byte; a line that is too long is faulty before it ends
 unfoldable pub took : Fed → ℕ → Fed
 took s b = if is_some s.held.fault then s
     else (if b == 10 then record { pending = []; held = line_done s.held s.pending } else longer s b)
 
--- after these bytes
+-- the state after these bytes
 unfoldable pub fed : Fed → List ℕ → Fed
 fed s [] = s
 fed s (b ∷ bytes) = fed (took s b) bytes
 
--- after one more line; the first fault stays
+-- the state after one more line; the first fault stays
 abbrev pub step : Held → List ℕ → Held
 step h line = if is_some h.fault then h else line_done h line
 
--- after the rest of a line, and its line feed
+-- the state after the rest of a line and its line feed
 unfoldable pub ended : Fed → List ℕ → Fed
 ended s part = if is_some s.held.fault then s else record { pending = []; held = line_done s.held (s.pending ++ part) }
 
--- after bytes with no line feed
+-- the state after bytes without a line feed
 unfoldable pub kept : Fed → List ℕ → Fed
 kept s [] = s
 kept s (b ∷ bytes) = if is_some s.held.fault then s
@@ -68,10 +68,10 @@ abbrev pub with_last : Held → List ℕ → Held
 with_last h [] = h
 with_last h (b ∷ bytes) = step h (b ∷ bytes)
 
--- at the text's end the bytes that are left are a line
+-- the state at the end of the text, where the remaining bytes are the last line
 unfoldable pub finished : Fed → Held
 finished s = with_last s.held s.pending
 
--- before any bytes
+-- the state before the first byte
 abbrev pub start : Fed
 start = record { pending = []; held = record { line = 1; built = none_open []; fault = None } }

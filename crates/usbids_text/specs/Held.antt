@@ -1,4 +1,4 @@
--- What the whole lines gave, as a value.
+-- The state after the complete lines, as a value.
 use Rattle.usbids_text.specs.declared.taken.Taken.{Taken}
 use Rattle.usbids_text.specs.Building.{open_of}
 use Rattle.usbids_text.specs.Feeding.{Held}

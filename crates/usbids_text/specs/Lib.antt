@@ -1,5 +1,3 @@
-pub mod Ends
-pub mod Streams
 pub mod Words
 pub mod Entries
 pub mod Lines

@@ -1,4 +1,4 @@
--- What a line is, by its bytes: an entry, no entry, or faulty.
+-- The class of a line: an entry, no entry, or a fault.
 use Rattle.std.specs.Prelude.{ℕ, ◌==◌, nat_le, nat_lt, List, [], ◌∷◌, length, Bool, true, Option, Some, None, Result, Ok, Err, if◌then◌else◌}
 use Rattle.usbids_text.specs.declared.line.Why.{Why}
 use Rattle.usbids_text.specs.declared.line.Why.TheVariants.{BadTop, BadCode, LineTooLong}
@@ -7,42 +7,42 @@ use Rattle.usbids_text.specs.declared.kind.Depth.{Depth}
 use Rattle.usbids_text.specs.declared.kind.Depth.TheVariants.{Zero, One, Two}
 use Rattle.usbids_text.specs.declared.kind.Kind.TheVariants.{Vendor, Tagged}
 use Rattle.usbids_text.specs.Words.{trimmed, word, past_separators, after_word, code_in, is_four, is_tag}
-use Rattle.usbids_text.specs.Entries.{Row}
+use Rattle.usbids_text.specs.Entries.{EntryLine}
 
--- the entry that the reader makes of a line
-abbrev pub row_of : Entry → Row
-row_of e = record { depth = e.depth; code = e.code; digits = e.digits; name = e.name.now }
+-- the entry that the reader makes from a line
+abbrev pub line_of : Entry → EntryLine
+line_of e = record { depth = e.depth; code = e.code; digits = e.digits; name = e.name.now }
 
-abbrev pub rows : Option Entry → Option Row
-rows None = None
-rows (Some e) = Some (row_of e)
+abbrev pub entry_lines : Option Entry → Option EntryLine
+entry_lines None = None
+entry_lines (Some e) = Some (line_of e)
 
 -- an entry whose name is longer than 65,000 bytes is faulty
-abbrev pub short_enough : Row → Result (Option Row) Why
-short_enough row = if nat_le (length row.name) 65000 then Ok (Some row) else Err LineTooLong
+abbrev pub short_enough : EntryLine → Result (Option EntryLine) Why
+short_enough entry_line = if nat_le (length entry_line.name) 65000 then Ok (Some entry_line) else Err LineTooLong
 
-abbrev pub with_code : Depth → List ℕ → Option ℕ → Result (Option Row) Why
+abbrev pub with_code : Depth → List ℕ → Option ℕ → Result (Option EntryLine) Why
 with_code depth bytes None = Err BadCode
 with_code depth bytes (Some code) = short_enough (record { depth = depth; code = code; digits = length (word bytes); name = after_word bytes })
 
 -- a code of one to four digits, and a name
-unfoldable pub below : Depth → List ℕ → Result (Option Row) Why
+unfoldable pub below : Depth → List ℕ → Result (Option EntryLine) Why
 below depth bytes = with_code depth bytes (code_in (word bytes))
 
 -- a tag, and then a code and a name
-unfoldable pub tagged : List ℕ → Result (Option Row) Why
+unfoldable pub tagged : List ℕ → Result (Option EntryLine) Why
 tagged bytes = if is_tag (word bytes) then below (Zero (Tagged (word bytes))) (after_word bytes) else Err BadTop
 
--- a line with no tab first: a vendor, or an entry under a tag
-unfoldable pub top : List ℕ → Result (Option Row) Why
+-- a line without a tab at its start: a vendor, or an entry with a tag
+unfoldable pub top : List ℕ → Result (Option EntryLine) Why
 top bytes = if is_four (word bytes) then below (Zero Vendor) bytes else tagged bytes
 
--- after one tab: an entry of depth one, or of depth two after one more
-abbrev pub after_tab : List ℕ → Result (Option Row) Why
+-- after one tab: an entry of depth one, or of depth two after another tab
+abbrev pub after_tab : List ℕ → Result (Option EntryLine) Why
 after_tab [] = below One []
 after_tab (b ∷ bytes) = if b == 9 then below Two bytes else below One (b ∷ bytes)
 
-abbrev pub by_tabs : List ℕ → Result (Option Row) Why
+abbrev pub by_tabs : List ℕ → Result (Option EntryLine) Why
 by_tabs [] = Ok None
 by_tabs (b ∷ bytes) = if b == 9 then after_tab bytes else top (b ∷ bytes)
 
@@ -51,6 +51,6 @@ abbrev pub is_comment : List ℕ → Bool
 is_comment [] = true
 is_comment (b ∷ bytes) = b == 35
 
--- a line of more than 65,536 bytes is faulty; blank lines and comments are no entry
-unfoldable pub class_of : List ℕ → Result (Option Row) Why
+-- a line of more than 65,536 bytes is faulty; blank lines and comments have no entry
+unfoldable pub class_of : List ℕ → Result (Option EntryLine) Why
 class_of line = if nat_lt 65536 (length line) then Err LineTooLong else (if is_comment (past_separators (trimmed line)) then Ok None else by_tabs (trimmed line))

@@ -1,4 +1,4 @@
--- A date and a time of day, with no look at the calendar.
+-- A date and a time of day. Every month has 31 days.
 use Rattle.std.specs.Prelude.{ℕ, nat_le, ◌&&◌, Bool}
 
 pub record Moment : Type 0 where

@@ -3,10 +3,10 @@ use Rattle.std.specs.Prelude.{ℕ, List, [], ◌∷◌, ◌++◌, Bool, true, Op
 use Rattle.usbids_text.specs.declared.line.Why.{Why}
 use Rattle.usbids_text.specs.declared.kind.Kind.{Kind}
 use Rattle.usbids_text.specs.declared.kind.Depth.TheVariants.{Zero, One, Two}
-use Rattle.usbids_text.specs.Entries.{Row, LeafEntry, MidEntry, TopEntry, has_room}
+use Rattle.usbids_text.specs.Entries.{EntryLine, LeafEntry, MidEntry, TopEntry, has_room}
 use Rattle.usbids_text.specs.Documents.{fault_at}
 
--- the tops that are closed, the open top and the open mid
+-- the closed tops, the open top and the open mid
 pub record Open : Type 0 where
   pub tops : List TopEntry
   pub top : Option TopEntry
@@ -32,7 +32,7 @@ whole_top (Some t) mid = Some (with_mid t mid)
 abbrev pub whole : Open → List TopEntry
 whole o = with_top o.tops (whole_top o.top o.mid)
 
--- no top is open
+-- these closed tops, and no open top
 abbrev pub none_open : List TopEntry → Open
 none_open tops = record { tops = tops; top = None; mid = None }
 
@@ -49,26 +49,26 @@ more_leaf (Some m) l = Some (with_leaf m l)
 abbrev pub put_leaf : Open → ℕ → ℕ → List ℕ → Open
 put_leaf o code digits name = record o { mid = more_leaf o.mid (record { code = code; digits = digits; name = name }) }
 
--- an entry at its place
-unfoldable pub put : Open → Row → Open
-put o row = elim row.depth as (λ _. Open) [ Zero kind ↦ put_top o kind row.code row.digits row.name | One ↦ put_mid o row.code row.digits row.name | Two ↦ put_leaf o row.code row.digits row.name ]
+-- puts an entry in its place
+unfoldable pub put : Open → EntryLine → Open
+put o entry_line = elim entry_line.depth as (λ _. Open) [ Zero kind ↦ put_top o kind entry_line.code entry_line.digits entry_line.name | One ↦ put_mid o entry_line.code entry_line.digits entry_line.name | Two ↦ put_leaf o entry_line.code entry_line.digits entry_line.name ]
 
 -- a mid is open only in a top
 abbrev pub open_mid : Option TopEntry → Option MidEntry → Option MidEntry
 open_mid None mid = None
 open_mid (Some t) mid = mid
 
--- what is wrong with its place
-unfoldable pub misplaced_in : Open → Row → Option Why
-misplaced_in o row = fault_at row o.top (open_mid o.top o.mid)
+-- the fault of an entry that is misplaced here
+unfoldable pub misplaced_in : Open → EntryLine → Option Why
+misplaced_in o entry_line = fault_at entry_line o.top (open_mid o.top o.mid)
 
--- the open mid may stand in the open top
+-- the open top may contain the open mid
 abbrev pub fits_in : Option TopEntry → Option MidEntry → Bool
 fits_in None mid = true
 fits_in (Some t) None = true
 fits_in (Some t) (Some m) = has_room t.kind m.digits
 
--- an entry with so many digits may stand in the open top
+-- the open top may contain an entry with this number of digits
 abbrev pub has_room_in : Option TopEntry → ℕ → Bool
 has_room_in None digits = true
 has_room_in (Some t) digits = has_room t.kind digits

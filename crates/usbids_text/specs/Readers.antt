@@ -1,4 +1,4 @@
--- What a reader holds, and the bytes that it was fed.
+-- A reader's state, and the bytes that it was fed.
 use Rattle.std.specs.Prelude.{◌⊎◌, ◌≡◌, ℕ, List, Option, Some}
 use Rattle.usbids_text.specs.declared.fault.ReadFault.{ReadFault}
 use Rattle.usbids_text.specs.declared.fault.ReadFault.TheVariants.{NoMemory}
@@ -9,10 +9,10 @@ use Rattle.usbids_text.specs.Feeding.{Fed, fed, start}
 abbrev pub state_of : Reader → Fed
 state_of r = record { pending = r.pending.items; held = held_of r.taken }
 
--- the fault that the reader answers for good
+-- the fault that the reader returns from now on
 abbrev pub fault_of : Reader → Option ReadFault
 fault_of r = r.taken.fault
 
--- the reader was fed these bytes in all, or has run out of memory, for good
-abbrev pub Stands : Reader → List ℕ → Type 0
-Stands r text = (fault_of r ≡ Some NoMemory) ⊎ (state_of r ≡ fed start text)
+-- the reader was fed exactly these bytes, or it has run out of memory and stays so
+abbrev pub WasFed : Reader → List ℕ → Type 0
+WasFed r text = (fault_of r ≡ Some NoMemory) ⊎ (state_of r ≡ fed start text)

@@ -1,20 +1,20 @@
--- The one text that a document is written as.
+-- The text that is written for a document.
 use Rattle.std.specs.Prelude.{ℕ, ◌+◌, ◌-◌, ◌/◌, ◌%◌, List, [], ◌∷◌, ◌++◌, drop, codes, Option, Some, None}
 use Rattle.usbnum_core.specs.Number.{digits_of}
 use Rattle.usbids_text.specs.declared.kind.Kind.TheVariants.{Vendor, Tagged}
 use Rattle.usbids_text.specs.declared.kind.Depth.{Depth}
 use Rattle.usbids_text.specs.declared.kind.Depth.TheVariants.{Zero, One, Two}
-use Rattle.usbids_text.specs.Entries.{Row, TopEntry, preorder}
+use Rattle.usbids_text.specs.Entries.{EntryLine, TopEntry, preorder}
 use Rattle.usbids_text.specs.Moments.{Moment}
 
--- no tab, one or two by the depth; for a tagged top the tag and a space
+-- one tab for each level of depth; for a tagged top the tag and a space
 abbrev pub front : Depth → List ℕ
 front (Zero Vendor) = []
 front (Zero (Tagged tag)) = tag ++ 32 ∷ []
 front One = 9 ∷ []
 front Two = 9 ∷ 9 ∷ []
 
--- a code in its count of lower-case hexadecimal digits: the last of its four
+-- the last `digits` of a code's four lower-case hexadecimal digits
 unfoldable pub code_text : ℕ → ℕ → List ℕ
 code_text digits code = drop (4 - digits) (digits_of code)
 
@@ -23,18 +23,18 @@ abbrev pub gap : List ℕ → List ℕ
 gap [] = []
 gap (b ∷ bytes) = 32 ∷ 32 ∷ []
 
--- a line without its line feed: what is in front of the code, the code, and the name
+-- a line without its line feed: the part before the code, the code, and the name
 unfoldable pub line_text : List ℕ → ℕ → ℕ → List ℕ → List ℕ
 line_text before digits code name = before ++ (code_text digits code ++ (gap name ++ name))
 
 -- an entry's line
-unfoldable pub row_text : Row → List ℕ
-row_text row = line_text (front row.depth) row.digits row.code row.name ++ 10 ∷ []
+unfoldable pub entry_text : EntryLine → List ℕ
+entry_text entry_line = line_text (front entry_line.depth) entry_line.digits entry_line.code entry_line.name ++ 10 ∷ []
 
 -- the lines of entries in order
-unfoldable pub rows_text : List Row → List ℕ
-rows_text [] = []
-rows_text (row ∷ rows) = row_text row ++ rows_text rows
+unfoldable pub lines_text : List EntryLine → List ℕ
+lines_text [] = []
+lines_text (entry_line ∷ entry_lines) = entry_text entry_line ++ lines_text entry_lines
 
 -- two decimal digits, and four
 abbrev pub two_digits : ℕ → List ℕ
@@ -51,7 +51,7 @@ date_text between m = four_digits m.year ++ (between ∷ (two_digits m.month ++ 
 abbrev pub time_text : Moment → List ℕ
 time_text m = two_digits m.hour ++ (58 ∷ (two_digits m.minute ++ (58 ∷ two_digits m.second)))
 
--- the comments that say when a list was made
+-- the comment lines with the date and time of the list
 unfoldable pub stamp_text : Option Moment → List ℕ
 stamp_text None = []
 stamp_text (Some m) = (codes "# Version: " ++ (date_text 46 m ++ 10 ∷ [])) ++ (codes "# Date:    " ++ (date_text 45 m ++ (32 ∷ (time_text m ++ 10 ∷ []))))
@@ -65,4 +65,4 @@ head_text stamp = (title ++ 10 ∷ []) ++ (stamp_text stamp ++ 10 ∷ [])
 
 -- the head, and then each entry in preorder
 abbrev pub written : List TopEntry → Option Moment → List ℕ
-written doc stamp = head_text stamp ++ rows_text (preorder doc)
+written doc stamp = head_text stamp ++ lines_text (preorder doc)

@@ -1,8 +1,8 @@
-//! A document that is built entry by entry.
+//! Builds a document entry by entry.
 ghost use Rattle.std.specs.Prelude.{◌≡◌, [], OnOk, IfOk, IsTrue, Option, Some, None};
 ghost use Rattle.usbids_text.specs.Words.{is_code};
-ghost use Rattle.usbids_text.specs.Entries.{is_depth, is_row};
-ghost use Rattle.usbids_text.specs.Lines.{row_of};
+ghost use Rattle.usbids_text.specs.Entries.{is_depth, is_line};
+ghost use Rattle.usbids_text.specs.Lines.{line_of};
 ghost use Rattle.usbids_text.specs.Opens.{none_open, whole_top, whole, put_top, put_mid, put_leaf, put, misplaced_in, fits_in, has_room_in};
 ghost use Rattle.usbids_text.specs.declared.kind.Depth.TheVariants.{Zero};
 
@@ -12,13 +12,17 @@ use crate::line::{Entry, Why};
 use std::alloc::Global;
 use usbnum_core::NoMemory;
 
-/// The tops that are closed, the open top and the open mid. Entries that follow one another are
-/// put below the open ones, and each is closed when the next of its depth comes.
+/// A document under construction: the closed tops, the open top and the open mid. Each entry goes
+/// below the open ones. The next top closes both, the next mid closes the mid.
 #[derive(Drop)]
 pub struct Builder {
+    /// The allocator for the entries.
     pub alloc: Global,
+    /// The closed tops.
     pub tops: Document,
+    /// The open top.
     pub top: Option<Top>,
+    /// The open mid.
     pub mid: Option<Mid>,
     ghost fits: { IsTrue (fits_in top mid) },
 }
@@ -26,6 +30,7 @@ pub struct Builder {
 impl Builder {
     ghost use Rattle.usbids_text.specs.Building.{open_of};
 
+    /// Makes an empty document with no open entry.
     pub fn new(alloc: Global) -> Builder
         ensures { open_of result ≡ none_open [] }
     {
@@ -37,7 +42,7 @@ impl Builder {
         }
     }
 
-    // The open top with the open mid in it; neither is open then.
+    // Takes the open top, with the open mid in it.
     fn close_mid(&mut self) -> Result<Option<Top>, NoMemory>
         ensures given { IfOk result (λ top. top ≡ whole_top self.old.top self.old.mid) }
         ensures left { IfOk result (λ _. open_of self.new ≡ none_open self.old.tops) }
@@ -104,12 +109,12 @@ impl Builder {
         }
     }
 
-    /// Puts an entry at its place.
+    /// Puts an entry in its place.
     #[tactic(auto, unfolding(crate::specs::Opens::put))]
     pub fn put(&mut self, entry: Entry<'_>) -> Result<(), NoMemory>
-        requires row { IsTrue (is_row (row_of entry)) }
-        requires place { misplaced_in (open_of self.old) (row_of entry) ≡ None }
-        ensures { OnOk result (open_of self.new ≡ put (open_of self.old) (row_of entry.entry)) }
+        requires entry_line { IsTrue (is_line (line_of entry)) }
+        requires place { misplaced_in (open_of self.old) (line_of entry) ≡ None }
+        ensures { OnOk result (open_of self.new ≡ put (open_of self.old) (line_of entry.entry)) }
     {
         let Entry {
             depth,
@@ -125,10 +130,10 @@ impl Builder {
         }
     }
 
-    /// What is wrong with the place of an entry.
+    /// Returns the fault of an entry that is misplaced here.
     #[tactic(auto, unfolding(crate::specs::Opens::misplaced_in))]
     pub fn misplaced(&self, entry: &Entry<'_>) -> Option<Why>
-        ensures { result ≡ misplaced_in (open_of self.now) (row_of entry.now) }
+        ensures { result ≡ misplaced_in (open_of self.now) (line_of entry.now) }
     {
         match &entry.depth {
             Depth::Zero(_) => None,
@@ -153,7 +158,7 @@ impl Builder {
         }
     }
 
-    /// The document of all entries.
+    /// Returns the document of all entries.
     pub fn finish(mut self) -> Result<Document, NoMemory>
         ensures { IfOk result (λ doc. doc ≡ whole (open_of self)) }
     {

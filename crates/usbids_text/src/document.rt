@@ -11,8 +11,8 @@ use std::alloc::Global;
 use std::marker::Model;
 use usbnum_core::NoMemory;
 
-/// A name: at most 65,000 bytes without a line feed, which need not be text. It neither begins nor
-/// ends with a space or a tab, nor ends with a carriage return, and it may be empty.
+/// A name: at most 65,000 bytes without a line feed, not necessarily UTF-8. It does not start or
+/// end with a space or a tab, and does not end with a carriage return. It may be empty.
 #[derive(Debug, Drop)]
 pub struct Name {
     bytes: Vec<u8>,
@@ -61,7 +61,7 @@ fn is_name(bytes: &[u8]) -> bool
 }
 
 impl Name {
-    /// The bytes as a name, or None where they are none.
+    /// Makes a name from the bytes, or returns None if they are not a name.
     pub fn new(alloc: Global, bytes: &[u8]) -> Result<Option<Name>, NoMemory>
         ensures { IfOk result (λ found. found ≡ (if is_name bytes.now then Some bytes.now else None)) }
     {
@@ -72,7 +72,7 @@ impl Name {
         }
     }
 
-    // The bytes, which are known to be a name.
+    // Makes a name from bytes that are known to be one.
     pub(crate) fn of(alloc: Global, bytes: &[u8]) -> Result<Name, NoMemory>
         requires { IsTrue (is_name bytes.now) }
         ensures { IfOk result (λ name. name ≡ bytes.now) }
@@ -82,7 +82,7 @@ impl Name {
         Ok(Name { bytes: name })
     }
 
-    /// The bytes of the name.
+    /// Returns the bytes of the name.
     pub fn as_bytes(&self) -> &[u8]
         ensures value { result.now ≡ self.now }
         ensures valid { IsTrue (is_name result.now) }
@@ -91,7 +91,7 @@ impl Name {
     }
 }
 
-/// An entry of depth two, as an interface of a device.
+/// An entry of depth two, for example an interface of a device.
 #[derive(Debug, Drop)]
 pub struct Leaf {
     code: u16,
@@ -101,38 +101,41 @@ pub struct Leaf {
 
 impl Model for Leaf {
     ghost use Rattle.std.specs.Prelude.{IsTrue};
-    ghost use Rattle.usbids_text.specs.Entries.{LeafEntry, leaf_row, is_row};
+    ghost use Rattle.usbids_text.specs.Entries.{LeafEntry, leaf_line, is_line};
 
     ghost Value = { LeafEntry };
 
     ghost view = { λ a. record { code = a.code; digits = a.digits; name = a.name } };
 
-    ghost invariant = { λ a. IsTrue (is_row (leaf_row (record { code = a.code; digits = a.digits; name = a.name }))) };
+    ghost invariant = { λ a. IsTrue (is_line (leaf_line (record { code = a.code; digits = a.digits; name = a.name }))) };
 }
 
 impl Leaf {
-    /// The entry with a code of so many digits.
+    /// Makes an entry whose code has this number of digits.
     pub fn new(code: u16, digits: u8, name: Name) -> Leaf
         requires { IsTrue (is_code code digits) }
         ensures { result ≡ record { code = code; digits = digits; name = name } }
     {
+        // Only for the proof: the name is valid.
         let _ = name.as_bytes();
         Leaf { code, digits, name }
     }
 
+    /// Returns the code.
     pub fn code(&self) -> u16
         ensures { result ≡ self.now.code }
     {
         self.code
     }
 
-    /// How many digits the code is written with, 1 to 4.
+    /// Returns the number of digits of the code, 1 to 4.
     pub fn digits(&self) -> u8
         ensures { result ≡ self.now.digits }
     {
         self.digits
     }
 
+    /// Returns the name.
     pub fn name(&self) -> &[u8]
         ensures { result.now ≡ self.now.name }
     {
@@ -140,7 +143,7 @@ impl Leaf {
     }
 }
 
-/// An entry of depth one, as a device of a vendor, with those below it.
+/// An entry of depth one, for example a device of a vendor, with the entries below it.
 #[derive(Debug, Drop)]
 pub struct Mid {
     code: u16,
@@ -152,21 +155,22 @@ pub struct Mid {
 impl Model for Mid {
     ghost use Rattle.std.specs.Prelude.{IsTrue, [], ◌∷◌, ◌++◌};
     ghost use Rattle.std.specs.List.{list_all};
-    ghost use Rattle.usbids_text.specs.Entries.{MidEntry, mids_rows, is_row};
+    ghost use Rattle.usbids_text.specs.Entries.{MidEntry, mids_lines, is_line};
 
     ghost Value = { MidEntry };
 
     ghost view = { λ a. record { code = a.code; digits = a.digits; name = a.name; leaves = a.leaves.items } };
 
-    ghost invariant = { λ a. IsTrue (list_all is_row (mids_rows (record { code = a.code; digits = a.digits; name = a.name; leaves = a.leaves.items } ∷ []))) };
+    ghost invariant = { λ a. IsTrue (list_all is_line (mids_lines (record { code = a.code; digits = a.digits; name = a.name; leaves = a.leaves.items } ∷ []))) };
 }
 
 impl Mid {
-    /// The entry with a code of so many digits, and nothing below it.
+    /// Makes an entry whose code has this number of digits, with no entries below it.
     pub fn new(alloc: Global, code: u16, digits: u8, name: Name) -> Mid
         requires { IsTrue (is_code code digits) }
         ensures { result ≡ record { code = code; digits = digits; name = name; leaves = [] } }
     {
+        // Only for the proof: the name is valid.
         let _ = name.as_bytes();
         Mid {
             code,
@@ -176,43 +180,46 @@ impl Mid {
         }
     }
 
-    /// Puts an entry below it, after the others.
+    /// Appends an entry below this one.
     pub fn push(&mut self, leaf: Leaf) -> Result<(), NoMemory>
         ensures ok { OnOk result (self.new ≡ record self.old { leaves = self.old.leaves ++ leaf ∷ [] }) }
         ensures err { OnErr result (self.new ≡ self.old) }
     {
+        // Only for the proof: the name is valid.
         let _ = &leaf.name;
         self.leaves.push(leaf)?;
         Ok(())
     }
 
-    // Gives back the memory that was kept for more entries below it.
+    // Frees the spare memory for entries below this one.
     pub(crate) fn shrink(&mut self)
         ensures { self.new ≡ self.old }
     {
         self.leaves.shrink_to_fit();
     }
 
+    /// Returns the code.
     pub fn code(&self) -> u16
         ensures { result ≡ self.now.code }
     {
         self.code
     }
 
-    /// How many digits the code is written with, 1 to 4.
+    /// Returns the number of digits of the code, 1 to 4.
     pub fn digits(&self) -> u8
         ensures { result ≡ self.now.digits }
     {
         self.digits
     }
 
+    /// Returns the name.
     pub fn name(&self) -> &[u8]
         ensures { result.now ≡ self.now.name }
     {
         self.name.as_bytes()
     }
 
-    /// The entries below it, in their order.
+    /// Returns the entries below this one, in order.
     pub fn leaves(&self) -> &[Leaf]
         ensures { result.now ≡ self.now.leaves }
     {
@@ -220,7 +227,7 @@ impl Mid {
     }
 }
 
-/// An entry of depth zero, as a vendor, with those below it.
+/// An entry of depth zero, for example a vendor, with the entries below it.
 #[derive(Debug, Drop)]
 pub struct Top {
     kind: Kind,
@@ -242,12 +249,14 @@ impl Model for Top {
 }
 
 impl Top {
-    /// The entry with a code of so many digits, four of them for a vendor, and nothing below it.
+    /// Makes an entry whose code has this number of digits, four for a vendor, with no entries
+    /// below it.
     pub fn new(alloc: Global, kind: Kind, code: u16, digits: u8, name: Name) -> Top
         requires code { IsTrue (is_code code digits) }
         requires kind { IsTrue (is_depth (Zero kind) digits) }
         ensures { result ≡ record { kind = kind; code = code; digits = digits; name = name; mids = [] } }
     {
+        // Only for the proof: the name is valid.
         let _ = name.as_bytes();
         Top {
             kind,
@@ -258,50 +267,54 @@ impl Top {
         }
     }
 
-    /// Puts an entry below it, after the others. Below a vendor it has four digits.
+    /// Appends an entry below this one. Below a vendor its code has four digits.
     pub fn push(&mut self, mid: Mid) -> Result<(), NoMemory>
         requires { IsTrue (has_room self.old.kind mid.digits) }
         ensures ok { OnOk result (self.new ≡ record self.old { mids = self.old.mids ++ mid ∷ [] }) }
         ensures err { OnErr result (self.new ≡ self.old) }
     {
+        // Only for the proof: the name is valid.
         let _ = &mid.name;
         self.mids.push(mid)?;
         Ok(())
     }
 
-    // Gives back the memory that was kept for more entries below it.
+    // Frees the spare memory for entries below this one.
     pub(crate) fn shrink(&mut self)
         ensures { self.new ≡ self.old }
     {
         self.mids.shrink_to_fit();
     }
 
+    /// Returns the kind.
     pub fn kind(&self) -> &Kind
         ensures { result.now ≡ self.now.kind }
     {
         &self.kind
     }
 
+    /// Returns the code.
     pub fn code(&self) -> u16
         ensures { result ≡ self.now.code }
     {
         self.code
     }
 
-    /// How many digits the code is written with, 1 to 4.
+    /// Returns the number of digits of the code, 1 to 4.
     pub fn digits(&self) -> u8
         ensures { result ≡ self.now.digits }
     {
         self.digits
     }
 
+    /// Returns the name.
     pub fn name(&self) -> &[u8]
         ensures { result.now ≡ self.now.name }
     {
         self.name.as_bytes()
     }
 
-    /// The entries below it, in their order.
+    /// Returns the entries below this one, in order.
     pub fn mids(&self) -> &[Mid]
         ensures { result.now ≡ self.now.mids }
     {
@@ -309,7 +322,7 @@ impl Top {
     }
 }
 
-/// A list of USB numbers: its tops, in their order.
+/// A list of USB numbers: its tops, in order.
 #[derive(Debug, Drop)]
 pub struct Document {
     tops: Vec<Top>,
@@ -327,7 +340,7 @@ impl Model for Document {
 }
 
 impl Document {
-    /// The empty list.
+    /// Makes an empty list.
     pub fn new(alloc: Global) -> Document
         ensures { result ≡ [] }
     {
@@ -336,17 +349,18 @@ impl Document {
         }
     }
 
-    /// Puts a top after the others.
+    /// Appends a top.
     pub fn push(&mut self, top: Top) -> Result<(), NoMemory>
         ensures ok { OnOk result (self.new ≡ self.old ++ top ∷ []) }
         ensures err { OnErr result (self.new ≡ self.old) }
     {
+        // Only for the proof: the name is valid.
         let _ = &top.name;
         self.tops.push(top)?;
         Ok(())
     }
 
-    /// The tops, in their order.
+    /// Returns the tops, in order.
     pub fn tops(&self) -> &[Top]
         ensures value { result.now ≡ self.now }
         ensures sound { IsSound result.now }

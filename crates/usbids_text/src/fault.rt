@@ -1,4 +1,4 @@
-//! Why a text is not read.
+//! The faults of a text.
 ghost use Rattle.std.specs.Prelude.{Some};
 ghost use Rattle.usbids_text.specs.Faults.{line_fault_text, read_fault_text};
 
@@ -6,14 +6,16 @@ use crate::line::Why;
 use std::error::Error;
 use std::fmt;
 
-/// The first line that is faulty, counted from 1 (2^64 - 1 stands for any later line too), and why.
+/// The first faulty line of a text.
 #[derive(Clone, Copy, Debug, PartialEq, Eq)]
 pub struct LineFault {
+    /// The line number, from 1. It stays at 2^64 - 1.
     pub line: u64,
+    /// The fault of the line.
     pub why: Why,
 }
 
-/// Why a text is not read: a faulty line, or want of memory.
+/// The reason why a reader returns no document: a faulty line, or out of memory.
 #[derive(Clone, Copy, Debug, PartialEq, Eq)]
 pub enum ReadFault {
     Line(LineFault),

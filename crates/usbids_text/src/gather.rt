@@ -1,17 +1,18 @@
-//! Small writes are gathered, so that the sink is called once for many of them.
+//! Gathers small writes, so that the sink is called once for many of them.
 ghost use Rattle.std.specs.Prelude.{◌≡◌, [], ◌++◌, OnOk, true, false};
 ghost use Rattle.usbids_text.specs.Gathering.{Gathers};
 
-use crate::ends::{Broken, Sink, put_all};
 use arrayvec::ArrayVec;
+use byte_streams::{Broken, Sink, put_all};
 
 /// The bytes that wait for the sink.
 #[derive(Drop)]
 pub struct Waiting {
+    /// The bytes, in order.
     pub bytes: ArrayVec<u8, 4096>,
 }
 
-/// Hands all that waits to the sink.
+/// Writes all waiting bytes to the sink.
 pub fn pour<W: Sink>(sink: &mut W, waiting: &mut Waiting) -> Result<(), Broken>
     ensures gathers { Gathers (W.contents sink.old) waiting.old.bytes.items (W.contents sink.new) waiting.new.bytes.items (W.failures sink.old) (W.failures sink.new) result [] }
     ensures empty { OnOk result (waiting.new.bytes.items ≡ []) }
@@ -25,7 +26,7 @@ pub fn pour<W: Sink>(sink: &mut W, waiting: &mut Waiting) -> Result<(), Broken>
     }
 }
 
-// Keeps the bytes if there is room for them.
+// Adds the bytes to the waiting ones if there is room, and returns whether there is.
 fn keeps(waiting: &mut Waiting, bytes: &[u8]) -> bool
     ensures kept { result ≡ true → waiting.new.bytes.items ≡ waiting.old.bytes.items ++ bytes.now }
     ensures same { result ≡ false → waiting.new.bytes.items ≡ waiting.old.bytes.items }
@@ -33,7 +34,8 @@ fn keeps(waiting: &mut Waiting, bytes: &[u8]) -> bool
     waiting.bytes.try_extend_from_slice(bytes).is_ok()
 }
 
-// Hands the bytes on after those that wait, unless there is room for them when these are gone.
+// Writes the waiting bytes to the sink. The new bytes wait if there is room then, or are written
+// too.
 fn make_room<W: Sink>(sink: &mut W, waiting: &mut Waiting, bytes: &[u8]) -> Result<(), Broken>
     ensures { Gathers (W.contents sink.old) waiting.old.bytes.items (W.contents sink.new) waiting.new.bytes.items (W.failures sink.old) (W.failures sink.new) result bytes.now }
 {
@@ -48,7 +50,7 @@ fn make_room<W: Sink>(sink: &mut W, waiting: &mut Waiting, bytes: &[u8]) -> Resu
     }
 }
 
-/// Writes the bytes after those that wait.
+/// Writes the bytes after the waiting ones.
 pub fn gather<W: Sink>(sink: &mut W, waiting: &mut Waiting, bytes: &[u8]) -> Result<(), Broken>
     ensures { Gathers (W.contents sink.old) waiting.old.bytes.items (W.contents sink.new) waiting.new.bytes.items (W.failures sink.old) (W.failures sink.new) result bytes.now }
 {
@@ -58,7 +60,7 @@ pub fn gather<W: Sink>(sink: &mut W, waiting: &mut Waiting, bytes: &[u8]) -> Res
     make_room(sink, waiting, bytes)
 }
 
-/// Writes three times.
+/// Writes the three parts in order.
 pub fn gather_three<W: Sink>(
     sink: &mut W,
     waiting: &mut Waiting,

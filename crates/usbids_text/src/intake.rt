@@ -1,19 +1,19 @@
-//! What a text is fed to in pieces, and all that a source gives is.
+//! Feeds a text to a consumer in pieces, from a source.
 ghost use Rattle.std.specs.Prelude.{◌≡◌, ◌⊎◌, ◌<◌, ◌≤◌, ◌++◌, ℕ, List, length, IfOk, OnOk, OnErr};
 ghost use Rattle.std.specs.Io.KnownBytes.{Consumes, IsAtEnd};
-ghost use Rattle.usbids_text.specs.Ends.{HasFailed, MayGive};
+ghost use Rattle.byte_streams.specs.Streams.{HasFailed, MayGive};
 
-use crate::ends::{Broken, Source};
+use byte_streams::{Broken, Source};
 
-/// How many bytes a text may have.
+/// The most bytes that a text may have.
 const MOST: usize = 4_294_967_295;
 
-/// What a text is fed to in pieces.
+/// A consumer of a text in pieces.
 pub trait Intake {
-    /// What is looked for in the text.
+    /// What to look for in the text.
     type Wanted;
 
-    /// With this to look for it was fed these bytes in all, or has run out of memory, for good.
+    /// It looks for this and was fed exactly these bytes, or it has run out of memory and stays so.
     ghost was_fed: { Self → Self.Wanted → List ℕ → Type 0 };
 
     /// Takes the next piece of the text.
@@ -21,7 +21,7 @@ pub trait Intake {
         ensures { (wanted : Self.Wanted) (t : List ℕ) → was_fed self.old wanted t → was_fed self.new wanted (t ++ piece.now) };
 }
 
-/// Feeds the next bytes of the source, and answers how many they are: none at the end alone.
+/// Feeds the next bytes of the source, and returns their number, which is 0 only at the end.
 fn feed_next<R: Source, I: Intake>(
     source: &mut R,
     intake: &mut I,
@@ -43,8 +43,8 @@ fn feed_next<R: Source, I: Intake>(
     }
 }
 
-/// Feeds all bytes of the source, at most 4,294,967,295, also those after a faulty line. `Broken` comes only where the
-/// source failed or has more.
+/// Feeds all bytes of the source, also those after a faulty line. Returns `Broken` only if the
+/// source failed or has more than 4,294,967,295 bytes.
 pub fn feed_all<R: Source, I: Intake>(
     source: &mut R,
     intake: &mut I,

@@ -1,6 +1,8 @@
+//! The kind of a top, and the depth of an entry.
+
 use crate::tag::Tag;
 
-/// What a top is: a vendor, or an entry under a tag, as `C` for a class and `HID` for a
+/// The kind of a top: a vendor, or an entry with a tag, for example `C` for a class and `HID` for a
 /// descriptor type.
 #[derive(Debug, Drop)]
 pub enum Kind {
@@ -8,7 +10,7 @@ pub enum Kind {
     Tagged(Tag),
 }
 
-/// How deep an entry stands: a top of some kind, a mid after one tab, a leaf after two.
+/// The depth of an entry: a top of some kind, a mid after one tab, or a leaf after two tabs.
 #[derive(Debug, Drop)]
 pub enum Depth {
     Zero(Kind),

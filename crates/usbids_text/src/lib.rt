@@ -1,9 +1,8 @@
-//! The list of USB numbers, `usb.ids`: read in pieces, written in one way, looked up.
+//! Reads the list of USB numbers, `usb.ids`, in pieces, looks devices up in it, and writes it.
 #![tactic(auto)]
 
 mod builder;
 mod document;
-mod ends;
 mod fault;
 mod gather;
 mod intake;
@@ -16,23 +15,20 @@ mod reader;
 mod scan;
 mod seen;
 mod stamp;
-mod streams;
 mod tag;
 mod taken;
 mod words;
 mod writing;
 
 pub use document::{Document, Leaf, Mid, Name, Top};
-pub use ends::{Broken, Sink, Source, put_all};
 pub use fault::{LineFault, ReadFault};
 pub use intake::{Intake, feed_all};
 pub use kind::Kind;
-pub use laws::{never_both, one_document, one_fault, one_or_the_other, written_spells};
+pub use laws::{never_both, one_document, one_fault, one_or_the_other, written_is_text};
 pub use line::Why;
 pub use look_up::find;
 pub use reader::{Reader, read_all};
 pub use scan::Scan;
 pub use stamp::Stamp;
-pub use streams::{Inlet, Outlet};
 pub use tag::Tag;
 pub use writing::{WriteFault, write};

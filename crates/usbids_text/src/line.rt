@@ -1,22 +1,23 @@
-//! What a line is: an entry, no entry, or faulty.
+//! The class of a line: an entry, no entry, or a fault.
 ghost use Rattle.std.specs.Prelude.{◌≡◌, ◌≤◌, ℕ, MatchResult, Ok, Err, Option, Some, length};
 ghost use Rattle.usbids_text.specs.Faults.{why_text};
-ghost use Rattle.usbids_text.specs.Lines.{rows, short_enough, below, tagged, top, after_tab, by_tabs, is_comment, class_of, row_of};
+ghost use Rattle.usbids_text.specs.Lines.{entry_lines, short_enough, below, tagged, top, after_tab, by_tabs, is_comment, class_of, line_of};
 
 use crate::kind::{Depth, Kind};
 use crate::tag::Tag;
 use crate::words::{after_word, code_in, is_four, past_separators, trimmed, word};
 use std::fmt;
 
-/// What is wrong with a line.
+/// The fault of a line.
 #[derive(Clone, Copy, Debug, PartialEq, Eq)]
 pub enum Why {
-    /// No tab is first, and the first word is neither four hexadecimal digits nor a tag.
+    /// The line does not start with a tab, and its first word is neither four hexadecimal digits
+    /// nor a tag.
     BadTop = 1,
-    /// Where a code of one to four hexadecimal digits is due there is none, or one under a vendor
-    /// has other than four digits.
+    /// The code is not one to four hexadecimal digits, or is directly under a vendor and not four
+    /// digits.
     BadCode = 2,
-    /// The entry has no entry above it.
+    /// An entry of depth one has no top before it, or an entry of depth two no mid.
     NoParent = 3,
     /// The line has more than 65,536 bytes, or its name more than 65,000.
     LineTooLong = 4,
@@ -35,17 +36,21 @@ impl fmt::Display for Why {
     }
 }
 
-/// An entry, with its name where it lies in the line.
+/// An entry, which borrows its name from the line.
 #[derive(Drop)]
 pub struct Entry<'a> {
+    /// The depth.
     pub depth: Depth,
+    /// The code.
     pub code: u16,
+    /// The number of digits of the code.
     pub digits: u8,
+    /// The name.
     pub name: &'a [u8],
 }
 
 fn short_enough(entry: Entry<'_>) -> Result<Option<Entry<'_>>, Why>
-    ensures { MatchResult result (λ o. short_enough (row_of entry.entry) ≡ Ok (rows o)) (λ e. short_enough (row_of entry.entry) ≡ Err e) }
+    ensures { MatchResult result (λ o. short_enough (line_of entry.entry) ≡ Ok (entry_lines o)) (λ e. short_enough (line_of entry.entry) ≡ Err e) }
 {
     if entry.name.len() > 65000 {
         return Err(Why::LineTooLong);
@@ -55,7 +60,7 @@ fn short_enough(entry: Entry<'_>) -> Result<Option<Entry<'_>>, Why>
 
 #[tactic(auto, unfolding(crate::specs::Lines::below))]
 fn below(depth: Depth, bytes: &[u8]) -> Result<Option<Entry<'_>>, Why>
-    ensures { MatchResult result (λ o. below depth bytes.now ≡ Ok (rows o)) (λ e. below depth bytes.now ≡ Err e) }
+    ensures { MatchResult result (λ o. below depth bytes.now ≡ Ok (entry_lines o)) (λ e. below depth bytes.now ≡ Err e) }
 {
     let digits = word(bytes);
     match code_in(digits) {
@@ -71,7 +76,7 @@ fn below(depth: Depth, bytes: &[u8]) -> Result<Option<Entry<'_>>, Why>
 
 #[tactic(auto, unfolding(crate::specs::Lines::tagged))]
 fn tagged(bytes: &[u8]) -> Result<Option<Entry<'_>>, Why>
-    ensures { MatchResult result (λ o. tagged bytes.now ≡ Ok (rows o)) (λ e. tagged bytes.now ≡ Err e) }
+    ensures { MatchResult result (λ o. tagged bytes.now ≡ Ok (entry_lines o)) (λ e. tagged bytes.now ≡ Err e) }
 {
     match Tag::new(word(bytes)) {
         Some(tag) => below(Depth::Zero(Kind::Tagged(tag)), after_word(bytes)),
@@ -81,7 +86,7 @@ fn tagged(bytes: &[u8]) -> Result<Option<Entry<'_>>, Why>
 
 #[tactic(auto, unfolding(crate::specs::Lines::top))]
 fn top(bytes: &[u8]) -> Result<Option<Entry<'_>>, Why>
-    ensures { MatchResult result (λ o. top bytes.now ≡ Ok (rows o)) (λ e. top bytes.now ≡ Err e) }
+    ensures { MatchResult result (λ o. top bytes.now ≡ Ok (entry_lines o)) (λ e. top bytes.now ≡ Err e) }
 {
     if is_four(word(bytes)) {
         below(Depth::Zero(Kind::Vendor), bytes)
@@ -91,7 +96,7 @@ fn top(bytes: &[u8]) -> Result<Option<Entry<'_>>, Why>
 }
 
 fn after_tab(bytes: &[u8]) -> Result<Option<Entry<'_>>, Why>
-    ensures { MatchResult result (λ o. after_tab bytes.now ≡ Ok (rows o)) (λ e. after_tab bytes.now ≡ Err e) }
+    ensures { MatchResult result (λ o. after_tab bytes.now ≡ Ok (entry_lines o)) (λ e. after_tab bytes.now ≡ Err e) }
 {
     match bytes {
         [b'\t', rest @ ..] => below(Depth::Two, rest),
@@ -100,7 +105,7 @@ fn after_tab(bytes: &[u8]) -> Result<Option<Entry<'_>>, Why>
 }
 
 fn by_tabs(bytes: &[u8]) -> Result<Option<Entry<'_>>, Why>
-    ensures { MatchResult result (λ o. by_tabs bytes.now ≡ Ok (rows o)) (λ e. by_tabs bytes.now ≡ Err e) }
+    ensures { MatchResult result (λ o. by_tabs bytes.now ≡ Ok (entry_lines o)) (λ e. by_tabs bytes.now ≡ Err e) }
 {
     match bytes {
         [] => Ok(None),
@@ -118,10 +123,11 @@ fn is_comment(bytes: &[u8]) -> bool
     }
 }
 
-/// What a line without its line feed is.
+/// Returns the entry of a line without its line feed, None for a comment or a blank line, or the
+/// line's fault.
 #[tactic(auto, unfolding(crate::specs::Lines::class_of))]
 pub fn class_of(line: &[u8]) -> Result<Option<Entry<'_>>, Why>
-    ensures { MatchResult result (λ o. class_of line.now ≡ Ok (rows o)) (λ e. class_of line.now ≡ Err e) }
+    ensures { MatchResult result (λ o. class_of line.now ≡ Ok (entry_lines o)) (λ e. class_of line.now ≡ Err e) }
 {
     if line.len() > 65536 {
         return Err(Why::LineTooLong);

@@ -1,4 +1,4 @@
-//! The name of a device.
+//! Looks up the name of a device.
 ghost use Rattle.std.specs.Prelude.{◌≡◌, Option, Some, None, option_copied};
 ghost use Rattle.usbids_text.specs.Finding.{find_mid, find_in, vendor_has, first_mid};
 
@@ -47,8 +47,8 @@ fn find_among(tops: &[Top], vendor: u16, code: u16) -> Option<&[u8]>
     None
 }
 
-/// The name of the first device with this code, in the order of the list, under a vendor of this
-/// number, or None where there is no such device.
+/// Returns the name of the first device with this code under a vendor with this ID, in the order of
+/// the list, or None if the list has no such device.
 pub fn find(document: &Document, vendor: Vid, code: u16) -> Option<&[u8]>
     ensures { option_copied result ≡ find_mid vendor code document.now }
 {

@@ -1,4 +1,4 @@
-//! Where a piece of a text is cut into lines.
+//! Cuts a piece of a text into lines.
 ghost use Rattle.std.specs.Prelude.{◌≡◌, ◌+◌, ◌<◌, ◌==◌, length, take, drop, position, IfSome, IfNone, IsTrue};
 ghost use Rattle.std.specs.List.{list_all};
 ghost use Rattle.usbids_text.specs.Words.{is_inner};
@@ -10,7 +10,7 @@ fn first_feed(bytes: &[u8]) -> Option<usize>
     bytes.iter().position(|b| *b == b'\n')
 }
 
-/// Where the first line feed is.
+/// Returns the position of the first line feed.
 pub fn line_feed(bytes: &[u8]) -> Option<usize>
     ensures value { result ≡ position (λ b. b == 10) bytes.now }
     ensures within { IfSome result (λ i. i < length bytes.now) }
@@ -20,7 +20,7 @@ pub fn line_feed(bytes: &[u8]) -> Option<usize>
     first_feed(bytes)
 }
 
-/// The bytes after that place.
+/// Returns the bytes after position `i`.
 pub fn past(bytes: &[u8], i: usize) -> &[u8]
     requires { i < length bytes.now }
     ensures value { result.now ≡ drop (i + 1) bytes.now }
@@ -29,7 +29,7 @@ pub fn past(bytes: &[u8], i: usize) -> &[u8]
     &bytes[i + 1..]
 }
 
-/// The bytes before that place.
+/// Returns the bytes before position `i`.
 pub fn front(bytes: &[u8], i: usize) -> &[u8]
     requires { i < length bytes.now }
     ensures { result.now ≡ take i bytes.now }

@@ -1,4 +1,4 @@
-//! A text that is read in pieces.
+//! Reads a text in pieces.
 ghost use Rattle.std.specs.Prelude.{◌≡◌, ◌⊎◌, ◌+◌, ◌<◌, ◌==◌, ℕ, List, [], ◌++◌, length, take, drop, position, Some, None, true, is_some, OnOk, IfNone, IfSome, IsTrue};
 ghost use Rattle.std.specs.List.{list_all};
 ghost use Rattle.usbids_text.specs.Words.{is_inner};
@@ -17,7 +17,7 @@ use crate::taken::Taken;
 use std::alloc::Global;
 use usbnum_core::NoMemory;
 
-/// A reader that is fed a text in pieces. It does not matter where the text is cut.
+/// A reader that is fed a text in pieces. The pieces can be cut anywhere.
 #[derive(Drop)]
 pub struct Reader {
     pending: Vec<u8>,
@@ -27,9 +27,9 @@ pub struct Reader {
 
 impl Reader {
     ghost use Rattle.usbids_text.specs.Held.{held_of};
-    ghost use Rattle.usbids_text.specs.Readers.{state_of, fault_of, Stands};
+    ghost use Rattle.usbids_text.specs.Readers.{state_of, fault_of, WasFed};
 
-    // Ends the line that is pending, with these bytes.
+    // Ends the pending line with these bytes.
     fn end_pending(&mut self, part: &[u8]) -> Result<(), NoMemory>
         requires { IsTrue (list_all is_inner part.now) }
         ensures { OnOk result (state_of self.new ≡ record { pending = []; held = step (state_of self.old).held ((state_of self.old).pending ++ part.now) }) }
@@ -40,8 +40,8 @@ impl Reader {
         Ok(())
     }
 
-    // Ends a line, with these bytes after those that are pending. A line that lies in one piece is
-    // read there.
+    // Ends a line, with these bytes after the pending ones. A line in one piece is read without a
+    // copy.
     #[tactic(auto, unfolding(crate::specs::Feeding::ended))]
     fn end_line(&mut self, part: &[u8]) -> Result<(), NoMemory>
         requires { IsTrue (list_all is_inner part.now) }
@@ -56,7 +56,7 @@ impl Reader {
         self.end_pending(part)
     }
 
-    // Keeps the beginning of a line, unless that is too long already.
+    // Keeps the start of a line, unless it is too long already.
     #[tactic(auto, unfolding(crate::specs::Feeding::kept))]
     fn keep(&mut self, part: &[u8]) -> Result<(), NoMemory>
         requires { IsTrue (list_all is_inner part.now) }
@@ -117,9 +117,9 @@ impl Reader {
         self.taken.take_line(&self.pending)
     }
 
-    /// A reader that was fed nothing yet.
+    /// Makes a reader that was fed no bytes.
     pub fn new(alloc: Global) -> Reader
-        ensures stands { Stands result [] }
+        ensures was_fed { WasFed result [] }
         ensures clear { fault_of result ≡ None }
     {
         Reader {
@@ -136,13 +136,13 @@ impl Reader {
     ///
     /// # Errors
     ///
-    /// The first faulty line of all bytes so far, once its line feed has come or it has passed
-    /// 65,536 bytes, or want of memory. The reader answers that fault for good, from `finish` too.
+    /// The first faulty line so far, once its line feed has come or it has more than 65,536 bytes,
+    /// or out of memory. All later calls return the same fault, `finish` too.
     pub fn feed(&mut self, piece: &[u8]) -> Result<(), ReadFault>
-        ensures stands { (t : List ℕ) → Stands self.old t → Stands self.new (t ++ piece.now) }
+        ensures was_fed { (t : List ℕ) → WasFed self.old t → WasFed self.new (t ++ piece.now) }
         ensures answer { result ≡ answer_of (fault_of self.new) }
-        ensures faulty { (t : List ℕ) → Stands self.old t → AnswersSoFar (t ++ piece.now) (fault_of self.new) }
-        ensures seen { (t : List ℕ) (n : ℕ) (why : Why) → Stands self.old t → SeenFault (t ++ piece.now) n why → HasFault (fault_of self.new) n why }
+        ensures faulty { (t : List ℕ) → WasFed self.old t → AnswersSoFar (t ++ piece.now) (fault_of self.new) }
+        ensures seen { (t : List ℕ) (n : ℕ) (why : Why) → WasFed self.old t → SeenFault (t ++ piece.now) n why → HasFault (fault_of self.new) n why }
         ensures sticks { is_some (fault_of self.old) ≡ true → self.new ≡ self.old }
     {
         if let Some(fault) = self.taken.fault {
@@ -152,13 +152,13 @@ impl Reader {
         self.answer()
     }
 
-    /// The document that all bytes spell, the last line without its line feed too.
+    /// Returns the document of all bytes. The last line needs no line feed.
     ///
     /// # Errors
     ///
-    /// The first faulty line, or want of memory.
+    /// The first faulty line, or out of memory.
     pub fn finish(mut self) -> Result<Document, ReadFault>
-        ensures answers { (t : List ℕ) → Stands self t → Answers t result }
+        ensures answers { (t : List ℕ) → WasFed self t → Answers t result }
         ensures sticks { (f : ReadFault) → fault_of self ≡ Some f → result ≡ Err f }
     {
         if let Some(fault) = self.taken.fault {
@@ -172,22 +172,35 @@ impl Reader {
 }
 
 impl Intake for Reader {
-    ghost use Rattle.usbids_text.specs.Readers.{Stands};
+    ghost use Rattle.usbids_text.specs.Readers.{WasFed};
 
     type Wanted = ();
 
-    ghost was_fed = { λ reader _ text. Stands reader text };
+    ghost was_fed = { λ reader _ text. WasFed reader text };
 
     fn take_in(&mut self, piece: &[u8]) {
         let _ = self.feed(piece);
     }
 }
 
-/// The document that a whole text spells.
+/// Returns the document of a whole text.
 ///
 /// # Errors
 ///
-/// The first faulty line, or want of memory.
+/// The first faulty line, or out of memory.
+///
+/// # Examples
+///
+/// Here `rt` is the runtime that `main` gets.
+///
+/// ```
+/// let list = b"1209  Shared products\n\t0011  Blinker\n";
+/// let document = read_all(rt.alloc(), list)?;
+/// let vendor = Vid::new(0x1209).ok_or("no vendor")?;
+/// let name = find(&document, vendor, 0x0011);
+/// assert_eq!(rt; name, Some(b"Blinker".as_slice()));
+/// assert_eq!(rt; find(&document, vendor, 0x0012), None);
+/// ```
 pub fn read_all(alloc: Global, bytes: &[u8]) -> Result<Document, ReadFault>
     ensures { Answers bytes.now result }
 {

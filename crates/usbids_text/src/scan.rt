@@ -1,4 +1,4 @@
-//! A device that is looked for while a list is read in pieces.
+//! Looks for a device while a list is read in pieces.
 ghost use Rattle.std.specs.Prelude.{◌≡◌, ◌⊎◌, ◌+◌, ◌<◌, ◌==◌, ℕ, List, [], ◌++◌, length, take, drop, position, Some, None, true, is_some, OnOk, IfNone, IfSome, IsTrue};
 ghost use Rattle.std.specs.List.{list_all};
 ghost use Rattle.usbids_text.specs.Words.{is_inner};
@@ -14,8 +14,8 @@ use crate::seen::{Over, Seen, Wanted};
 use std::alloc::Global;
 use usbnum_core::{NoMemory, Vid};
 
-/// A search for a device in a list that is fed in pieces. It does not matter where the list is cut. It keeps no entries:
-/// memory is wanted for a line that does not lie in one piece, and once for the name.
+/// A search for a device in a list that is fed in pieces. The pieces can be cut anywhere. It keeps
+/// no entries: it needs memory only for a line that spans pieces, and once for the name.
 #[derive(Drop)]
 pub struct Scan {
     alloc: Global,
@@ -28,7 +28,7 @@ pub struct Scan {
 impl Scan {
     ghost use Rattle.usbids_text.specs.Scans.{scan_state, Seeks, Finds};
 
-    // Ends the line that is pending, with these bytes.
+    // Ends the pending line with these bytes.
     fn end_pending(&mut self, part: &[u8]) -> Result<(), NoMemory>
         requires { IsTrue (list_all is_inner part.now) }
         ensures done { OnOk result (scan_state self.new ≡ record { pending = []; seen = seen_step self.old.wanted (scan_state self.old).seen ((scan_state self.old).pending ++ part.now) }) }
@@ -40,8 +40,8 @@ impl Scan {
         Ok(())
     }
 
-    // Ends a line, with these bytes after those that are pending. A line that lies in one piece is
-    // read there.
+    // Ends a line, with these bytes after the pending ones. A line in one piece is read without a
+    // copy.
     #[tactic(auto, unfolding(crate::specs::Scanning::scan_ended))]
     fn end_line(&mut self, part: &[u8]) -> Result<(), NoMemory>
         requires { IsTrue (list_all is_inner part.now) }
@@ -57,7 +57,7 @@ impl Scan {
         self.end_pending(part)
     }
 
-    // Keeps the beginning of a line, unless that is too long already.
+    // Keeps the start of a line, unless it is too long already.
     #[tactic(auto, unfolding(crate::specs::Scanning::scan_kept))]
     fn keep(&mut self, part: &[u8]) -> Result<(), NoMemory>
         requires { IsTrue (list_all is_inner part.now) }
@@ -113,7 +113,7 @@ impl Scan {
         self.seen.take_line(self.alloc, self.wanted, &self.pending)
     }
 
-    /// A search for the first device with this code under a vendor of this number.
+    /// Makes a search for the first device with this code under a vendor with this ID.
     pub fn new(alloc: Global, vendor: Vid, code: u16) -> Scan
         ensures { Seeks result (record { vendor = vendor; code = code }) [] }
     {
@@ -141,11 +141,11 @@ impl Scan {
         self.take_piece(piece);
     }
 
-    /// The name of the first match in the order of the list, or None where there is none.
+    /// Returns the name of the first match in the order of the list, or None without a match.
     ///
     /// # Errors
     ///
-    /// The first faulty line, wherever it stands, or want of memory.
+    /// The first faulty line, before or after the match, or out of memory.
     pub fn finish(mut self) -> Result<Option<Name>, ReadFault>
         ensures { (wanted : Wanted) (t : List ℕ) → Seeks self wanted t → Finds wanted t result }
     {

@@ -1,10 +1,10 @@
-//! What the lines of a list tell of one device, with no document built.
+//! Searches the lines of a list for one device, without building a document.
 ghost use Rattle.std.specs.Prelude.{◌≡◌, Some, None, OnOk, IsTrue, is_some};
 ghost use Rattle.std.specs.List.{list_all};
 ghost use Rattle.usbids_text.specs.Words.{is_inner, is_name};
 ghost use Rattle.usbids_text.specs.Documents.{next};
-ghost use Rattle.usbids_text.specs.Lines.{row_of};
-ghost use Rattle.usbids_text.specs.Entries.{is_row};
+ghost use Rattle.usbids_text.specs.Lines.{line_of};
+ghost use Rattle.usbids_text.specs.Entries.{is_line};
 ghost use Rattle.usbids_text.specs.Scanning.{over_kind, seen_misplaced, seen_put, seen_top, seen_mid, seen_refused, seen_line, seen_step, seen_answer};
 
 use crate::document::Name;
@@ -14,34 +14,40 @@ use crate::line::{Entry, Why, class_of};
 use std::alloc::Global;
 use usbnum_core::{NoMemory, Vid};
 
-/// The device that is looked for.
+/// The device to look for.
 #[derive(Clone, Copy, Debug, PartialEq, Eq)]
 pub struct Wanted {
+    /// The vendor ID.
     pub vendor: Vid,
+    /// The product ID.
     pub code: u16,
 }
 
-/// What the last top is.
+/// The kind of the last top.
 #[derive(Clone, Copy, Debug, PartialEq, Eq)]
 pub enum Over {
-    /// There is no top yet.
+    /// No top yet.
     Nothing,
-    /// A vendor of the number that is looked for.
+    /// The wanted vendor.
     Wanted,
     /// Another vendor.
     Other,
-    /// A top under a tag.
+    /// A top with a tag.
     Tagged,
 }
 
-/// The number of the next line, what the last top is, whether there is a mid under it, the name of the first match, and the
-/// first fault.
+/// The state of a search after the complete lines.
 #[derive(Drop)]
 pub struct Seen {
+    /// The number of the next line.
     pub line: u64,
+    /// The kind of the last top.
     pub over: Over,
+    /// Whether that top has a mid.
     pub has_mid: bool,
+    /// The name of the first match.
     pub found: Option<Name>,
+    /// The first fault.
     pub fault: Option<ReadFault>,
 }
 
@@ -65,6 +71,7 @@ fn over_kind(vendor: Vid, kind: &Kind, code: u16) -> Over
 }
 
 impl Seen {
+    /// Records the fault of the next line.
     pub fn refuse(&mut self, why: Why)
         ensures { self.new ≡ seen_refused self.old why }
     {
@@ -74,10 +81,10 @@ impl Seen {
         }));
     }
 
-    /// What is wrong with the place of an entry.
+    /// Returns the fault of an entry that is misplaced here.
     #[tactic(auto, unfolding(crate::specs::Scanning::seen_misplaced))]
     fn misplaced(&self, entry: &Entry<'_>) -> Option<Why>
-        ensures { result ≡ seen_misplaced self.now (row_of entry.now) }
+        ensures { result ≡ seen_misplaced self.now (line_of entry.now) }
     {
         match &entry.depth {
             Depth::Zero(_) => None,
@@ -115,11 +122,11 @@ impl Seen {
         Ok(())
     }
 
-    /// Notes an entry at its place.
+    /// Takes an entry that is in its place.
     #[tactic(auto, unfolding(crate::specs::Scanning::seen_put))]
     fn put(&mut self, alloc: Global, wanted: Wanted, entry: Entry<'_>) -> Result<(), NoMemory>
-        requires { IsTrue (is_row (row_of entry)) }
-        ensures { OnOk result (self.new ≡ seen_put wanted self.old (row_of entry.entry)) }
+        requires { IsTrue (is_line (line_of entry)) }
+        ensures { OnOk result (self.new ≡ seen_put wanted self.old (line_of entry.entry)) }
     {
         let Entry {
             depth,
@@ -157,7 +164,7 @@ impl Seen {
         Ok(())
     }
 
-    /// Takes a whole line, unless an earlier one was faulty.
+    /// Takes a complete line, unless an earlier one was faulty.
     pub fn take_line(&mut self, alloc: Global, wanted: Wanted, line: &[u8]) -> Result<(), NoMemory>
         requires { IsTrue (list_all is_inner line.now) }
         ensures { OnOk result (self.new ≡ seen_step wanted self.old line.now) }
@@ -168,7 +175,7 @@ impl Seen {
         self.take_first(alloc, wanted, line)
     }
 
-    /// What was found, unless a line was faulty.
+    /// Returns the name of the first match, or the first fault.
     pub fn into_answer(self) -> Result<Option<Name>, ReadFault>
         ensures { result ≡ seen_answer self.fault self.found }
     {

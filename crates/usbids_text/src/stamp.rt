@@ -1,12 +1,11 @@
-//! When a list was made.
+//! The date and time of a list.
 ghost use Rattle.std.specs.Prelude.{◌≡◌, ◌<◌, [], ◌∷◌, ◌++◌, Some, None, if◌then◌else◌};
 ghost use Rattle.usbids_text.specs.Moments.{Moment, is_moment};
 ghost use Rattle.usbids_text.specs.Writing.{date_text, time_text, two_digits, four_digits};
 
 use std::marker::Model;
 
-/// A date and a time of day for the head of a list. The calendar is not looked at: every month has
-/// 31 days.
+/// A date and a time of day for the head of a list. Every month has 31 days.
 #[derive(Clone, Copy, Debug)]
 pub struct Stamp {
     year: u16,
@@ -31,8 +30,8 @@ impl Model for Stamp {
 }
 
 impl Stamp {
-    /// The stamp, or None where a part is out of its range: years 0 to 9999, months 1 to 12, days 1
-    /// to 31, hours 0 to 23, minutes and seconds 0 to 59.
+    /// Makes a stamp, or returns None if a part is out of its range: years 0 to 9999, months 1 to
+    /// 12, days 1 to 31, hours 0 to 23, minutes and seconds 0 to 59.
     pub fn new(year: u16, month: u8, day: u8, hour: u8, minute: u8, second: u8) -> Option<Stamp>
         ensures { let m : Moment = record { year = year; month = month; day = day; hour = hour; minute = minute; second = second } in result ≡ (if is_moment m then Some m else None) }
     {

@@ -1,4 +1,4 @@
-//! The tag of a top that is no vendor.
+//! The tag of a top that is not a vendor.
 ghost use Rattle.std.specs.Prelude.{◌≡◌, ◌≤◌, length, Some, None, IsTrue, if◌then◌else◌};
 ghost use Rattle.std.specs.List.{list_all};
 ghost use Rattle.usbids_text.specs.Words.{is_upper, is_tag};
@@ -45,7 +45,7 @@ fn is_tag(bytes: &[u8]) -> bool
 }
 
 impl Tag {
-    /// The bytes as a tag, or None where they are none.
+    /// Makes a tag from the bytes, or returns None if they are not a tag.
     pub fn new(bytes: &[u8]) -> Option<Tag>
         ensures { result ≡ (if is_tag bytes.now then Some bytes.now else None) }
     {
@@ -58,7 +58,7 @@ impl Tag {
         Some(Tag { text, len })
     }
 
-    /// The letters of the tag.
+    /// Returns the letters of the tag.
     pub fn as_str(&self) -> &str
         ensures value { result.now ≡ self.now }
         ensures valid { IsTrue (is_tag result.now) }
@@ -69,7 +69,7 @@ impl Tag {
         }
     }
 
-    /// The letters of the tag, as bytes.
+    /// Returns the letters of the tag, as bytes.
     pub fn as_bytes(&self) -> &[u8]
         ensures value { result.now ≡ self.now }
         ensures valid { IsTrue (is_tag result.now) }

@@ -1,4 +1,4 @@
-//! What the whole lines of a text gave.
+//! Builds a document from the complete lines of a text.
 ghost use Rattle.std.specs.Prelude.{◌≡◌, ◌⊎◌, None, Some, OnOk, IfOk, IfErr, IsTrue};
 ghost use Rattle.std.specs.List.{list_all};
 ghost use Rattle.usbids_text.specs.Words.{is_inner};
@@ -13,11 +13,14 @@ use crate::fault::{LineFault, ReadFault};
 use crate::line::{Why, class_of};
 use usbnum_core::NoMemory;
 
-/// The number of the next line, the document so far, and the first fault.
+/// The state of a reader after the complete lines.
 #[derive(Drop)]
 pub struct Taken {
+    /// The number of the next line.
     pub line: u64,
+    /// The document so far.
     pub builder: Builder,
+    /// The first fault.
     pub fault: Option<ReadFault>,
 }
 
@@ -30,6 +33,7 @@ fn next(n: u64) -> u64
 impl Taken {
     ghost use Rattle.usbids_text.specs.Held.{held_of};
 
+    /// Records the fault of the next line.
     pub fn refuse(&mut self, why: Why)
         ensures { held_of self.new ≡ refused (held_of self.old) why }
     {
@@ -58,7 +62,7 @@ impl Taken {
         Ok(())
     }
 
-    /// Takes a whole line, unless an earlier one was faulty.
+    /// Takes a complete line, unless an earlier one was faulty.
     pub fn take_line(&mut self, line: &[u8]) -> Result<(), NoMemory>
         requires { IsTrue (list_all is_inner line.now) }
         ensures { OnOk result (held_of self.new ≡ step (held_of self.old) line.now) }
@@ -69,7 +73,7 @@ impl Taken {
         self.take_first(line)
     }
 
-    /// The document of the lines, or the first fault.
+    /// Returns the document of the lines, or the first fault.
     pub fn finish(self) -> Result<Document, ReadFault>
         ensures ok { IfOk result (λ doc. (self.fault ≡ None) × (doc ≡ whole (open_of self.builder))) }
         ensures err { IfErr result (λ e. (e ≡ ReadFault.NoMemory) ⊎ (self.fault ≡ Some e)) }

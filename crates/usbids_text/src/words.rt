@@ -3,12 +3,14 @@ ghost use Rattle.std.specs.Prelude.{◌≡◌, ◌≤◌, ◌<◌, IfSome, lengt
 ghost use Rattle.usbnum_core.specs.Number.{hex_value};
 ghost use Rattle.usbids_text.specs.Words.{is_separator, is_tail, before, trimmed, word, after_word, past_separators, number_from, code_in, is_four};
 
+/// Returns whether the byte is a space or a tab.
 pub fn is_separator(b: u8) -> bool
     ensures { result ≡ is_separator b }
 {
     b == b' ' || b == b'\t'
 }
 
+/// Returns whether the byte is dropped at the end of a line.
 pub fn is_tail(b: u8) -> bool
     ensures { result ≡ is_tail b }
 {
@@ -51,7 +53,7 @@ fn word_at(bytes: &[u8]) -> usize
     }
 }
 
-/// The bytes up to the first separator.
+/// Returns the bytes up to the first separator.
 #[tactic(auto, unfolding(crate::specs::Words::word))]
 pub fn word(bytes: &[u8]) -> &[u8]
     ensures { result.now ≡ word bytes.now }
@@ -59,14 +61,14 @@ pub fn word(bytes: &[u8]) -> &[u8]
     &bytes[..separator_at(bytes)]
 }
 
-/// The bytes from the first that is no separator.
+/// Returns the bytes from the first that is not a separator.
 pub fn past_separators(bytes: &[u8]) -> &[u8]
     ensures { result.now ≡ past_separators bytes.now }
 {
     &bytes[word_at(bytes)..]
 }
 
-/// The bytes after the first word and the separators that follow it.
+/// Returns the bytes after the first word and the separators that follow it.
 #[tactic(auto, unfolding(crate::specs::Words::after_word))]
 pub fn after_word(bytes: &[u8]) -> &[u8]
     ensures { result.now ≡ after_word bytes.now }
@@ -74,7 +76,7 @@ pub fn after_word(bytes: &[u8]) -> &[u8]
     past_separators(&bytes[separator_at(bytes)..])
 }
 
-/// The line without separators and carriage returns at its end.
+/// Returns the line without separators and carriage returns at its end.
 pub fn trimmed(line: &[u8]) -> &[u8]
     ensures { result.now ≡ trimmed line.now }
 {
@@ -100,7 +102,7 @@ fn hex_digit(byte: u8) -> Option<u8>
     }
 }
 
-// The number that at most four digits spell.
+// Returns the value of at most four digits.
 fn number_of(bytes: &[u8]) -> Option<u16>
     requires { length bytes.now ≤ 4 }
     ensures { result ≡ number_from 0 bytes.now }
@@ -115,7 +117,7 @@ fn number_of(bytes: &[u8]) -> Option<u16>
     Some(number)
 }
 
-/// The number that one to four hexadecimal digits spell.
+/// Returns the value of one to four hexadecimal digits.
 #[tactic(auto, unfolding(crate::specs::Words::code_in))]
 pub fn code_in(bytes: &[u8]) -> Option<u16>
     ensures value { result ≡ code_in bytes.now }
@@ -127,7 +129,7 @@ pub fn code_in(bytes: &[u8]) -> Option<u16>
     number_of(bytes)
 }
 
-/// Whether the bytes are four hexadecimal digits.
+/// Returns whether the bytes are four hexadecimal digits.
 #[tactic(auto, unfolding(crate::specs::Words::is_four))]
 pub fn is_four(bytes: &[u8]) -> bool
     ensures { result ≡ is_four bytes.now }

@@ -1,22 +1,22 @@
-//! A document as its one text.
+//! Writes a document as text.
 ghost use Rattle.std.specs.Prelude.{◌≡◌, ◌<◌, ◌-◌, ◌∷◌, [], ◌++◌, codes, drop, Some};
 ghost use Rattle.usbnum_core.specs.Number.{lower_hex_digit, digits_of};
-ghost use Rattle.usbids_text.specs.Ends.{Writes};
+ghost use Rattle.byte_streams.specs.Streams.{Writes};
 ghost use Rattle.usbids_text.specs.Gathering.{Gathers};
-ghost use Rattle.usbids_text.specs.Entries.{leaf_row, mid_row, top_row, leaves_rows, mids_rows, tops_rows};
-ghost use Rattle.usbids_text.specs.Writing.{code_text, gap, line_text, row_text, rows_text, stamp_text, title, head_text, written};
-ghost use Rattle.usbids_text.specs.Documents.{Spells};
+ghost use Rattle.usbids_text.specs.Entries.{leaf_line, mid_line, top_line, leaves_lines, mids_lines, tops_lines};
+ghost use Rattle.usbids_text.specs.Writing.{code_text, gap, line_text, entry_text, lines_text, stamp_text, title, head_text, written};
+ghost use Rattle.usbids_text.specs.Documents.{IsTextOf};
 
 use crate::document::{Document, Leaf, Mid, Top};
-use crate::ends::{Broken, Sink};
 use crate::gather::{Waiting, gather, gather_three, pour};
 use crate::kind::Kind;
 use crate::stamp::Stamp;
 use arrayvec::ArrayVec;
+use byte_streams::{Broken, Sink};
 use std::error::Error;
 use std::fmt;
 
-/// The writer failed, and took a beginning of the text.
+/// The sink failed, after it took a prefix of the text.
 #[derive(Clone, Copy, Debug, PartialEq, Eq)]
 pub struct WriteFault;
 
@@ -55,7 +55,7 @@ fn four_digits(code: u16) -> [u8; 4]
     ]
 }
 
-// The last of the four digits, as many as are wanted.
+// Returns this number of digits, the last of the four.
 fn last_digits(all: &[u8; 4], digits: u8) -> &[u8]
     ensures { result.now ≡ drop (4 - digits) all.now }
 {
@@ -71,7 +71,7 @@ fn gap(name: &[u8]) -> &'static [u8]
     }
 }
 
-// One line: what is in front of the code in two parts, the code in its digits, and the name.
+// One line: two parts before the code, the code in its digits, and the name.
 fn put_line<W: Sink>(
     sink: &mut W,
     waiting: &mut Waiting,
@@ -91,7 +91,7 @@ fn put_line<W: Sink>(
 }
 
 fn put_leaf<W: Sink>(sink: &mut W, waiting: &mut Waiting, leaf: &Leaf) -> Result<(), Broken>
-    ensures { Gathers (W.contents sink.old) waiting.old.bytes.items (W.contents sink.new) waiting.new.bytes.items (W.failures sink.old) (W.failures sink.new) result (rows_text (leaves_rows (leaf.now ∷ []))) }
+    ensures { Gathers (W.contents sink.old) waiting.old.bytes.items (W.contents sink.new) waiting.new.bytes.items (W.failures sink.old) (W.failures sink.new) result (lines_text (leaves_lines (leaf.now ∷ []))) }
 {
     put_line(
         sink,
@@ -105,7 +105,7 @@ fn put_leaf<W: Sink>(sink: &mut W, waiting: &mut Waiting, leaf: &Leaf) -> Result
 }
 
 fn put_leaves<W: Sink>(sink: &mut W, waiting: &mut Waiting, leaves: &[Leaf]) -> Result<(), Broken>
-    ensures { Gathers (W.contents sink.old) waiting.old.bytes.items (W.contents sink.new) waiting.new.bytes.items (W.failures sink.old) (W.failures sink.new) result (rows_text (leaves_rows leaves.now)) }
+    ensures { Gathers (W.contents sink.old) waiting.old.bytes.items (W.contents sink.new) waiting.new.bytes.items (W.failures sink.old) (W.failures sink.new) result (lines_text (leaves_lines leaves.now)) }
 {
     for leaf in leaves {
         match put_leaf(sink, waiting, leaf) {
@@ -117,7 +117,7 @@ fn put_leaves<W: Sink>(sink: &mut W, waiting: &mut Waiting, leaves: &[Leaf]) -> 
 }
 
 fn put_mid_line<W: Sink>(sink: &mut W, waiting: &mut Waiting, mid: &Mid) -> Result<(), Broken>
-    ensures { Gathers (W.contents sink.old) waiting.old.bytes.items (W.contents sink.new) waiting.new.bytes.items (W.failures sink.old) (W.failures sink.new) result (row_text (mid_row mid.now)) }
+    ensures { Gathers (W.contents sink.old) waiting.old.bytes.items (W.contents sink.new) waiting.new.bytes.items (W.failures sink.old) (W.failures sink.new) result (entry_text (mid_line mid.now)) }
 {
     put_line(
         sink,
@@ -131,7 +131,7 @@ fn put_mid_line<W: Sink>(sink: &mut W, waiting: &mut Waiting, mid: &Mid) -> Resu
 }
 
 fn put_mid<W: Sink>(sink: &mut W, waiting: &mut Waiting, mid: &Mid) -> Result<(), Broken>
-    ensures { Gathers (W.contents sink.old) waiting.old.bytes.items (W.contents sink.new) waiting.new.bytes.items (W.failures sink.old) (W.failures sink.new) result (rows_text (mids_rows (mid.now ∷ []))) }
+    ensures { Gathers (W.contents sink.old) waiting.old.bytes.items (W.contents sink.new) waiting.new.bytes.items (W.failures sink.old) (W.failures sink.new) result (lines_text (mids_lines (mid.now ∷ []))) }
 {
     match put_mid_line(sink, waiting, mid) {
         Ok(()) => put_leaves(sink, waiting, mid.leaves()),
@@ -140,7 +140,7 @@ fn put_mid<W: Sink>(sink: &mut W, waiting: &mut Waiting, mid: &Mid) -> Result<()
 }
 
 fn put_mids<W: Sink>(sink: &mut W, waiting: &mut Waiting, mids: &[Mid]) -> Result<(), Broken>
-    ensures { Gathers (W.contents sink.old) waiting.old.bytes.items (W.contents sink.new) waiting.new.bytes.items (W.failures sink.old) (W.failures sink.new) result (rows_text (mids_rows mids.now)) }
+    ensures { Gathers (W.contents sink.old) waiting.old.bytes.items (W.contents sink.new) waiting.new.bytes.items (W.failures sink.old) (W.failures sink.new) result (lines_text (mids_lines mids.now)) }
 {
     for mid in mids {
         match put_mid(sink, waiting, mid) {
@@ -152,7 +152,7 @@ fn put_mids<W: Sink>(sink: &mut W, waiting: &mut Waiting, mids: &[Mid]) -> Resul
 }
 
 fn put_top_line<W: Sink>(sink: &mut W, waiting: &mut Waiting, top: &Top) -> Result<(), Broken>
-    ensures { Gathers (W.contents sink.old) waiting.old.bytes.items (W.contents sink.new) waiting.new.bytes.items (W.failures sink.old) (W.failures sink.new) result (row_text (top_row top.now)) }
+    ensures { Gathers (W.contents sink.old) waiting.old.bytes.items (W.contents sink.new) waiting.new.bytes.items (W.failures sink.old) (W.failures sink.new) result (entry_text (top_line top.now)) }
 {
     match top.kind() {
         Kind::Vendor => put_line(
@@ -179,7 +179,7 @@ fn put_top_line<W: Sink>(sink: &mut W, waiting: &mut Waiting, top: &Top) -> Resu
 }
 
 fn put_top<W: Sink>(sink: &mut W, waiting: &mut Waiting, top: &Top) -> Result<(), Broken>
-    ensures { Gathers (W.contents sink.old) waiting.old.bytes.items (W.contents sink.new) waiting.new.bytes.items (W.failures sink.old) (W.failures sink.new) result (rows_text (tops_rows (top.now ∷ []))) }
+    ensures { Gathers (W.contents sink.old) waiting.old.bytes.items (W.contents sink.new) waiting.new.bytes.items (W.failures sink.old) (W.failures sink.new) result (lines_text (tops_lines (top.now ∷ []))) }
 {
     match put_top_line(sink, waiting, top) {
         Ok(()) => put_mids(sink, waiting, top.mids()),
@@ -188,7 +188,7 @@ fn put_top<W: Sink>(sink: &mut W, waiting: &mut Waiting, top: &Top) -> Result<()
 }
 
 fn put_tops<W: Sink>(sink: &mut W, waiting: &mut Waiting, tops: &[Top]) -> Result<(), Broken>
-    ensures { Gathers (W.contents sink.old) waiting.old.bytes.items (W.contents sink.new) waiting.new.bytes.items (W.failures sink.old) (W.failures sink.new) result (rows_text (tops_rows tops.now)) }
+    ensures { Gathers (W.contents sink.old) waiting.old.bytes.items (W.contents sink.new) waiting.new.bytes.items (W.failures sink.old) (W.failures sink.new) result (lines_text (tops_lines tops.now)) }
 {
     for top in tops {
         match put_top(sink, waiting, top) {
@@ -267,24 +267,24 @@ fn put_all_lines<W: Sink>(
 }
 
 /// Writes the text of the document: a title, the stamp if there is one, an empty line, and a line
-/// for each entry in the order of the list, each with a tab for its depth, its code in lower-case
-/// digits, two spaces and its name. It takes no memory.
+/// for each entry in the order of the list: a tab for each level of depth, the code in lower-case
+/// digits, two spaces and the name. It allocates no memory.
 ///
 /// # Errors
 ///
-/// The sink failed during this call. It then took a beginning of the text.
+/// The sink failed during this call, after it took a prefix of the text.
 pub fn write<W: Sink>(
     document: &Document,
     stamp: Option<Stamp>,
     sink: &mut W,
 ) -> Result<(), WriteFault>
     ensures writes { Writes (W.contents sink.old) (W.contents sink.new) (W.failures sink.old) (W.failures sink.new) result (written document.now stamp) }
-    ensures spells { Spells (written document.now stamp) document.now }
+    ensures is_text { IsTextOf (written document.now stamp) document.now }
 {
     let mut waiting = Waiting {
         bytes: ArrayVec::new(),
     };
-    // Its clause says that the document is sound, which `spells` rests on.
+    // For the proof of `is_text`: its contract says that the document is sound.
     let _tops = document.tops();
     match put_all_lines(sink, &mut waiting, document, stamp) {
         Ok(()) => match pour(sink, &mut waiting) {

@@ -1,12 +1,12 @@
-//! Lists by example: what no clause says.
+//! Tests of lists: what no contract says.
 #![tactic(auto)]
 
-#[cfg(test)]
-mod ends;
 #[cfg(test)]
 mod reading;
 #[cfg(test)]
 mod scanning;
+#[cfg(test)]
+mod streams;
 #[cfg(test)]
 mod values;
 #[cfg(test)]

@@ -1,3 +1,5 @@
+//! Reads lists, whole and in pieces.
+
 use std::test::Fail;
 use usbids_text::{
     Document, Kind, Leaf, LineFault, Mid, ReadFault, Reader, Top, Why, find, read_all,
@@ -71,6 +73,17 @@ fn reads_the_usual_list(rt: HostRuntime) -> Result<(), Fail> {
         Some(b"Blinker".as_slice())
     );
     assert_eq!(rt; find(&document, number, 0x0012), None);
+    Ok(())
+}
+
+#[test]
+fn finds_a_device(rt: HostRuntime) -> Result<(), Fail> {
+    let list = b"1209  Shared products\n\t0011  Blinker\n";
+    let document = read_all(rt.alloc(), list)?;
+    let vendor = Vid::new(0x1209).ok_or("no vendor")?;
+    let name = find(&document, vendor, 0x0011);
+    assert_eq!(rt; name, Some(b"Blinker".as_slice()));
+    assert_eq!(rt; find(&document, vendor, 0x0012), None);
     Ok(())
 }
 

@@ -1,17 +1,18 @@
-//! Devices that are looked for in lists that come in pieces.
+//! Looks for devices in lists that come in pieces.
 
 ghost use Rattle.std.specs.Prelude.{◌<◌, length};
 
+use byte_streams::Inlet;
 use std::process::Abort;
 use std::test::Fail;
-use usbids_text::{Inlet, LineFault, ReadFault, Scan, Why, feed_all};
+use usbids_text::{LineFault, ReadFault, Scan, Why, feed_all};
 use usbnum_core::Vid;
 
-/// A vendor that is there twice, devices that are there twice, and a class with the vendor's number.
+/// A vendor and a device that occur twice, and a class with the number of a wanted vendor.
 const LIST: &[u8] =
     b"1209  One\n\t0011  First\n\t0011  Second\nC 12  Class\n\t0011  Sub\n1210  Two\n\t0012  Other\n1209  Again\n\t0012  Late";
 
-/// Devices, with the first match or none.
+/// Devices, with the name of the first match, if any.
 const ROWS: &[(u16, u16, Option<&str>)] = &[
     (0x1209, 0x11, Some("First")),
     (0x1209, 0x12, Some("Late")),
@@ -20,7 +21,7 @@ const ROWS: &[(u16, u16, Option<&str>)] = &[
     (0x12, 0x11, None),
 ];
 
-/// The list has this name for the device, where it is read in pieces as large as the room.
+/// Checks that the list has this name for the device, when it is read in pieces of the room's size.
 fn has_name(
     rt: &(impl AllocGlobal + Abort),
     row: &(u16, u16, Option<&str>),
@@ -51,14 +52,14 @@ fn finds_the_first_match_however_the_list_is_cut(rt: HostRuntime) -> Result<(), 
     Ok(())
 }
 
-/// Lists with a fault, before a match and behind it, and where it is.
+/// Lists with a fault after or before a match, the faulty line and its fault.
 const FAULTY: &[(&[u8], u64, Why)] = &[
     (b"1209  One\n\t0011  First\n\t11  x\n", 3, Why::BadCode),
     (b"1209  One\n\t\t01  x\n\t0011  First", 2, Why::NoParent),
 ];
 
 #[test]
-fn tells_a_fault_before_any_match(rt: HostRuntime) -> Result<(), Fail> {
+fn reports_a_fault_before_any_match(rt: HostRuntime) -> Result<(), Fail> {
     for (list, line, why) in FAULTY {
         let vendor = Vid::new(0x1209).ok_or("a vendor")?;
         let mut scan = Scan::new(rt.alloc(), vendor, 0x11);

@@ -1,3 +1,5 @@
+//! Tags, names, and a document built by hand.
+
 use std::test::Fail;
 use usbids_text::{Document, Kind, Leaf, Mid, Name, Tag, Top};
 

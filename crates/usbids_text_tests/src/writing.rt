@@ -1,15 +1,18 @@
+//! Writes documents, also to writers that fail.
+
+use byte_streams::Outlet;
 use std::alloc::{AllocError, Global};
 use std::io;
 use std::io::Write;
 use std::test::Fail;
-use usbids_text::{Outlet, Stamp, WriteFault, read_all, write};
+use usbids_text::{Stamp, WriteFault, read_all, write};
 
 const TITLE: &str = "# List of USB numbers in the syntax of usb.ids\n";
 
 const USUAL: &str =
     "1209  Shared products\n\t0011  Blinker\n\t\t07  Port\n\t0012\nC 00  (Defined at Interface level)\nHID 21  HID\nBIAS 0  Not Applicable\nL 0001  Arabic\n";
 
-/// A writer that takes so many bytes, and then none.
+/// A writer that takes `room` bytes and then none.
 #[derive(Drop)]
 struct Few {
     bytes: Vec<u8>,
@@ -59,7 +62,7 @@ fn writes_the_usual_list(rt: HostRuntime) -> Result<(), Fail> {
 }
 
 #[test]
-fn writes_a_list_that_was_spelt_otherwise(rt: HostRuntime) -> Result<(), Fail> {
+fn writes_a_list_in_its_one_form(rt: HostRuntime) -> Result<(), Fail> {
     let alloc = rt.alloc();
     let document = read_all(alloc, b"# x\n\n1209 \tA \r\n\t00AB\tB\r\n\t00ac")?;
     let mut sink = Outlet::new(Vec::new(alloc));
@@ -70,7 +73,7 @@ fn writes_a_list_that_was_spelt_otherwise(rt: HostRuntime) -> Result<(), Fail> {
 }
 
 #[test]
-fn tells_of_a_writer_that_fails(rt: HostRuntime) -> Result<(), Fail> {
+fn reports_a_failed_writer(rt: HostRuntime) -> Result<(), Fail> {
     let alloc = rt.alloc();
     let mut entries = String::from_str(alloc, USUAL)?;
     for _ in 0..200u8 {

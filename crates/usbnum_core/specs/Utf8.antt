@@ -1,4 +1,4 @@
--- The bytes of each text are UTF-8, so that a text is a Rust string.
+-- Each text is UTF-8, so it can be kept as a string.
 use Rattle.std.proofs.Common.{ℕ, ◌<◌, List, length, get_or, arith, ⊎_elim}
 use Rattle.std.proofs.lemmas.Str.{IsUtf8-from_ascii}
 use Rattle.std.proofs.lemmas.List.{get_or_past}
@@ -6,7 +6,7 @@ use Rattle.std.proofs.lemmas.Bool.{cases_lt}
 use Rattle.std.specs.Str.{IsUtf8}
 use Rattle.usbnum_core.specs.Text.{IsSlug, IsSlugByte, IsKey, IsKeyByte, IsLink, IsWithin}
 
--- bytes that are all below 128 are UTF-8
+-- bytes below 128 are UTF-8
 pub low_is_utf8 : (text : List ℕ) → ((i : ℕ) → i < length text → get_or text i 0 < 128) → IsUtf8 text
 low_is_utf8 text low = IsUtf8-from_ascii text (λ i. ⊎_elim (λ h. low i h) (λ h. rw (get_or_past text i 0 h) (omega arith)) (cases_lt i (length text)))
 

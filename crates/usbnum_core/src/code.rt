@@ -15,7 +15,7 @@ fn hex_digit(byte: u8) -> Option<u8>
     }
 }
 
-/// The number that exactly four hexadecimal digits of either case stand for; None for any other text.
+/// Returns the value of exactly four hexadecimal digits of either case, or None for any other text.
 pub fn parse_code(text: &[u8]) -> Option<u16>
     ensures { result ≡ code_of text.now }
 {
@@ -41,7 +41,7 @@ fn lower_digit(value: u16) -> u8
     }
 }
 
-// The digits of a number, in lower case.
+/// Returns the four hexadecimal digits of a number, in lower case.
 pub fn four_digits(number: u16) -> [u8; 4]
     ensures digits { result ≡ digits_of number }
     ensures ascii { All (λ digit. digit < 128) result }
@@ -55,7 +55,7 @@ pub fn four_digits(number: u16) -> [u8; 4]
     ]
 }
 
-// Bytes below 128 as a text.
+/// Returns bytes below 128 as a text.
 pub fn ascii_text(bytes: &[u8]) -> &str
     requires { All (λ byte. byte < 128) bytes.now }
     ensures { result.now ≡ bytes.now }

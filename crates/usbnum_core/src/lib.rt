@@ -1,6 +1,7 @@
-//! The values of a registry of USB product numbers: numbers, spans of numbers, sets of them, and the texts that name things.
+//! The values of a registry of USB product IDs: numbers, spans, sets of numbers, and texts for
+//! names.
 //!
-//! No call here ends the process or waits, and each that may allocate says so by [`NoMemory`].
+//! No call ends the process or waits. Each call that may run out of memory returns [`NoMemory`].
 #![tactic(auto)]
 
 pub use code::parse_code;

@@ -1,17 +1,21 @@
+//! A product ID with its vendor ID, and a span of product IDs.
+
 ghost use Rattle.std.specs.Prelude.{◌≡◌, ◌≤◌, ◌↔◌, Some, IfSome, IsSome};
 ghost use Rattle.usbnum_core.specs.Number.{range_text};
 
 use crate::{Pid, Vid};
 use std::fmt;
 
-/// The pair of numbers that a device says of itself. Pairs are in order by vendor, then by product.
+/// The vendor ID and the product ID of a device. Ordered by vendor ID, then by product ID.
 #[derive(Clone, Copy, Debug, PartialEq, Eq, PartialOrd, Ord, Hash)]
 pub struct Number {
+    /// The vendor ID.
     pub vid: Vid,
+    /// The product ID.
     pub pid: Pid,
 }
 
-/// All product numbers from the first to the last.
+/// All product IDs from the first to the last.
 #[derive(Clone, Copy, Debug, PartialEq, Eq)]
 pub struct Span {
     first: Pid,
@@ -20,7 +24,7 @@ pub struct Span {
 }
 
 impl Span {
-    /// The span from the first to the last; None where the last is below the first.
+    /// Makes the span from the first to the last, or returns None if the last is below the first.
     pub fn new(first: Pid, last: Pid) -> Option<Span>
         ensures valid { IsSome result ↔ (first ≤ last) }
         ensures ends { IfSome result (λ span. (span.first ≡ first) × (span.last ≡ last)) }
@@ -32,7 +36,7 @@ impl Span {
         }
     }
 
-    // The span between two numbers in order.
+    // The span between two numbers that are in order.
     pub(crate) fn between(first: Pid, last: Pid) -> Span
         requires { first ≤ last }
         ensures first { result.first ≡ first }
@@ -41,14 +45,14 @@ impl Span {
         Span { first, last }
     }
 
-    /// The least number of the span.
+    /// Returns the least number of the span.
     pub fn first(&self) -> Pid
         ensures { result ≡ self.now.first }
     {
         self.first
     }
 
-    /// The greatest number of the span, which is not below the first.
+    /// Returns the greatest number of the span.
     pub fn last(&self) -> Pid
         ensures last { result ≡ self.now.last }
         ensures ordered { self.now.first ≤ result }
@@ -57,7 +61,7 @@ impl Span {
     }
 }
 
-/// The digits of both ends: `2000-20ff`.
+/// Writes the digits of both ends, for example `2000-20ff`.
 impl fmt::Display for Span {
     ghost output = { λ span. Some (range_text span.first span.last) };
 

@@ -1,4 +1,4 @@
-//! What is asked of a list of maximal spans, and edits in its midst.
+//! Queries on a list of maximal spans, and edits inside it.
 
 ghost use Rattle.std.specs.Prelude.{◌≡◌, ◌↔◌, ◌+◌, ◌<◌, ◌≤◌, ◌∷◌, ◌++◌, length, take, drop, IsTrue, IsSome, OnOk, OnErr};
 ghost use Rattle.std.specs.List.{AllWithin};
@@ -8,7 +8,7 @@ ghost use Rattle.usbnum_core.specs.Parts.{IsReach, IsJoined, IsRestBefore, IsRes
 
 use crate::{NoMemory, Pid, Span};
 
-// How many of the parts end before the number.
+/// Returns how many of the parts end before the number.
 pub fn ended_before(parts: &[Span], number: u32) -> usize
     requires { IsSpread 1 parts.now }
     ensures within { result ≤ length parts.now }
@@ -18,7 +18,7 @@ pub fn ended_before(parts: &[Span], number: u32) -> usize
     parts.partition_point(|part| u32::from(part.last().get()) < number)
 }
 
-// How many of the parts begin at the number or before it.
+// Returns how many of the parts begin at or before the number.
 fn begun_by(parts: &[Span], number: u32) -> usize
     requires { IsSpread 1 parts.now }
     ensures within { result ≤ length parts.now }
@@ -28,7 +28,8 @@ fn begun_by(parts: &[Span], number: u32) -> usize
     parts.partition_point(|part| u32::from(part.first().get()) <= number)
 }
 
-// The parts that end at `start` or later and begin by `end`: the first of them, and the first past them.
+/// Returns the range of the parts that end at `start` or later and begin at `end` or earlier: the
+/// index of the first, and the index after the last.
 pub fn reach(parts: &[Span], start: u32, end: u32) -> (usize, usize)
     requires { IsSpread 1 parts.now }
     ensures { IsReach parts.now start end result.0 result.1 }
@@ -36,7 +37,7 @@ pub fn reach(parts: &[Span], start: u32, end: u32) -> (usize, usize)
     (ended_before(parts, start), begun_by(parts, end))
 }
 
-// The span from the least beginning to the greatest end.
+/// Returns the span from the least start to the greatest end.
 pub fn join(low: Span, high: Span, span: Span) -> Span
     ensures { IsJoined low high span result }
 {
@@ -45,7 +46,7 @@ pub fn join(low: Span, high: Span, span: Span) -> Span
     Span::between(first, last)
 }
 
-// Puts one span in the place of those from `low` on and before `high`.
+/// Replaces the spans from `low` on and before `high` by one span.
 pub fn replace(parts: &mut Vec<Span>, low: usize, high: usize, span: Span)
     requires some { low < high }
     requires within { high ≤ length parts.old.items }
@@ -55,7 +56,7 @@ pub fn replace(parts: &mut Vec<Span>, low: usize, high: usize, span: Span)
     parts.drain(low + 1..high);
 }
 
-// The same with two spans. The list grows, and memory is wanted, only where they take the place of one.
+// Replaces them by two spans. The list grows, and needs memory, only if they replace one span.
 fn replace_by_two(
     parts: &mut Vec<Span>,
     low: usize,
@@ -79,7 +80,7 @@ fn replace_by_two(
     Ok(())
 }
 
-// Puts at most two spans in the place of those from `low` on and before `high`.
+/// Replaces the spans from `low` on and before `high` by at most two spans.
 pub fn splice(
     parts: &mut Vec<Span>,
     low: usize,
@@ -103,7 +104,7 @@ pub fn splice(
     Ok(())
 }
 
-// What is left of the part before the span.
+/// Returns the rest of the part before the span.
 pub fn rest_before(part: Span, span: Span) -> Option<Span>
     ensures { IsRestBefore part span result }
 {
@@ -114,7 +115,7 @@ pub fn rest_before(part: Span, span: Span) -> Option<Span>
     }
 }
 
-// What is left of the part after the span.
+/// Returns the rest of the part after the span.
 pub fn rest_after(part: Span, span: Span) -> Option<Span>
     ensures { IsRestAfter part span result }
 {
@@ -125,21 +126,22 @@ pub fn rest_after(part: Span, span: Span) -> Option<Span>
     }
 }
 
-// Whether the span is all inside the part.
+/// Returns whether the whole span is inside the part.
 pub fn is_within(span: Span, part: Span) -> bool
     ensures { IsTrue result ↔ ((part.first ≤ span.first) × (span.last ≤ part.last)) }
 {
     part.first() <= span.first() && span.last() <= part.last()
 }
 
-// Whether the part begins by the end of the span.
+/// Returns whether the part begins at the end of the span or earlier.
 pub fn begins_by_end(part: Span, span: Span) -> bool
     ensures { IsTrue result ↔ (part.first ≤ span.last) }
 {
     part.first() <= span.last()
 }
 
-// The least number from 1 on that is in no part and not in the list. Both ascend, so each is walked once.
+/// Returns the least number from 1 on that is in no part and not in the list. Both ascend, so one
+/// pass over each is enough.
 pub fn first_free(parts: &[Span], numbers: &[Pid]) -> u32
     requires spread { IsSpread 1 parts.now }
     requires ascends { IsStrictlyIncreasing numbers.now }

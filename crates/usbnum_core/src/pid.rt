@@ -1,3 +1,5 @@
+//! Product IDs.
+
 ghost use Rattle.std.specs.Prelude.{◌≡◌, ◌+◌, ◌<◌, ℕ, Some};
 ghost use Rattle.std.specs.Option.{SomeIff};
 ghost use Rattle.usbnum_core.specs.Number.{IsNumber, number_of, digits_of};
@@ -6,7 +8,7 @@ use crate::code::{ascii_text, four_digits, parse_code};
 use std::fmt;
 use std::marker::Model;
 
-/// The number of a product among its vendor's, from 1 to 65,535.
+/// A product ID, from 1 to 65,535. Each vendor has its own.
 #[derive(Clone, Copy, Debug, PartialEq, Eq, PartialOrd, Ord, Hash)]
 pub struct Pid {
     number: u16,
@@ -22,7 +24,8 @@ impl Model for Pid {
     ghost inverse = { λ n. record { number = n } };
 }
 
-/// The product number that exactly four hexadecimal digits of either case stand for; None for `0000` and any other text.
+/// Returns the product ID of exactly four hexadecimal digits of either case, or None for `0000` and
+/// any other text.
 pub fn parse_pid(text: &[u8]) -> Option<Pid>
     ensures { result ≡ number_of text.now }
 {
@@ -30,7 +33,7 @@ pub fn parse_pid(text: &[u8]) -> Option<Pid>
 }
 
 impl Pid {
-    /// The number as a product number; None for 0.
+    /// Makes a product ID from a number, or returns None for 0.
     pub fn new(number: u16) -> Option<Pid>
         ensures { SomeIff result (IsNumber number) number }
     {
@@ -41,7 +44,7 @@ impl Pid {
         }
     }
 
-    /// The number, from 1 to 65,535.
+    /// Returns the number, from 1 to 65,535.
     pub fn get(&self) -> u16
         ensures number { result ≡ self.now }
         ensures valid { IsNumber result }
@@ -49,7 +52,7 @@ impl Pid {
         self.number
     }
 
-    /// Four lower-case hexadecimal digits, which `parse_pid` reads back.
+    /// Returns four lower-case hexadecimal digits, which `parse_pid` reads back.
     pub fn digits(&self) -> [u8; 4]
         ensures digits { result ≡ digits_of self.now }
         ensures reads_back { number_of result ≡ Some self.now }
@@ -78,7 +81,7 @@ impl Pid {
     }
 }
 
-/// Four lower-case hexadecimal digits: `00ff`.
+/// Writes four lower-case hexadecimal digits, for example `00ff`.
 impl fmt::Display for Pid {
     ghost output = { λ number. Some (digits_of number) };
 

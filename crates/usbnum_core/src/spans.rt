@@ -1,3 +1,5 @@
+//! Sets of product IDs, kept as spans.
+
 ghost use Rattle.std.specs.Prelude.{◌≡◌, ◌↔◌, ◌≤◌, ℕ, [], ◌||◌, ◌&&◌, not, true, false, nat_eq, IsTrue, OnOk, OnErr, MatchOption};
 ghost use Rattle.std.specs.List.Sorted.{IsStrictlyIncreasing};
 ghost use Rattle.std.specs.Cmp.Lexicographic.{pointwise};
@@ -14,10 +16,25 @@ use crate::{NoMemory, Pid, Span};
 use std::alloc::{AllocError, Global};
 use std::marker::Model;
 
-/// A set of product numbers, kept as its maximal spans.
+/// A set of product IDs, kept as its maximal spans.
 ///
-/// A contract sees these spans as a list, and asks `spans_have` of it whether a number is in the set.
-/// Two sets of the same numbers are equal. A set keeps the allocator that it is made with.
+/// A contract sees these spans as a list, in which `spans_have` looks for a number. Two sets of the
+/// same numbers are equal. A set keeps its allocator.
+///
+/// # Examples
+///
+/// Here `rt` is the runtime that `main` gets.
+///
+/// ```
+/// let first = Pid::new(0x2000).ok_or("no number")?;
+/// let last = Pid::new(0x20ff).ok_or("no number")?;
+/// let mut set = Spans::new(rt.alloc());
+/// set.add(Span::new(first, last).ok_or("no span")?)?;
+/// assert_eq!(rt; set.count(), 256);
+/// set.cut(Span::new(last, last).ok_or("no span")?)?;
+/// assert!(rt; set.contains(first) && !set.contains(last));
+/// assert_eq!(rt; set.least_outside(&[]), Pid::new(1));
+/// ```
 #[derive(Debug, Drop)]
 pub struct Spans {
     parts: Vec<Span>,
@@ -37,7 +54,7 @@ impl Model for Spans {
 }
 
 impl Spans {
-    /// The empty set. It takes no memory yet.
+    /// Makes an empty set. It needs no memory yet.
     pub fn new(alloc: Global) -> Spans
         ensures { result ≡ [] }
     {
@@ -46,7 +63,7 @@ impl Spans {
         }
     }
 
-    /// The maximal spans, ascending.
+    /// Returns the maximal spans, ascending.
     pub fn parts(&self) -> &[Span]
         ensures parts { result.now ≡ self.now }
         ensures spread { IsSpread 1 result.now }
@@ -54,14 +71,14 @@ impl Spans {
         &self.parts
     }
 
-    /// Whether the number is in the set.
+    /// Returns whether the number is in the set.
     pub fn contains(&self, number: Pid) -> bool
         ensures { result ≡ spans_have self.now number }
     {
         self.meets(Span::between(number, number))
     }
 
-    /// Whether all numbers of the span are in the set.
+    /// Returns whether all numbers of the span are in the set.
     pub fn covers(&self, span: Span) -> bool
         ensures { IsTrue result ↔ ((n : ℕ) → IsTrue (span_has span n) → IsTrue (spans_have self.now n)) }
     {
@@ -69,7 +86,7 @@ impl Spans {
         low < self.parts.len() && is_within(span, self.parts[low])
     }
 
-    /// Whether any number of the span is in the set.
+    /// Returns whether any number of the span is in the set.
     pub fn meets(&self, span: Span) -> bool
         ensures { IsTrue result ↔ ((n : ℕ) × IsTrue (span_has span n) × IsTrue (spans_have self.now n)) }
     {
@@ -77,7 +94,7 @@ impl Spans {
         low < self.parts.len() && begins_by_end(self.parts[low], span)
     }
 
-    /// How many numbers are in the set.
+    /// Returns the count of numbers in the set.
     pub fn count(&self) -> u32
         ensures { result ≡ count_to (spans_have self.now) 65535 }
     {
@@ -88,8 +105,8 @@ impl Spans {
         total
     }
 
-    /// The least product number that is neither in the set nor in the list, or None where each is in one of them.
-    /// The list has to ascend, with no number twice.
+    /// Returns the least product ID that is neither in the set nor in the list, or None if there is
+    /// none left. The list must ascend strictly.
     pub fn least_outside(&self, numbers: &[Pid]) -> Option<Pid>
         requires { IsStrictlyIncreasing numbers.now }
         ensures { MatchOption result ((n : ℕ) → 1 ≤ n → n ≤ 65535 → is_taken self.now numbers.now n ≡ true) (λ least. IsLeastOutside self.now numbers.now least) }
@@ -97,8 +114,8 @@ impl Spans {
         Pid::new(u16::try_from(first_free(&self.parts, numbers)).ok()?)
     }
 
-    /// Adds the numbers of the span. Memory is wanted only where no number of the span or next to it is in the set;
-    /// after `NoMemory` the set is as it was.
+    /// Adds the numbers of the span. Needs memory only if no number of the span or next to it is in
+    /// the set. After `NoMemory` the set is unchanged.
     pub fn add(&mut self, span: Span) -> Result<(), NoMemory>
         ensures union { OnOk result ((n : ℕ) → spans_have self.new n ≡ (spans_have self.old n || span_has span n)) }
         ensures spread { IsSpread 1 self.new }
@@ -117,8 +134,8 @@ impl Spans {
         Ok(())
     }
 
-    /// Takes the numbers of the span away. Memory is wanted only where all numbers of the span and next to it are in the set,
-    /// so that a maximal span falls in two; after `NoMemory` the set is as it was.
+    /// Removes the numbers of the span. Needs memory only if all numbers of the span and next to it
+    /// are in the set, so that a maximal span splits in two. After `NoMemory` the set is unchanged.
     pub fn cut(&mut self, span: Span) -> Result<(), NoMemory>
         ensures difference { OnOk result ((n : ℕ) → spans_have self.new n ≡ (spans_have self.old n && not (span_has span n))) }
         ensures spread { IsSpread 1 self.new }
@@ -152,7 +169,7 @@ impl PartialEq for Spans {
 
     ghost laws = { Prim.search (comparing, rules) };
 
-    /// Whether the two sets have the same numbers.
+    /// Returns whether the two sets have the same numbers.
     fn eq(&self, other: &Spans) -> bool
         ensures value { result ≡ pointwise (eq_of_both (on (λ part. part.first) nat_eq) (on (λ part. part.last) nat_eq)) self.now other.now }
         ensures same_numbers { IsTrue result ↔ ((n : ℕ) → spans_have self.now n ≡ spans_have other.now n) }

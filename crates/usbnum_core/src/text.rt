@@ -1,3 +1,5 @@
+//! Texts that keep a rule.
+
 ghost use Rattle.std.specs.Prelude.{◌≡◌, ◌==◌, ◌↔◌, ℕ, List, Some, IsTrue, IfOk};
 ghost use Rattle.std.specs.Option.{SomeIff};
 ghost use Rattle.std.specs.Cmp.Lexicographic.{pointwise, slice_cmp};
@@ -14,18 +16,18 @@ use std::cmp::Ordering;
 use std::fmt;
 use std::marker::{Model, PhantomData};
 
-/// Which bytes are a text of one kind.
+/// A rule for the bytes of one kind of text.
 pub trait TextRule: Drop {
     ghost IsValid: { List ℕ → Type 0 };
 
-    /// Whether the bytes are such a text.
+    /// Returns whether the bytes are such a text.
     fn accepts(bytes: &[u8]) -> bool
         ensures { IsTrue result ↔ IsValid bytes.now };
 
     ghost valid_is_utf8: { (bytes : List ℕ) → IsValid bytes → IsUtf8 bytes };
 }
 
-/// A text that a rule accepts. A contract sees its bytes; it compares and orders by them.
+/// A text that a rule accepts. A contract sees its bytes, by which it is compared and ordered.
 #[derive(Drop)]
 pub struct Text<R: TextRule> {
     text: String,
@@ -41,7 +43,7 @@ impl<R: TextRule> Model for Text<R> {
 }
 
 impl<R: TextRule> Text<R> {
-    /// The bytes as such a text, or None where they are none.
+    /// Makes a text from the bytes, or returns None if the rule does not accept them.
     pub fn new(alloc: Global, bytes: &[u8]) -> Result<Option<Text<R>>, NoMemory>
         ensures { IfOk result (λ found. SomeIff found (R.IsValid bytes.now) bytes.now) }
     {
@@ -57,7 +59,7 @@ impl<R: TextRule> Text<R> {
         }
     }
 
-    /// The text, whose bytes the rule accepts.
+    /// Returns the text, whose bytes the rule accepts.
     pub fn as_str(&self) -> &str
         ensures text { result.now ≡ self.now }
         ensures valid { R.IsValid self.now }
@@ -115,7 +117,7 @@ impl<R: TextRule> PartialOrd for Text<R> {
     }
 }
 
-/// The text itself.
+/// Writes the text itself.
 impl<R: TextRule> fmt::Display for Text<R> {
     ghost output = { λ text. Some text };
 
@@ -124,7 +126,7 @@ impl<R: TextRule> fmt::Display for Text<R> {
     }
 }
 
-/// The text in quotes.
+/// Writes the text in quotes.
 impl<R: TextRule> fmt::Debug for Text<R> {
     fn fmt<W: fmt::Write>(&self, f: &mut fmt::Formatter<W>) -> fmt::Result {
         fmt::Debug::fmt(&self.text, f)

@@ -1,3 +1,5 @@
+//! Vendor IDs.
+
 ghost use Rattle.std.specs.Prelude.{◌≡◌, ℕ, Some};
 ghost use Rattle.std.specs.Option.{SomeIff};
 ghost use Rattle.usbnum_core.specs.Number.{IsNumber, number_of, digits_of};
@@ -6,7 +8,7 @@ use crate::code::{ascii_text, four_digits, parse_code};
 use std::fmt;
 use std::marker::Model;
 
-/// The number of a vendor, from 1 to 65,535.
+/// A vendor ID, from 1 to 65,535.
 #[derive(Clone, Copy, Debug, PartialEq, Eq, PartialOrd, Ord, Hash)]
 pub struct Vid {
     number: u16,
@@ -22,7 +24,8 @@ impl Model for Vid {
     ghost inverse = { λ n. record { number = n } };
 }
 
-/// The vendor number that exactly four hexadecimal digits of either case stand for; None for `0000` and any other text.
+/// Returns the vendor ID of exactly four hexadecimal digits of either case, or None for `0000` and
+/// any other text.
 pub fn parse_vid(text: &[u8]) -> Option<Vid>
     ensures { result ≡ number_of text.now }
 {
@@ -30,7 +33,7 @@ pub fn parse_vid(text: &[u8]) -> Option<Vid>
 }
 
 impl Vid {
-    /// The number as a vendor number; None for 0.
+    /// Makes a vendor ID from a number, or returns None for 0.
     pub fn new(number: u16) -> Option<Vid>
         ensures { SomeIff result (IsNumber number) number }
     {
@@ -41,7 +44,7 @@ impl Vid {
         }
     }
 
-    /// The number, from 1 to 65,535.
+    /// Returns the number, from 1 to 65,535.
     pub fn get(&self) -> u16
         ensures number { result ≡ self.now }
         ensures valid { IsNumber result }
@@ -49,7 +52,7 @@ impl Vid {
         self.number
     }
 
-    /// Four lower-case hexadecimal digits, which `parse_vid` reads back.
+    /// Returns four lower-case hexadecimal digits, which `parse_vid` reads back.
     pub fn digits(&self) -> [u8; 4]
         ensures digits { result ≡ digits_of self.now }
         ensures reads_back { number_of result ≡ Some self.now }
@@ -58,7 +61,7 @@ impl Vid {
     }
 }
 
-/// Four lower-case hexadecimal digits: `1209`.
+/// Writes four lower-case hexadecimal digits, for example `1209`.
 impl fmt::Display for Vid {
     ghost output = { λ number. Some (digits_of number) };
 

@@ -1,4 +1,4 @@
-//! Numbers, spans and texts by example: what no clause says.
+//! Tests of numbers, spans and texts: what no contract says.
 #![tactic(auto)]
 
 #[cfg(test)]

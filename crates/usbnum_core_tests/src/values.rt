@@ -1,4 +1,5 @@
-//! What no clause says: that the clauses mean what was meant, that a call with memory succeeds, and how it does when memory is refused.
+//! Tests what no contract says: that the contracts mean what was intended, that calls succeed while
+//! there is memory, and what happens when an allocation is refused.
 
 ghost use Rattle.std.specs.Prelude.{◌≡◌, ◌≤◌, ◌<◌, length};
 
@@ -147,6 +148,19 @@ fn spans_join_and_fall_apart(rt: HostRuntime) -> Result<(), Fail> {
 }
 
 #[test]
+fn numbers_are_added_and_cut(rt: HostRuntime) -> Result<(), Fail> {
+    let first = Pid::new(0x2000).ok_or("no number")?;
+    let last = Pid::new(0x20ff).ok_or("no number")?;
+    let mut set = Spans::new(rt.alloc());
+    set.add(Span::new(first, last).ok_or("no span")?)?;
+    assert_eq!(rt; set.count(), 256);
+    set.cut(Span::new(last, last).ok_or("no span")?)?;
+    assert!(rt; set.contains(first) && !set.contains(last));
+    assert_eq!(rt; set.least_outside(&[]), Pid::new(1));
+    Ok(())
+}
+
+#[test]
 fn the_least_number_outside_is_found(rt: HostRuntime) -> Result<(), Fail> {
     let mut set = Spans::new(rt.alloc());
     assert_eq!(rt; set.least_outside(&[]), Some(pid(1)));
@@ -157,7 +171,7 @@ fn the_least_number_outside_is_found(rt: HostRuntime) -> Result<(), Fail> {
     Ok(())
 }
 
-// A source of made-up numbers: Knuth's multiplier and increment, modulo 2^64.
+// A pseudo-random generator: Knuth's multiplier and increment, modulo 2^64.
 #[derive(Drop)]
 struct MadeUp {
     state: u64,
@@ -172,7 +186,7 @@ impl MadeUp {
         (self.state >> 48) as u16
     }
 
-    // A span of up to 16, up to 256 or any number of numbers.
+    // A span of at most 16, at most 256 or any number of product IDs.
     fn span(&mut self) -> Span {
         let first = self.next().max(1);
         let mask = match self.next() % 8 {
@@ -185,7 +199,7 @@ impl MadeUp {
     }
 }
 
-// A set, and a flag for each number.
+// A set, and a flag for each number of the same set.
 #[derive(Drop)]
 struct Doubled {
     set: Spans,
@@ -202,7 +216,7 @@ impl Doubled {
         Ok(())
     }
 
-    // Compares what is asked of a span, and the least number outside.
+    // Compares the results for a span, and the least number outside.
     fn compare(&self, rt: &impl Abort, span: Span) {
         let flags = self.flags.as_slice();
         assert_eq!(rt; flags.len(), 65_536);
@@ -218,7 +232,7 @@ impl Doubled {
         );
     }
 
-    // Compares each number, and how many there are.
+    // Compares each number, their count and the spans.
     fn compare_all(&self, rt: &impl Abort) {
         let flags = self.flags.as_slice();
         assert_eq!(rt; flags.len(), 65_536);
@@ -256,7 +270,7 @@ fn a_set_agrees_with_flags(rt: HostRuntime) -> Result<(), Fail> {
     Ok(())
 }
 
-// One call may be refused, since one allocation is.
+// One call may fail, as one allocation is refused.
 fn copy(set: &Spans) -> Result<Spans, NoMemory> {
     match set.clone() {
         Ok(copy) => Ok(copy),
@@ -278,7 +292,8 @@ fn change(rt: &impl Abort, set: &mut Spans, span: Span, adds: bool) -> Result<()
     Ok(changed(set, span, adds)?)
 }
 
-// `rt try --test --fail-alloc N` refuses the Nth allocation of each test: run for each N, this sees each growth refused.
+// `rt try --test --fail-alloc N` refuses the Nth allocation of each test. Run for each N, this test
+// has each growth refused once.
 #[test]
 fn a_refused_growth_leaves_the_set(rt: HostRuntime) -> Result<(), Fail> {
     let mut set = Spans::new(rt.alloc());

@@ -1,4 +1,4 @@
-use Rattle.registry_laws.proofs.AgainLemmas.{completes}
+use Rattle.registry_laws.proofs.RoundTripLemmas.{completes}
 use Rattle.registry_laws.proofs.completes_list.Goals as goal
 
 pub returns : goal.returns

@@ -1,4 +1,4 @@
-use Rattle.registry_laws.proofs.AgainLemmas.{same_list}
+use Rattle.registry_laws.proofs.RoundTripLemmas.{same_list}
 use Rattle.registry_laws.proofs.gives_same_list.Goals as goal
 
 pub returns : goal.returns

@@ -1,8 +1,8 @@
 use Rattle.std.proofs.Common.{sym, subst, refl}
 use Rattle.registry_commands.specs.declared.messages.Failure.{Failure}
-use Rattle.registry_commands.specs.Failures.{IsOfInput, IsOfMemory, IsOfOutput, TellsFailure}
+use Rattle.registry_commands.specs.Failures.{IsOfInput, IsOfMemory, IsOfOutput, PrintsFailure}
 use Rattle.registry_commands.specs.Lines.{requests_in}
-use Rattle.registry_commands.proofs.ApplyLemmas.{applied_more, fails_before, Keeps-same}
+use Rattle.registry_commands.proofs.ApplyLemmas.{applied_more, fails_before, keeps_same}
 use Rattle.registry_commands.proofs.FailureLemmas.{memory_of_input, within}
 use Rattle.registry_commands.proofs.apply.apply_lines.Goals as goal
 
@@ -24,10 +24,10 @@ returns-in-Err g c =
     let bytes = c.in-Err.ensures.err.0 in
     let OfInput = IsOfInput (g.R.Source.failures c.args.source.now) (g.R.Source.failures c.read_all.new.source) bytes in
     let may = subst (λ (failure : Failure). OfInput failure) (sym c.input_failure.ensures) c.in-Err.ensures.err.2 in
-    let told : TellsFailure OfInput _ = (c.input_failure.result, may, c.fail.ensures.told) in (
+    let told : PrintsFailure OfInput _ = (c.input_failure.result, may, c.fail.ensures.told) in (
       bytes,
       c.in-Err.ensures.err.1,
       fails_before OfInput (IsOfOutput (g.W.Sink.failures c.args.output.now) (g.W.Sink.failures c.args.output.now))
           c.args.registry.now (requests_in bytes) c.args.answered _ _ c.fail.result c.fail.ensures.status told,
-      λ long. (c.fail.ensures.status, record { same = refl; silent = Keeps-same _; told = told }),
+      λ long. (c.fail.ensures.status, record { same = refl; silent = keeps_same _; told = told }),
     )

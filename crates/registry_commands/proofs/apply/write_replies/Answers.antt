@@ -21,7 +21,7 @@ returns-in-Ok-clause-same_reference g c =
 pub returns-in-Ok-clause-through : goal.returns-in-Ok-clause-through
 returns-in-Ok-clause-through g c h at clean =
     let done = c.in-Ok.ensures.through h at clean in
-    record { gained = (taken_lines g.W.Sink.contents g.W.Sink.failures c.args.lines.now c.run_to.new.replies _ done.0).gained; stands = done.1 }
+    record { gained = (taken_lines g.W.Sink.contents g.W.Sink.failures c.args.lines.now c.run_to.new.replies _ done.0).gained; represents = done.1 }
 
 pub returns-in-Err-Fault-clause-same_reference : goal.returns-in-Err-Fault-clause-same_reference
 returns-in-Err-Fault-clause-same_reference g c =
@@ -44,7 +44,7 @@ returns-in-Err-Fault-clause-failure g c =
     λ h at clean. let halted = rw c.in-Err-Fault.field-0-is at (c.in-Err-Fault.ensures.stopped h at clean) in halted.1.reply.2.1 in
     rw c.failure_of.ensures (of_fault c.args.registry.now c.run_to.new.self (λ h. HasAnswered c.args.registry.now h c.args.requests.now c.args.answered)
     (g.W.Sink.failures old.output.now) (g.W.Sink.failures new.output.now) kept fault
-    (λ spent. c.in-Err-Fault.ensures.only_spent (ap Err (c.in-Err-Fault.field-0-is ∙ ap stop.Fault spent))) kind)
+    (λ poisoned. c.in-Err-Fault.ensures.only_poisoned (ap Err (c.in-Err-Fault.field-0-is ∙ ap stop.Fault poisoned))) kind)
 
 pub unreachable-requires : goal.unreachable-requires
 unreachable-requires g c =

@@ -1,15 +1,15 @@
 use Rattle.std.proofs.Common.{inl, inr}
-use Rattle.registry_commands.proofs.ApplyLemmas.{Keeps-same}
+use Rattle.registry_commands.proofs.ApplyLemmas.{keeps_same}
 use Rattle.registry_commands.proofs.exporting.export.Goals as goal
 
 pub returns-in-Ok : goal.returns-in-Ok
 returns-in-Ok g c = record {
   left = c.in-Ok.ensures.left;
-  shown = inl (c.in-Ok.document, c.in-Ok.ensures.answered, c.put_document.ensures.spells, c.put_document.ensures.printed);
+  shown = inl (c.in-Ok.document, c.in-Ok.ensures.answered, c.put_document.ensures.is_text, c.put_document.ensures.printed);
 }
 
 pub returns-in-Err : goal.returns-in-Err
 returns-in-Err g c = record {
   left = c.in-Err.ensures.left;
-  shown = inr (c.fail.ensures.status, Keeps-same _, (c.in-Err.failure, c.in-Err.ensures.failure, c.fail.ensures.told));
+  shown = inr (c.fail.ensures.status, keeps_same _, (c.in-Err.failure, c.in-Err.ensures.failure, c.fail.ensures.told));
 }

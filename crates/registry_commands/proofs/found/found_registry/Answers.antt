@@ -1,6 +1,6 @@
 use Rattle.std.proofs.Common.{sym, subst, refl}
 use Rattle.registry_commands.specs.declared.messages.Failure.{Failure}
-use Rattle.registry_commands.specs.Failures.{IsOfInput, IsOfMemory, TellsFailure}
+use Rattle.registry_commands.specs.Failures.{IsOfInput, IsOfMemory, PrintsFailure}
 use Rattle.registry_wire.specs.Founding.{founding_listed}
 use Rattle.registry_commands.proofs.EndLemmas.{found_more, founding_fails}
 use Rattle.registry_commands.proofs.FailureLemmas.{memory_of_input, within}
@@ -23,7 +23,7 @@ returns-in-Err g c =
     let bytes = c.in-Err.ensures.err.0 in
     let OfInput = IsOfInput (g.R.Source.failures c.args.source.now) (g.R.Source.failures c.read_all.new.source) bytes in
     let may = subst (λ (failure : Failure). OfInput failure) (sym c.input_failure.ensures) c.in-Err.ensures.err.2 in
-    let told : TellsFailure OfInput _ = (c.input_failure.result, may, c.fail.ensures.told) in (
+    let told : PrintsFailure OfInput _ = (c.input_failure.result, may, c.fail.ensures.told) in (
       bytes,
       c.in-Err.ensures.err.1,
       founding_fails OfInput g.S.Store c.args.conn (founding_listed bytes) _ c.fail.result c.fail.ensures.status told,

@@ -1,5 +1,5 @@
 use Rattle.std.proofs.Common.{inl, inr, refl}
-use Rattle.registry_commands.proofs.ApplyLemmas.{Keeps-same}
+use Rattle.registry_commands.proofs.ApplyLemmas.{keeps_same}
 use Rattle.registry_commands.proofs.EndLemmas.{of_founding}
 use Rattle.registry_commands.proofs.found.found_with.Goals as goal
 
@@ -15,5 +15,5 @@ returns-in-Err g c =
 pub returns-in-Ok : goal.returns-in-Ok
 returns-in-Ok g c = rw c.close.ensures (record {
   survives = c.in-Ok.ensures.survives;
-  ends = inl (refl, record { none_before = c.in-Ok.ensures.fresh; rows = λ clean. (c.in-Ok.ensures.stands clean).at }, (Keeps-same _, refl));
+  ends = inl (refl, record { none_before = c.in-Ok.ensures.fresh; rows = λ clean. (c.in-Ok.ensures.represents clean).at }, (keeps_same _, refl));
 })

@@ -1,7 +1,7 @@
 use Rattle.std.proofs.Common.{inl, inr, refl, ap, ◌∙◌, ℕ}
 use Rattle.registry_commands.specs.declared.messages.Failure.TheVariants.{Memory}
 use Rattle.registry_commands.specs.Imports.{request_of}
-use Rattle.registry_commands.proofs.ApplyLemmas.{Keeps-same}
+use Rattle.registry_commands.proofs.ApplyLemmas.{keeps_same}
 use Rattle.registry_commands.proofs.importing.import_document.Goals as goal
 
 pub returns-in-Ok : goal.returns-in-Ok
@@ -12,4 +12,4 @@ returns-in-Ok g c = inl (
 )
 
 pub returns-in-Err : goal.returns-in-Err
-returns-in-Err g c = inr (refl, (c.fail.ensures.status, Keeps-same _, (Memory, refl, c.fail.ensures.told)))
+returns-in-Err g c = inr (refl, (c.fail.ensures.status, keeps_same _, (Memory, refl, c.fail.ensures.told)))

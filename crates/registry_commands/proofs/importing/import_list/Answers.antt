@@ -1,6 +1,6 @@
 use Rattle.std.proofs.Common.{inl, inr, refl}
 use Rattle.registry_commands.specs.declared.messages.Failure.TheVariants.{File}
-use Rattle.registry_commands.proofs.ApplyLemmas.{Keeps-same}
+use Rattle.registry_commands.proofs.ApplyLemmas.{keeps_same}
 use Rattle.registry_commands.proofs.importing.import_list.Goals as goal
 
 pub returns-in-Ok : goal.returns-in-Ok
@@ -11,4 +11,4 @@ returns-in-Ok g c =
 pub returns-in-Err : goal.returns-in-Err
 returns-in-Err g c =
     let read = c.in-Err.ensures.err in
-    (read.0, read.1, inr (refl, (c.fail.ensures.status, Keeps-same _, (File, read.2, c.fail.ensures.told))))
+    (read.0, read.1, inr (refl, (c.fail.ensures.status, keeps_same _, (File, read.2, c.fail.ensures.told))))

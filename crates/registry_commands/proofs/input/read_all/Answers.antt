@@ -1,13 +1,13 @@
 use Rattle.std.proofs.Common.{◌≡◌, ◌<◌, ◌++◌, List, ℕ, length, ◌∙◌, inl, inr, ap, refl, Err, arith, length-append}
-use Rattle.usbids_text.specs.Ends.{HasFailed}
-use Rattle.usbids_text.proofs.EndLemmas.{all_of}
+use Rattle.byte_streams.specs.Streams.{HasFailed}
+use Rattle.byte_streams.proofs.StreamLemmas.{all_of}
 use Rattle.registry_commands.specs.declared.input.InputFault.{InputFault}
 use Rattle.registry_commands.specs.declared.input.InputFault.TheVariants as inputs
 use Rattle.registry_commands.specs.Failures.{IsOfInput}
 use Rattle.registry_commands.specs.Messages.{input_failure}
 use Rattle.registry_commands.proofs.input.read_all.Goals as goal
 
--- what is told of an input's fault
+-- the fault of an input
 told : (before after : ℕ) (bytes : List ℕ) (fault : InputFault) → (fault ≡ inputs.File → HasFailed before after) → (fault ≡ inputs.NoMemory → after ≡ before)
     → IsOfInput before after bytes (input_failure fault)
 told before after bytes inputs.File failed kept = inl (failed refl)

@@ -2,7 +2,7 @@ use Rattle.std.proofs.Common.{◌≡◌, true, false, [], ◌∷◌, ◌++◌, O
 use Rattle.std.proofs.lemmas.Bool.Decides.{nat_tests}
 use Rattle.registry_wire.specs.Reading.{line_reading}
 use Rattle.registry_commands.specs.Lines.{is_blank}
-use Rattle.registry_commands.proofs.LineLemmas.{after-blank, after-good, at-bad, at-end, no-bytes}
+use Rattle.registry_commands.proofs.LineLemmas.{after_blank, after_good, at_bad, ended_at, empty_bytes}
 use Rattle.registry_commands.proofs.lines.requests_in.Goals as goal
 use Rattle.registry_commands.proofs.lines.requests_in.Goals.{then-not-is_blank+in_ok-request+in-Ok+in_ok-push-in-Ok, else-not-is_blank}
 
@@ -11,7 +11,7 @@ returns-in-Err c =
     let line = c.first_line.result.0.now in
     let filled : is_blank line ≡ false = cc in
     let read : line_reading line ≡ Err c.in-Err.refusal = sym c.in_ok-request.ensures ∙ c.in-Err.is in
-    at-bad _ c.loop-rest.requests.items c.loop-rest.number c.loop-rest.rest.now c.loop-rest.invariant.ahead line c.first_line.result.1.now c.first_line.ensures.lines c.in-Err.refusal filled read
+    at_bad _ c.loop-rest.requests.items c.loop-rest.number c.loop-rest.rest.now c.loop-rest.invariant.ahead line c.first_line.result.1.now c.first_line.ensures.lines c.in-Err.refusal filled read
 
 pub loop-rest-preserved : goal.loop-rest-preserved
 loop-rest-preserved c =
@@ -23,13 +23,13 @@ loop-rest-preserved c =
           let read : line_reading line ≡ Ok w.in-Ok.request = sym w.in_ok-request.ensures ∙ w.in-Ok.is in
           let pushed : c.if-not-is_blank.requests.items ≡ front ++ w.in-Ok.request ∷ [] = rw w.requests-is w.in_ok-push-in-Ok.ensures.items in
           record {
-            ahead = after-good _ front c.loop-rest.number c.loop-rest.rest.now c.loop-rest.invariant.ahead line c.first_line.result.1.now c.first_line.ensures.lines w.in-Ok.request _ filled read pushed;
+            ahead = after_good _ front c.loop-rest.number c.loop-rest.rest.now c.loop-rest.invariant.ahead line c.first_line.result.1.now c.first_line.ensures.lines w.in-Ok.request _ filled read pushed;
             counted = omega arith;
           }
       | else-not-is_blank w ↦
           let blank : is_blank line ≡ true = cc in
           record {
-            ahead = rw w.requests-is (after-blank _ front c.loop-rest.number c.loop-rest.rest.now c.loop-rest.invariant.ahead line c.first_line.result.1.now c.first_line.ensures.lines blank);
+            ahead = rw w.requests-is (after_blank _ front c.loop-rest.number c.loop-rest.rest.now c.loop-rest.invariant.ahead line c.first_line.result.1.now c.first_line.ensures.lines blank);
             counted = omega arith;
           }
     ]
@@ -37,5 +37,5 @@ loop-rest-preserved c =
 pub returns : goal.returns
 returns c =
     let empty : length c.loop-rest.rest.now ≡ 0 = grind (arith, nat_tests) in
-    let none : c.loop-rest.rest.now ≡ [] = no-bytes c.loop-rest.rest.now empty in
-    at-end _ c.loop-rest.requests.items c.loop-rest.number c.loop-rest.rest.now c.loop-rest.invariant.ahead none
+    let none : c.loop-rest.rest.now ≡ [] = empty_bytes c.loop-rest.rest.now empty in
+    ended_at _ c.loop-rest.requests.items c.loop-rest.number c.loop-rest.rest.now c.loop-rest.invariant.ahead none

@@ -1,5 +1,5 @@
-use Rattle.registry_commands.proofs.ApplyLemmas.{Keeps-same}
+use Rattle.registry_commands.proofs.ApplyLemmas.{keeps_same}
 use Rattle.registry_commands.proofs.looking.put_answer.Goals as goal
 
 pub returns-in-Err : goal.returns-in-Err
-returns-in-Err g c = rw c.in-Err.is (Keeps-same _, c.put_fault.ensures)
+returns-in-Err g c = rw c.in-Err.is (keeps_same _, c.put_fault.ensures)

@@ -6,8 +6,8 @@ use Rattle.sqlite.specs.Files.{file_state}
 use Rattle.registry_tables.specs.Rows.{newest}
 use Rattle.registry_store.specs.Promise.{Leaves}
 use Rattle.registry_store.specs.Reopen.{IsEither}
-use Rattle.registry_store.proofs.Crash.{closed_clean, in_newest}
-use Rattle.registry_commands.specs.Failures.{IsOfInput, IsOfOutput, told_to}
+use Rattle.registry_store.proofs.CrashLemmas.{closed_clean, in_newest}
+use Rattle.registry_commands.specs.Failures.{IsOfInput, IsOfOutput, error_output}
 use Rattle.registry_commands.specs.Lines.{requests_in}
 use Rattle.registry_commands.proofs.ReopenLemmas.{if_reopened}
 use Rattle.registry_commands.proofs.reopening.apply_and_open.Goals as goal
@@ -18,7 +18,7 @@ returns g c =
     let bytes = run.ensures.0 in
     let OfInput = IsOfInput (g.R.Source.failures c.args.source.now) (g.R.Source.failures run.new.source) bytes in
     let OfOutput = IsOfOutput (g.W.Sink.failures c.args.output.now) (g.W.Sink.failures run.new.output) in
-    let told = told_to g.E.Sink.contents g.E.Sink.failures c.args.errors.now run.new.errors in
+    let told = error_output g.E.Sink.contents g.E.Sink.failures c.args.errors.now run.new.errors in
     let close = c.close_store-closed in (
       bytes,
       run.ensures.1,
@@ -26,7 +26,7 @@ returns g c =
           c.open_files.result
           (λ h next legal legal_next leaves.
           let before = subst (λ x. HasCleanDisk (file_state x) → Leaves newest (file_state x) (IsEither h next)) (sym c.close.ensures) leaves in
-          c.open_files.ensures.stands newest h next legal legal_next (λ honest. (close.ensures.holds c.if-closed-status.false newest h next (in_newest (file_state c.close.result) (IsEither h next) before) honest).now))
+          c.open_files.ensures.represents newest h next legal legal_next (λ honest. (close.ensures.holds c.if-closed-status.false newest h next (in_newest (file_state c.close.result) (IsEither h next) before) honest).now))
           (IfSome_then c.open_files.result c.open_files.ensures.honest
           (λ x honest clean. subst (λ y. HasCleanDisk (file_state y)) c.close.ensures (closed_clean c.close.result close.result.1 close.ensures.closed (honest clean)))),
     )

@@ -2,16 +2,16 @@ use Rattle.std.proofs.Common.{subst, arith, List}
 use Rattle.std.proofs.lemmas.List.{take_all}
 use Rattle.registry_rules.specs.declared.record.Vendor.{Vendor}
 use Rattle.registry_commands.specs.Reports.{AreReserved}
-use Rattle.registry_commands.proofs.ReportLemmas.{reserved-start, reserved-next}
+use Rattle.registry_commands.proofs.ReportLemmas.{reserved_start, reserved_next}
 use Rattle.registry_commands.proofs.reporting.reserved_of.Goals as goal
 
 pub loop-vendor-init : goal.loop-vendor-init
-loop-vendor-init g c h stands = reserved-start h c.args.vendors.now c.new-pairs.result.items c.new-pairs.ensures.items
+loop-vendor-init g c h stands = reserved_start h c.args.vendors.now c.new-pairs.result.items c.new-pairs.ensures.items
 
 pub loop-vendor-preserved : goal.loop-vendor-preserved
 loop-vendor-preserved g c h stands =
     let put = c.in-Ok.ensures.put h stands in
-    reserved-next h c.args.vendors.now c.loop-vendor.vendor-index c.vendor-item.result c.loop-vendor.pairs.items c.put_reserved.new.pairs.items put.0
+    reserved_next h c.args.vendors.now c.loop-vendor.vendor-index c.vendor-item.result c.loop-vendor.pairs.items c.put_reserved.new.pairs.items put.0
     (omega arith) c.vendor-item.is put.1 put.2 (c.loop-vendor.invariant h stands)
 
 pub returns-clause-answered : goal.returns-clause-answered

@@ -3,4 +3,4 @@ use Rattle.registry_commands.proofs.trials.found_trial.Goals as goal
 
 pub returns-in-Ok-found-clause-ok : goal.returns-in-Ok-found-clause-ok
 returns-in-Ok-found-clause-ok c =
-    (c.in-Ok.founding, c.in-Ok.ensures, c.in-Ok-found.ensures.stands (memory_is_clean c.in-Ok-found.registry))
+    (c.in-Ok.founding, c.in-Ok.ensures, c.in-Ok-found.ensures.represents (memory_is_clean c.in-Ok-found.registry))

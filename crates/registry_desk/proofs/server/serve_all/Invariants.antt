@@ -1,16 +1,16 @@
 use Rattle.std.proofs.Common.{◌≡◌, List, length}
 use Rattle.sqlite.specs.State.{HasCleanDisk}
 use Rattle.registry_rules.specs.History.{History}
-use Rattle.registry_store.specs.Promise.{Stands, Endures, state_of}
-use Rattle.registry_desk.specs.Server.{Visit, HaveVisited, Represents}
+use Rattle.registry_store.specs.Promise.{Represents, Endures, state_of}
+use Rattle.registry_desk.specs.Server.{Visit, HaveVisited, RepresentsAfter}
 use Rattle.registry_desk.proofs.server.serve_all.Given as goal
 
--- so many connections were served, and the registry stands at the history after their messages
+-- as many connections as the counter says were served, and the registry represents the history after their messages
 abbrev pub invariant-loop : goal.invariant-loop
 invariant-loop g l = record {
   endures : Endures (state_of l.initial.registry) (state_of l.registry);
   served : (visits : List Visit)
       × HaveVisited g.C.Connections.opens g.C.Connections.closes g.C.Reader.Source.remaining g.C.Writer.Sink.contents g.C.Writer.Sink.failures l.initial.connections l.connections visits
       × (length visits ≡ l.counter)
-      × ((h : History) → Stands l.initial.registry h → HasCleanDisk (state_of l.registry) → Represents l.registry h visits);
+      × ((h : History) → Represents l.initial.registry h → HasCleanDisk (state_of l.registry) → RepresentsAfter l.registry h visits);
 }

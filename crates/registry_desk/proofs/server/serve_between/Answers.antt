@@ -1,6 +1,6 @@
 use Rattle.std.proofs.Common.{[], refl, sym, subst}
 use Rattle.std.specs.Prelude.{Ok, Err}
-use Rattle.registry_store.specs.Promise.{Stands}
+use Rattle.registry_store.specs.Promise.{Represents}
 use Rattle.registry_desk.proofs.ServerLemmas.{served_visit}
 use Rattle.registry_desk.proofs.server.serve_between.Goals as goal
 
@@ -23,5 +23,5 @@ returns-in-Err-clause-served g c =
       it.1,
       read.1,
       refl,
-      λ h stands clean. (h, refl, subst (λ it. Stands it h) (sym read.2) stands),
+      λ h stands clean. (h, refl, subst (λ it. Represents it h) (sym read.2) stands),
     )

@@ -1,7 +1,7 @@
 use Rattle.std.proofs.Common.{◌≡◌, ◌++◌, length, sym, subst, ◌∙◌, append_assoc, arith, length-append}
 use Rattle.std.proofs.lemmas.Bool.{lt-leb}
-use Rattle.usbids_text.specs.Readers.{Stands}
-use Rattle.usbids_text.proofs.EndLemmas.{Consumes-then}
+use Rattle.usbids_text.specs.Readers.{WasFed}
+use Rattle.byte_streams.proofs.StreamLemmas.{consumes_then}
 use Rattle.registry_http.proofs.body.feed_from.Goals as goal
 
 pub returns-then-count-eq0-clause-ok : goal.returns-then-count-eq0-clause-ok
@@ -11,11 +11,11 @@ returns-then-count-eq0-clause-ok g c =
     let none : c.in_ok-count.count ≡ 0 = c.if-count-eq0.true in
     let test = c.loop-left-test.true in (
       read.0 ++ more.0,
-      Consumes-then _ _ _ _ _ read.2 more.3,
+      consumes_then _ _ _ _ _ read.2 more.3,
       omega (arith, length-append read.0 more.0, read.1, more.1, none),
       sym (lt-leb c.args.wanted (length (read.0 ++ more.0)) (omega (arith, length-append read.0 more.0, read.1, more.1, none, test))),
       λ same. more.4 none,
-      λ t s. subst (Stands c.feed_more.new.reader) (append_assoc t read.0 more.0) (more.5 (t ++ read.0) (read.3 t s)),
+      λ t s. subst (WasFed c.feed_more.new.reader) (append_assoc t read.0 more.0) (more.5 (t ++ read.0) (read.3 t s)),
     )
 
 pub loop-left-preserved : goal.loop-left-preserved
@@ -26,8 +26,8 @@ loop-left-preserved g c =
       read = (
         read.0 ++ more.0,
         omega (arith, length-append read.0 more.0, read.1, more.1, more.2),
-        Consumes-then _ _ _ _ _ read.2 more.3,
-        λ t s. subst (Stands c.feed_more.new.reader) (append_assoc t read.0 more.0) (more.5 (t ++ read.0) (read.3 t s)),
+        consumes_then _ _ _ _ _ read.2 more.3,
+        λ t s. subst (WasFed c.feed_more.new.reader) (append_assoc t read.0 more.0) (more.5 (t ++ read.0) (read.3 t s)),
       );
       same_failures = c.in_ok-count.ensures.kept ∙ c.loop-left.invariant.same_failures;
     }

@@ -1,13 +1,13 @@
 use Rattle.std.proofs.Common.{◌++◌, length, refl, ap, arith}
 use Rattle.std.specs.Io.KnownBytes.{Consumes}
 use Rattle.std.proofs.Common.{length-append}
-use Rattle.registry_http.proofs.HeadLemmas.{Consumes-none, Consumes-then, all_of, HasNoRequest-nil, no_head_overflow, no_head_full, whole_head}
+use Rattle.registry_http.proofs.HeadLemmas.{consumes_none, consumes_then, all_of, has_no_request_nil, no_head_overflow, no_head_full, whole_head}
 use Rattle.registry_http.proofs.head.read_head.Goals as goal
 
 pub loop-source-init : goal.loop-source-init
 loop-source-init g c = record {
-  read = rw c.requires.fresh (Consumes-none (g.R.Source.remaining c.args.source.now));
-  none = rw c.requires.fresh HasNoRequest-nil;
+  read = rw c.requires.fresh (consumes_none (g.R.Source.remaining c.args.source.now));
+  none = rw c.requires.fresh has_no_request_nil;
   short = omega (arith, ap length c.requires.fresh);
   same_failures = refl;
 }
@@ -17,7 +17,7 @@ returns-in-Ok-Complete-clause-whole g c =
     let more = c.in_ok-count.ensures.ok in
     let buf = c.take_more.new.buffer.items in
     let read = c.loop-source.invariant.read in
-    let taken : Consumes (g.R.Source.remaining c.args.source.now) (g.R.Source.remaining c.take_more.new.source) buf = rw more.1 (Consumes-then _ _ _ _ more.0 read more.4) in
+    let taken : Consumes (g.R.Source.remaining c.args.source.now) (g.R.Source.remaining c.take_more.new.source) buf = rw more.1 (consumes_then _ _ _ _ more.0 read more.4) in
     let at = rw (c.in-Ok-Complete.field-0-is, c.deref.ensures.value) at c.in-Ok-Complete.ensures.complete in
     let within = rw (c.in-Ok-Complete.field-0-is, c.deref.ensures.value) at c.in-Ok-Complete.ensures.within in
     (at.0, whole_head buf _ _ at.0 (omega (arith, length-append c.loop-source.buffer.items more.0, ap length more.1, more.2, more.3)) (omega arith) within at.1, at.1, within, taken)
@@ -26,7 +26,7 @@ pub returns-in-Err-clause-missing : goal.returns-in-Err-clause-missing
 returns-in-Err-clause-missing g c =
     let more = c.in_ok-count.ensures.ok in
     let buf = c.take_more.new.buffer.items in
-    let taken : Consumes (g.R.Source.remaining c.args.source.now) (g.R.Source.remaining c.take_more.new.source) buf = rw more.1 (Consumes-then _ _ _ _ more.0 c.loop-source.invariant.read more.4) in
+    let taken : Consumes (g.R.Source.remaining c.args.source.now) (g.R.Source.remaining c.take_more.new.source) buf = rw more.1 (consumes_then _ _ _ _ more.0 c.loop-source.invariant.read more.4) in
     let all = all_of _ _ buf taken in
     let over = rw c.deref.ensures.value at c.in-Err.ensures.no_room in
     (buf ++ all.0, all.1, no_head_overflow buf all.0 (length c.loop-source.spans) (omega arith) over)

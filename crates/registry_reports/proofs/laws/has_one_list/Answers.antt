@@ -1,4 +1,4 @@
-use Rattle.registry_reports.proofs.OneLemmas.{one}
+use Rattle.registry_reports.proofs.UniqueLemmas.{one}
 use Rattle.registry_reports.proofs.laws.has_one_list.Goals as goal
 
 pub returns : goal.returns

@@ -2,6 +2,6 @@ use Rattle.std.proofs.Common.{◌≡◌, List, map, take}
 use Rattle.std.specs.List.{AllByRecursion}
 use Rattle.registry_rows.proofs.decode.all_from.Given as goal
 
--- the values of the rows so far
+-- the list has the values of the rows so far
 abbrev pub invariant-loop-row : goal.invariant-loop-row
 invariant-loop-row g l = (values : List _) → AllByRecursion g.T.FromRow.is_valid values → l.rows ≡ map g.T.FromRow.columns values → l.all.items ≡ take l.row-index values

@@ -1,16 +1,17 @@
 use Rattle.sqlite.specs.Held.{state}
 use Rattle.table_laws.proofs.InsideLemmas.{query_goes, query_fails}
+use Rattle.registry_rows.proofs.AnswerLemmas.{fails_to_answer}
 use Rattle.registry_rows.proofs.ReadTexts.{find_kept_text}
 use Rattle.registry_rows.proofs.ReadLemmas.{reads_find_kept}
 use Rattle.registry_rows.proofs.kept.kept_rows.Goals as goal
 
-pub returns-in-Ok-clause-rows : goal.returns-in-Ok-clause-rows
-returns-in-Ok-clause-rows g c clean inside =
+pub returns-clause-rows : goal.returns-clause-rows
+returns-clause-rows g c clean inside =
     let old = state g.S.Store c.args.tx.now.conn.now in
-    let new = state g.S.Store c.query_all-ran.new.self.conn.now in
-    let shown = rw (c.params-to_sql.ensures, c.params-to_sql-2.ensures, c.as_str.ensures.text, c.as_str-2.ensures.text) at (c.in-Ok.ensures.ok clean) in
+    let new = state g.S.Store c.query_all.new.self.conn.now in
+    let shown = rw (c.params-to_sql.ensures, c.params-to_sql-2.ensures, c.as_str.ensures.text, c.as_str-2.ensures.text) at (c.in_ok-query_all.ensures.ok clean) in
     (query_goes old new inside _ _ _ shown, λ t has. reads_find_kept old new _ _ _ shown t has)
 
-pub returns-in-Err-clause-rows : goal.returns-in-Err-clause-rows
-returns-in-Err-clause-rows g c clean inside =
-    (λ foreign. absurd (c.fault_of.ensures.known foreign), query_fails (state g.S.Store c.args.tx.now.conn.now) (state g.S.Store c.query_all-ran.new.self.conn.now) inside find_kept_text _ _ (c.in-Err.ensures.err clean))
+pub returns-in_err-query_all-clause-rows : goal.returns-in_err-query_all-clause-rows
+returns-in_err-query_all-clause-rows g c clean inside =
+    fails_to_answer (state g.S.Store c.args.tx.now.conn.now) (state g.S.Store c.query_all.new.self.conn.now) _ c.from_residual.result _ _ c.from_residual.ensures.1 (query_fails (state g.S.Store c.args.tx.now.conn.now) (state g.S.Store c.query_all.new.self.conn.now) inside find_kept_text _ _ (c.in_err-query_all.ensures.err clean))

@@ -5,7 +5,7 @@ use Rattle.registry_schema.proofs.TextLemmas.{makes_curators}
 use Rattle.table_laws.proofs.MakeLemmas.{adds_blank}
 use Rattle.registry_schema.proofs.first.create_curators.Goals as goal
 
-pub returns-in-Ok-clause-made : goal.returns-in-Ok-clause-made
-returns-in-Ok-clause-made g c clean inside =
-    let ran = c.in-Ok.ensures.runs clean inside in
-    (ran.1, adds_blank (state g.S.Store c.args.tx.now.conn.now) (state g.S.Store c.execute-ran.new.self.conn.now) past_meta curators_text curators makes_curators c.in-Ok.field-0 ran.0)
+pub returns-clause-made : goal.returns-clause-made
+returns-clause-made g c clean inside =
+    let ran = c.in_ok-execute.ensures.runs clean inside in
+    (ran.1, adds_blank (state g.S.Store c.args.tx.now.conn.now) (state g.S.Store c.execute.new.self.conn.now) past_meta curators_text curators makes_curators c.in_ok-execute.field-0 ran.0)

@@ -1,8 +1,8 @@
 use Rattle.std.proofs.Common.{◌≡◌, rules, subst}
-use Rattle.registry_rules.specs.Rows.{LeadsTo}
+use Rattle.registry_rules.specs.Records.{LeadsTo}
 use Rattle.registry_rules.specs.History.{with_deed}
-use Rattle.registry_store.proofs.Opening.{earlier}
-use Rattle.registry_store.proofs.Steps.{wrote}
+use Rattle.registry_store.proofs.OpeningLemmas.{earlier}
+use Rattle.registry_store.proofs.TransactionLemmas.{wrote}
 use Rattle.registry_store.proofs.attempt.write.Goals as goal
 
 pub returns-clause-ok : goal.returns-clause-ok

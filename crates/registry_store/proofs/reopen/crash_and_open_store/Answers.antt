@@ -1,10 +1,10 @@
 use Rattle.std.proofs.lemmas.Option.{IfSome_then}
-use Rattle.registry_store.proofs.Crash.{both}
+use Rattle.registry_store.proofs.CrashLemmas.{both}
 use Rattle.registry_store.proofs.reopen.crash_and_open_store.Goals as goal
 
-pub returns-clause-stands : goal.returns-clause-stands
-returns-clause-stands g c from h next legal legal_next leaves =
-    c.open_files.ensures.stands from h next legal legal_next (λ honest.
+pub returns-clause-represents : goal.returns-clause-represents
+returns-clause-represents g c from h next legal legal_next leaves =
+    c.open_files.ensures.represents from h next legal legal_next (λ honest.
     (c.leave_store-files.ensures.holds from h next leaves (both _ _ _ _ c.crash.ensures.clean c.crash-2.ensures.clean honest)).crash _ (c.crash.ensures.left, c.crash-2.ensures.left))
 
 pub returns-clause-clean : goal.returns-clause-clean

@@ -2,10 +2,10 @@ use Rattle.std.proofs.lemmas.Option.{IfSome_then}
 use Rattle.sqlite.specs.Files.{image_of}
 use Rattle.registry_store.proofs.reopen.open_files.Goals as goal
 
-pub returns-in-Ok-clause-stands : goal.returns-in-Ok-clause-stands
-returns-in-Ok-clause-stands g c from h next legal legal_next holds =
+pub returns-in-Ok-clause-represents : goal.returns-in-Ok-clause-represents
+returns-in-Ok-clause-represents g c from h next legal legal_next holds =
     let e = c.in-Ok.ensures in
-    c.take_up.ensures.stands from (image_of g.D.Disk c.args.files) h next legal legal_next
+    c.take_up.ensures.represents from (image_of g.D.Disk c.args.files) h next legal legal_next
     (λ clean. (e.opened clean, record { holds = (e.found clean).holds; reads = (e.found clean).reads }, holds (e.found clean).honest))
 
 pub returns-in-Ok-clause-honest : goal.returns-in-Ok-clause-honest

@@ -4,11 +4,11 @@ use Rattle.sqlite.specs.State.{HasCleanDisk}
 use Rattle.sqlite.specs.Files.{file_state}
 use Rattle.registry_tables.specs.Rows.{Rows}
 use Rattle.registry_store.specs.Promise.{IsFreshAt}
-use Rattle.registry_store.proofs.Opening.{either_legal}
+use Rattle.registry_store.proofs.OpeningLemmas.{either_legal}
 use Rattle.registry_store.proofs.reopen.take_up.Goals as goal
 
-pub returns-in-Ok-clause-stands : goal.returns-in-Ok-clause-stands
-returns-in-Ok-clause-stands g c from image h next legal legal_next opened clean =
+pub returns-in-Ok-clause-represents : goal.returns-in-Ok-clause-represents
+returns-in-Ok-clause-represents g c from image h next legal legal_next opened clean =
     let conn = c.args.conn in
     let was : HasCleanDisk (file_state conn) = omega (arith, c.in-Ok.ensures.survives.clean) in
     let it = opened was in

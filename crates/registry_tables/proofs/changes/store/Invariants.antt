@@ -1,8 +1,8 @@
 use Rattle.std.proofs.Common.{◌≡◌, IsTrue, take}
-use Rattle.sqlite.specs.State.{HasCleanDisk, Survives}
+use Rattle.sqlite.specs.State.{HasCleanDisk}
 use Rattle.sqlite.specs.Held.{state}
 use Rattle.sqlite_trees.specs.Tree.{IsAscending}
-use Rattle.table_laws.specs.Inside.{GoesOn}
+use Rattle.table_laws.specs.Inside.{CommitsNothing, GoesOn}
 use Rattle.registry_rows.specs.Tables.{Tables, Holds}
 use Rattle.registry_tables.specs.Rows.{AreApart}
 use Rattle.registry_tables.proofs.StoreLemmas.{AreMade}
@@ -12,7 +12,7 @@ use Rattle.registry_tables.proofs.changes.store.Given as goal
 abbrev pub invariant-loop-change : goal.invariant-loop-change
 invariant-loop-change g l = record {
   same : l.tx.conn.ghost_name ≡ l.initial.tx.conn.ghost_name;
-  survives : Survives (state g.S.Store l.initial.tx.conn.now) (state g.S.Store l.tx.conn.now) (λ _. ⊥);
+  survives : CommitsNothing (state g.S.Store l.initial.tx.conn.now) (state g.S.Store l.tx.conn.now);
   goes : HasCleanDisk (state g.S.Store l.tx.conn.now) → IsTrue (state g.S.Store l.initial.tx.conn.now).in_transaction → IsTrue (state g.S.Store l.initial.tx.conn.now).is_open
       → GoesOn (state g.S.Store l.initial.tx.conn.now) (state g.S.Store l.tx.conn.now);
   made : HasCleanDisk (state g.S.Store l.tx.conn.now) → IsTrue (state g.S.Store l.initial.tx.conn.now).in_transaction → IsTrue (state g.S.Store l.initial.tx.conn.now).is_open

@@ -1,7 +1,8 @@
 use Rattle.std.proofs.Common.{◌≡◌, [], ◌∷◌, Err, sym, subst, arith, rules}
 use Rattle.sqlite.specs.Held.{state}
 use Rattle.registry_rows.specs.declared.meta.Meta.{Meta}
-use Rattle.registry_old_rows.specs.Steps.{Second, TellsOf}
+use Rattle.registry_old_rows.specs.Steps.{Second}
+use Rattle.registry_rows.specs.Steps.{AnswersOf}
 use Rattle.registry_tables.specs.Raising.{IsMarked}
 use Rattle.registry_tables.proofs.MarkedLemmas.{marked_told, none_marked, fails_marked}
 use Rattle.registry_tables.proofs.marked.old_meta.Goals as goal
@@ -11,7 +12,7 @@ returns-in_err-metas-clause-told g c clean inside =
     let old = state g.S.Store c.args.tx.now.conn.now in
     let new = state g.S.Store c.list_old_metas.new.tx.conn.now in
     let is : c.from_residual.result ≡ Err c.in_err-metas.field-0.0 = search rules in
-    subst (λ r. TellsOf old new (IsMarked c.args.version old.now) r (λ (x : Second) (m : Meta). x.tables.metas ≡ m ∷ [])) (sym is) (fails_marked c.args.version old new c.in_err-metas.field-0.0 (λ (x : Second) (m : Meta). x.tables.metas ≡ m ∷ []) (c.in_err-metas.ensures.listed clean inside))
+    subst (λ r. AnswersOf old new (IsMarked c.args.version old.now) r (λ (x : Second) (m : Meta). x.tables.metas ≡ m ∷ [])) (sym is) (fails_marked c.args.version old new c.in_err-metas.field-0.0 (λ (x : Second) (m : Meta). x.tables.metas ≡ m ∷ []) (c.in_err-metas.ensures.listed clean inside))
 
 pub returns-in-Some-clause-told : goal.returns-in-Some-clause-told
 returns-in-Some-clause-told g c clean inside =

@@ -1,7 +1,7 @@
 use Rattle.std.proofs.Common.{◌≡◌, take, ap, ◌∙◌, arith}
 use Rattle.std.proofs.lemmas.List.{take_all}
 use Rattle.usbnum_core.specs.Spans.{spans_have}
-use Rattle.usbnum_core.proofs.Same.{same_spans}
+use Rattle.usbnum_core.proofs.SameSpansLemmas.{same_spans}
 use Rattle.registry_tables.proofs.opening.spans_of.Goals as goal
 
 pub returns-clause-same : goal.returns-clause-same

@@ -1,10 +1,10 @@
 use Rattle.std.proofs.Common.{rules}
 use Rattle.serde_json.specs.View.{view}
-use Rattle.registry_wire.proofs.Trees.{object_of-read, object_of-refused}
+use Rattle.registry_wire.proofs.TreeLemmas.{object_of_read, object_of_refused}
 use Rattle.registry_wire.proofs.request.object_of.Goals as goal
 
 pub returns-then-is_object : goal.returns-then-is_object
-returns-then-is_object c = rw (object_of-read c.args.bytes.now (view c.in-Ok.value) c.in-Ok.ensures.ok.0 c.in-Ok.ensures.ok.1) (search rules)
+returns-then-is_object c = rw (object_of_read c.args.bytes.now (view c.in-Ok.value) c.in-Ok.ensures.ok.0 c.in-Ok.ensures.ok.1) (search rules)
 
 pub returns-else-is_memory : goal.returns-else-is_memory
-returns-else-is_memory c = object_of-refused c.args.bytes.now (c.in-Err.ensures.err (search rules))
+returns-else-is_memory c = object_of_refused c.args.bytes.now (c.in-Err.ensures.err (search rules))

@@ -1,7 +1,7 @@
 use Rattle.std.proofs.Common.{◌≡◌, ◌+◌, Some, None, sym, ◌∙◌, arith, drop, ap}
 use Rattle.toml.specs.View.{view, items_view}
 use Rattle.registry_wire.specs.Founding.{all_of}
-use Rattle.registry_wire.proofs.Items.{with_front, items_step, all_more, all_none, all_end}
+use Rattle.registry_wire.proofs.ItemLemmas.{with_front, items_step, all_more, all_none, all_end}
 use Rattle.registry_wire.proofs.toml_value.all_of.Goals as goal
 
 pub returns-in-None : goal.returns-in-None

@@ -1,7 +1,7 @@
 use Rattle.std.proofs.Common.{◌≡◌, drop}
 use Rattle.toml.specs.View.{items_view}
 use Rattle.registry_wire.specs.Founding.{all_of}
-use Rattle.registry_wire.proofs.Items.{with_front}
+use Rattle.registry_wire.proofs.ItemLemmas.{with_front}
 use Rattle.registry_wire.proofs.toml_value.all_of.Given as goal
 
 abbrev pub invariant-loop-value : goal.invariant-loop-value

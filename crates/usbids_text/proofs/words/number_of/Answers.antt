@@ -1,11 +1,11 @@
 use Rattle.std.proofs.Common.{◌≡◌, Some, None, sym, ◌∙◌, arith}
-use Rattle.usbids_text.proofs.WordLemmas.{number-read, number-end}
+use Rattle.usbids_text.proofs.WordLemmas.{number_read, number_end}
 use Rattle.usbids_text.proofs.words.number_of.Goals as goal
 
 pub returns-in-None : goal.returns-in-None
 returns-in-None c =
     let s = c.args.bytes.now in
-    let step = number-read s c.loop-b.b-index c.loop-b.number None (omega arith) c.in-None.ensures.value in
+    let step = number_read s c.loop-b.b-index c.loop-b.number None (omega arith) c.in-None.ensures.value in
     sym step ∙ c.loop-b.invariant.value
 
 pub loop-b-preserved : goal.loop-b-preserved
@@ -15,7 +15,7 @@ loop-b-preserved c =
     let small = c.in-Some.ensures.small in
     let i = c.loop-b.b-index in
     let v = c.loop-b.invariant in
-    let step = number-read s c.loop-b.b-index c.loop-b.number (Some c.in-Some.digit) (omega arith) c.in-Some.ensures.value in
+    let step = number_read s c.loop-b.b-index c.loop-b.number (Some c.in-Some.digit) (omega arith) c.in-Some.ensures.value in
     record {
       value = rw same (sym step ∙ c.loop-b.invariant.value);
       none = λ e. absurd (omega arith);
@@ -26,4 +26,4 @@ loop-b-preserved c =
     }
 
 pub returns : goal.returns
-returns c = sym (number-end c.args.bytes.now c.loop-b.b-index c.loop-b.number (omega arith)) ∙ c.loop-b.invariant.value
+returns c = sym (number_end c.args.bytes.now c.loop-b.b-index c.loop-b.number (omega arith)) ∙ c.loop-b.invariant.value

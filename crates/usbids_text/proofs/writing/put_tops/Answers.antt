@@ -1,19 +1,19 @@
 use Rattle.std.proofs.Common.{◌∙◌, refl, arith}
-use Rattle.usbids_text.proofs.GatherLemmas.{turn-starts, turn-goes, turn-fails, turn-ends}
-use Rattle.usbids_text.proofs.TextLemmas.{tops_text, tops-turn}
+use Rattle.usbids_text.proofs.GatherLemmas.{turn_starts, turn_goes, turn_fails, turn_ends}
+use Rattle.usbids_text.proofs.TextLemmas.{tops_text, tops_turn}
 use Rattle.usbids_text.proofs.writing.put_tops.Goals as goal
 
 pub loop-top-init : goal.loop-top-init
-loop-top-init g c = record { gains = turn-starts tops_text tops-turn _ _ c.args.tops.now; same = refl }
+loop-top-init g c = record { gains = turn_starts tops_text tops_turn _ _ c.args.tops.now; same = refl }
 
 pub loop-top-preserved : goal.loop-top-preserved
 loop-top-preserved g c = record {
-  gains = turn-goes tops_text tops-turn _ _ _ _ _ _ c.args.tops.now c.loop-top.top-index c.top-item.result (omega arith) c.top-item.is c.loop-top.invariant.gains c.in-Ok.ensures.0;
+  gains = turn_goes tops_text tops_turn _ _ _ _ _ _ c.args.tops.now c.loop-top.top-index c.top-item.result (omega arith) c.top-item.is c.loop-top.invariant.gains c.in-Ok.ensures.0;
   same = c.in-Ok.ensures.1 ∙ c.loop-top.invariant.same;
 }
 
 pub returns-in-Err : goal.returns-in-Err
-returns-in-Err g c = turn-fails tops_text tops-turn _ _ _ _ _ _ _ _ c.args.tops.now c.loop-top.top-index c.top-item.result (omega arith) c.top-item.is c.loop-top.invariant.gains c.loop-top.invariant.same c.in-Err.ensures
+returns-in-Err g c = turn_fails tops_text tops_turn _ _ _ _ _ _ _ _ c.args.tops.now c.loop-top.top-index c.top-item.result (omega arith) c.top-item.is c.loop-top.invariant.gains c.loop-top.invariant.same c.in-Err.ensures
 
 pub returns : goal.returns
-returns g c = (turn-ends tops_text _ _ _ _ c.args.tops.now c.loop-top.top-index (omega arith) c.loop-top.invariant.gains, c.loop-top.invariant.same)
+returns g c = (turn_ends tops_text _ _ _ _ c.args.tops.now c.loop-top.top-index (omega arith) c.loop-top.invariant.gains, c.loop-top.invariant.same)

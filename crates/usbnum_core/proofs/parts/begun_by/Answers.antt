@@ -1,8 +1,8 @@
--- The beginnings rise, so a search by halves finds where they pass the number.
+-- The starts ascend, so a binary search finds where they pass the number.
 use Rattle.std.proofs.Common.{leb, rules}
 use Rattle.std.proofs.lemmas.Bool.{leb-true, leb-false}
 use Rattle.std.proofs.lemmas.List.Sorted.{IsPartitionPoint-from_clause, IsPartitionedBy-leb}
-use Rattle.usbnum_core.proofs.Spread.{rising_first}
+use Rattle.usbnum_core.proofs.SpreadLemmas.{rising_first}
 use Rattle.usbnum_core.proofs.parts.begun_by.Goals as goal
 
 pub returns : goal.returns

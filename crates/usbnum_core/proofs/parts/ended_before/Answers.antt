@@ -1,8 +1,8 @@
--- The ends rise, so a search by halves finds where they pass the number.
+-- The ends ascend, so a binary search finds where they pass the number.
 use Rattle.std.proofs.Common.{ltb, rules}
 use Rattle.std.proofs.lemmas.Bool.{ltb-true, ltb-false}
 use Rattle.std.proofs.lemmas.List.Sorted.{IsPartitionPoint-from_clause, IsPartitionedBy-ltb}
-use Rattle.usbnum_core.proofs.Spread.{rising_last}
+use Rattle.usbnum_core.proofs.SpreadLemmas.{rising_last}
 use Rattle.usbnum_core.proofs.parts.ended_before.Goals as goal
 
 pub returns : goal.returns

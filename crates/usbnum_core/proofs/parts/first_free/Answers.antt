@@ -1,8 +1,8 @@
--- The next part and the next number lie above the free number.
+-- The next part and the next number are above the free number.
 use Rattle.std.proofs.Common.{◌<◌, length, get_or, ap, ◌∙◌, arith}
 use Rattle.std.proofs.lemmas.List.{get_or_default}
 use Rattle.usbnum_core.specs.declared.number.Span.{Span}
-use Rattle.usbnum_core.proofs.FirstFree.{not_taken}
+use Rattle.usbnum_core.proofs.FirstFreeLemmas.{not_taken}
 use Rattle.usbnum_core.proofs.parts.first_free.Goals.{else-part-parts-via-then-part-parts+else-from-free, else-part-parts-via-else-part-parts, else-place-numbers-via-then-place-numbers+else-from-free-2, else-place-numbers-via-else-place-numbers}
 use Rattle.usbnum_core.proofs.parts.first_free.Goals as goal
 

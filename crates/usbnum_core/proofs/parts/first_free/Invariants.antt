@@ -1,6 +1,6 @@
--- What lies below the free number is taken, and what was passed lies below it.
+-- All numbers below the free number are taken, and all that was passed is below it.
 use Rattle.std.proofs.Common.{◌+◌, ◌-◌, length}
-use Rattle.usbnum_core.proofs.FirstFree.{IsPassed}
+use Rattle.usbnum_core.proofs.FirstFreeLemmas.{IsPassed}
 use Rattle.usbnum_core.proofs.parts.first_free.Given as goal
 
 abbrev pub invariant-loop-part : goal.invariant-loop-part

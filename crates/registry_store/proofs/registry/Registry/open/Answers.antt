@@ -1,21 +1,22 @@
 use Rattle.std.proofs.Common.{◌≡◌, inl, inr, Err, IsTrue, MatchResult, subst, ap, ◌∙◌, arith, rules}
-use Rattle.sqlite.specs.State.{HasCleanDisk, Survives}
+use Rattle.sqlite.specs.State.{HasCleanDisk}
 use Rattle.sqlite.specs.Held.{state}
+use Rattle.table_laws.specs.Inside.{CommitsNothing}
 use Rattle.registry_schema.specs.declared.fault.TableFault.TheVariants.{Foreign}
 use Rattle.registry_tables.specs.Raising.{CommitsLater, StaysOpen}
 use Rattle.registry_store.specs.Promise.{state_of}
 use Rattle.registry_store.proofs.MigrationLemmas.{leaves_then, quiet_after, commits_then, foreign_after, open_then}
 use Rattle.registry_store.proofs.registry.Registry.open.Goals as goal
 
-pub returns-in-Ok-clause-stands : goal.returns-in-Ok-clause-stands
-returns-in-Ok-clause-stands g c version h legal at =
+pub returns-in-Ok-clause-represents : goal.returns-in-Ok-clause-represents
+returns-in-Ok-clause-represents g c version h legal at =
     let a = state g.S.Store c.args.conn in
-    c.open_newest.ensures.stands h legal (λ clean. (let early : HasCleanDisk a = omega (arith, clean, c.migrate.ensures.survives.clean) in (c.in-Ok.ensures.raised clean).1 h version (at.shown early)))
+    c.open_newest.ensures.represents h legal (λ clean. (let early : HasCleanDisk a = omega (arith, clean, c.migrate.ensures.survives.clean) in (c.in-Ok.ensures.raised clean).1 h version (at.shown early)))
 
 pub returns-in-Ok-clause-fresh : goal.returns-in-Ok-clause-fresh
 returns-in-Ok-clause-fresh g c version h legal fresh =
     let a = state g.S.Store c.args.conn in
-    c.open_newest.ensures.stands h legal (λ clean. (let early : HasCleanDisk a = omega (arith, clean, c.migrate.ensures.survives.clean) in let shown = fresh early in (c.in-Ok.ensures.raised clean).1 h version (λ _. (shown.1, shown.2))))
+    c.open_newest.ensures.represents h legal (λ clean. (let early : HasCleanDisk a = omega (arith, clean, c.migrate.ensures.survives.clean) in let shown = fresh early in (c.in-Ok.ensures.raised clean).1 h version (λ _. (shown.1, shown.2))))
 
 pub returns-in-Ok-clause-open : goal.returns-in-Ok-clause-open
 returns-in-Ok-clause-open g c =
@@ -51,7 +52,7 @@ returns-in-Err-clause-foreign g c clean foreign version h legal =
 pub returns-in-Ok-clause-newest : goal.returns-in-Ok-clause-newest
 returns-in-Ok-clause-newest g c is_open has =
     let same = (c.in-Ok.ensures.newest is_open has).1 in
-    subst (λ x. MatchResult c.open_newest.result (λ it. Survives (state g.S.Store x) (state_of it) (λ _. ⊥)) (λ e. Survives (state g.S.Store x) (state g.S.Store e.1) (λ _. ⊥))) same c.open_newest.ensures.survives
+    subst (λ x. MatchResult c.open_newest.result (λ it. CommitsNothing (state g.S.Store x) (state_of it)) (λ e. CommitsNothing (state g.S.Store x) (state g.S.Store e.1))) same c.open_newest.ensures.survives
 
 pub returns-in-Err-clause-newest : goal.returns-in-Err-clause-newest
 returns-in-Err-clause-newest g c is_open has =

@@ -3,8 +3,8 @@ use Rattle.registry_rules.specs.declared.verdict.Reply.{Reply}
 use Rattle.registry_rules.specs.Run.{after, answers}
 use Rattle.registry_rules.proofs.RunLemmas.{legal_after}
 use Rattle.registry_rules.proofs.NumberLemmas.{one_organisation}
-use Rattle.registry_store.specs.Promise.{is_spent}
-use Rattle.registry_store.proofs.ListLemmas.{has_room, listed, stopped_list}
+use Rattle.registry_store.specs.Promise.{is_poisoned}
+use Rattle.registry_store.proofs.RepliesLemmas.{has_room, listed, stopped_list}
 use Rattle.registry_store.proofs.registry.Registry.run_from.Goals as goal
 
 pub returns-in-Ok-run_to-clause-run : goal.returns-in-Ok-run_to-clause-run
@@ -12,13 +12,13 @@ returns-in-Ok-run_to-clause-run g c h at clean =
     let got = c.in-Ok-run_to.ensures.through h at clean in
     let none : c.in-Ok.replies.items ≡ [] = c.in-Ok.ensures.items in
     let rest = drop c.args.answered (answers h c.args.requests.now) in
-    record { all = (listed c.in-Ok.replies c.run_to.new.replies rest got.0).0 ∙ ap (λ (xs : List Reply). xs ++ rest) none; stands = got.1 }
+    record { all = (listed c.in-Ok.replies c.run_to.new.replies rest got.0).0 ∙ ap (λ (xs : List Reply). xs ++ rest) none; represents = got.1 }
 
 pub returns-in-Err-Fault-clause-run : goal.returns-in-Err-Fault-clause-run
 returns-in-Err-Fault-clause-run g c h at clean =
     let stop = rw c.in-Err-Fault.field-0-is at (c.in-Err-Fault.ensures.stopped h at clean) in
-    let spent : is_spent c.run_to.new.self ≡ true = elim c.in-Err-Fault.ensures.ends [ inl cut ↦ absurd (cc (cut, c.in-Err-Fault.field-0-is)) | inr s ↦ s ] in
-    stopped_list c.run_to.new.self h c.args.requests.now c.args.answered stop.0 c.in-Ok.replies c.run_to.new.replies c.in-Ok.ensures.items c.in-Err-Fault.fault spent stop.1
+    let poisoned : is_poisoned c.run_to.new.self ≡ true = elim c.in-Err-Fault.ensures.ends [ inl cut ↦ absurd (cc (cut, c.in-Err-Fault.field-0-is)) | inr s ↦ s ] in
+    stopped_list c.run_to.new.self h c.args.requests.now c.args.answered stop.0 c.in-Ok.replies c.run_to.new.replies c.in-Ok.ensures.items c.in-Err-Fault.fault poisoned stop.1
 
 pub returns-in-Err-Cut-clause-run : goal.returns-in-Err-Cut-clause-run
 returns-in-Err-Cut-clause-run g c h at clean =

@@ -1,34 +1,34 @@
 use Rattle.sqlite.specs.Held.{state}
 use Rattle.registry_tables.specs.Lists.{IsVendorList}
-use Rattle.registry_store.proofs.Asking.{listed, kind_of}
-use Rattle.registry_store.proofs.Opening.{still_at, earlier}
+use Rattle.registry_store.proofs.QueryLemmas.{listed, kind_of}
+use Rattle.registry_store.proofs.OpeningLemmas.{still_at, earlier}
 use Rattle.registry_store.proofs.registry.Registry.vendors.Goals as goal
 
 pub returns-in-Ok-clause-answered : goal.returns-in-Ok-clause-answered
 returns-in-Ok-clause-answered g c h stands clean =
     let old = state g.S.Store c.args.self.now.conn in
     let new = state g.S.Store c.list_vendors.new.conn in
-    let kept = c.list_vendors.ensures in
-    listed old new h stands.at stands.counts.legal (earlier old new _ kept.survives clean) IsVendorList c.in-Ok.vendors.items (c.in-Ok.ensures.answer clean)
+    let kept = c.list_vendors.ensures.looked_up in
+    listed old new h stands.at stands.counts.legal (earlier old new _ kept.survives clean) IsVendorList c.in-Ok.vendors.items (c.in-Ok.ensures.looked_up.answer clean)
 
 pub returns-in-Err-clause-kind : goal.returns-in-Err-clause-kind
 returns-in-Err-clause-kind g c h stands clean =
     let old = state g.S.Store c.args.self.now.conn in
     let new = state g.S.Store c.list_vendors.new.conn in
-    let kept = c.list_vendors.ensures in
+    let kept = c.list_vendors.ensures.looked_up in
     let named = c.fault_of.ensures in
-    kind_of old new h stands.at stands.counts.legal (earlier old new _ kept.survives clean) c.list_vendors.result c.in-Err.fault c.fault_of.result (kept.foreign clean) c.in-Err.is named.unspent named.found named.foreign.0
+    kind_of old new h stands.at stands.counts.legal (earlier old new _ kept.survives clean) c.list_vendors.result c.in-Err.fault c.fault_of.result (kept.foreign clean) c.in-Err.is named.not_poisoned named.found named.foreign.0
 
 pub returns-in-Ok-clause-stays : goal.returns-in-Ok-clause-stays
 returns-in-Ok-clause-stays g c h stands =
     let old = state g.S.Store c.args.self.now.conn in
     let new = state g.S.Store c.list_vendors.new.conn in
-    let kept = c.list_vendors.ensures in
-    record { unspent = stands.unspent; counts = stands.counts; at = still_at old new h stands.at kept.same kept.survives }
+    let kept = c.list_vendors.ensures.looked_up in
+    record { not_poisoned = stands.not_poisoned; counts = stands.counts; at = still_at old new h stands.at kept.same kept.survives }
 
 pub returns-in-Err-clause-stays : goal.returns-in-Err-clause-stays
 returns-in-Err-clause-stays g c h stands =
     let old = state g.S.Store c.args.self.now.conn in
     let new = state g.S.Store c.list_vendors.new.conn in
-    let kept = c.list_vendors.ensures in
-    record { unspent = stands.unspent; counts = stands.counts; at = still_at old new h stands.at kept.same kept.survives }
+    let kept = c.list_vendors.ensures.looked_up in
+    record { not_poisoned = stands.not_poisoned; counts = stands.counts; at = still_at old new h stands.at kept.same kept.survives }

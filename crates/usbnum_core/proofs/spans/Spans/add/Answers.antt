@@ -1,7 +1,7 @@
--- The span joined with the parts that it touches, or put where it touches none.
+-- The span is joined with the parts that it touches, or inserted if it touches none.
 use Rattle.std.proofs.Common.{◌≡◌, ℕ, IsTrue, false, arith, rules}
 use Rattle.usbnum_core.specs.Spans.{span_touches, spans_have}
-use Rattle.usbnum_core.proofs.Unions.{IsUnion, union_joined, union_inserted, untouched}
+use Rattle.usbnum_core.proofs.UnionLemmas.{IsUnion, union_joined, union_inserted, untouched}
 use Rattle.usbnum_core.proofs.spans.Spans.add.Goals as goal
 
 joined : (c : goal.After-replace) → IsUnion c.self.inside.parts.items c.args.span c.replace.new.parts.items

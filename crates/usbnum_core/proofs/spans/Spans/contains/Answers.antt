@@ -1,5 +1,5 @@
--- The span of the number alone is met exactly where the set has the number.
-use Rattle.usbnum_core.proofs.Queries.{has_from_meets}
+-- The span of the number alone meets the set if and only if the set has the number.
+use Rattle.usbnum_core.proofs.OnePartLemmas.{has_from_meets}
 use Rattle.usbnum_core.proofs.spans.Spans.contains.Goals as goal
 
 pub returns : goal.returns

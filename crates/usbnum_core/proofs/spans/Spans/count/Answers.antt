@@ -1,9 +1,9 @@
--- The widths so far and the next one are at most those of all parts, of which there are 65,536 at most.
+-- The sum of the widths so far and of the next one is at most that of all parts, which is at most 65,536.
 use Rattle.std.proofs.Common.{◌≡◌, ◌+◌, ◌<◌, take, sym, ◌∙◌, ap, arith, rules}
 use Rattle.std.specs.List.{sum_by}
 use Rattle.std.proofs.lemmas.List.{take_all}
 use Rattle.std.proofs.lemmas.List.Sums.{sum_by_more_le}
-use Rattle.usbnum_core.proofs.Counts.{width, count_spans, spread_sum}
+use Rattle.usbnum_core.proofs.CountLemmas.{width, count_spans, spread_sum}
 use Rattle.usbnum_core.proofs.spans.Spans.count.Goals as goal
 
 pub overflow_add-total-in-loop-part : goal.overflow_add-total-in-loop-part

@@ -1,7 +1,7 @@
 -- The first part that ends at the span's first number or later decides.
 use Rattle.std.proofs.Common.{◌≤◌, ◌<◌, length, arith}
 use Rattle.std.proofs.lemmas.Bool.{both_ways, le-ltb}
-use Rattle.usbnum_core.proofs.Queries.{covers_here, covers_past}
+use Rattle.usbnum_core.proofs.OnePartLemmas.{covers_here, covers_past}
 use Rattle.usbnum_core.proofs.spans.Spans.covers.Goals as goal
 
 pub returns-then-low-len : goal.returns-then-low-len

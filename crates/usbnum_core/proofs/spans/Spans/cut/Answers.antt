@@ -1,6 +1,6 @@
--- What is left of the parts that the span meets.
+-- The rests of the parts that the span meets.
 use Rattle.std.proofs.Common.{arith, rules}
-use Rattle.usbnum_core.proofs.Differences.{IsDifference, difference_cut, difference_none}
+use Rattle.usbnum_core.proofs.DifferenceLemmas.{IsDifference, difference_cut, difference_none}
 use Rattle.usbnum_core.proofs.spans.Spans.cut.Goals as goal
 
 after_cut : (c : goal.In_ok-splice) → IsDifference c.self.inside.parts.items c.args.span c.splice.new.parts.items

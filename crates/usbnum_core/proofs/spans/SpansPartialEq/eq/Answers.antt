@@ -2,7 +2,7 @@
 use Rattle.std.proofs.Common.{◌≡◌, ℕ, ap}
 use Rattle.std.proofs.lemmas.Slice.Eq.{slice_eq-Decides}
 use Rattle.usbnum_core.specs.Spans.{spans_have}
-use Rattle.usbnum_core.proofs.Same.{same_spans, span_decides}
+use Rattle.usbnum_core.proofs.SameSpansLemmas.{same_spans, span_decides}
 use Rattle.usbnum_core.proofs.spans.SpansPartialEq.eq.Goals as goal
 
 pub returns-clause-same_numbers : goal.returns-clause-same_numbers

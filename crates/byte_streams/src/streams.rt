@@ -1,0 +1,52 @@
+//! Sources and sinks of bytes, which count their failures.
+ghost use Rattle.std.specs.Prelude.{List, ℕ, Option};
+ghost use Rattle.byte_streams.specs.Streams.{Puts, Takes, Writes};
+
+/// A read or a write failed.
+#[derive(Clone, Copy, Debug, PartialEq, Eq)]
+pub struct Broken;
+
+/// A source of bytes.
+pub trait Source {
+    /// The bytes that it gives until its end, if they are known.
+    ghost remaining: { Self → Option (List ℕ) };
+
+    /// The number of calls that failed so far. It stays at 2^64 - 1.
+    ghost failures: { Self → ℕ };
+
+    /// Puts the next bytes at the front of `room` and returns their number, which is 0 only at the
+    /// end or if `room` is empty. At `Broken`, which is not an end, it gives none of its bytes.
+    fn take(&mut self, room: &mut [u8]) -> Result<usize, Broken>
+        ensures { Takes (remaining self.old) (remaining self.new) (failures self.old) (failures self.new) result room.new };
+}
+
+/// A sink of bytes.
+pub trait Sink {
+    /// The bytes that it has taken, if they are known.
+    ghost contents: { Self → Option (List ℕ) };
+
+    /// The number of calls that failed so far. A call that takes none of some bytes fails too. It
+    /// stays at 2^64 - 1.
+    ghost failures: { Self → ℕ };
+
+    /// Takes some bytes from the front of these and returns their number. At `Broken` it takes
+    /// none.
+    fn put(&mut self, bytes: &[u8]) -> Result<usize, Broken>
+        ensures { Puts (contents self.old) (contents self.new) (failures self.old) (failures self.new) result bytes.now };
+}
+
+/// Writes all of the bytes to the sink. Returns `Broken` only if the sink failed during this call,
+/// after it took a prefix of them.
+pub fn put_all<W: Sink>(sink: &mut W, bytes: &[u8]) -> Result<(), Broken>
+    ensures { Writes (W.contents sink.old) (W.contents sink.new) (W.failures sink.old) (W.failures sink.new) result bytes.now }
+{
+    let mut count = 0;
+    while count < bytes.len() {
+        let taken = sink.put(&bytes[count..])?;
+        if taken == 0 {
+            return Err(Broken);
+        }
+        count += taken;
+    }
+    Ok(())
+}

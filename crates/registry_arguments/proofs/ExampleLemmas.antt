@@ -1,0 +1,72 @@
+-- The commands of some example arguments, by the definition.
+use Rattle.std.proofs.Common.{◌≡◌, List, [], ◌∷◌, codes, true, false, Some, None, refl}
+use Rattle.std.specs.Prelude.{⊤}
+use Rattle.clap.specs.Words.{Text}
+use Rattle.clap.proofs.OnLiterals.{clap_on_literals}
+use Rattle.registry_arguments.specs.Commands.{accepts, apply_app, asked_by, bare_app, chosen, command_of, export_app, found_app, import_app, lookup_app, number_in, report_app, serve_app, trial_app}
+use Rattle.registry_arguments.specs.declared.command.Command.TheVariants as command
+
+-- unfolded by a proof to compute the command of literal arguments
+unfoldable on_literals : ⊤
+unfolding clap_on_literals bare_app trial_app found_app apply_app import_app serve_app export_app report_app lookup_app asked_by chosen number_in accepts
+on_literals = tt
+
+abbrev usbreg : List Text → List Text
+usbreg words = codes "usbreg" ∷ words
+
+pub no_words : command_of (usbreg []) ≡ Some command.Trial
+unfolding on_literals
+no_words = refl
+
+pub founds : command_of (usbreg (codes "found" ∷ codes "s" ∷ codes "f" ∷ [])) ≡ Some (command.Found (codes "s") (codes "f"))
+unfolding on_literals
+founds = refl
+
+pub applies : command_of (usbreg (codes "apply" ∷ codes "s" ∷ codes "f" ∷ [])) ≡ Some (command.Apply (codes "s") (codes "f") 0)
+unfolding on_literals
+applies = refl
+
+pub applies_from : command_of (usbreg (codes "apply" ∷ codes "s" ∷ codes "--answered" ∷ codes "12" ∷ codes "f" ∷ [])) ≡ Some (command.Apply (codes "s") (codes "f") 12)
+unfolding on_literals
+applies_from = refl
+
+pub imports : command_of (usbreg (codes "import" ∷ codes "s" ∷ codes "l" ∷ codes "--org=-o" ∷ codes "--key" ∷ codes "k" ∷ codes "--caller" ∷ codes "c" ∷ []))
+    ≡ Some (command.Import (codes "s") (codes "l") (codes "c") (codes "k") (codes "-o") None)
+unfolding on_literals
+imports = refl
+
+pub serves : command_of (usbreg (codes "serve" ∷ codes "s" ∷ codes "--port" ∷ codes "80" ∷ codes "--count=0" ∷ [])) ≡ Some (command.Serve (codes "s") 80 (Some 0))
+unfolding on_literals
+serves = refl
+
+pub exports : command_of (usbreg (codes "export" ∷ codes "s" ∷ codes "--stamp" ∷ codes "t" ∷ [])) ≡ Some (command.Export (codes "s") (Some (codes "t")))
+unfolding on_literals
+exports = refl
+
+pub reports : command_of (usbreg (codes "report" ∷ codes "s" ∷ codes "n" ∷ [])) ≡ Some (command.Report (codes "s") (codes "n"))
+unfolding on_literals
+reports = refl
+
+pub looks_up : command_of (usbreg (codes "lookup" ∷ codes "l" ∷ codes "1209" ∷ codes "0011" ∷ [])) ≡ Some (command.Lookup (codes "l") (codes "1209") (codes "0011"))
+unfolding on_literals
+looks_up = refl
+
+pub accepted : accepts (usbreg (codes "apply" ∷ codes "s" ∷ codes "f" ∷ codes "--answered" ∷ codes "18446744073709551615" ∷ [])) ≡ true
+unfolding on_literals
+accepted = refl
+
+pub too_great : accepts (usbreg (codes "apply" ∷ codes "s" ∷ codes "f" ∷ codes "--answered" ∷ codes "18446744073709551616" ∷ [])) ≡ false
+unfolding on_literals
+too_great = refl
+
+pub no_number : accepts (usbreg (codes "serve" ∷ codes "s" ∷ codes "--port" ∷ codes "0" ∷ [])) ≡ false
+unfolding on_literals
+no_number = refl
+
+pub no_file : accepts (usbreg (codes "apply" ∷ codes "s" ∷ [])) ≡ false
+unfolding on_literals
+no_file = refl
+
+pub no_command : accepts (usbreg (codes "grant" ∷ [])) ≡ false
+unfolding on_literals
+no_command = refl

@@ -1,0 +1,328 @@
+//! The definition of the program's command line for `clap`.
+
+ghost use Rattle.std.specs.Prelude.{◌≡◌, ◌∷◌, [], IfOk, Some, false, codes, option_copied};
+ghost use Rattle.clap.specs.Words.{app_of, items_of, rule_of, new_app, with_rule, with_subcommand};
+ghost use Rattle.clap.specs.declared.builder.command.Command.TheViews.{out-Command};
+ghost use Rattle.registry_arguments.specs.Commands.{apply_app, export_app, found_app, import_app, lookup_app, needed_option, numeric, option, report_app, serve_app, trial_app, usbreg_app, versioned, positional};
+
+use clap::builder::ValueParser;
+use clap::{Arg, Command};
+use std::alloc::{AllocError, Global};
+
+/// Returns a required positional argument.
+fn positional<'a>(alloc: Global, name: &'a str, shown: &'a str, help: &'a str) -> Arg<'a>
+    ensures rule { rule_of result ≡ positional name.entry.now }
+    ensures local { result.global ≡ false }
+    ensures texts { (result.help ≡ Some help.entry) × (items_of result.val_names ≡ shown.entry ∷ []) }
+{
+    Arg::new(alloc, name)
+        .required(true)
+        .value_name(shown)
+        .help(help)
+}
+
+/// Returns an optional `--name VALUE`.
+fn option<'a>(alloc: Global, name: &'a str, shown: &'a str, help: &'a str) -> Arg<'a>
+    ensures rule { rule_of result ≡ option name.entry.now }
+    ensures local { result.global ≡ false }
+    ensures texts { (result.help ≡ Some help.entry) × (items_of result.val_names ≡ shown.entry ∷ []) }
+{
+    Arg::new(alloc, name)
+        .long(name)
+        .value_name(shown)
+        .help(help)
+}
+
+/// Returns a required `--name VALUE`.
+fn needed_option<'a>(alloc: Global, name: &'a str, shown: &'a str, help: &'a str) -> Arg<'a>
+    ensures rule { rule_of result ≡ needed_option name.entry.now }
+    ensures local { result.global ≡ false }
+    ensures texts { (result.help ≡ Some help.entry) × (items_of result.val_names ≡ shown.entry ∷ []) }
+{
+    option(alloc, name, shown, help).required(true)
+}
+
+/// Returns the same argument, with a decimal number from `low` to `high` as its value.
+fn numeric<'a>(arg: Arg<'a>, low: u64, high: u64) -> Arg<'a>
+    ensures rule { rule_of result ≡ numeric low high (rule_of arg.entry) }
+    ensures others { result ≡ record arg.entry { value_parser = result.value_parser } }
+    ensures local { result.global ≡ arg.entry.global }
+{
+    arg.value_parser(ValueParser::Unsigned(low, high))
+}
+
+/// Returns a subcommand with a description and an example.
+fn subcommand<'a>(alloc: Global, name: &'a str, about: &'a str, example: &'a str) -> Command<'a>
+    ensures app { app_of result ≡ new_app name.entry.now }
+    ensures local { (out-Command result).has_globals ≡ false }
+    ensures texts { ((out-Command result).about ≡ Some about.entry) × ((out-Command result).after_help ≡ Some example.entry) }
+{
+    Command::new(alloc, name).about(about).after_help(example)
+}
+
+fn with_arg<'a>(command: Command<'a>, arg: Arg<'a>) -> Result<Command<'a>, AllocError>
+    requires { arg.global ≡ false }
+    ensures app { IfOk result (λ c. app_of c ≡ with_rule (app_of command.entry) (rule_of arg.entry)) }
+    ensures local { IfOk result (λ c. (out-Command c).has_globals ≡ (out-Command command.entry).has_globals) }
+{
+    command.arg(arg)
+}
+
+fn with_command<'a>(command: Command<'a>, sub: Command<'a>) -> Result<Command<'a>, AllocError>
+    requires { (out-Command sub).has_globals ≡ false }
+    ensures app { IfOk result (λ c. app_of c ≡ with_subcommand (app_of command.entry) (app_of sub.entry).top) }
+{
+    command.subcommand(sub)
+}
+
+#[tactic(auto, unfolding(crate::specs::Commands::trial_app))]
+fn trial<'a>(alloc: Global) -> Result<Command<'a>, AllocError>
+    ensures app { IfOk result (λ c. app_of c ≡ trial_app) }
+    ensures local { IfOk result (λ c. (out-Command c).has_globals ≡ false) }
+{
+    Ok(subcommand(
+        alloc,
+        "trial",
+        "Try the registry: run request lines over one in memory, which is then forgotten",
+        "Request lines come from standard input, one JSON object a line; a reply line is printed \
+         for each.\n\nExample:\n  usbreg trial < examples/first.jsonl",
+    ))
+}
+
+#[tactic(auto, unfolding(crate::specs::Commands::found_app))]
+fn found<'a>(alloc: Global) -> Result<Command<'a>, AllocError>
+    ensures app { IfOk result (λ c. app_of c ≡ found_app) }
+    ensures local { IfOk result (λ c. (out-Command c).has_globals ≡ false) }
+{
+    let command = subcommand(
+        alloc,
+        "found",
+        "Found a registry in a new file",
+        "FOUNDING names the vendor, its name, the curators, the licences that are allowed and the \
+         numbers that stay reserved.\n\nExample:\n  usbreg found numbers.db examples/founding.toml",
+    );
+    let command = with_arg(
+        command,
+        positional(alloc, "store", "STORE", "The registry's file"),
+    )?;
+    with_arg(
+        command,
+        positional(
+            alloc,
+            "founding",
+            "FOUNDING",
+            "A TOML file with the founding",
+        ),
+    )
+}
+
+#[tactic(auto, unfolding(crate::specs::Commands::apply_app))]
+fn apply<'a>(alloc: Global) -> Result<Command<'a>, AllocError>
+    ensures app { IfOk result (λ c. app_of c ≡ apply_app) }
+    ensures local { IfOk result (λ c. (out-Command c).has_globals ≡ false) }
+{
+    let command = subcommand(
+        alloc,
+        "apply",
+        "Run the request lines of a file over a registry",
+        "After a stop, count the reply lines that were printed and run the same file again with \
+         that count: no request is acted on twice.\n\nExample:\n  usbreg found numbers.db \
+         examples/founding.toml\n  usbreg apply numbers.db examples/first.jsonl\n  usbreg apply \
+         numbers.db examples/first.jsonl --answered 3",
+    );
+    let command = with_arg(
+        command,
+        positional(alloc, "store", "STORE", "The registry's file"),
+    )?;
+    let command = with_arg(
+        command,
+        positional(alloc, "file", "FILE", "One JSON object a line"),
+    )?;
+    let answered = option(
+        alloc,
+        "answered",
+        "N",
+        "How many requests were answered before",
+    );
+    with_arg(command, numeric(answered, 0, u64::MAX))
+}
+
+#[tactic(auto, unfolding(crate::specs::Commands::import_app))]
+fn import<'a>(alloc: Global) -> Result<Command<'a>, AllocError>
+    ensures app { IfOk result (λ c. app_of c ≡ import_app) }
+    ensures local { IfOk result (λ c. (out-Command c).has_globals ≡ false) }
+{
+    let command = subcommand(
+        alloc,
+        "import",
+        "Give an organisation the devices of a list, those that are still free",
+        "Example:\n  usbreg found numbers.db examples/founding.toml\n  usbreg apply numbers.db \
+         examples/first.jsonl\n  usbreg import numbers.db examples/devices.ids --caller cora --key \
+         first-list --org acme",
+    );
+    let command = with_arg(
+        command,
+        positional(alloc, "store", "STORE", "The registry's file"),
+    )?;
+    let command = with_arg(
+        command,
+        positional(alloc, "list", "LIST", "A list as in usb.ids"),
+    )?;
+    let command = with_sender(alloc, command)?;
+    let vendor = option(alloc, "vendor", "V", "The vendor, if not the founding one");
+    with_arg(command, vendor)
+}
+
+/// Adds the options for the caller, the key and the organisation.
+fn with_sender<'a>(alloc: Global, command: Command<'a>) -> Result<Command<'a>, AllocError>
+    ensures app { IfOk result (λ c. app_of c ≡ with_rule (with_rule (with_rule (app_of command.entry)
+        (needed_option (codes "caller"))) (needed_option (codes "key"))) (needed_option (codes "org"))) }
+    ensures local { IfOk result (λ c. (out-Command c).has_globals ≡ (out-Command command.entry).has_globals) }
+{
+    let caller = needed_option(alloc, "caller", "C", "Who asks");
+    let key = needed_option(alloc, "key", "K", "A key that this caller uses once");
+    let org = needed_option(alloc, "org", "O", "The organisation that gets the numbers");
+    let command = with_arg(command, caller)?;
+    let command = with_arg(command, key)?;
+    with_arg(command, org)
+}
+
+#[tactic(auto, unfolding(crate::specs::Commands::serve_app))]
+fn serve<'a>(alloc: Global) -> Result<Command<'a>, AllocError>
+    ensures app { IfOk result (λ c. app_of c ≡ serve_app) }
+    ensures local { IfOk result (λ c. (out-Command c).has_globals ≡ false) }
+{
+    let command = subcommand(
+        alloc,
+        "serve",
+        "Serve a registry over HTTP on 127.0.0.1, one connection after another",
+        "Example:\n  usbreg found numbers.db examples/founding.toml\n  usbreg serve numbers.db --port 8080",
+    );
+    let command = with_arg(
+        command,
+        positional(alloc, "store", "STORE", "The registry's file"),
+    )?;
+    let port = needed_option(alloc, "port", "P", "The port, from 1 to 65535");
+    let command = with_arg(command, numeric(port, 1, 65_535))?;
+    let count = option(alloc, "count", "N", "Stop after N connections");
+    with_arg(command, numeric(count, 0, 4_294_967_295))
+}
+
+#[tactic(auto, unfolding(crate::specs::Commands::export_app))]
+fn export<'a>(alloc: Global) -> Result<Command<'a>, AllocError>
+    ensures app { IfOk result (λ c. app_of c ≡ export_app) }
+    ensures local { IfOk result (λ c. (out-Command c).has_globals ≡ false) }
+{
+    let command = subcommand(
+        alloc,
+        "export",
+        "Print the held numbers as a list in the syntax of usb.ids",
+        "Example:\n  usbreg found numbers.db examples/founding.toml\n  usbreg export numbers.db \
+         --stamp '2024-01-30 20:34:13' > usb.ids",
+    );
+    let command = with_arg(
+        command,
+        positional(alloc, "store", "STORE", "The registry's file"),
+    )?;
+    let stamp = option(alloc, "stamp", "TEXT", "When the list was made");
+    with_arg(command, stamp)
+}
+
+#[tactic(auto, unfolding(crate::specs::Commands::report_app))]
+fn report<'a>(alloc: Global) -> Result<Command<'a>, AllocError>
+    ensures app { IfOk result (λ c. app_of c ≡ report_app) }
+    ensures local { IfOk result (λ c. (out-Command c).has_globals ≡ false) }
+{
+    let command = subcommand(
+        alloc,
+        "report",
+        "Print what is free and held, who holds it, or the open petitions",
+        "Example:\n  usbreg found numbers.db examples/founding.toml\n  usbreg report numbers.db census",
+    );
+    let command = with_arg(
+        command,
+        positional(alloc, "store", "STORE", "The registry's file"),
+    )?;
+    let name = positional(alloc, "name", "NAME", "census, holders or petitions");
+    with_arg(command, name)
+}
+
+#[tactic(auto, unfolding(crate::specs::Commands::lookup_app))]
+fn lookup<'a>(alloc: Global) -> Result<Command<'a>, AllocError>
+    ensures app { IfOk result (λ c. app_of c ≡ lookup_app) }
+    ensures local { IfOk result (λ c. (out-Command c).has_globals ≡ false) }
+{
+    let command = subcommand(
+        alloc,
+        "lookup",
+        "Print the name of a device in a list",
+        "Example:\n  usbreg lookup examples/devices.ids 1209 0011",
+    );
+    let command = with_arg(
+        command,
+        positional(alloc, "list", "LIST", "A list as in usb.ids"),
+    )?;
+    let command = with_arg(
+        command,
+        positional(alloc, "vid", "VID", "Four hexadecimal digits"),
+    )?;
+    with_arg(
+        command,
+        positional(alloc, "pid", "PID", "Four hexadecimal digits"),
+    )
+}
+
+/// Returns the program without its version and its subcommands.
+fn bare<'a>(alloc: Global) -> Command<'a>
+    ensures { app_of result ≡ new_app (codes "usbreg") }
+{
+    Command::new(alloc, "usbreg")
+        .about("A registry of shared USB product numbers that never loses or duplicates a grant")
+        .after_help(
+            "With no command it is `trial`. `found`, `apply`, `import` and `serve` change a store; \
+             the other commands leave its registry as it is.\n\nExit status: 0, 1 after a fault of the store, of \
+             memory or of a file, 2 for arguments or lines that are refused.",
+        )
+}
+
+/// Adds `trial`, `found`, `apply` and `import`.
+fn with_requests<'a>(alloc: Global, program: Command<'a>) -> Result<Command<'a>, AllocError>
+    ensures { IfOk result (λ c. app_of c ≡ with_subcommand (with_subcommand (with_subcommand (with_subcommand
+        (app_of program.entry) trial_app.top) found_app.top) apply_app.top) import_app.top) }
+{
+    let program = with_command(program, trial(alloc)?)?;
+    let program = with_command(program, found(alloc)?)?;
+    let program = with_command(program, apply(alloc)?)?;
+    with_command(program, import(alloc)?)
+}
+
+/// Adds `serve`, `export`, `report` and `lookup`.
+fn with_views<'a>(alloc: Global, program: Command<'a>) -> Result<Command<'a>, AllocError>
+    ensures { IfOk result (λ c. app_of c ≡ with_subcommand (with_subcommand (with_subcommand (with_subcommand
+        (app_of program.entry) serve_app.top) export_app.top) report_app.top) lookup_app.top) }
+{
+    let program = with_command(program, serve(alloc)?)?;
+    let program = with_command(program, export(alloc)?)?;
+    let program = with_command(program, report(alloc)?)?;
+    with_command(program, lookup(alloc)?)
+}
+
+/// Adds the version. This comes last, as the contracts of `clap`'s other calls do not say that they
+/// keep it.
+fn with_version<'a>(program: Command<'a>) -> Command<'a>
+    ensures app { app_of result ≡ versioned (app_of program.entry) }
+    ensures version { option_copied (out-Command result).version ≡ Some (codes "0.1.0") }
+{
+    program.version("0.1.0")
+}
+
+/// Returns `usbreg` with all its subcommands.
+#[tactic(auto, unfolding(crate::specs::Commands::bare_app))]
+pub fn usbreg<'a>(alloc: Global) -> Result<Command<'a>, AllocError>
+    ensures app { IfOk result (λ c. app_of c ≡ usbreg_app) }
+    ensures version { IfOk result (λ c. option_copied (out-Command c).version ≡ Some (codes "0.1.0")) }
+{
+    let program = with_requests(alloc, bare(alloc))?;
+    let program = with_views(alloc, program)?;
+    Ok(with_version(program))
+}
