@@ -1,6 +1,7 @@
 //! The command that serves a registry over HTTP: it listens on a port of this machine.
 
-ghost use Rattle.std.specs.Prelude.{◌≡◌, ◌⊎◌, ◌↔◌, ⊤, ℕ, IsTrue, IfNone, IfSome, MatchOption, MatchResult};
+ghost use Rattle.std.specs.Prelude.{◌≡◌, ◌⊎◌, ◌↔◌, ⊤, IsTrue, MatchOption, MatchResult};
+ghost use Rattle.std.specs.IoError.{error_kind};
 ghost use Rattle.registry_cli.specs.Statuses.{IsDoneOrFailed};
 
 use crate::files::open_registry;
@@ -40,7 +41,9 @@ fn ends_of(stream: TcpStream) -> io::Result<(Inlet<TcpStream>, Outlet<TcpStream>
 }
 
 /// Returns whether the peer gave up a connection before it was accepted.
-fn is_of_peer(error: &io::Error) -> bool {
+fn is_of_peer(error: &io::Error) -> bool
+    ensures { IsTrue result ↔ ((error_kind error.now ≡ ErrorKind.ConnectionAborted) ⊎ (error_kind error.now ≡ ErrorKind.ConnectionReset) ⊎ (error_kind error.now ≡ ErrorKind.Interrupted)) }
+{
     matches!(
         error.kind(),
         ErrorKind::ConnectionAborted | ErrorKind::ConnectionReset | ErrorKind::Interrupted

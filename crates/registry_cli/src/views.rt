@@ -1,6 +1,6 @@
 //! The commands that only show something: each opens the files that its arguments name.
 
-ghost use Rattle.std.specs.Prelude.{◌≡◌, ℕ, List, option_copied, MatchOption, Option, Result};
+ghost use Rattle.std.specs.Prelude.{◌≡◌, option_copied, MatchOption, Option, Result};
 ghost use Rattle.usbnum_core.specs.Number.{code_of, number_of};
 ghost use Rattle.usbids_text.specs.Moments.{Moment};
 ghost use Rattle.registry_commands.specs.declared.arguments.BadArgument.{BadArgument};
