@@ -24,7 +24,7 @@ class Function:
         self.module = module
         self.inner = [*([block] if block else []), name]
         self.first, self.body, self.last = lines
-        self.cycle = None
+        self.cycle, self.is_law = None, False
 
     @property
     def path(self):
@@ -203,7 +203,9 @@ class Sources:
             for law in LAW.finditer(text):
                 if re.search(rf"\b{named}\b", law[2]):
                     at, last = (text.count("\n", 0, it) + 1 for it in (law.start(), law.end()))
-                    yield file, Function(module_of(self.crate.name, file), None, law[1], (at, last, last))
+                    stated = Function(module_of(self.crate.name, file), None, law[1], (at, last, last))
+                    stated.is_law = True
+                    yield file, stated
 
     def files(self):
         """Yields the paths of the source files."""

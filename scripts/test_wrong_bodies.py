@@ -149,7 +149,7 @@ EDITS = {
     "changes_nothing": ("self.length < most", "self.length < most", "it changes nothing"),
     "a_false_law": ("→ part ≤ part + rest", "→ part + rest ≤ part", "refused"),
     "a_right_law": ("→ part ≤ part + rest", "→ part ≤ rest + part", "not refused"),
-    "a_law_without_a_meaning": ("→ part ≤ part + rest", "→ part ≤ whole", "not refused"),
+    "a_law_without_a_meaning": ("→ part ≤ part + rest", "→ part ≤ whole", "the definition cannot be read"),
     "changes_what_no_law_states": ("length ≡ 0", "length ≡ 1", "no law states"),
 }
 
