@@ -1,6 +1,6 @@
 -- The exit status of each command is 0, 1 or 2.
 use Rattle.std.proofs.Common.{◌≡◌, ◌⊎◌, inl, inr, ℕ, ◌<◌, ◌≤◌, List, length, refl, ◌∙◌, arith}
-use Rattle.std.specs.Prelude.{◌≢◌, Option, Some, None, Result, Ok, Err, ◌↔◌, IsTrue, IfErr, IfOk, OnOk}
+use Rattle.std.specs.Prelude.{◌≢◌, Option, Some, None, Result, Ok, Err, MatchResult}
 use Rattle.std.proofs.lemmas.Bool.{cases_lt}
 use Rattle.sqlite.specs.Store.{Ghosts}
 use Rattle.sqlite.specs.Held.{Held}
@@ -13,6 +13,8 @@ use Rattle.registry_rules.specs.declared.verdict.Reply.{Reply}
 use Rattle.registry_rules.specs.declared.verdict.Reply.TheVariants.{Done, Refused}
 use Rattle.registry_wire.specs.Founding.{Listed}
 use Rattle.registry_wire.specs.declared.refusal.WireRefusal.{WireRefusal}
+use Rattle.registry_store.specs.declared.fault.Fault.{Fault}
+use Rattle.registry_store.specs.declared.fault.Fault.TheVariants as faults
 use Rattle.registry_store.specs.declared.registry.Registry.{Registry}
 use Rattle.registry_commands.specs.declared.importing.Import.{Import}
 use Rattle.registry_commands.specs.declared.lines.BadLine.{BadLine}
@@ -22,9 +24,10 @@ use Rattle.registry_commands.specs.Failures.{ErrorOutput}
 use Rattle.registry_commands.specs.Found.{IsFoundBy}
 use Rattle.registry_commands.specs.Imports.{IsActedOn, IsImportOf, IsImported, status_of}
 use Rattle.registry_commands.specs.LookUp.{IsAnswered, IsLookedUp, IsMatched, IsRefused}
+use Rattle.registry_commands.specs.Messages.{failure_of}
 use Rattle.registry_commands.specs.Printed.{IsPrinted, IsUnprinted}
 use Rattle.registry_commands.specs.Trial.{IsTrialOf}
-use Rattle.registry_cli.specs.Statuses.{IsDoneOrFailed, IsStatus}
+use Rattle.registry_cli.specs.Statuses.{IsDoneOrFailed, IsOfOpening, IsStatus}
 
 pub done : (status : ℕ) → status ≡ 0 → IsStatus status
 done status is = inl is
@@ -37,6 +40,19 @@ refused status is = inr (inr is)
 
 pub is_status : (status : ℕ) → IsDoneOrFailed status → IsStatus status
 is_status status is = elim is [ inl is_zero ↦ done status is_zero | inr is_one ↦ failed status is_one ]
+
+-- the fault of opening a registry is one of its failures
+pub of_opening : (fault : Fault) → (fault ≢ faults.Poisoned) × (fault ≢ faults.Taken) → IsOfOpening (failure_of fault)
+of_opening faults.Store kind = tt
+of_opening faults.NoMemory kind = tt
+of_opening faults.Foreign kind = tt
+of_opening faults.Taken kind = absurd (kind.1 refl)
+of_opening faults.Poisoned kind = absurd (kind.0 refl)
+
+-- serving ended, at its last connection or before it
+pub ended : {A : Type 0} {E : Type 0} (served : Result A E) (status : ℕ) → MatchResult served (λ _. status ≡ 0) (λ _. status ≡ 1) → IsDoneOrFailed status
+ended (Ok unit) status is = inl is
+ended (Err stop) status is = inr is
 
 -- closing a store keeps the status, or makes it 1 where it was 0
 pub closed : {A : Type 0} {C : Type 0} (status result : ℕ) → IsStatus status
@@ -101,8 +117,8 @@ module _ {S : Type 0} {g : Ghosts S} where
   acted_status : (OfOutput : Failure → Type 0) (it new : Registry S g) (r : Request) (out out_new : Option (List ℕ)) (errors : ErrorOutput) (status : ℕ)
       → IsActedOn OfOutput it new r out out_new errors status → IsStatus status
   acted_status OfOutput it new r out out_new errors status is = elim is.ends [
-    | inl gives ↦ rw gives.status-is (reply_status gives.reply)
-    | inr failure ↦ failed status failure.status-is
+    | inl gives ↦ rw gives.status_is (reply_status gives.reply)
+    | inr failure ↦ failed status failure.status_is
   ]
 
   read_status : (OfOutput : Failure → Type 0) (it new : Registry S g) (import : Import) (read : Result (List TopEntry) ReadFault) (out out_new : Option (List ℕ)) (errors : ErrorOutput) (status : ℕ)
