@@ -33,8 +33,8 @@ COUNT = re.compile(r"(\d+) passed, (\d+) failed\n?")
 # overflow; for these it takes longer than the proof of all that they call, so only `make gate` does it.
 TRIED = ("registry_store_tests", "registry_desk_tests", "registry_cli_tests")
 
-# The parts of edits that run side by side while `rt ci` runs, which leaves about half of four processors idle, and after
-# it; the bytes of memory that must be free for one more; and the most edits of one part.
+# The parts of edits that run side by side while `rt ci` runs, which leaves about half of four processors idle, or the
+# tests, and after these; the bytes of memory that must be free for one more; and the most edits of one part.
 LANES = 2
 LANES_AFTER = 4
 ROOM = 8 * 2**30
@@ -229,12 +229,12 @@ def gate(room):
     with concurrent.futures.ThreadPoolExecutor(LANES_AFTER) as pool:
         trials = Edits(top, edits, pool)
         parts = [layout, Part(["rt", "ci"], top).run(trials.hear)]
-        trials.hurry()
         # what stopped scripts leave is removed with the copy
         os.environ["TMPDIR"] = room
         copy(["crates.txt", *tried], top)
         with concurrent.futures.ThreadPoolExecutor() as side:
             parts += side.map(lambda it: Tried(it, top).run(), TRIED)
+        trials.hurry()
         parts += trials.end()
     copy([it for it in names if EDITS.match(it)], top)
     return parts + [Part([f"scripts/{it}"], top).run() for it in ("test_wrong_bodies.py", "try_the_program.sh")]
