@@ -1,4 +1,4 @@
-"""Must-fail edits, and the functions whose bodies they change.
+"""Must-fail edits, and the functions whose bodies they change, or the laws whose statements.
 
 An edit is a file of lines `file: PATH`, `old: TEXT` and `new: TEXT`; each text is a part of one line, and the old one
 occurs in the file exactly once. So an edit changes whole lines, and edits of different lines can be applied together."""
@@ -8,6 +8,8 @@ import re
 
 HEADER = re.compile(r"( *)(?:pub(?:\([a-z]+\))? )?(?:const )?(?:unsafe )?fn (\w+)")
 ITEM = re.compile(r"(?:pub(?:\([a-z]+\))? )?(?:const|static|struct|enum) (\w+)")
+LAW = re.compile(r"(?:^ *///.*\n)*^pub fn (\w+)\(\)\n((?:    ensures .*\n)+)\{\}$", re.MULTILINE)
+DEFINITION = re.compile(r"(?:abbrev |unfoldable )?pub (?:record )?(\w+) ")
 CYCLE = re.compile(r" *#\[cycle\((\w+)\)\]")
 
 
@@ -22,7 +24,7 @@ class Function:
         self.module = module
         self.inner = [*([block] if block else []), name]
         self.first, self.body, self.last = lines
-        self.cycle = None
+        self.cycle, self.is_law = None, False
 
     @property
     def path(self):
@@ -180,7 +182,7 @@ class Sources:
 
     def text(self, path):
         if path not in self.texts:
-            if not re.fullmatch(r"src/[\w/]+\.rt", path) or not os.path.isfile(f"{self.crate.folder}/{path}"):
+            if not re.fullmatch(r"src/[\w/]+\.rt|specs/[\w/]+\.antt", path) or not os.path.isfile(f"{self.crate.folder}/{path}"):
                 raise BadEdit(f"there is no source file {path}")
             with open(f"{self.crate.folder}/{path}", encoding="utf-8") as it:
                 self.texts[path] = it.read()
@@ -190,6 +192,26 @@ class Sources:
         if path not in self.found:
             self.found[path] = functions_of(self.crate.name, path, self.text(path))
         return self.found[path]
+
+    def laws(self, path, line):
+        """Returns the laws, which are functions with empty bodies, whose contracts name the definition of this line of a
+        file in specs/, with their files."""
+        above = self.text(path).split("\n")[:line]
+        named = next((found[1] for found in map(DEFINITION.match, reversed(above)) if found), None)
+        for file in self.files() if named else ():
+            text = self.text(file)
+            for law in LAW.finditer(text):
+                if re.search(rf"\b{named}\b", law[2]):
+                    at, last = (text.count("\n", 0, it) + 1 for it in (law.start(), law.end()))
+                    stated = Function(module_of(self.crate.name, file), None, law[1], (at, last, last))
+                    stated.is_law = True
+                    yield file, stated
+
+    def files(self):
+        """Yields the paths of the source files."""
+        for folder, _, names in sorted(os.walk(f"{self.crate.folder}/src")):
+            for name in sorted(names):
+                yield os.path.relpath(f"{folder}/{name}", self.crate.folder)
 
     def around(self, path, line):
         """Returns the innermost function with this line, counted from 1."""
@@ -202,13 +224,11 @@ class Sources:
         named = next((found[1] for found in map(ITEM.match, reversed(above)) if found), None)
         if not named:
             raise BadEdit("it changes no function, constant or type")
-        for folder, _, names in sorted(os.walk(f"{self.crate.folder}/src")):
-            for name in sorted(names):
-                file = os.path.relpath(f"{folder}/{name}", self.crate.folder)
-                lines = self.text(file).split("\n")
-                for it in self.functions(file):
-                    if re.search(rf"\b{named}\b", "\n".join(lines[it.body - 1 : it.last])):
-                        yield file, it
+        for file in self.files():
+            lines = self.text(file).split("\n")
+            for it in self.functions(file):
+                if re.search(rf"\b{named}\b", "\n".join(lines[it.body - 1 : it.last])):
+                    yield file, it
 
 
 def name_of(file):
@@ -227,6 +247,9 @@ class Edit:
         with open(file, encoding="utf-8") as it:
             self.lines = self.changes(it.read(), sources)
         for path, line in sorted(self.lines):
+            if path.startswith("specs/"):
+                self.change_law(path, line, sources)
+                continue
             function = sources.around(path, line)
             if function and line < function.body:
                 raise BadEdit(f"it changes the contract of {function.path}, and not its body")
@@ -235,6 +258,14 @@ class Edit:
                 self.functions += [held] if held not in self.functions else []
         if not self.functions:
             raise BadEdit("no function names what it changes")
+
+    def change_law(self, path, line, sources):
+        """Takes the laws that state what this line of a definition says."""
+        laws = [*sources.laws(path, line)]
+        if not laws:
+            raise BadEdit("no law states what it changes")
+        self.is_alone = True
+        self.functions += laws
 
     @staticmethod
     def changes(text, sources):

@@ -14,6 +14,7 @@ from wrong_bodies import Trial, try_crate
 SOURCE = """#![tactic(auto)]
 
 ghost use Rattle.std.specs.Prelude.{◌≡◌, ◌≤◌, ◌*◌, Some};
+ghost use Rattle.ropes.specs.Laws.{IsInside};
 
 /// The wheels of a cart.
 pub const WHEELS: u32 = 4;
@@ -100,6 +101,23 @@ pub fn cut_to_nothing(rope: &mut Rope)
 {
     rope.cut(0);
 }
+
+/// A part of a rope is inside it.
+pub fn is_inside()
+    ensures { IsInside }
+{}
+"""
+
+LAWS = """-- A law, and a definition that no law states.
+use Rattle.std.specs.Prelude.{◌≡◌, ◌≤◌, ◌+◌, ℕ}
+
+-- a sum is at least its first part
+abbrev pub IsInside : Type 0
+IsInside = (part rest : ℕ) → part ≤ part + rest
+
+-- a rope of no length
+abbrev pub IsNothing : ℕ → Type 0
+IsNothing length = length ≡ 0
 """
 
 # The proof of a goal of the function with the long name.
@@ -111,7 +129,7 @@ pub returns-then-first-second : goal.returns-then-first-second
 returns-then-first-second g c = search rules
 """
 
-# Each edit's old and new text, and its result: refused, or failed with these words.
+# Each edit's old and new text, and its result: refused, or failed with these words. The last ones change a definition.
 EDITS = {
     "cuts_the_rope_shorter": ("self.length = length;", "self.length = length / 2;", "refused"),
     "makes_a_shorter_rope": ("        Rope { length }", "        Rope { length: length / 2 }", "refused"),
@@ -129,6 +147,10 @@ EDITS = {
     "moves_the_loan": ("    rope.cut(0);", "    let _ = (rope, 1);", "the borrow checker does not cover it"),
     "a_right_body_without_the_goal_of_an_answer": ("if first < second {", "if second > first {", "not refused"),
     "changes_nothing": ("self.length < most", "self.length < most", "it changes nothing"),
+    "a_false_law": ("→ part ≤ part + rest", "→ part + rest ≤ part", "refused"),
+    "a_right_law": ("→ part ≤ part + rest", "→ part ≤ rest + part", "not refused"),
+    "a_law_without_a_meaning": ("→ part ≤ part + rest", "→ part ≤ whole", "the definition cannot be read"),
+    "changes_what_no_law_states": ("length ≡ 0", "length ≡ 1", "no law states"),
 }
 
 
@@ -142,10 +164,13 @@ def repository(top):
     """Writes a repository with the crate and its edits."""
     write(f"{top}/crates.txt", "# one crate\nropes:\n")
     write(f"{top}/crates/ropes/src/lib.rt", SOURCE)
+    write(f"{top}/crates/ropes/specs/Lib.antt", "pub mod Laws\n")
+    write(f"{top}/crates/ropes/specs/Laws.antt", LAWS)
     write(f"{top}/crates/ropes/proofs/Lib.antt", "")
     write(f"{top}/crates/ropes/proofs/{LONG}/Answers.antt", ANSWERS)
     for name, (old, new, _) in EDITS.items():
-        write(f"{top}/crates/ropes/must-fail/{name}.edit", f"file: src/lib.rt\nold: {old}\nnew: {new}\n")
+        file = "specs/Laws.antt" if old in LAWS else "src/lib.rt"
+        write(f"{top}/crates/ropes/must-fail/{name}.edit", f"file: {file}\nold: {old}\nnew: {new}\n")
     return crates_of(top)["ropes"]
 
 

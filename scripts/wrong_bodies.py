@@ -5,8 +5,8 @@ changes, and by nothing else that the check prints.
 
 An edit counts as refused if a function that it changes is not proved, and a goal of that function itself failed. A call
 of a function that is not proved does not count, nor does a proof that names what the edit removed. Two bodies of one
-function are tried in two checks, and an edit outside of bodies, for example of a constant, is tried alone. An edit whose
-text is gone, or that the compiler or the borrow checker refuses for its form, is a bad edit, and the others are tried
+function are tried in two checks, and an edit outside of bodies, for example of a constant, is tried alone. So is an edit
+of a definition in specs/, which is judged by the laws that name it, functions with empty bodies, and by their lemmas. An edit whose text is gone, or that the compiler or the borrow checker refuses for its form, is a bad edit, and the others are tried
 again without it. An edit that is not refused beside others is tried again alone.
 
 Usage: scripts/wrong_bodies.py [--as-built] [--edits FOLDER] [NAME | NAME/EDIT ..], by default all crates. With
@@ -43,6 +43,8 @@ ENDED = re.compile(r"^only=\d+ proved=\d+$", re.MULTILINE)
 GOAL = re.compile(r"^note: (?:\./)?((src/\S+?):(\d+):\d+: it is not proved that .*)$", re.MULTILINE)
 # A long message goes on in further lines.
 ANSWER = re.compile(r"^(?:\./)?(proofs/(\S+)/(?:Answers|Invariants|Proof)\.antt:\d+:\d+: error: .*(?:\n  .*)*)$", re.MULTILINE)
+LEMMA = re.compile(r"^(?:\./)?(proofs/\S+\.antt:\d+:\d+: error: .*(?:\n  .*)*)$", re.MULTILINE)
+UNREAD = re.compile(r"^(?:\./)?(specs/\S+\.antt:\d+:\d+: error\b.*)$", re.MULTILINE)
 REJECTED = re.compile(r"^(?:\./)?((src/\S+?):(\d+):\d+: error\b.*)$", re.MULTILINE)
 UNKNOWN = re.compile(r"^rattle: error: `\S+` has no function `([^`]+)`", re.MULTILINE)
 SEVERAL = re.compile(r"^rattle: error: several functions are named `[^`]+`: help: write one of (.*)$", re.MULTILINE)
@@ -70,6 +72,8 @@ class Said:
         for goal, file, line in self.goals:
             if file == path and function.first <= int(line) <= function.last:
                 return goal
+        if function.is_law:
+            return next((it for it in LEMMA.findall(self.text) if not FOLLOWS.search(it)), None)
         for error, folder in self.answers:
             if function.owns("::".join([self.crate.name, *folder.split("/")])) and not FOLLOWS.search(error):
                 return error
@@ -77,6 +81,9 @@ class Said:
 
     def misfit(self, edit):
         """Returns why the edit's text is refused for its form, or None."""
+        unread = UNREAD.search(self.text)
+        if unread:
+            return f"the definition cannot be read: {unread[1]}"
         for whole, path, line in self.rejected:
             if (path, int(line)) in edit.lines:
                 return f"the compiler refuses it: {whole}"
