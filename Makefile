@@ -1,12 +1,12 @@
 # all:     proves and builds the program usbreg, and prints its version. This is what `make` does.
 # trial:   compiles usbreg without proving it, and acts on three request lines over a
 #          registry in memory.
-# test:    the gate. Looks at the layout of all files; proves every crate and its tests from nothing,
+# test:    the gate. Checks the format of all files; proves every crate and its tests from nothing,
 #          runs the tests and, as two compilers make it, each program; tries the must-fail edits, many
 #          in one check; runs the tests of the store, of the server and of the program, compiled with checks
 #          and not proved; then the scripts that try the program over files.
-# gate:    the same with the latter tests proved too, and each edit in a check of its own,
-#          as a bare `rt ci` does it: more than twice the time, for a release.
+# gate:    a bare `rt ci`, which proves the latter tests too and tries each edit in a check of its own, and the
+#          scripts that try the program: more than twice the time, for a release.
 # install: puts the program that `make` built into PREFIX/bin, and its page into PREFIX/share/man/man1.
 # bench:   reads and writes lists and looks devices up beside plain readers, acts on requests and serves messages
 #          beside plain registries, and prints ratios; opens a large store of an older schema. Not part of the gate;

@@ -3,7 +3,7 @@
 Python over sqlite3, on the same made-up requests: whole programs, from request lines to reply lines.
 
 Prints requests per second and their ratios, in memory and in a file on tmpfs (/dev/shm), best and median of five runs
-that alternate (of 100,000 in memory only one: there a table is a sorted list). Then it prints the cost of a request on a
+that alternate (of 99,999 in memory only one: there a table is a sorted list). Then it prints the cost of a request on a
 store with 60,000 entries and 100,000 petitions over that on an empty one. Needs the program that `make` builds, or the
 one whose path is in USBREG, and says what is missing."""
 

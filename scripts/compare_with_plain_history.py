@@ -23,7 +23,7 @@ from usbreg import TOP, content, folder, found, opened, program, run, write, wri
 
 LINK = "http://a.example/"
 ORDERS_IN_CHANCE = 3000
-# Refusals that a few random requests cannot meet.
+# Refusals that the random requests do not meet.
 RARE = {12, 14, 18, 19}
 
 
@@ -166,7 +166,10 @@ class Chance:
         return f"{self.dice.randint(1, 9):04x}"
 
     def wanted(self):
-        return self.one_of({"number": self.number()}, {}, {})
+        fields = {}
+        for field in plain_history.OPTIONAL["ask"]:
+            fields |= self.one_of({field: self.number()}, {}, {})
+        return fields
 
     def vendor(self):
         """Returns a vendor that the registry has, one that it may have, one that it never has, or none."""

@@ -169,7 +169,7 @@ def pairs(text):
             old = rest
         elif word == "new" and colon:
             if not path or not old:
-                raise BadEdit("a 'new:' line stands before any 'file:' or 'old:' line")
+                raise BadEdit("a 'new:' line comes before any 'file:' or 'old:' line")
             yield path, old, rest
             old = None
 

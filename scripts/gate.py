@@ -1,5 +1,5 @@
 #!/usr/bin/env python3
-"""Runs the gate: the layout of all files; then `rt ci` over a copy of the repository, and beside it the must-fail edits,
+"""Runs the gate: the format of all files; then `rt ci` over a copy of the repository, and beside it the must-fail edits,
 as many in one check as possible, over the libraries that `rt ci` has just proved; then the tests of the store, of the
 server and of the program, compiled with checks and not proved; then the scripts that try the program. If `rt fmt` would
 change a file, which `rt ci` would refuse much later, the gate ends there.
@@ -21,6 +21,7 @@ import threading
 import time
 
 from crates import TOP, crates_of
+from edits import name_of
 
 LEFT_OUT = {".git", "out", "__pycache__"}
 EDITS = re.compile(r"crates/[^/]+/must-fail/")
@@ -32,10 +33,12 @@ COUNT = re.compile(r"(\d+) passed, (\d+) failed\n?")
 # overflow; for these it takes longer than the proof of all that they call, so only `make gate` does it.
 TRIED = ("registry_store_tests", "registry_desk_tests", "registry_cli_tests")
 
-# The number of crates whose edits are tried while `rt ci` runs, which leaves about half of four processors idle, and the
-# bytes of memory that must be free for one more.
+# The parts of edits that run side by side while `rt ci` runs, which leaves about half of four processors idle, or the
+# tests, and after these; the bytes of memory that must be free for one more; and the most edits of one part.
 LANES = 2
+LANES_AFTER = 4
 ROOM = 8 * 2**30
+SHARE = 24
 
 
 def files():
@@ -149,12 +152,14 @@ class Tried(Part):
 
 
 class Edits:
-    """The trials of the must-fail edits, crate by crate as these are proved, a few side by side."""
+    """The trials of the must-fail edits, crate by crate as these are proved, a few side by side. The edits of a large
+    crate are tried in several parts."""
 
     def __init__(self, top, edits, pool):
-        self.top, self.edits, self.pool, self.parts = top, edits, pool, {}
-        self.left = {it.name for it in crates_of(top).values() if it.edits(edits)}
-        self.is_alone = threading.Event()
+        self.top, self.edits, self.pool, self.parts = top, edits, pool, []
+        self.left = {it.name: [*map(name_of, it.edits(edits))] for it in crates_of(top).values() if it.edits(edits)}
+        self.turn, self.choice = threading.Semaphore(LANES), threading.Lock()
+        self.running, self.is_alone = 0, False
 
     def hear(self, line):
         """Starts the trial of a crate's edits once `rt ci` says that the crate is proved."""
@@ -163,23 +168,41 @@ class Edits:
             self.begin(proved[1])
 
     def begin(self, crate):
-        self.left.remove(crate)
-        words = ["scripts/wrong_bodies.py", "--as-built", "--edits", self.edits, crate]
-        part = Part(["nice", *words], self.top)
-        part.name = f"scripts/wrong_bodies.py {crate}"
-        self.parts[crate] = self.pool.submit(self.run, part)
+        names = self.left.pop(crate)
+        count = -(-len(names) // SHARE)
+        for at in range(count):
+            named = [f"{crate}/{it}" for it in names[at::count]]
+            part = Part(["nice", "scripts/wrong_bodies.py", "--as-built", "--edits", self.edits, *named], self.top)
+            part.name = f"scripts/wrong_bodies.py {crate}" + (f", part {at + 1} of {count}" if count > 1 else "")
+            self.parts.append(self.pool.submit(self.run, part))
 
     def run(self, part):
-        while available() < ROOM and not Part.is_over and not self.is_alone.wait(5):
-            pass
-        return part.run()
+        with self.turn:
+            while not self.takes_room() and not Part.is_over:
+                time.sleep(5)
+            try:
+                return part.run()
+            finally:
+                with self.choice:
+                    self.running -= 1
+
+    def takes_room(self):
+        """Counts one more part as running and returns true, if there is memory for it, or if nothing else runs."""
+        with self.choice:
+            fits = available() >= ROOM or self.is_alone and not self.running
+            self.running += fits
+            return fits
 
     def end(self):
         """Starts the other trials too, each of which reports that its crate is not proved, and waits for all."""
-        self.is_alone.set()
+        self.is_alone = True
         for crate in sorted(self.left):
             self.begin(crate)
-        return [it.result() for it in self.parts.values()]
+        return [it.result() for it in self.parts]
+
+    def hurry(self):
+        """Lets more parts run side by side from now on."""
+        self.turn.release(LANES_AFTER - LANES)
 
 
 def leave_out(crates, top):
@@ -203,7 +226,7 @@ def gate(room):
     copy([it for it in names if EDITS.match(it)], edits)
     copy([it for it in names if not EDITS.match(it) and it not in tried], top)
     leave_out(TRIED, top)
-    with concurrent.futures.ThreadPoolExecutor(LANES) as pool:
+    with concurrent.futures.ThreadPoolExecutor(LANES_AFTER) as pool:
         trials = Edits(top, edits, pool)
         parts = [layout, Part(["rt", "ci"], top).run(trials.hear)]
         # what stopped scripts leave is removed with the copy
@@ -211,6 +234,7 @@ def gate(room):
         copy(["crates.txt", *tried], top)
         with concurrent.futures.ThreadPoolExecutor() as side:
             parts += side.map(lambda it: Tried(it, top).run(), TRIED)
+        trials.hurry()
         parts += trials.end()
     copy([it for it in names if EDITS.match(it)], top)
     return parts + [Part([f"scripts/{it}"], top).run() for it in ("test_wrong_bodies.py", "try_the_program.sh")]

@@ -2,7 +2,7 @@
 """Names each file that `rt fmt` would change. `rt ci` refuses such a file, but only once its crate is proved; this takes
 seconds, so `make test` begins with it.
 
-It lays out a copy. The exit status is 0 if it names no file; `rt fmt` in the crate's folder fixes those that it names."""
+It formats a copy. The exit status is 0 if it names no file; `rt fmt` in the crate's folder fixes those that it names."""
 
 import filecmp
 import os
@@ -31,7 +31,7 @@ def main():
                 sys.exit(f"FAILED: rt fmt in crates/{crate.name}: {ran.stderr.strip()}")
             changed += [f"crates/{crate.name}/{it}" for it in named(copy) if not filecmp.cmp(f"{copy}/{it}", f"{crate.folder}/{it}", shallow=False)]
     for path in sorted(changed):
-        print(f"FAILED: {path} is not laid out as `rt fmt` does it")
+        print(f"FAILED: {path} is not formatted as `rt fmt` does it")
     return 1 if changed else 0
 
 

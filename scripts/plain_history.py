@@ -13,7 +13,7 @@ REFUSALS = {
     14: "TooManyOpen", 15: "RangeOwned", 16: "RangeFixed", 17: "RangeNotReserved", 18: "Full", 19: "ImportTooLong",
     33: "VendorTaken", 34: "NoVendor", 35: "LicenceTaken",
 }
-# The fields of an order in its canonical form. An import has its items in their place, and its vendor before them.
+# The fields of an order in its canonical form. The vendor of an import comes before its items, each of which is a field.
 FIELDS = {
     "enrol": ("org", "title", "site"), "amend-org": ("org", "title", "site"),
     "ask": ("org", "number", "title", "licence", "site", "source", "vendor"), "grant": ("petition", "number"),
@@ -22,6 +22,8 @@ FIELDS = {
     "reserve": ("first", "last", "vendor"), "release": ("first", "last", "vendor"),
     "import": ("org", "vendor", "items"), "add-vendor": ("vendor", "name"), "add-licence": ("licence",),
 }
+# The product IDs that an order may leave out: `-` in its canonical form.
+OPTIONAL = {"ask": ("number",), "grant": ("number",)}
 OPEN, GRANTED, DECLINED, WITHDRAWN = range(4)
 STATES = {"grant": GRANTED, "decline": DECLINED, "withdraw": WITHDRAWN}
 CURATORS_ORDERS = {"grant", "decline", "reserve", "release", "import", "add-vendor", "add-licence"}
@@ -144,7 +146,7 @@ class History:
         for field in FIELDS[request["order"]]:
             if field == "items":
                 texts += [f"{pid:04x}={title}" for pid, title in items(request["list"])]
-            elif field == "number" and request["order"] in ("ask", "grant"):
+            elif field in OPTIONAL.get(request["order"], ()):
                 texts.append(request.get(field) or "-")
             elif field != "vendor" or request.get(field):
                 texts.append(str(request[field]))

@@ -17,7 +17,7 @@ out, and never counts other entries or names a fault of a line.
 Usage: scripts/refuse_allocations.py [--only PART] [--every N] [PROGRAM [BENCH]], by default all parts with the program
 that `make` builds and the one that `rt run` builds in crates/usbids_bench. PART is trial, which is part of `make test`, or
 found, apply, show, import, serve, open or list; --every N refuses only every N-th allocation. Needs cc. The exit status is
-0 if all of this holds. docs/proving.md says how long each part takes."""
+0 if all of this holds."""
 
 import argparse
 import collections

@@ -41,13 +41,13 @@ def asked_in(words, shim, room, lines=os.devnull):
 
 
 def each(numbers, room, attempt):
-    """Returns the results of the attempts with each number. They run side by side, each row of them in its own folder."""
-    rows = len(os.sched_getaffinity(0))
+    """Returns the results of the attempts with each number. They run side by side, each batch of them in its own folder."""
+    batches = len(os.sched_getaffinity(0))
 
-    def row(first):
+    def batch(first):
         folder = f"{room}/{first}"
         os.makedirs(folder, exist_ok=True)
-        return [attempt(number, folder) for number in numbers[first::rows]]
+        return [attempt(number, folder) for number in numbers[first::batches]]
 
-    with concurrent.futures.ThreadPoolExecutor(rows) as pool:
-        return [it for given in pool.map(row, range(rows)) for it in given]
+    with concurrent.futures.ThreadPoolExecutor(batches) as pool:
+        return [it for given in pool.map(batch, range(batches)) for it in given]

@@ -149,8 +149,8 @@ def done(text):
 
 
 def refusals():
-    """Returns the name and the status of each refusal by its number, as in docs/http.md."""
-    rows = re.findall(r"^\| (\d+) \| (\w+) \| (\d+) \|", content(f"{TOP}/docs/http.md").decode(), re.MULTILINE)
+    """Returns the name and the status of each refusal over HTTP by its number, as in docs/requests.md."""
+    rows = re.findall(r"^\| (\d+) \| (\w+) \| (\d+) \|", content(f"{TOP}/docs/requests.md").decode(), re.MULTILINE)
     return {int(number): (name, int(status)) for number, name, status in rows}
 
 

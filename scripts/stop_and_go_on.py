@@ -53,7 +53,7 @@ def look(store, room, asked, replies):
         sys.exit(f"{len(replies)} replies were printed, and {len(there)} orders are kept")
     for request, reply in zip(asked, replies):
         if there.get((request["caller"], request["key"])) != json.loads(reply)["done"]:
-            sys.exit(f"the printed reply to {request} does not stand")
+            sys.exit(f"the printed reply to {request} was not kept")
     more = asked[: len(there)]
     if any((it["caller"], it["key"]) not in there for it in more):
         sys.exit("the orders that are kept are not the first of the requests")
@@ -87,7 +87,7 @@ def main():
             sys.exit("the replies are not those of a run without stops")
         if tables(store) != tables(other):
             sys.exit("the tables are not those of a run without stops")
-    print(f"{killed} stops in {len(asked)} requests, {between} of them between a commit and its reply: each printed reply stands, and the end is that of a run without stops (seed {seed})")
+    print(f"{killed} stops in {len(asked)} requests, {between} of them between a commit and its reply: each printed reply was kept, and the end is that of a run without stops (seed {seed})")
 
 
 if __name__ == "__main__":

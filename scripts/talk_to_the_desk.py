@@ -368,7 +368,7 @@ def main():
         own_client(usbreg, room)
         ends(usbreg, room)
         print(f"a store that failed after {full(usbreg, room)} commands")
-        print(f"{killed(usbreg, room, stops)}: each one whose response came stands, and the end is that of a run without stops")
+        print(f"{killed(usbreg, room, stops)}: each one whose response came was kept, and the end is that of a run without stops")
 
 
 if __name__ == "__main__":

@@ -6,8 +6,9 @@ changes, and by nothing else that the check prints.
 An edit counts as refused if a function that it changes is not proved, and a goal of that function itself failed. A call
 of a function that is not proved does not count, nor does a proof that names what the edit removed. Two bodies of one
 function are tried in two checks, and an edit outside of bodies, for example of a constant, is tried alone. So is an edit
-of a definition in specs/, which is judged by the laws that name it, functions with empty bodies, and by their lemmas. An edit whose text is gone, or that the compiler or the borrow checker refuses for its form, is a bad edit, and the others are tried
-again without it. An edit that is not refused beside others is tried again alone.
+of a definition in specs/: it is judged by the laws that name the definition, functions with empty bodies, and by their
+lemmas. An edit is bad if its text is gone, or if the compiler or the borrow checker refuses its form; the others are
+tried again without it. An edit that is not refused beside others is tried again alone.
 
 Usage: scripts/wrong_bodies.py [--as-built] [--edits FOLDER] [NAME | NAME/EDIT ..], by default all crates. With
 --as-built it uses the libraries that `rt ci` built just before, and skips crates that it did not prove; without, it runs

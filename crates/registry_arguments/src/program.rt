@@ -83,8 +83,8 @@ fn trial<'a>(alloc: Global) -> Result<Command<'a>, AllocError>
     Ok(subcommand(
         alloc,
         "trial",
-        "Try the registry: run request lines over one in memory, which is then forgotten",
-        "Request lines come from standard input, one JSON object a line; a reply line is printed \
+        "Run request lines over a temporary registry in memory",
+        "Request lines come from standard input, one JSON object per line; a reply line is printed \
          for each.\n\nExample:\n  usbreg trial < examples/first.jsonl",
     ))
 }
@@ -97,7 +97,7 @@ fn found<'a>(alloc: Global) -> Result<Command<'a>, AllocError>
     let command = subcommand(
         alloc,
         "found",
-        "Found a registry in a new file",
+        "Create a registry in a new file",
         "FOUNDING names the vendor, its name, the curators, the licences that are allowed and the \
          numbers that stay reserved.\n\nExample:\n  usbreg found numbers.db examples/founding.toml",
     );
@@ -125,8 +125,8 @@ fn apply<'a>(alloc: Global) -> Result<Command<'a>, AllocError>
         alloc,
         "apply",
         "Run the request lines of a file over a registry",
-        "After a stop, count the reply lines that were printed and run the same file again with \
-         that count: no request is acted on twice.\n\nExample:\n  usbreg found numbers.db \
+        "After an interrupted run, count the reply lines that were printed and run the same file \
+         again with that count: no request is acted on twice.\n\nExample:\n  usbreg found numbers.db \
          examples/founding.toml\n  usbreg apply numbers.db examples/first.jsonl\n  usbreg apply \
          numbers.db examples/first.jsonl --answered 3",
     );
@@ -136,7 +136,7 @@ fn apply<'a>(alloc: Global) -> Result<Command<'a>, AllocError>
     )?;
     let command = with_arg(
         command,
-        positional(alloc, "file", "FILE", "One JSON object a line"),
+        positional(alloc, "file", "FILE", "One JSON object per line"),
     )?;
     let answered = option(
         alloc,
@@ -155,7 +155,7 @@ fn import<'a>(alloc: Global) -> Result<Command<'a>, AllocError>
     let command = subcommand(
         alloc,
         "import",
-        "Give an organisation the devices of a list, those that are still free",
+        "Import the devices of a list that are still free, for an organisation",
         "Example:\n  usbreg found numbers.db examples/founding.toml\n  usbreg apply numbers.db \
          examples/first.jsonl\n  usbreg import numbers.db examples/devices.ids --caller cora --key \
          first-list --org acme",
@@ -279,9 +279,10 @@ fn bare<'a>(alloc: Global) -> Command<'a>
     Command::new(alloc, "usbreg")
         .about("A registry of shared USB product numbers that never loses or duplicates a grant")
         .after_help(
-            "With no command it is `trial`. `found`, `apply`, `import` and `serve` change a store; \
-             the other commands leave its registry as it is.\n\nExit status: 0, 1 after a fault of the store, of \
-             memory or of a file, 2 for arguments or lines that are refused.",
+            "Without a command, `usbreg` runs `trial`. `found`, `apply`, `import` and `serve` change a \
+             registry; the other commands only read one.\n\nExit status: 0 on success; 1 after a fault of the \
+             store, of memory, of a file or of a socket; 2 if arguments, an input or an import are \
+             refused, or if no device is found.",
         )
 }
 

@@ -1,5 +1,8 @@
 //! The command that imports a list.
 
+ghost use Rattle.std.specs.Prelude.{◌≡◌, MatchResult};
+ghost use Rattle.registry_cli.specs.Statuses.{IsStatus};
+
 use crate::files::{open_input, open_registry};
 use byte_streams::Outlet;
 use registry_commands::{
@@ -7,13 +10,16 @@ use registry_commands::{
 };
 use usbnum_core::NoMemory;
 
-/// Imports the list in a file into the registry in a file, if the arguments are valid.
+/// Imports the list in a file into the registry in a file, if the arguments are valid, and returns
+/// the exit status: 2 if an argument is invalid, and 1 when out of memory.
 pub fn run_import(
     rt: &HostRuntime,
     store: &str,
     list: &str,
     asked: Result<Result<Import, BadArgument>, NoMemory>,
-) -> u8 {
+) -> u8
+    ensures { MatchResult asked (λ read. MatchResult read (λ _. IsStatus result) (λ _. result ≡ 2)) (λ _. result ≡ 1) }
+{
     let mut errors = Outlet::new(rt.stderr());
     let import = match asked {
         Ok(Ok(import)) => import,

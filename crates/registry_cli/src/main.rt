@@ -1,6 +1,8 @@
 //! `usbreg`, a registry of shared USB product numbers.
 #![tactic(auto)]
 
+ghost use Rattle.registry_cli.specs.Statuses.{IsExplained, IsStatus};
+
 mod files;
 mod imports;
 mod serving;
@@ -20,7 +22,9 @@ fn main(rt: HostRuntime) -> ExitCode {
 }
 
 /// Reads the arguments, does what they ask for, and returns the exit status.
-fn run(rt: &HostRuntime) -> u8 {
+fn run(rt: &HostRuntime) -> u8
+    ensures { IsStatus result }
+{
     let arguments = match arguments(rt) {
         Ok(arguments) => arguments,
         Err(error) if error.kind() == io::ErrorKind::InvalidData => {
@@ -43,7 +47,9 @@ fn arguments(rt: &HostRuntime) -> io::Result<Vec<String>> {
 }
 
 /// Does what the command asks for, and returns the exit status.
-fn perform(rt: &HostRuntime, command: Command<&str>) -> u8 {
+fn perform(rt: &HostRuntime, command: Command<&str>) -> u8
+    ensures { IsStatus result }
+{
     match command {
         Command::Trial => run_trial(rt),
         Command::Found { store, founding } => run_found(rt, store, founding),
@@ -72,7 +78,9 @@ fn perform(rt: &HostRuntime, command: Command<&str>) -> u8 {
 
 /// Prints why the arguments are refused, or the help or the version that they ask for, and returns
 /// the exit status.
-fn explain(rt: &HostRuntime, usage: &Usage) -> u8 {
+fn explain(rt: &HostRuntime, usage: &Usage) -> u8
+    ensures { IsExplained usage.now result }
+{
     match usage {
         Usage::Refused(error) => {
             let shown = error.print(rt).is_ok();

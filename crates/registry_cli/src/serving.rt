@@ -1,9 +1,11 @@
 //! The command that serves a registry over HTTP: it listens on a port of this machine.
 
-ghost use Rattle.std.specs.Prelude.{⊤};
+ghost use Rattle.std.specs.Prelude.{◌≡◌, ◌⊎◌, ◌↔◌, ⊤, IsTrue, MatchOption, MatchResult};
+ghost use Rattle.std.specs.IoError.{error_kind};
+ghost use Rattle.registry_cli.specs.Statuses.{IsDoneOrFailed};
 
 use crate::files::open_registry;
-use byte_streams::{Broken, Inlet, Outlet};
+use byte_streams::{Broken, Inlet, Outlet, Sink};
 use registry_commands::{close_store, fail, failure_of};
 use registry_desk::{Connections, ServerStop, serve_all};
 use std::io;
@@ -39,7 +41,9 @@ fn ends_of(stream: TcpStream) -> io::Result<(Inlet<TcpStream>, Outlet<TcpStream>
 }
 
 /// Returns whether the peer gave up a connection before it was accepted.
-fn is_of_peer(error: &io::Error) -> bool {
+fn is_of_peer(error: &io::Error) -> bool
+    ensures { IsTrue result ↔ ((error_kind error.now ≡ ErrorKind.ConnectionAborted) ⊎ (error_kind error.now ≡ ErrorKind.ConnectionReset) ⊎ (error_kind error.now ≡ ErrorKind.Interrupted)) }
+{
     matches!(
         error.kind(),
         ErrorKind::ConnectionAborted | ErrorKind::ConnectionReset | ErrorKind::Interrupted
@@ -126,21 +130,43 @@ fn say_listening(rt: &HostRuntime, port: u16) {
 }
 
 /// Prints that the port failed, and returns the exit status.
-fn fail_socket(rt: &HostRuntime) -> u8 {
+fn fail_socket(rt: &HostRuntime) -> u8
+    ensures { result ≡ 1 }
+{
     let _ = rt.eprintln("fault: socket");
     1
 }
 
-/// Serves the registry in a file on a port, for `count` connections if given.
-pub fn run_serve(rt: &HostRuntime, store: &str, port: u16, count: Option<u32>) -> u8 {
+/// Returns the number of connections to serve: `count` if given, else as many as come.
+fn limit_of(count: Option<u32>) -> u64
+    ensures { MatchOption count (result ≡ 18446744073709551615) (λ count. result ≡ count) }
+{
+    match count {
+        Some(count) => u64::from(count),
+        None => u64::MAX,
+    }
+}
+
+/// Prints why serving stopped before its last connection, if it did, and returns the exit status.
+fn end_serving<E: Sink>(rt: &HostRuntime, errors: &mut E, served: Result<(), ServerStop>) -> u8
+    ensures { MatchResult served (λ _. result ≡ 0) (λ _. result ≡ 1) }
+{
+    match served {
+        Ok(()) => 0,
+        Err(ServerStop::Connections) => fail_socket(rt),
+        Err(ServerStop::Registry(fault)) => fail(errors, failure_of(fault)),
+    }
+}
+
+/// Serves the registry in a file on a port, for `count` connections if given, and returns the exit
+/// status.
+pub fn run_serve(rt: &HostRuntime, store: &str, port: u16, count: Option<u32>) -> u8
+    ensures { IsDoneOrFailed result }
+{
     let mut errors = Outlet::new(rt.stderr());
     let mut registry = match open_registry(rt, store) {
         Ok(registry) => registry,
         Err(failure) => return fail(&mut errors, failure),
-    };
-    let count = match count {
-        Some(count) => u64::from(count),
-        None => u64::MAX,
     };
     let status = match TcpListener::bind(rt, (Ipv4Addr::new(127, 0, 0, 1), port)) {
         Ok(listener) => {
@@ -149,11 +175,8 @@ pub fn run_serve(rt: &HostRuntime, store: &str, port: u16, count: Option<u32>) -
                 rt,
                 listener: &listener,
             };
-            match serve_all(rt.alloc(), &mut accepted, &mut registry, count) {
-                Ok(()) => 0,
-                Err(ServerStop::Connections) => fail_socket(rt),
-                Err(ServerStop::Registry(fault)) => fail(&mut errors, failure_of(fault)),
-            }
+            let served = serve_all(rt.alloc(), &mut accepted, &mut registry, limit_of(count));
+            end_serving(rt, &mut errors, served)
         }
         Err(_) => fail_socket(rt),
     };

@@ -1,5 +1,12 @@
 //! The commands that only show something: each opens the files that its arguments name.
 
+ghost use Rattle.std.specs.Prelude.{◌≡◌, option_copied, MatchOption, Option, Result};
+ghost use Rattle.usbnum_core.specs.Number.{code_of, number_of};
+ghost use Rattle.usbids_text.specs.Moments.{Moment};
+ghost use Rattle.registry_commands.specs.declared.arguments.BadArgument.{BadArgument};
+ghost use Rattle.registry_commands.specs.Reports.{report_named};
+ghost use Rattle.registry_cli.specs.Statuses.{EndsUnlessRefused, IsDoneOrFailed, IsStampOf, IsStatus};
+
 use crate::files::{open_input, open_registry};
 use byte_streams::Outlet;
 use registry_commands::{
@@ -10,7 +17,9 @@ use usbids_text::Stamp;
 use usbnum_core::{parse_code, parse_vid};
 
 /// Returns the stamp of a text, if given, or an error if the text is not a stamp.
-fn stamp_of(text: Option<&str>) -> Result<Option<Stamp>, BadArgument> {
+fn stamp_of(text: Option<&str>) -> Result<Option<Stamp>, BadArgument>
+    ensures { IsStampOf (option_copied text.entry) result }
+{
     match text {
         None => Ok(None),
         Some(text) => match stamp_from_text(text.as_bytes()) {
@@ -20,8 +29,11 @@ fn stamp_of(text: Option<&str>) -> Result<Option<Stamp>, BadArgument> {
     }
 }
 
-/// Prints the list of the registry in a file.
-pub fn run_export(rt: &HostRuntime, store: &str, stamp: Option<&str>) -> u8 {
+/// Prints the list of the registry in a file, and returns the exit status: 2 if the stamp is
+/// invalid.
+pub fn run_export(rt: &HostRuntime, store: &str, stamp: Option<&str>) -> u8
+    ensures { (read : Result (Option Moment) BadArgument) × IsStampOf (option_copied stamp.entry) read × EndsUnlessRefused read result }
+{
     let mut errors = Outlet::new(rt.stderr());
     let stamp = match stamp_of(stamp) {
         Ok(stamp) => stamp,
@@ -37,8 +49,11 @@ pub fn run_export(rt: &HostRuntime, store: &str, stamp: Option<&str>) -> u8 {
     status
 }
 
-/// Prints a report on the registry in a file.
-pub fn run_report(rt: &HostRuntime, store: &str, name: &str) -> u8 {
+/// Prints a report on the registry in a file, and returns the exit status: 2 if no report has this
+/// name.
+pub fn run_report(rt: &HostRuntime, store: &str, name: &str) -> u8
+    ensures { MatchOption (report_named name.now) (result ≡ 2) (λ _. IsDoneOrFailed result) }
+{
     let mut errors = Outlet::new(rt.stderr());
     let Some(name) = report_named(name) else {
         return reject_argument(&mut errors, BadArgument::Name);
@@ -53,8 +68,11 @@ pub fn run_report(rt: &HostRuntime, store: &str, name: &str) -> u8 {
     status
 }
 
-/// Prints the name of a device in the list in a file.
-pub fn run_lookup(rt: &HostRuntime, list: &str, vid: &str, pid: &str) -> u8 {
+/// Prints the name of a device in the list in a file, and returns the exit status: 2 if a number is
+/// invalid, the input is not a list, or the list has no such device.
+pub fn run_lookup(rt: &HostRuntime, list: &str, vid: &str, pid: &str) -> u8
+    ensures { MatchOption (number_of vid.now) (result ≡ 2) (λ _. MatchOption (code_of pid.now) (result ≡ 2) (λ _. IsStatus result)) }
+{
     let mut errors = Outlet::new(rt.stderr());
     let Some(vendor) = parse_vid(vid.as_bytes()) else {
         return reject_argument(&mut errors, BadArgument::Vid);

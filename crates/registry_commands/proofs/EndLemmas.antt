@@ -24,21 +24,21 @@ use Rattle.registry_commands.specs.declared.messages.Failure.TheVariants.{Store,
 use Rattle.registry_commands.specs.Failures.{IsOfInput, IsOfSoundRun, PrintsFailure, ErrorOutput}
 use Rattle.registry_commands.specs.Messages.{failure_of}
 use Rattle.registry_commands.specs.Apply.{IsApplied, IsOfRun}
-use Rattle.registry_commands.specs.Found.{IsFoundBy, IsOfFounding}
+use Rattle.registry_commands.specs.Found.{IsFoundedBy, IsOfFounding}
 use Rattle.registry_commands.specs.Trial.{IsOfStart, IsTrial, IsTrialOf}
 use Rattle.registry_commands.proofs.ApplyLemmas.{keeps_same}
-use Rattle.registry_commands.proofs.FailureLemmas.{memory_of_input, of_standing, tells_more}
+use Rattle.registry_commands.proofs.FailureLemmas.{memory_of_input, of_sound_run, tells_more}
 
 -- a failure before anything is founded
 pub founding_fails : {S : Type 0} (OfInput : Failure → Type 0) (g : Ghosts S) (conn : Held S) (read : Result Listed WireRefusal) (errors : ErrorOutput) (status : ℕ)
-    → status ≡ 1 → PrintsFailure OfInput errors → IsFoundBy g OfInput conn conn read errors status
+    → status ≡ 1 → PrintsFailure OfInput errors → IsFoundedBy g OfInput conn conn read errors status
 founding_fails OfInput g conn (Err refusal) errors status one told = (refl, inr (one, told))
 founding_fails OfInput g conn (Ok listed) errors status one told = inl (refl, one, told)
 
 -- the founding file was read from an input, which may fail too
 pub found_more : {S : Type 0} (OfMemory OfInput : Failure → Type 0) → ((failure : Failure) → OfMemory failure → OfInput failure)
     → (g : Ghosts S) (conn new : Held S) (read : Result Listed WireRefusal) (errors : ErrorOutput) (status : ℕ)
-    → IsFoundBy g OfMemory conn new read errors status → IsFoundBy g OfInput conn new read errors status
+    → IsFoundedBy g OfMemory conn new read errors status → IsFoundedBy g OfInput conn new read errors status
 found_more OfMemory OfInput more g conn new (Err refusal) errors status is =
     (is.0, elim is.1 [ inl said ↦ inl said | inr failed ↦ inr (failed.0, tells_more OfMemory OfInput errors more failed.1) ])
 found_more OfMemory OfInput more g conn new (Ok listed) errors status is =
@@ -89,7 +89,7 @@ tried OfInput OfOutput it new founding trial stands (Ok rs) out out_new errors s
               record { founding = founding; trial = trial; n = at.0; within = at.1.within; middle = at.1.gained.0; whole = at.1.gained.1; cut = at.1.gained.2 }
               ),
           tells_more (λ failure. IsOfRun it new (λ h. HasAnswered it h rs 0) failure × OfOutput failure) (λ failure. IsOfSoundRun failure × OfOutput failure) errors
-              (λ failure is. (of_standing it new (λ h. HasAnswered it h rs 0) (founded founding) (inl stands) stands.not_poisoned (memory_is_clean new) failure is.0, is.1)) told,
+              (λ failure is. (of_sound_run it new (λ h. HasAnswered it h rs 0) (founded founding) (inl stands) stands.not_poisoned (memory_is_clean new) failure is.0, is.1)) told,
         ))
       ]
     ]

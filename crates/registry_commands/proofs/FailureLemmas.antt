@@ -48,11 +48,11 @@ module _ {S : Type 0} {g : Ghosts S} where
   of_fault it new These old_count new_count same faults.Poisoned poisoned kind = (poisoned refl, same)
 
   -- a sound registry over a clean disk
-  pub of_standing : (it new : Registry S g) (These : History → Type 0) (h : History) → These h → is_poisoned it ≡ false → HasCleanDisk (state_of new)
+  pub of_sound_run : (it new : Registry S g) (These : History → Type 0) (h : History) → These h → is_poisoned it ≡ false → HasCleanDisk (state_of new)
       → (failure : Failure) → IsOfRun it new These failure → IsOfSoundRun failure
-  of_standing it new These h here not_poisoned clean Poisoned poisoned = absurd cc
-  of_standing it new These h here not_poisoned clean Foreign none = absurd (none (h, here, clean))
-  of_standing it new These h here not_poisoned clean Taken none = absurd (none (h, here, clean))
-  of_standing it new These h here not_poisoned clean Store is = tt
-  of_standing it new These h here not_poisoned clean Memory is = tt
-  of_standing it new These h here not_poisoned clean File is = tt
+  of_sound_run it new These h here not_poisoned clean Poisoned poisoned = absurd cc
+  of_sound_run it new These h here not_poisoned clean Foreign none = absurd (none (h, here, clean))
+  of_sound_run it new These h here not_poisoned clean Taken none = absurd (none (h, here, clean))
+  of_sound_run it new These h here not_poisoned clean Store is = tt
+  of_sound_run it new These h here not_poisoned clean Memory is = tt
+  of_sound_run it new These h here not_poisoned clean File is = tt

@@ -8,13 +8,13 @@ use Rattle.byte_streams.proofs.StreamLemmas.{appends_nil}
 use Rattle.registry_rules.specs.declared.order.Request.{Request}
 use Rattle.registry_rules.specs.declared.verdict.Reply.{Reply}
 use Rattle.registry_rules.specs.History.{History}
-use Rattle.registry_rules.specs.Run.{after_one, answer_one}
+use Rattle.registry_rules.specs.Run.{after_one, reply_to}
 use Rattle.registry_tables.specs.Rows.{newest}
 use Rattle.registry_store.specs.declared.fault.Fault.{Fault}
 use Rattle.registry_store.specs.declared.fault.Fault.TheVariants as faults
 use Rattle.registry_store.specs.declared.registry.Registry.{Registry}
 use Rattle.registry_store.specs.Promise.{Leaves, Represents, is_poisoned, state_of}
-use Rattle.registry_store.specs.RunTo.{MayBeActedOn}
+use Rattle.registry_store.specs.RunTo.{MayHaveBeenActedOn}
 use Rattle.registry_store.proofs.RunLemmas.{leaves_weaker}
 use Rattle.registry_commands.specs.declared.messages.Failure.{Failure}
 use Rattle.registry_commands.specs.declared.messages.Failure.TheVariants.{Store, Memory, Foreign, Taken, Poisoned, File}
@@ -53,13 +53,13 @@ module _ {S : Type 0} {g : Ghosts S} where
   -- a request that was acted on before has the same kinds of fault as the first time
   pub kind_of : (it new : Registry S g) (h : History) (r : Request) (fault : Fault)
       → ((x : History) → Represents it x → HasCleanDisk (state_of new) → (fault ≡ faults.Store) ⊎ (fault ≡ faults.NoMemory))
-      → MayBeActedOn it h r → HasCleanDisk (state_of new) → (fault ≡ faults.Store) ⊎ (fault ≡ faults.NoMemory)
+      → MayHaveBeenActedOn it h r → HasCleanDisk (state_of new) → (fault ≡ faults.Store) ⊎ (fault ≡ faults.NoMemory)
   kind_of it new h r fault kind (inl s) clean = kind h s clean
   kind_of it new h r fault kind (inr s) clean = kind (after_one h r) s clean
 
   -- only a prefix of a reply's line is written
   cut_at : (new : Registry S g) (h : History) (r : Request) (out out_new : Option (List ℕ)) (reply : Reply)
-      → (reply ≡ answer_one h r) × Represents new (after_one h r) → HasCleanDisk (state_of new) → AppendsPrefix out out_new (reply_line reply) → IsCut new h r out out_new
+      → (reply ≡ reply_to h r) × Represents new (after_one h r) → HasCleanDisk (state_of new) → AppendsPrefix out out_new (reply_line reply) → IsCut new h r out out_new
   cut_at new h r out out_new reply acted clean part = record {
     gained = subst (λ (x : Reply). AppendsPrefix out out_new (reply_line x)) acted.0 part;
     leaves = leaves_weaker newest (state_of new) (λ y. y ≡ after_one h r) (λ y. (y ≡ h) ⊎ (y ≡ after_one h r)) (λ y e. inr e) (acted.1.at.left clean);
@@ -68,7 +68,7 @@ module _ {S : Type 0} {g : Ghosts S} where
 
   -- a request gets its reply, whose line is written whole or in part
   pub replied : (OfOutput : Failure → Type 0) (it new : Registry S g) (r : Request) (out out_new : Option (List ℕ)) (errors : ErrorOutput) (status : ℕ) (reply : Reply)
-      → ((h : History) → MayBeActedOn it h r → HasCleanDisk (state_of new) → (reply ≡ answer_one h r) × Represents new (after_one h r))
+      → ((h : History) → MayHaveBeenActedOn it h r → HasCleanDisk (state_of new) → (reply ≡ reply_to h r) × Represents new (after_one h r))
       → IsReplied (λ failure. ((failure ≡ Memory) ⊎ (failure ≡ File)) × OfOutput failure) reply out out_new errors status
       → GivesReply it new r out out_new errors status ⊎ IsFailed OfOutput it new r out out_new errors status
   replied OfOutput it new r out out_new errors status reply acted (inl done) =
@@ -76,5 +76,5 @@ module _ {S : Type 0} {g : Ghosts S} where
   replied OfOutput it new r out out_new errors status reply acted (inr failed) = inr (record {
     status_is = failed.0;
     cut = λ h may clean. cut_at new h r out out_new reply (acted h may clean) clean failed.1;
-    told = let t = failed.2 in (t.0, (of_end it new (λ h. MayBeActedOn it h r) t.0 t.1.0, t.1.1), t.2);
+    told = let t = failed.2 in (t.0, (of_end it new (λ h. MayHaveBeenActedOn it h r) t.0 t.1.0, t.1.1), t.2);
   })

@@ -15,7 +15,7 @@ use Rattle.registry_tables.specs.Rows.{newest}
 use Rattle.registry_store.specs.declared.registry.Registry.{Registry}
 use Rattle.registry_store.specs.Promise.{Leaves, Represents, state_of}
 use Rattle.registry_store.specs.Reopen.{IsEither}
-use Rattle.registry_store.specs.Run.{HasAnswered, IsPlace}
+use Rattle.registry_store.specs.Run.{HasAnswered, IsAfterOrNext}
 use Rattle.registry_store.proofs.RunLemmas.{leaves_weaker}
 use Rattle.registry_store.proofs.RunToLemmas.{between_all}
 use Rattle.registry_commands.specs.declared.lines.BadLine.{BadLine}
@@ -43,7 +43,7 @@ module _ {S : Type 0} {g : Ghosts S} where
     -- the opened registry represents the history that the last one did
     stays : (h : History) → Represents last h → HasCleanDisk (state_of it) → ∥ Represents it h ∥₁
     stays h stands clean =
-        let legal = stands.counts.legal in
+        let legal = stands.legal_with.legal in
         ∥∥₁_map (opens h h legal legal (λ was. leaves_weaker newest (state_of last) (λ x. x ≡ h) (IsEither h h) (λ x e. inl e) (stands.at.left was)) clean)
         (λ found. subst (Represents it) (elim found.1 [ inl e ↦ e | inr e ↦ e ]) found.2)
 
@@ -51,7 +51,7 @@ module _ {S : Type 0} {g : Ghosts S} where
     as_before : last ≡ first → (h : History) → Represents first h → HasCleanDisk (state_of it) → ∥ Represents it h ∥₁
     as_before same h stands = stays h (subst (λ (x : Registry S g). Represents x h) (sym same) stands)
 
-    placed : (h : History) (rs : List Request) (n : ℕ) → Legal h → Leaves newest (state_of last) (IsPlace h rs n) → HasCleanDisk (state_of it) → ∥ HasAnswered it h rs n ∥₁
+    placed : (h : History) (rs : List Request) (n : ℕ) → Legal h → Leaves newest (state_of last) (IsAfterOrNext h rs n) → HasCleanDisk (state_of it) → ∥ HasAnswered it h rs n ∥₁
     placed h rs n legal leaves clean =
         ∥∥₁_map (opens (after h (take n rs)) (after h (take (n + 1) rs)) (legal_after h (take n rs) legal) (legal_after h (take (n + 1) rs) legal) (λ _. leaves) clean)
         (λ found. at_place it h rs n found.0 found.1 found.2)
@@ -64,8 +64,8 @@ module _ {S : Type 0} {g : Ghosts S} where
             let through = run.through zero h at (before clean) in
             let n = length rs in
             let all : after h rs ≡ after h (take n rs) = ap (after h) (sym (take_all n rs (omega arith))) in
-            let leaves : Leaves newest (state_of last) (IsPlace h rs n) =
-            leaves_weaker newest (state_of last) (λ x. x ≡ after h rs) (IsPlace h rs n) (λ x e. inl (e ∙ all)) (through.represents.at.left (before clean)) in (
+            let leaves : Leaves newest (state_of last) (IsAfterOrNext h rs n) =
+            leaves_weaker newest (state_of last) (λ x. x ≡ after h rs) (IsAfterOrNext h rs n) (λ x e. inl (e ∙ all)) (through.represents.at.left (before clean)) in (
               n,
               record {
                 from = within;

@@ -6,11 +6,11 @@ use Rattle.sqlite.specs.State.{HasCleanDisk}
 use Rattle.byte_streams.specs.Streams.{AppendsPrefix}
 use Rattle.registry_rules.specs.declared.order.Request.{Request}
 use Rattle.registry_rules.specs.History.{History}
-use Rattle.registry_rules.specs.Run.{after, answers}
+use Rattle.registry_rules.specs.Run.{after, replies_to}
 use Rattle.registry_tables.specs.Rows.{newest}
 use Rattle.registry_store.specs.declared.registry.Registry.{Registry}
 use Rattle.registry_store.specs.Promise.{Leaves, Represents, is_poisoned, state_of}
-use Rattle.registry_store.specs.Run.{HasAnswered, IsPlace}
+use Rattle.registry_store.specs.Run.{HasAnswered, IsAfterOrNext}
 use Rattle.registry_commands.specs.declared.lines.BadLine.{BadLine}
 use Rattle.registry_commands.specs.declared.messages.Failure.{Failure}
 use Rattle.registry_commands.specs.declared.messages.Failure.TheVariants.{Foreign, Poisoned, Taken}
@@ -19,7 +19,7 @@ use Rattle.registry_commands.specs.Messages.{bad_line_text, exceeds_text, reply_
 
 -- the reply lines of the requests after the first a, up to the n-th
 abbrev pub lines_between : History → List Request → ℕ → ℕ → List ℕ
-lines_between h rs a n = reply_lines (drop a (answers h (take n rs)))
+lines_between h rs a n = reply_lines (drop a (replies_to h (take n rs)))
 
 module _ {S : Type 0} {g : Ghosts S} where
   -- The failures of a run over this registry: Poisoned only if it was poisoned before, Foreign and Taken only if it
@@ -31,9 +31,9 @@ module _ {S : Type 0} {g : Ghosts S} where
   IsOfRun it new These _ = ⊤
 
   -- All requests after the first a are answered: their reply lines are written, and the registry represents the history
-  -- after all.
+  -- after all requests.
   pub record IsThrough (it : Registry S g) (h : History) (rs : List Request) (a : ℕ) (old new : Option (List ℕ)) : Type 0 where
-    pub gained : Appends old new (reply_lines (drop a (answers h rs)))
+    pub gained : Appends old new (reply_lines (drop a (replies_to h rs)))
     pub represents : Represents it (after h rs)
 
   -- The run stopped with n requests answered, whose reply lines are written. Of the next line either nothing is written, or
@@ -44,7 +44,7 @@ module _ {S : Type 0} {g : Ghosts S} where
     pub within : n ≤ length rs
     pub gained : (middle : Option (List ℕ)) × Appends old middle (lines_between h rs a n) × AppendsPrefix middle new (lines_between h rs n (n + 1))
         × (Keeps middle new ⊎ Represents it (after h (take (n + 1) rs)))
-    pub leaves : Leaves newest (state_of it) (IsPlace h rs n)
+    pub leaves : Leaves newest (state_of it) (IsAfterOrNext h rs n)
     pub ends : (is_poisoned it ≡ true) ⊎ HasAnswered it h rs n
 
   -- Nothing was acted on and no reply was written. The error output says why, or that the input failed or memory ran out.
@@ -68,8 +68,8 @@ module _ {S : Type 0} {g : Ghosts S} where
     pub told : status ≡ 1 → IsUnread OfInput it new out out_new errors
         ⊎ PrintsFailure (λ failure. IsOfRun it new (λ h. HasAnswered it h rs a) failure × OfOutput failure) errors
 
-  -- How a command on request lines ends, by the requests that were read, of which the first a were answered before, or by
-  -- the first line that is not a request.
+  -- How a command on request lines ends. Ok: these requests were read, and the first a of them were answered before. Err: this
+  -- is the first line that is not a request.
   abbrev pub IsApplied : (Failure → Type 0) → (Failure → Type 0) → Registry S g → Registry S g → Result (List Request) BadLine → ℕ → Option (List ℕ) → Option (List ℕ) → ErrorOutput → ℕ → Type 0
   IsApplied OfInput OfOutput it new (Err bad) a out out_new errors status = IsRejected OfInput it new out out_new errors (bad_line_text bad) status
   IsApplied OfInput OfOutput it new (Ok rs) a out out_new errors status =

@@ -22,7 +22,7 @@ error_output contents failures errors errors_new = record {
   failures_new = failures errors_new;
 }
 
--- the text was written: all of it, or a prefix and the error output failed
+-- the text was written: all of it, or a prefix if the error output failed
 abbrev pub Prints : ErrorOutput → List ℕ → Type 0
 Prints errors text = AppendsPrefix errors.old errors.new text × (HasFailed errors.failures errors.failures_new ⊎ Appends errors.old errors.new text)
 
@@ -30,7 +30,7 @@ Prints errors text = AppendsPrefix errors.old errors.new text × (HasFailed erro
 abbrev pub PrintsNothing : ErrorOutput → Type 0
 PrintsNothing errors = Keeps errors.old errors.new × (errors.failures_new ≡ errors.failures)
 
--- the message of one of these failures was written: all of it, or a prefix and the error output failed
+-- the message of one of these failures was written: all of it, or a prefix if the error output failed
 abbrev pub PrintsFailure : (Failure → Type 0) → ErrorOutput → Type 0
 PrintsFailure May errors = (failure : Failure) × May failure × Prints errors (failure_line failure)
 

@@ -21,7 +21,7 @@ module _ {S : Type 0} (g : Ghosts S) where
     pub none_before : HasNoMeta (state g old).now
     pub rows : HasCleanDisk (state g new) → IsAt newest (state g new) (founded founding)
 
-  -- The failures of a founding: Taken only where the database had a table meta, and then nothing is changed; never Foreign,
+  -- The failures of a founding: Taken only if the database had a table meta, and then nothing is changed; never Foreign,
   -- Poisoned or File.
   abbrev pub IsOfFounding : Held S → Held S → Failure → Type 0
   IsOfFounding old new Store = ⊤
@@ -29,16 +29,16 @@ module _ {S : Type 0} (g : Ghosts S) where
   IsOfFounding old new Taken = (new ≡ old) × ¬ HasNoMeta (state g old).now
   IsOfFounding old new _ = ⊥
 
-  -- A founding was tried. Whether it failed or not, a crash leaves what it could leave before or, if the store held no
+  -- A founding was attempted. Whether it failed or not, a crash leaves what it could leave before or, if the store held no
   -- registry, the whole new one.
   pub record IsTriedOn (old new : Held S) (founding : Founding) (errors : ErrorOutput) (status : ℕ) : Type 0 where
     pub survives : Survives (state g old) (state g new) (λ db. HasNoMeta (state g old).now × Rows newest db (founded founding))
     pub ends : ((status ≡ 0) × IsFounded old new founding × PrintsNothing errors) ⊎ ((status ≡ 1) × PrintsFailure (IsOfFounding old new) errors)
 
   -- what a founding file does to the connection, by what it lists, or by its first fault
-  abbrev pub IsFoundBy : (Failure → Type 0) → Held S → Held S → Result Listed WireRefusal → ErrorOutput → ℕ → Type 0
-  IsFoundBy OfInput old new (Err refusal) errors status =
+  abbrev pub IsFoundedBy : (Failure → Type 0) → Held S → Held S → Result Listed WireRefusal → ErrorOutput → ℕ → Type 0
+  IsFoundedBy OfInput old new (Err refusal) errors status =
       (new ≡ old) × (((status ≡ 2) × Prints errors (refusal_line refusal)) ⊎ ((status ≡ 1) × PrintsFailure OfInput errors))
-  IsFoundBy OfInput old new (Ok listed) errors status =
+  IsFoundedBy OfInput old new (Ok listed) errors status =
       ((new ≡ old) × (status ≡ 1) × PrintsFailure OfInput errors)
       ⊎ ((founding : Founding) × Founds listed founding × IsTriedOn old new founding errors status)

@@ -13,11 +13,11 @@ use Rattle.registry_rules.specs.declared.order.Request.{Request}
 use Rattle.registry_rules.specs.declared.verdict.Reply.{Reply}
 use Rattle.registry_rules.specs.declared.verdict.Reply.TheVariants.{Done, Refused}
 use Rattle.registry_rules.specs.History.{History}
-use Rattle.registry_rules.specs.Run.{after_one, answer_one}
+use Rattle.registry_rules.specs.Run.{after_one, reply_to}
 use Rattle.registry_tables.specs.Rows.{newest}
 use Rattle.registry_store.specs.declared.registry.Registry.{Registry}
 use Rattle.registry_store.specs.Promise.{Endures, Leaves, Represents, is_poisoned, state_of}
-use Rattle.registry_store.specs.RunTo.{MayBeActedOn}
+use Rattle.registry_store.specs.RunTo.{MayHaveBeenActedOn}
 use Rattle.registry_wire.specs.Import.{import_of}
 use Rattle.registry_commands.specs.declared.importing.Import.{Import}
 use Rattle.registry_commands.specs.declared.messages.Failure.{Failure}
@@ -70,7 +70,7 @@ IsReplied May reply out out_new errors status =
 
 -- the request of an import, with this founding vendor and this list
 abbrev pub request_of : Import → ℕ → List TopEntry → Request
-request_of import founding doc = import_of import.caller import.key import.org founding import.vendor doc
+request_of import founding_vendor doc = import_of import.caller import.key import.org founding_vendor import.vendor doc
 
 module _ {S : Type 0} {g : Ghosts S} where
   -- The request was acted on: its reply's line is written, and the registry represents the history after it.
@@ -79,20 +79,20 @@ module _ {S : Type 0} {g : Ghosts S} where
     pub status_is : status ≡ status_of reply
     pub gained : Appends out out_new (reply_line reply)
     pub quiet : PrintsNothing errors
-    pub answered : (h : History) → MayBeActedOn it h r → HasCleanDisk (state_of new) → (reply ≡ answer_one h r) × Represents new (after_one h r)
+    pub answered : (h : History) → MayHaveBeenActedOn it h r → HasCleanDisk (state_of new) → (reply ≡ reply_to h r) × Represents new (after_one h r)
 
   -- A prefix of the reply's line is written. A crash leaves the history before the request or after it, and the registry is
   -- poisoned or represents the history after it.
   pub record IsCut (new : Registry S g) (h : History) (r : Request) (out out_new : Option (List ℕ)) : Type 0 where
-    pub gained : AppendsPrefix out out_new (reply_line (answer_one h r))
+    pub gained : AppendsPrefix out out_new (reply_line (reply_to h r))
     pub leaves : Leaves newest (state_of new) (λ x. (x ≡ h) ⊎ (x ≡ after_one h r))
     pub ends : (is_poisoned new ≡ true) ⊎ Represents new (after_one h r)
 
   -- The request failed, or the output did.
   pub record IsFailed (OfOutput : Failure → Type 0) (it new : Registry S g) (r : Request) (out out_new : Option (List ℕ)) (errors : ErrorOutput) (status : ℕ) : Type 0 where
     pub status_is : status ≡ 1
-    pub cut : (h : History) → MayBeActedOn it h r → HasCleanDisk (state_of new) → IsCut new h r out out_new
-    pub told : PrintsFailure (λ failure. IsOfRun it new (λ h. MayBeActedOn it h r) failure × OfOutput failure) errors
+    pub cut : (h : History) → MayHaveBeenActedOn it h r → HasCleanDisk (state_of new) → IsCut new h r out out_new
+    pub told : PrintsFailure (λ failure. IsOfRun it new (λ h. MayHaveBeenActedOn it h r) failure × OfOutput failure) errors
 
   -- one request was acted on, or stopped by a failure
   pub record IsActedOn (OfOutput : Failure → Type 0) (it new : Registry S g) (r : Request) (out out_new : Option (List ℕ)) (errors : ErrorOutput) (status : ℕ) : Type 0 where

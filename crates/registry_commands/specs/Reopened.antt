@@ -28,8 +28,8 @@ module _ {S : Type 0} {g : Ghosts S} where
         × (Keeps middle out_new ⊎ ∥ Represents it (after h (take (n + 1) rs)) ∥₁)
     pub answered : ∥ HasAnswered it h rs n ∥₁
 
-  -- the registry that is opened after the first one acted on the requests that were read, of which the first a were answered
-  -- before; or that is opened after a line that is not a request
+  -- The registry that is opened after the first one. Ok: these requests were read, and the first a of them were answered
+  -- before. Err: this was the first line that is not a request.
   abbrev pub IsReopened : Registry S g → Result (List Request) BadLine → ℕ → Option (List ℕ) → Option (List ℕ) → ℕ → Registry S g → Type 0
   IsReopened first (Err bad) a out out_new status it = IsReopenedAsBefore first it out out_new
   IsReopened first (Ok rs) a out out_new status it =

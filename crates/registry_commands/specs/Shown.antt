@@ -1,4 +1,4 @@
--- What a command shows of a registry without a change to it.
+-- What a command shows of a registry without changing it.
 use Rattle.std.specs.Prelude.{◌≡◌, ◌⊎◌, ℕ, List, Option}
 use Rattle.sqlite.specs.Store.{Ghosts}
 use Rattle.sqlite.specs.State.{HasCleanDisk, Survives}
@@ -16,7 +16,7 @@ use Rattle.registry_commands.specs.Failures.{ErrorOutput}
 use Rattle.registry_commands.specs.Printed.{IsPrinted, IsUnprinted}
 
 module _ {S : Type 0} {g : Ghosts S} where
-  -- the registry represents what it did, and nothing was committed
+  -- the registry still represents each history that it represented, and nothing was committed
   pub record IsLeft (it new : Registry S g) : Type 0 where
     pub stays : (h : History) → Represents it h → Represents new h
     pub poisons_nothing : is_poisoned new ≡ is_poisoned it

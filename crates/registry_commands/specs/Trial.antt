@@ -3,11 +3,11 @@ use Rattle.std.specs.Prelude.{◌≡◌, ◌⊎◌, ℕ, ◌&&◌, ◌+◌, ◌�
 use Rattle.std.specs.Io.KnownBytes.{Appends, Keeps}
 use Rattle.usbnum_core.specs.Spans.{spans_have}
 use Rattle.byte_streams.specs.Streams.{AppendsPrefix}
-use Rattle.registry_rules.specs.Texts.{AreInOrder}
+use Rattle.registry_rules.specs.Texts.{AreSorted}
 use Rattle.registry_rules.specs.declared.founding.Founding.{Founding}
 use Rattle.registry_rules.specs.declared.order.Request.{Request}
 use Rattle.registry_rules.specs.History.{founded}
-use Rattle.registry_rules.specs.Run.{answers}
+use Rattle.registry_rules.specs.Run.{replies_to}
 use Rattle.registry_commands.specs.declared.lines.BadLine.{BadLine}
 use Rattle.registry_commands.specs.declared.messages.Failure.{Failure}
 use Rattle.registry_commands.specs.declared.messages.Failure.TheVariants.{Store}
@@ -19,15 +19,15 @@ use Rattle.registry_commands.specs.Apply.{lines_between}
 pub record IsTrial (founding : Founding) : Type 0 where
   pub vendor : founding.vendor ≡ 4617
   pub name : founding.name ≡ codes "Shared products"
-  pub curators : AreInOrder (codes "cora" ∷ []) founding.curators
-  pub licences : AreInOrder (codes "MIT" ∷ codes "GPL-3.0-only" ∷ []) founding.licences
+  pub curators : AreSorted (codes "cora" ∷ []) founding.curators
+  pub licences : AreSorted (codes "MIT" ∷ codes "GPL-3.0-only" ∷ []) founding.licences
   pub fixed : (n : ℕ) → spans_have founding.fixed n ≡ (nat_le 1 n && nat_le n 16)
 
 -- all requests were acted on after such a founding, and all reply lines are written
 pub record IsTried (rs : List Request) (out out_new : Option (List ℕ)) : Type 0 where
   pub founding : Founding
   pub trial : IsTrial founding
-  pub gained : Appends out out_new (reply_lines (answers (founded founding) rs))
+  pub gained : Appends out out_new (reply_lines (replies_to (founded founding) rs))
 
 -- a failure before any line was acted on: of the store, at the founding, or of the input
 abbrev pub IsOfStart : (Failure → Type 0) → Failure → Type 0

@@ -138,8 +138,8 @@ fn apply_bytes<S: Alter, W: Sink, E: Sink>(
 /// answered before. Reads all lines before it acts on the first request, and writes each reply line
 /// before it acts on the next request.
 ///
-/// The status is 0 where all requests were acted on, refused ones too, and all reply lines are
-/// written. It is 2 where a line is not a request, or `answered` exceeds the number of requests:
+/// The status is 0 if all requests were acted on, refused ones too, and all reply lines are
+/// written. It is 2 if a line is not a request, or `answered` exceeds the number of requests:
 /// then nothing is acted on, and the error output says why. It is 1 after a failure of the source,
 /// the registry, the output, or memory, which the error output names. An input of more than
 /// 4,294,967,295 bytes is such a failure, and nothing is acted on. A failure of the error output

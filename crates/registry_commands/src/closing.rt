@@ -17,7 +17,7 @@ use sqlite::{Connection, FileStore, Files};
 use sqlite_disk::Disk;
 
 /// Ends the use of a store, and returns the exit status and the files. At status 0 it closes the
-/// store, which copies the log into the database file; where that fails it prints the failure, and
+/// store, which copies the log into the database file; if that fails it prints the failure, and
 /// the status is 1. At status 1 or 2 it writes nothing to the store, and the log stays beside its
 /// file.
 ///

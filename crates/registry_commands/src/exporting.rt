@@ -53,7 +53,7 @@ fn list_under<S: Alter>(
 
 /// Returns the list of the registry's held numbers. Changes nothing.
 ///
-/// Fails where the registry fails or memory runs out.
+/// Fails if the registry fails or memory runs out.
 pub fn document_of<S: Alter>(alloc: Global, registry: &mut Registry<S>) -> Result<Document, Failure>
     ensures answered { (h : History) → Represents registry.old h → HasCleanDisk (state_of registry.new) → IfOk result (λ doc. IsListing h doc) }
     ensures failure { IfErr result (IsOfReading registry.old registry.new) }
@@ -85,7 +85,7 @@ fn put_document<W: Sink, E: Sink>(
 /// Writes the list of the held numbers, under their vendors, with the titles of their cards, and
 /// with a stamp if one is given. Changes nothing.
 ///
-/// The status is 0 where the whole list is written. It is 1 after a failure, which the error output
+/// The status is 0 if the whole list is written. It is 1 after a failure, which the error output
 /// names. After a failure of the registry or of memory nothing is written; after a failure of the
 /// output a prefix of the list is.
 pub fn export<S: Alter, W: Sink, E: Sink>(

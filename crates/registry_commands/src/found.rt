@@ -5,7 +5,7 @@ ghost use Rattle.byte_streams.specs.Streams.{MayGive};
 ghost use Rattle.registry_wire.specs.Founding.{founding_listed};
 ghost use Rattle.registry_commands.specs.Failures.{IsOfInput, IsOfMemory, IsTooLong, Prints, PrintsFailure, error_output};
 ghost use Rattle.registry_commands.specs.Messages.{refusal_line};
-ghost use Rattle.registry_commands.specs.Found.{IsFoundBy, IsTriedOn};
+ghost use Rattle.registry_commands.specs.Found.{IsFoundedBy, IsTriedOn};
 
 use crate::input::read_all;
 use crate::messages::{Failure, fail, failure_of, input_failure, refusal_line, tell};
@@ -50,7 +50,7 @@ fn found_by<S: Alter, E: Sink>(
     bytes: &[u8],
     errors: &mut E,
 ) -> (u8, Connection<S>)
-    ensures { IsFoundBy S.Store IsOfMemory conn result.1 (founding_listed bytes.now) (error_output E.contents E.failures errors.old errors.new) result.0 }
+    ensures { IsFoundedBy S.Store IsOfMemory conn result.1 (founding_listed bytes.now) (error_output E.contents E.failures errors.old errors.new) result.0 }
 {
     match founding_from_toml(alloc, bytes) {
         Ok(Ok(founding)) => found_with(alloc, conn, &founding, errors),
@@ -62,7 +62,7 @@ fn found_by<S: Alter, E: Sink>(
 /// Founds a registry on a connection, by the founding file that a source gives, and returns the
 /// exit status and the connection.
 ///
-/// The status is 0 where the registry is founded. It is 2 where the input is not a founding file:
+/// The status is 0 if the registry is founded. It is 2 if the input is not a founding file:
 /// then nothing is changed, and the error output says why. It is 1 after a failure, which the error
 /// output names. A store that already holds a registry is such a failure (a registry is never
 /// replaced), and so is an input of more than 4,294,967,295 bytes: both change nothing.
@@ -73,7 +73,7 @@ pub fn found_registry<R: Source, S: Alter, E: Sink>(
     errors: &mut E,
 ) -> (u8, Connection<S>)
     ensures { (bytes : List ℕ) × MayGive (R.remaining source.old) bytes
-        × IsFoundBy S.Store (IsOfInput (R.failures source.old) (R.failures source.new) bytes)
+        × IsFoundedBy S.Store (IsOfInput (R.failures source.old) (R.failures source.new) bytes)
         conn result.1 (founding_listed bytes) (error_output E.contents E.failures errors.old errors.new) result.0
         × (IsTooLong bytes → (result.0 ≡ 1) × (result.1 ≡ conn) × PrintsFailure (IsOfInput (R.failures source.old) (R.failures source.new) bytes) (error_output E.contents E.failures errors.old errors.new)) }
 {

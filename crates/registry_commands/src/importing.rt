@@ -150,8 +150,8 @@ fn import_read<S: Alter, W: Sink, E: Sink>(
 /// Reads a list in pieces, and imports the numbers of one vendor for an organisation: of the named
 /// vendor, else of the founding vendor. Acts on one request, and writes its reply as a line.
 ///
-/// The status is 0 where the import is done now, or was done under this key before. It is 2 where
-/// the request is refused, which its reply says, and where the input is not a list: then nothing is
+/// The status is 0 if the import is done now, or was done under this key before. It is 2 if
+/// the request is refused, which its reply says, and if the input is not a list: then nothing is
 /// acted on, and the error output says why. It is 1 after a failure of the source, the registry,
 /// the output, or memory, which the error output names. An input of more than 4,294,967,295 bytes
 /// is such a failure, and nothing is acted on. After a failure of the registry a crash leaves the

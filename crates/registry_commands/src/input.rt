@@ -55,8 +55,8 @@ fn take_more<R: Source>(source: &mut R, bytes: &mut Vec<u8>) -> Result<usize, In
     }
 }
 
-/// Reads all bytes of the source, at most 4,294,967,295. Returns `File` only where the source
-/// failed during this call or gives more bytes, and `NoMemory` only where it did not fail.
+/// Reads all bytes of the source, at most 4,294,967,295. Returns `File` only if the source
+/// failed during this call or gives more bytes, and `NoMemory` only if it did not fail.
 pub fn read_all<R: Source>(alloc: Global, source: &mut R) -> Result<Vec<u8>, InputFault>
     ensures ok { IfOk result (λ v. MayGive (R.remaining source.old) v.items × (length v.items ≤ 4294967295)) }
     ensures kept { OnOk result (R.failures source.new ≡ R.failures source.old) }

@@ -9,7 +9,7 @@ use std::alloc::Global;
 use usbids_text::{Document, ReadFault, Reader, feed_all};
 
 /// Reads a list of at most 4,294,967,295 bytes in pieces, and returns its document, or the fault in
-/// it. Returns `Broken` only where the source failed or gives more bytes.
+/// it. Returns `Broken` only if the source failed or gives more bytes.
 pub(crate) fn read_list<R: Source>(
     alloc: Global,
     source: &mut R,

@@ -81,7 +81,7 @@ fn put_answer<W: Sink, E: Sink>(
 /// Writes the name of the first device with this code, in the order of the list, under a vendor
 /// with this number, as a line. Reads the list once, in pieces, and builds no document.
 ///
-/// The status is 0 where the name is written. It is 2 where the list has no such device, or the
+/// The status is 0 if the name is written. It is 2 if the list has no such device, or the
 /// input is not a list: the error output says which. It is 1 after a failure of the source, the
 /// output, or memory, which the error output names. An input of more than 4,294,967,295 bytes is
 /// such a failure.

@@ -88,7 +88,7 @@ impl From<NoMemory> for Failure {
     }
 }
 
-/// Returns the failure for an error of the store: `Memory` where it is out of memory, else `Store`.
+/// Returns the failure for an error of the store: `Memory` if it is out of memory, else `Store`.
 pub fn store_failure(error: Error) -> Failure
     ensures { ((result ≡ Failure.Memory) × (error ≡ Error.SqliteFailure ErrorCode.OutOfMemory))
         ⊎ ((result ≡ Failure.Store) × (error ≢ Error.SqliteFailure ErrorCode.OutOfMemory)) }
@@ -139,7 +139,7 @@ pub(crate) fn bad_line_text(alloc: Global, bad: BadLine) -> Result<String, NoMem
     Ok(format!(in alloc; "line {number}: {line}")?)
 }
 
-/// Writes a text to the error output: all of it, or a prefix where the error output fails.
+/// Writes a text to the error output: all of it, or a prefix if the error output fails.
 pub(crate) fn tell<E: Sink>(errors: &mut E, text: &str)
     ensures told { Prints (error_output E.contents E.failures errors.old errors.new) text.now }
 {
@@ -150,7 +150,7 @@ pub(crate) fn tell<E: Sink>(errors: &mut E, text: &str)
 }
 
 /// Prints why the command fails, and returns the exit status. The error output gets the whole line,
-/// or a prefix of it where it fails.
+/// or a prefix of it if it fails.
 pub fn fail<E: Sink>(errors: &mut E, failure: Failure) -> u8
     ensures status { result ≡ 1 }
     ensures told { Prints (error_output E.contents E.failures errors.old errors.new) (failure_line failure) }
@@ -161,7 +161,7 @@ pub fn fail<E: Sink>(errors: &mut E, failure: Failure) -> u8
 
 /// Writes a reply as a line.
 ///
-/// Returns `File` where the output failed, else `Memory`. Either way a prefix of the line, perhaps
+/// Returns `File` if the output failed, else `Memory`. Either way a prefix of the line, perhaps
 /// an empty one, was written.
 pub(crate) fn put_reply<W: Sink>(
     alloc: Global,

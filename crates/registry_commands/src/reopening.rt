@@ -17,7 +17,7 @@ use std::alloc::Global;
 /// and opens its files again.
 ///
 /// Whatever the status, the opened registry has acted on a prefix of the requests: on every request
-/// whose reply line is written, and on at most one more. Returns no registry where closing or
+/// whose reply line is written, and on at most one more. Returns no registry if closing or
 /// opening fails.
 pub fn apply_and_open<R: Source, D: Disk + Drop, W: Sink, E: Sink>(
     alloc: Global,

@@ -202,7 +202,7 @@ fn open_ones_of<S: Alter>(alloc: Global, registry: &mut Registry<S>) -> Result<S
 
 /// Returns the text of a report on the registry. Changes nothing.
 ///
-/// Fails where the registry fails or memory runs out.
+/// Fails if the registry fails or memory runs out.
 pub fn report_of<S: Alter>(
     alloc: Global,
     registry: &mut Registry<S>,
@@ -221,7 +221,7 @@ pub fn report_of<S: Alter>(
 
 /// Writes a report on the registry. Changes nothing.
 ///
-/// The status is 0 where the whole report is written. It is 1 after a failure, which the error
+/// The status is 0 if the whole report is written. It is 1 after a failure, which the error
 /// output names. After a failure of the registry or of memory nothing is written; after a failure
 /// of the output a prefix of the report is.
 pub fn report<S: Alter, W: Sink, E: Sink>(

@@ -4,7 +4,7 @@ ghost use Rattle.std.specs.Prelude.{◌≡◌, ◌⊎◌, ◌&&◌, ◌∷◌, [
 ghost use Rattle.std.specs.Io.KnownBytes.{Keeps};
 ghost use Rattle.byte_streams.specs.Streams.{MayGive};
 ghost use Rattle.usbnum_core.specs.Spans.{spans_have};
-ghost use Rattle.registry_rules.specs.Texts.{AreInOrder};
+ghost use Rattle.registry_rules.specs.Texts.{AreSorted};
 ghost use Rattle.registry_rules.specs.declared.founding.Founding.{Founding};
 ghost use Rattle.registry_rules.specs.History.{founded};
 ghost use Rattle.registry_store.specs.Promise.{Represents};
@@ -32,7 +32,7 @@ fn text<R: TextRule>(alloc: Global, text: &str) -> Result<Text<R>, NoMemory>
 }
 
 fn curators(alloc: Global) -> Result<Curators, NoMemory>
-    ensures { IfOk result (AreInOrder (codes "cora" ∷ [])) }
+    ensures { IfOk result (AreSorted (codes "cora" ∷ [])) }
 {
     let slugs = vec![in alloc; text(alloc, "cora")?]?;
     match Curators::new(slugs) {
@@ -42,7 +42,7 @@ fn curators(alloc: Global) -> Result<Curators, NoMemory>
 }
 
 fn licences(alloc: Global) -> Result<Licences, NoMemory>
-    ensures { IfOk result (AreInOrder (codes "MIT" ∷ codes "GPL-3.0-only" ∷ [])) }
+    ensures { IfOk result (AreSorted (codes "MIT" ∷ codes "GPL-3.0-only" ∷ [])) }
 {
     let titles = vec![in alloc; text(alloc, "MIT")?, text(alloc, "GPL-3.0-only")?]?;
     match Licences::new(titles) {

@@ -13,7 +13,7 @@ use Rattle.usbnum_core.specs.declared.number.Number.{Number}
 use Rattle.usbnum_core.specs.declared.number.Span.{Span}
 use Rattle.registry_rules.specs.History.{History}
 use Rattle.registry_rules.specs.Number.{number}
-use Rattle.registry_rules.specs.Texts.{AreInOrder}
+use Rattle.registry_rules.specs.Texts.{AreSorted}
 use Rattle.registry_rules.specs.declared.record.Entry.{Entry}
 use Rattle.registry_rules.specs.declared.record.Petition.{Petition}
 use Rattle.registry_rules.specs.declared.record.Vendor.{Vendor}
@@ -84,7 +84,7 @@ one_census_text h a b is_a is_b =
     let same = is_a.reserved.same ∙ (ap (λ (l : List Vendor). map (λ vendor. vendor.vid) l) vendors ∙ sym is_b.reserved.same) in
     is_a.lines ∙ (ap (λ (l : List (Number × Entry)). census_lines l is_a.pairs) numbers ∙ (one_census h is_b.numbers is_a.pairs is_b.pairs same is_a.reserved.each is_b.reserved.each ∙ sym is_b.lines))
 
-one_order_of : (given a b : List (List ℕ)) → AreInOrder given a → AreInOrder given b → a ≡ b
+one_order_of : (given a b : List (List ℕ)) → AreSorted given a → AreSorted given b → a ≡ b
 one_order_of given a b is_a is_b = one_order (slice_cmp nat_cmp) nat_list_cmp_total bytes_eq is_eq-slice_cmp same_bytes a b is_a.ascending is_b.ascending (λ text. is_a.same text ∙ sym (is_b.same text))
 
 one_holders : (numbers : List (Number × Entry)) (a b : List ℕ) → IsHolders numbers a → IsHolders numbers b → a ≡ b

@@ -6,7 +6,7 @@ use Rattle.std.specs.List.Sorted.{IsStrictlySortedBy}
 use Rattle.std.specs.Cmp.{IsTotalOrder}
 use Rattle.sqlite_keyed.proofs.ListLemmas.{all_weaker}
 use Rattle.usbnum_core.specs.declared.number.Number.{Number}
-use Rattle.registry_rules.specs.Number.{is_number}
+use Rattle.registry_rules.specs.Number.{number_eq}
 use Rattle.registry_rules.specs.History.{History}
 use Rattle.registry_rules.specs.declared.record.Entry.{Entry}
 use Rattle.registry_rows.specs.Rows.{by_number}
@@ -75,21 +75,21 @@ module _ {X K : Type 0} (key : X → K) (cmp : X → X → Ordering) (total : Is
 even : (n : ℕ) → nat_cmp n n ≡ Equal
 even n = grind arith
 
-number_told : (a b : Number × Entry) → is_eq (by_number a b) ≡ is_number a.0 b.0
-number_told a b = go (is_eq (by_number a b)) (is_number a.0 b.0) refl refl
+number_told : (a b : Number × Entry) → is_eq (by_number a b) ≡ number_eq a.0 b.0
+number_told a b = go (is_eq (by_number a b)) (number_eq a.0 b.0) refl refl
   where
-    go : (e i : Bool) → is_eq (by_number a b) ≡ e → is_number a.0 b.0 ≡ i → e ≡ i
+    go : (e i : Bool) → is_eq (by_number a b) ≡ e → number_eq a.0 b.0 ≡ i → e ≡ i
     go true true is at = refl
     go false false is at = refl
     go true false is at =
         let both = both_equal (nat_cmp a.0.vid b.0.vid) (nat_cmp a.0.pid b.0.pid) is in
         let v = level a.0.vid b.0.vid both.0 in
         let p = level a.0.pid b.0.pid both.1 in
-        absurd (let here : is_number a.0 b.0 ≡ true = rw (v, p) (number_same b.0) in cc)
+        absurd (let here : number_eq a.0 b.0 ≡ true = rw (v, p) (number_same b.0) in cc)
     go false true is at =
         let one : a.0 ≡ b.0 = same_number a.0 b.0 at in
         absurd (let here : is_eq (by_number a b) ≡ true = rw one (rw (even b.0.vid, even b.0.pid) refl) in cc)
 
 pub one_number_list : (h : History) (a b : List (Number × Entry)) → IsNumberList h a → IsNumberList h b → a ≡ b
 one_number_list h a b is_a is_b =
-    one_list (λ (pair : Number × Entry). pair.0) by_number number_total is_number number_told same_number a b is_a.ascend is_b.ascend (λ n. is_a.each n ∙ sym (is_b.each n))
+    one_list (λ (pair : Number × Entry). pair.0) by_number number_total number_eq number_told same_number a b is_a.ascend is_b.ascend (λ n. is_a.each n ∙ sym (is_b.each n))

@@ -7,7 +7,7 @@ use Rattle.registry_rules.specs.History.{History}
 use Rattle.registry_rules.specs.Number.{number}
 use Rattle.registry_rules.specs.Query.{is_reserved, has_vendor, org_of, petition_of}
 use Rattle.registry_rules.specs.Records.{entry_of}
-use Rattle.registry_rules.specs.Run.{after_one, answer_one}
+use Rattle.registry_rules.specs.Run.{after_one, reply_to}
 use Rattle.registry_rules.specs.declared.refusal.Refusal.TheVariants.{NoVendor}
 use Rattle.registry_rules.specs.declared.verdict.Reply.TheVariants.{Refused}
 use Rattle.registry_reports.specs.History.{IsListing}
@@ -62,7 +62,7 @@ IsQueryResponse h (queries.Report report) response = IsReportResponse h report r
 abbrev pub IsResponse : History → Result Message HttpRefusal → Response → Type 0
 IsResponse h (Err refusal) response = response ≡ refusal_response refusal
 IsResponse h (Ok (messages.Query query)) response = IsQueryResponse h query response
-IsResponse h (Ok (messages.Request request)) response = response ≡ reply_response (answer_one h request)
+IsResponse h (Ok (messages.Request request)) response = response ≡ reply_response (reply_to h request)
 
 -- the history after a message
 abbrev pub after_message : History → Result Message HttpRefusal → History

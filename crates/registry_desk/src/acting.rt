@@ -1,9 +1,9 @@
-//! Answers a query from a registry, or acts on an order.
+//! Returns the response to a query, or acts on an order.
 
 ghost use Rattle.std.specs.Prelude.{◌≡◌, ◌≢◌, true, Err, IfOk, IfErr, OnOk, OnErr, IsOk};
 ghost use Rattle.sqlite.specs.State.{HasCleanDisk};
 ghost use Rattle.registry_rules.specs.History.{History};
-ghost use Rattle.registry_rules.specs.Run.{after_one, answer_one};
+ghost use Rattle.registry_rules.specs.Run.{after_one, reply_to};
 ghost use Rattle.registry_store.specs.Promise.{Represents, Endures, is_poisoned, state_of};
 ghost use Rattle.registry_store.specs.declared.fault.Fault.TheVariants as faults;
 ghost use Rattle.registry_desk.specs.declared.fault.DeskFault.TheVariants as desk_faults;
@@ -25,7 +25,7 @@ fn act_on<S: Alter>(
     request: &Request,
 ) -> Result<Response, DeskFault>
     ensures answered { (h : History) → Represents registry.old h → HasCleanDisk (state_of registry.new)
-        → IfOk result (λ response. (response ≡ reply_response (answer_one h request.now)) × Represents registry.new (after_one h request.now)) }
+        → IfOk result (λ response. (response ≡ reply_response (reply_to h request.now)) × Represents registry.new (after_one h request.now)) }
     ensures left { (h : History) → Represents registry.old h → HasCleanDisk (state_of registry.new)
         → IfErr result (λ fault. IsOfSoundRegistry fault × IsLeftAt fault registry.new h (after_one h request.now)) }
     ensures only_poisoned { result ≡ Err (desk_faults.Registry faults.Poisoned) → is_poisoned registry.old ≡ true }

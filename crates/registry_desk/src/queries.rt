@@ -1,4 +1,4 @@
-//! Answers queries from a registry, with one function for each kind.
+//! Returns the responses to queries, with one function for each kind.
 
 ghost use Rattle.std.specs.Prelude.{◌≡◌, true, None, Err, IfOk, IfErr};
 ghost use Rattle.sqlite.specs.State.{HasCleanDisk};

@@ -53,7 +53,7 @@ impl fmt::Display for PeerFault {
 
 impl Error for PeerFault {}
 
-/// The registry's fault behind a response, and the status where the response was written whole.
+/// The registry's fault behind a response, and the status if the response was written whole.
 #[derive(Clone, Copy, Debug, Drop, PartialEq, Eq)]
 pub(crate) struct Exchange {
     pub(crate) fault: Option<Fault>,
@@ -94,7 +94,7 @@ fn send<W: Sink>(alloc: Global, sink: &mut W, done: Result<Response, DeskFault>)
 
 /// Reads one message from the source, acts on it, and writes its response to the sink.
 ///
-/// Returns `Broken` only where the source failed in this call: then nothing is written and nothing
+/// Returns `Broken` only if the source failed in this call: then nothing is written and nothing
 /// was acted on.
 pub(crate) fn serve_message<R: Source, W: Sink, S: Alter>(
     alloc: Global,
@@ -121,7 +121,7 @@ pub(crate) fn serve_message<R: Source, W: Sink, S: Alter>(
     }
 }
 
-/// Returns what was sent, or `Write` where the sink failed.
+/// Returns what was sent, or `Write` if the sink failed.
 fn served_of(exchange: Exchange) -> Result<Served, PeerFault>
     ensures written { (old : Option (List ℕ)) (new : Option (List ℕ)) (failures : ℕ) (failures_new : ℕ) (text : List ℕ) → Writes old new failures failures_new exchange.sent text → Writes old new failures failures_new result text }
     ensures ok { (served : Served) → IsOfServed exchange served → IfOk result (λ it. it ≡ served) }
@@ -138,8 +138,8 @@ fn served_of(exchange: Exchange) -> Result<Served, PeerFault>
 
 /// Reads one message from the source, acts on it, and writes its response to the sink.
 ///
-/// Returns `Read` only where the source failed in this call: then nothing is written and nothing
-/// was acted on. Returns `Write` only where the sink failed: then a prefix of the response was
+/// Returns `Read` only if the source failed in this call: then nothing is written and nothing
+/// was acted on. Returns `Write` only if the sink failed: then a prefix of the response was
 /// written, and an order may have been acted on; sent again under its key it gets the same reply.
 ///
 /// A message needs at most 8,192 bytes of memory for its head, and an order in JSON at most 16,384

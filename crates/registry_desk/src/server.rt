@@ -45,7 +45,7 @@ pub trait Connections {
         ensures failed { IfErr result (λ _. fails self.old self.new) };
 
     /// Closes a connection whose message was served, with the status of its response, or `None`
-    /// where its peer failed.
+    /// if its peer failed.
     ///
     /// A message that was refused before its end leaves bytes unread.
     fn close(&mut self, reader: Self::Reader, writer: Self::Writer, status: Option<u16>)
@@ -75,7 +75,7 @@ impl fmt::Display for ServerStop {
 
 impl Error for ServerStop {}
 
-/// The result of serving one connection: the registry's fault, if any, and the status where a
+/// The result of serving one connection: the registry's fault, if any, and the status if a
 /// response was written whole.
 #[derive(Clone, Copy, Debug, Drop, PartialEq, Eq)]
 struct Outcome {
@@ -119,7 +119,7 @@ fn serve_between<R: Source, W: Sink, S: Alter>(
 
 /// Opens the next connection, serves its message, and closes it.
 ///
-/// Returns `ServerStop::Registry` where the registry had a fault, whether the response was written
+/// Returns `ServerStop::Registry` if the registry had a fault, whether the response was written
 /// or the peer was gone. A peer's fault, or a 503 because memory ran out outside the registry, is
 /// not an error.
 pub fn serve_next<C: Connections, S: Alter>(
@@ -151,7 +151,7 @@ pub fn serve_next<C: Connections, S: Alter>(
 ///
 /// Over a registry that represents a history, each message gets its response over the history
 /// before it, and the registry then represents the history after all messages, in order. A crash
-/// leaves the history after the messages of all connections, or, where the registry had a fault at
+/// leaves the history after the messages of all connections, or, if the registry had a fault at
 /// the last one, perhaps of all but that one. So it holds each message whose response was written
 /// whole.
 pub fn serve_all<C: Connections, S: Alter>(

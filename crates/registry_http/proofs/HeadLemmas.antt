@@ -1,36 +1,12 @@
 -- All bytes that the source gives, from the bytes read so far.
-use Rattle.std.proofs.Common.{◌≡◌, ℕ, ◌≤◌, List, [], ◌++◌, length, take, drop, Option, Some, None, refl, sym, ap, ◌∙◌, append_assoc, arith, length-append}
-use Rattle.std.specs.Io.KnownBytes.{Consumes, IsAtEnd}
-use Rattle.std.proofs.lemmas.List.{append-nil, take-append-le, take-append-drop, length-map, length-take}
+use Rattle.std.proofs.Common.{◌≡◌, ℕ, ◌≤◌, List, [], ◌++◌, length, take, drop, sym, ap, ◌∙◌, append_assoc, arith, length-append}
+use Rattle.std.proofs.lemmas.List.{take-append-le, take-append-drop, length-map, length-take}
 use Rattle.std.proofs.Math.Seq.{take-append_seam}
 use Rattle.httparse.specs.declared.spans.HeaderSpan.{HeaderSpan}
 use Rattle.httparse.specs.declared.spans.RequestSpans.{RequestSpans}
 use Rattle.httparse.specs.Grammar.{RequestHead, HasNoRequest, print_request}
 use Rattle.httparse.specs.Spans.{IsRequestAt, IsRequestWithin, RequestOverflows}
-use Rattle.byte_streams.specs.Streams.{MayGive}
 use Rattle.registry_http.specs.Heads.{HasHead, HasNoHead}
-
-pub consumes_none : (o : Option (List ℕ)) → Consumes o o []
-consumes_none None = tt
-consumes_none (Some xs) = refl
-
-pub consumes_then : (a b c : Option (List ℕ)) (x y : List ℕ) → Consumes a b x → Consumes b c y → Consumes a c (x ++ y)
-consumes_then None b c x y p q = tt
-consumes_then (Some xs) None c x y p q = absurd p
-consumes_then (Some xs) (Some ys) None x y p q = absurd q
-consumes_then (Some xs) (Some ys) (Some zs) x y p q = p ∙ ap (λ (t : List ℕ). x ++ t) q ∙ sym (append_assoc x y zs)
-
--- the bytes of a source begin with those that it gave
-pub all_of : (a b : Option (List ℕ)) (x : List ℕ) → Consumes a b x → (more : List ℕ) × MayGive a (x ++ more)
-all_of None b x p = ([], tt)
-all_of (Some xs) None x p = absurd p
-all_of (Some xs) (Some ys) x p = (ys, sym p)
-
--- at its end a source has given all of its bytes
-pub all_at_end : (a b : Option (List ℕ)) (x : List ℕ) → Consumes a b x → IsAtEnd b → MayGive a x
-all_at_end None b x p e = tt
-all_at_end (Some xs) None x p e = absurd p
-all_at_end (Some xs) (Some ys) x p e = sym (append-nil x) ∙ ap (λ (t : List ℕ). x ++ t) (sym e) ∙ sym p
 
 pub has_no_request_nil : HasNoRequest []
 unfolding print_request

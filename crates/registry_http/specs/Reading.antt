@@ -4,7 +4,7 @@ use Rattle.std.specs.List.{list_any}
 use Rattle.httparse.specs.Grammar.{RequestHead}
 use Rattle.httparse.specs.Spans.{name_and_value}
 use Rattle.registry_http.specs.Refusals.{◌>>=◌, present}
-use Rattle.registry_wire.specs.Fields.{header_name}
+use Rattle.registry_wire.specs.Names.{header_name}
 use Rattle.registry_wire.specs.Kinds.{slug_of, key_of}
 use Rattle.registry_http.specs.Fields.{is_named, values_of, only, length_of}
 use Rattle.registry_http.specs.Routes.{route_of}

@@ -23,30 +23,16 @@ status_of StoreFault = 503
 status_of NoMemory = 503
 status_of (BadFounding fault) = 422
 
--- the status of a refusal by the rules
+-- the status of a refusal by the rules: 409, except for these
 abbrev pub rule_status : Refusal → ℕ
-rule_status rules.KeyReused = 409
 rule_status rules.NotCurator = 403
 rule_status rules.NotKeeper = 403
 rule_status rules.NoOrg = 404
-rule_status rules.OrgTaken = 409
 rule_status rules.NoPetition = 404
-rule_status rules.PetitionClosed = 409
-rule_status rules.NumberReserved = 409
-rule_status (rules.NumberOwned owner) = 409
-rule_status rules.NumberHeld = 409
-rule_status rules.NumberNotHeld = 409
-rule_status rules.NoneFree = 409
-rule_status rules.LicenceUnknown = 422
-rule_status rules.TooManyOpen = 409
-rule_status (rules.RangeOwned name) = 409
-rule_status rules.RangeFixed = 409
-rule_status rules.RangeNotReserved = 409
-rule_status rules.Full = 409
-rule_status rules.ImportTooLong = 422
-rule_status rules.VendorTaken = 409
 rule_status rules.NoVendor = 404
-rule_status rules.LicenceTaken = 409
+rule_status rules.LicenceUnknown = 422
+rule_status rules.ImportTooLong = 422
+rule_status _ = 409
 
 abbrev pub reply_status : Reply → ℕ
 reply_status (Done text) = 200

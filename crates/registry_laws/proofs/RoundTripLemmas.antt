@@ -4,7 +4,7 @@ use Rattle.std.specs.Prelude.{is_some, if◌then◌else◌, All}
 use Rattle.std.specs.Option.{option_map, option_or}
 use Rattle.std.proofs.lemmas.Bool.{cases_Bool, eqb-true, eqb-false, ne_eqb}
 use Rattle.std.proofs.lemmas.List.Elements.{All-head, All-tail}
-use Rattle.usbnum_core.specs.Number.{IsNumber}
+use Rattle.usbnum_core.specs.Number.{IsId}
 use Rattle.usbnum_core.specs.Text.{IsTitle}
 use Rattle.usbnum_core.specs.declared.number.Number.{Number}
 use Rattle.usbids_text.specs.Entries.{MidEntry, TopEntry}
@@ -29,7 +29,7 @@ use Rattle.registry_laws.proofs.TakingLemmas.{takes}
 
 -- ---- the codes and names of a list of numbers are product IDs and titles
 
-device_titled : (vid pid : ℕ) (name : List ℕ) (pairs : List (Number × Entry)) → All IsEntry pairs → first_mid pid (devices_of vid pairs) ≡ Some name → IsNumber pid × IsTitle name
+device_titled : (vid pid : ℕ) (name : List ℕ) (pairs : List (Number × Entry)) → All IsEntry pairs → first_mid pid (devices_of vid pairs) ≡ Some name → IsId pid × IsTitle name
 device_titled vid pid name [] all e = absurd cc
 device_titled vid pid name (pair ∷ pairs) all e = elim (cases_Bool (is_listed vid pair)) [
   | inr l ↦
@@ -43,11 +43,11 @@ device_titled vid pid name (pair ∷ pairs) all e = elim (cases_Bool (is_listed 
         let here : first_mid pid (devices_of vid (pair ∷ pairs)) ≡ Some pair.1.card.title = rw (l, p) refl in
         let is = All-head IsEntry pair pairs all in
         let same : pair.1.card.title ≡ name = let both = sym here ∙ e in cc in
-        (subst IsNumber (eqb-true pair.0.pid pid p) is.pid, subst IsTitle same is.title)
+        (subst IsId (eqb-true pair.0.pid pid p) is.pid, subst IsTitle same is.title)
   ]
 ]
 
-titled_in : (vid pid : ℕ) (name other : List ℕ) (v : Vendor) (numbers : List (Number × Entry)) → All IsEntry numbers → find_in vid pid (top_of numbers v) ≡ Some other → other ≡ name → IsNumber pid × IsTitle name
+titled_in : (vid pid : ℕ) (name other : List ℕ) (v : Vendor) (numbers : List (Number × Entry)) → All IsEntry numbers → find_in vid pid (top_of numbers v) ≡ Some other → other ≡ name → IsId pid × IsTitle name
 titled_in vid pid name other v numbers all is same = elim (cases_Bool (nat_eq v.vid vid)) [
   | inr l ↦ let none : find_in vid pid (top_of numbers v) ≡ None = rw l refl in let clash = sym none ∙ is in absurd cc
   | inl l ↦
@@ -56,7 +56,7 @@ titled_in vid pid name other v numbers all is same = elim (cases_Bool (nat_eq v.
 ]
 
 first_or : (vid pid : ℕ) (name : List ℕ) (v : Vendor) (numbers : List (Number × Entry)) (found rest : Option (List ℕ)) → All IsEntry numbers → find_in vid pid (top_of numbers v) ≡ found →
-    (rest ≡ Some name → IsNumber pid × IsTitle name) → option_or found rest ≡ Some name → IsNumber pid × IsTitle name
+    (rest ≡ Some name → IsId pid × IsTitle name) → option_or found rest ≡ Some name → IsId pid × IsTitle name
 first_or vid pid name v numbers None rest all is later e = later e
 first_or vid pid name v numbers (Some other) rest all is later e = titled_in vid pid name other v numbers all is cc
 

@@ -5,7 +5,7 @@ use Rattle.std.specs.List.{list_all}
 use Rattle.std.proofs.lemmas.Bool.{cases_Bool}
 use Rattle.std.proofs.lemmas.List.Elements.{All-head, All-tail}
 use Rattle.std.proofs.lemmas.List.Folds.{list_all-append}
-use Rattle.usbnum_core.specs.Number.{IsNumber}
+use Rattle.usbnum_core.specs.Number.{IsId}
 use Rattle.usbnum_core.specs.declared.number.Number.{Number}
 use Rattle.usbids_text.specs.Cut.{lines}
 use Rattle.usbids_text.specs.Entries.{TopEntry, mid_line, top_line, leaves_lines, mids_lines, tops_lines, is_line, has_four, is_sound_top, IsSound}
@@ -23,7 +23,7 @@ use Rattle.registry_reports.specs.Listing.{device_of, devices_of, is_listed, top
 use Rattle.registry_reports.proofs.TitleLemmas.{title_name}
 use Rattle.registry_laws.specs.Exports.{IsVendor, IsEntry, ReadsAsItself, IsReadBack}
 
-four : (n : ℕ) → IsNumber n → is_code n 4 ≡ true
+four : (n : ℕ) → IsId n → is_code n 4 ≡ true
 four n is = let w = is.within in grind arith
 
 device_line : (pair : Number × Entry) → IsEntry pair → is_line (mid_line (device_of pair)) ≡ true

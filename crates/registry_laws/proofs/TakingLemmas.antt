@@ -5,7 +5,7 @@ use Rattle.std.specs.Option.{option_map, option_or}
 use Rattle.std.specs.List.{list_any}
 use Rattle.std.specs.Str.{bytes_eq}
 use Rattle.std.proofs.lemmas.Bool.{cases_Bool, eqb-true, ne_eqb}
-use Rattle.usbnum_core.specs.Number.{IsNumber}
+use Rattle.usbnum_core.specs.Number.{IsId}
 use Rattle.usbnum_core.specs.Text.{IsTitle}
 use Rattle.usbnum_core.specs.declared.number.Number.{Number}
 use Rattle.usbids_text.specs.Entries.{MidEntry, TopEntry}
@@ -18,7 +18,7 @@ use Rattle.registry_rules.specs.Checks.{import_checks}
 use Rattle.registry_rules.specs.History.{History, with_deed}
 use Rattle.registry_rules.specs.Import.{classes_from, fresh_of, tally_of}
 use Rattle.registry_rules.specs.Number.{number}
-use Rattle.registry_rules.specs.Query.{item_of as item_at, owner_of, card_of, org_of, has_vendor, vendor_meant, is_reserved, kept, holds}
+use Rattle.registry_rules.specs.Query.{item_of as item_at, owner_of, card_of, org_of, has_vendor, vendor_meant, is_reserved, deed_under, holds}
 use Rattle.registry_rules.specs.History.{last_of}
 use Rattle.registry_rules.specs.Records.{entry_of}
 use Rattle.registry_rules.specs.Verdict.{standing_at, outcome, verdict, verdict_by, kept_of, deed_for}
@@ -94,7 +94,7 @@ unreserved : (reserved : Bool) → not reserved ≡ true → reserved ≡ false
 unreserved true e = absurd cc
 unreserved false e = refl
 
-coded_one : (pid : ℕ) → IsNumber pid → nat_eq pid 0 ≡ false
+coded_one : (pid : ℕ) → IsId pid → nat_eq pid 0 ≡ false
 coded_one pid is = ne_eqb pid 0 (λ e. let a = is.above in omega (arith, e))
 
 good : (h : History) (vid : ℕ) (doc : List TopEntry) → AreTitled vid doc → AreFree h vid doc → (pid : ℕ) (found : Option (List ℕ)) → find_mid vid pid doc ≡ found →
@@ -173,7 +173,7 @@ unfolding verdict outcome
 new_deed h caller key org named doc may =
     let vid = vendor_meant h named in
     let items = items_of vid doc in
-    new_by (kept h caller key) (import_of caller key org h.founding.vendor named doc) _ (act_of h org vid doc) may.unused
+    new_by (deed_under h caller key) (import_of caller key org h.founding.vendor named doc) _ (act_of h org vid doc) may.unused
     (import_passes h.founding.curators (org_of h org) (has_vendor h vid) (classes_from (standing_at h vid) [] items) caller vid org items may.curator may.known may.vendor may.short)
 
 pub takes : TakesOver

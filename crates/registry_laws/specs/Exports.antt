@@ -1,6 +1,6 @@
 -- Exported lists of vendors and numbers, which are read again.
 use Rattle.std.specs.Prelude.{◌≡◌, ◌⊎◌, List, Option, Result, Ok, Err, All}
-use Rattle.usbnum_core.specs.Number.{IsNumber}
+use Rattle.usbnum_core.specs.Number.{IsId}
 use Rattle.usbnum_core.specs.Text.{IsTitle}
 use Rattle.usbnum_core.specs.declared.number.Number.{Number}
 use Rattle.usbids_text.specs.Documents.{IsTextOf}
@@ -16,12 +16,12 @@ use Rattle.registry_reports.specs.Listing.{list_of}
 
 -- the invariants of a vendor
 pub record IsVendor (vendor : Vendor) : Type 0 where
-  pub vid : IsNumber vendor.vid
+  pub vid : IsId vendor.vid
   pub name : IsTitle vendor.name
 
 -- the invariants of a number with its entry
 pub record IsEntry (pair : Number × Entry) : Type 0 where
-  pub pid : IsNumber pair.0.pid
+  pub pid : IsId pair.0.pid
   pub title : IsTitle pair.1.card.title
 
 -- the text written for the list is the text of the list

@@ -4,7 +4,7 @@ use Rattle.std.specs.Option.{option_map, option_or}
 use Rattle.std.specs.List.{list_any}
 use Rattle.std.specs.List.Sorted.{IsStrictlyIncreasing}
 use Rattle.std.specs.Str.{bytes_eq}
-use Rattle.usbnum_core.specs.Number.{IsNumber}
+use Rattle.usbnum_core.specs.Number.{IsId}
 use Rattle.usbnum_core.specs.Text.{IsTitle}
 use Rattle.usbnum_core.specs.declared.number.Number.{Number}
 use Rattle.usbids_text.specs.Entries.{TopEntry}
@@ -12,7 +12,7 @@ use Rattle.usbids_text.specs.Finding.{find_mid}
 use Rattle.registry_rules.specs.Changes.{entry_imported}
 use Rattle.registry_rules.specs.History.{History, with_deed}
 use Rattle.registry_rules.specs.Number.{number}
-use Rattle.registry_rules.specs.Query.{org_of, vendor_of, has_vendor, vendor_meant, is_free, kept}
+use Rattle.registry_rules.specs.Query.{org_of, vendor_of, has_vendor, vendor_meant, is_free, deed_under}
 use Rattle.registry_rules.specs.Records.{entry_of}
 use Rattle.registry_rules.specs.Run.{after_one}
 use Rattle.registry_rules.specs.Verdict.{verdict}
@@ -33,11 +33,11 @@ pub record MayImport (h : History) (caller key org : List ℕ) (vid : ℕ) (item
   pub known : is_some (org_of h org) ≡ true
   pub vendor : has_vendor h vid ≡ true
   pub short : items ≤ MOST_ITEMS
-  pub unused : kept h caller key ≡ None
+  pub unused : deed_under h caller key ≡ None
 
 -- each code under the vendor in the list is a product ID, and its name is a title
 abbrev pub AreTitled : ℕ → List TopEntry → Type 0
-AreTitled vid doc = (pid : ℕ) (name : List ℕ) → find_mid vid pid doc ≡ Some name → IsNumber pid × IsTitle name
+AreTitled vid doc = (pid : ℕ) (name : List ℕ) → find_mid vid pid doc ≡ Some name → IsId pid × IsTitle name
 
 -- none of these numbers is owned or reserved
 abbrev pub AreFree : History → ℕ → List TopEntry → Type 0

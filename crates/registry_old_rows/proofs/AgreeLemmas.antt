@@ -1,7 +1,7 @@
 -- A statement that sets the rows of one table does not change the values of the others.
 use Rattle.std.proofs.Common.{ℕ, List, [], refl, sym, subst}
 use Rattle.sqlite_trees.specs.Tree.{Trees}
-use Rattle.usbnum_core.specs.Number.{IsNumber}
+use Rattle.usbnum_core.specs.Number.{IsId}
 use Rattle.usbnum_core.specs.Text.{IsSlug, IsTitle}
 use Rattle.table_laws.specs.Stored.{Stores, StoresUnnumbered}
 use Rattle.table_laws.proofs.SetLemmas.{IsUntied, AgreeOn}
@@ -31,7 +31,7 @@ agree_1 vid a b t numbers same has = record {
   };
   petitions = subst (λ rows. Stores (IsPetitionOf vid) petition_key old_petition_row rows t.petitions) (sym same.1.1.1.1.1.0) has.petitions;
   entries = subst (λ rows. Stores (IsEntryOf vid) old_entry_key old_entry_row rows t.entries) (sym same.1.1.1.1.1.1.0) has.entries;
-  reserved = subst (λ rows. Stores IsNumber number_key number_row rows numbers) (sym same.1.1.1.1.1.1.1.0) has.reserved;
+  reserved = subst (λ rows. Stores IsId number_key number_row rows numbers) (sym same.1.1.1.1.1.1.1.0) has.reserved;
 }
 
 first_of_second : (a b : Trees) → AgreeOn schema_2.tables a b → AgreeOn schema_1.tables a b

@@ -2,7 +2,7 @@
 use Rattle.std.proofs.Common.{ℕ, List}
 use Rattle.sqlite.specs.Order.{Row}
 use Rattle.sqlite.specs.Effect.{Database}
-use Rattle.usbnum_core.specs.Number.{IsNumber}
+use Rattle.usbnum_core.specs.Number.{IsId}
 use Rattle.usbnum_core.specs.declared.number.Number.{Number}
 use Rattle.usbnum_core.specs.declared.number.Span.{Span}
 use Rattle.registry_rules.specs.declared.record.Entry.{Entry}
@@ -81,7 +81,7 @@ holds_second_spans vid old new t numbers rows xs has sets stored = record {
       (record { first = record { lasting = record { metas = has.rows.first.lasting.metas; curators = has.rows.first.lasting.curators; licences = has.rows.first.lasting.licences; fixed = has.rows.first.lasting.fixed; orgs = has.rows.first.lasting.orgs; kept = has.rows.first.lasting.kept }; petitions = has.rows.first.petitions; entries = has.rows.first.entries; reserved = has.rows.first.reserved }; spans = stored });
 }
 
-pub holds_second_reserved : (vid : ℕ) (old new : Database) (t : Tables) (numbers : List ℕ) (rows : List Row) (xs : List (ℕ)) → HoldsSecond vid old t numbers → Sets schema_2 10 old new rows → Stores IsNumber number_key number_row rows xs → HoldsSecond vid new t xs
+pub holds_second_reserved : (vid : ℕ) (old new : Database) (t : Tables) (numbers : List ℕ) (rows : List Row) (xs : List (ℕ)) → HoldsSecond vid old t numbers → Sets schema_2 10 old new rows → Stores IsId number_key number_row rows xs → HoldsSecond vid new t xs
 holds_second_reserved vid old new t numbers rows xs has sets stored = record {
   schema = sets.same_schema;
   sound = sets.sound;

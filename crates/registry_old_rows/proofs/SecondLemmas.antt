@@ -11,7 +11,7 @@ use Rattle.sqlite.proofs.Callers.{runs_as}
 use Rattle.sqlite_keyed.specs.Keyed.{insert_by}
 use Rattle.sqlite_value.proofs.OrderLemmas.{value_cmp-Int}
 use Rattle.sqlite_typed.proofs.TestLemmas.{last_key}
-use Rattle.usbnum_core.specs.Number.{IsNumber}
+use Rattle.usbnum_core.specs.Number.{IsId}
 use Rattle.usbnum_core.specs.declared.number.Span.{Span}
 use Rattle.table_laws.specs.Inside.{GoesOn}
 use Rattle.table_laws.specs.Stored.{Stores}
@@ -51,7 +51,7 @@ pub reads_reserved : (vid : ℕ) (old new : State) (rows : List Row) → Shown l
 reads_reserved vid old new rows h t numbers has =
     let read = answers schema_2 list_reserved_text list_reserved_query _ list_reserved_is [] old new has.schema rows h in (
       read.0,
-      shows_rows IsNumber number_key number_row (overlay old.now.trees []) 10 numbers has.rows.first.reserved list_reserved_query [] (λ _. true) number_shown (λ x. refl) (λ x. refl) (λ a b. last_key (value_cmp-Int (number_key a) (number_key b))) rows read.1
+      shows_rows IsId number_key number_row (overlay old.now.trees []) 10 numbers has.rows.first.reserved list_reserved_query [] (λ _. true) number_shown (λ x. refl) (λ x. refl) (λ a b. last_key (value_cmp-Int (number_key a) (number_key b))) rows read.1
           ∙ ap (map number_shown) (kept_all numbers),
     )
 
@@ -73,8 +73,8 @@ pub empties_reserved : (vid : ℕ) (old new : State) (count : ℕ) → Executes 
 empties_reserved vid old new count h t numbers has =
     let w = runs_as empty_reserved_text [] old new schema_2 has.schema _ empty_reserved_is.is empty_reserved_is.plain count h in
     let done = deletes schema_2 untied_2 7 10 reserved.name reserved.columns (Some 0) (0 ∷ []) [] refl old new has.schema _ [] count _ w in
-    let left = deletes_stored IsNumber number_key number_row (λ _. refl) (overlay old.now.trees []) 10 numbers has.rows.first.reserved [] [] (λ _. true) (λ _. refl) done.0 (done.1.answer Null) in
-    holds_second_reserved vid old.now new.now t numbers _ [] has done.2 (subst (Stores IsNumber number_key number_row _) (none_left numbers) left)
+    let left = deletes_stored IsId number_key number_row (λ _. refl) (overlay old.now.trees []) 10 numbers has.rows.first.reserved [] [] (λ _. true) (λ _. refl) done.0 (done.1.answer Null) in
+    holds_second_reserved vid old.now new.now t numbers _ [] has done.2 (subst (Stores IsId number_key number_row _) (none_left numbers) left)
 
 -- all rows read as all values
 module _ {V X : Type 0} (IsValid : X → Type 0) (show : X → Row) (old new : State) (Held : V → Type 0) (pick : V → List X) (rows : List Row)
@@ -93,7 +93,7 @@ as_reserved n = record { pid = n }
 abbrev shown_reserved : Reserved → Row
 shown_reserved one = number_shown one.pid
 
-valid_reserved : (numbers : List ℕ) → AllByRecursion IsNumber numbers → AllByRecursion (λ (one : Reserved). IsNumber one.pid) (map as_reserved numbers)
+valid_reserved : (numbers : List ℕ) → AllByRecursion IsId numbers → AllByRecursion (λ (one : Reserved). IsId one.pid) (map as_reserved numbers)
 unfolding as_reserved
 valid_reserved [] all = tt
 valid_reserved (n ∷ ns) all = (all.0, valid_reserved ns all.1)
@@ -109,7 +109,7 @@ back [] = refl
 back (n ∷ ns) = ap (λ l. n ∷ l) (back ns)
 
 pub reads_numbers : (rows : List Row) (result : Result (Vec Reserved Global) TableFault)
-    → ((values : List Reserved) → AllByRecursion (λ (one : Reserved). IsNumber one.pid) values → rows ≡ map shown_reserved values → MatchResult result (λ all. all.items ≡ values) (λ fault. fault ≢ Foreign))
-    → (values : List ℕ) → AllByRecursion IsNumber values → rows ≡ map number_shown values → MatchResult result (λ all. map (λ (one : Reserved). one.pid) all.items ≡ values) (λ fault. fault ≢ Foreign)
+    → ((values : List Reserved) → AllByRecursion (λ (one : Reserved). IsId one.pid) values → rows ≡ map shown_reserved values → MatchResult result (λ all. all.items ≡ values) (λ fault. fault ≢ Foreign))
+    → (values : List ℕ) → AllByRecursion IsId values → rows ≡ map number_shown values → MatchResult result (λ all. map (λ (one : Reserved). one.pid) all.items ≡ values) (λ fault. fault ≢ Foreign)
 reads_numbers rows (Ok all) reads values valid is = ap (map (λ (one : Reserved). one.pid)) (reads (map as_reserved values) (valid_reserved values valid) (is ∙ rows_reserved values)) ∙ back values
 reads_numbers rows (Err e) reads values valid is = reads (map as_reserved values) (valid_reserved values valid) (is ∙ rows_reserved values)

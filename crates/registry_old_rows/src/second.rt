@@ -6,7 +6,7 @@ ghost use Rattle.sqlite.specs.State.{HasCleanDisk};
 ghost use Rattle.sqlite.specs.Held.{state};
 ghost use Rattle.sqlite_keyed.specs.Keyed.{insert_by};
 ghost use Rattle.table_laws.specs.Inside.{CommitsNothing};
-ghost use Rattle.usbnum_core.specs.Number.{IsNumber};
+ghost use Rattle.usbnum_core.specs.Number.{IsId};
 ghost use Rattle.registry_rows.specs.Rows.{meta_key, meta_shown};
 ghost use Rattle.registry_rows.specs.Tables.{Tables};
 ghost use Rattle.registry_old_rows.specs.Old.{number_shown, old_span_key};
@@ -72,10 +72,10 @@ pub struct Reserved {
 }
 
 impl FromRow for Reserved {
-    ghost use Rattle.usbnum_core.specs.Number.{IsNumber};
+    ghost use Rattle.usbnum_core.specs.Number.{IsId};
     ghost use Rattle.registry_old_rows.specs.Old.{number_shown};
 
-    ghost is_valid = { λ one. IsNumber one.pid };
+    ghost is_valid = { λ one. IsId one.pid };
 
     ghost columns = { λ one. number_shown one.pid };
 
@@ -124,7 +124,7 @@ pub fn empty_reserved<S: Alter>(tx: &mut Transaction<'_, S>) -> Result<(), Table
 /// Inserts a span of reserved numbers.
 pub fn put_old_span<S: Alter>(tx: &mut Transaction<'_, S>, span: Span) -> Result<(), TableFault>
     ensures same_reference { tx.new.conn.ghost_name ≡ tx.old.conn.ghost_name }
-    ensures put { (vid : ℕ) → IsNumber vid → HasCleanDisk (state S.Store tx.new.conn.now) → IsTrue (state S.Store tx.old.conn.now).in_transaction
+    ensures put { (vid : ℕ) → IsId vid → HasCleanDisk (state S.Store tx.new.conn.now) → IsTrue (state S.Store tx.old.conn.now).in_transaction
         → OnOk result (Turns vid (λ t. record t { spans = insert_by old_span_key t.spans (vid, span) }) (λ numbers. numbers) (state S.Store tx.old.conn.now) (state S.Store tx.new.conn.now)) }
     ensures fault { result ≢ Err TableFault.Foreign }
     ensures survives { CommitsNothing (state S.Store tx.old.conn.now) (state S.Store tx.new.conn.now) }

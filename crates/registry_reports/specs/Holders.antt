@@ -2,7 +2,7 @@
 use Rattle.std.specs.Prelude.{◌≡◌, ℕ, List, [], ◌∷◌, ◌++◌, codes, map}
 use Rattle.std.specs.Fmt.{decimal}
 use Rattle.usbnum_core.specs.declared.number.Number.{Number}
-use Rattle.registry_rules.specs.Texts.{AreInOrder}
+use Rattle.registry_rules.specs.Texts.{AreSorted}
 use Rattle.registry_rules.specs.declared.record.Entry.{Entry}
 use Rattle.registry_reports.specs.Columns.{left, right}
 use Rattle.registry_reports.specs.Tallies.{org_of, tally_of}
@@ -23,5 +23,5 @@ holder_lines numbers (slug ∷ slugs) = holder_line slug (tally_of numbers slug)
 -- a line for each organisation that owns a number, in the order of their slugs
 pub record IsHolders (numbers : List (Number × Entry)) (text : List ℕ) : Type 0 where
   pub slugs : List (List ℕ)
-  pub order : AreInOrder (map org_of numbers) slugs
+  pub order : AreSorted (map org_of numbers) slugs
   pub lines : text ≡ holder_lines numbers slugs

@@ -3,7 +3,7 @@ ghost use Rattle.std.specs.Prelude.{◌≡◌, ◌+◌, ◌-◌, ◌^◌, ◌<�
 ghost use Rattle.std.specs.List.{count_by};
 ghost use Rattle.std.specs.Fmt.{decimal};
 ghost use Rattle.std.specs.String.{string_bytes};
-ghost use Rattle.usbnum_core.specs.Number.{IsNumber, digits_of};
+ghost use Rattle.usbnum_core.specs.Number.{IsId, digits_of};
 ghost use Rattle.registry_reports.specs.Order.{Ascends};
 ghost use Rattle.registry_reports.specs.Census.{held_in, returned_in, held_count, returned_count, reserved_count, free_count, census_line, census_text, census_of, census_lines};
 
@@ -15,7 +15,7 @@ use usbnum_core::{NoMemory, Number, Spans, Vid};
 /// Returns whether the number is the vendor's, held and not reserved.
 fn is_held(vid: Vid, spans: &Spans, pair: &(Number, Entry)) -> bool
     ensures value { result ≡ (nat_eq pair.now.0.vid vid && held_in spans.now pair.now) }
-    ensures number { IsNumber pair.now.0.pid }
+    ensures number { IsId pair.now.0.pid }
 {
     // Only for the proof: a product ID is at least 1.
     let _ = pair.0.pid.get();
@@ -25,7 +25,7 @@ fn is_held(vid: Vid, spans: &Spans, pair: &(Number, Entry)) -> bool
 /// Returns whether the number is the vendor's, returned and not reserved.
 fn is_returned(vid: Vid, spans: &Spans, pair: &(Number, Entry)) -> bool
     ensures value { result ≡ (nat_eq pair.now.0.vid vid && returned_in spans.now pair.now) }
-    ensures number { IsNumber pair.now.0.pid }
+    ensures number { IsId pair.now.0.pid }
 {
     // Only for the proof: a product ID is at least 1.
     let _ = pair.0.pid.get();

@@ -4,7 +4,7 @@
 ghost use Rattle.std.specs.Prelude.{◌≡◌, ◌≢◌, ◌+◌, ◌<◌, ◌^◌, ℕ, length, IfOk, IsUtf8, MatchOption};
 ghost use Rattle.sqlite.specs.declared.types.Value.TheVariants.{Text as TextValue, Null, Blob};
 ghost use Rattle.sqlite.specs.Order.{column};
-ghost use Rattle.usbnum_core.specs.Number.{IsNumber};
+ghost use Rattle.usbnum_core.specs.Number.{IsId};
 ghost use Rattle.registry_rows.specs.Rows.{flag, whole, IsSpan};
 ghost use Rattle.usbnum_core.specs.declared.number.Span.{Span as SpanValue};
 
@@ -106,7 +106,7 @@ pub fn number_at(row: &Row, at: usize) -> Result<u32, TableFault>
 /// Reads the vendor ID in the column.
 pub fn vid_at(row: &Row, at: usize) -> Result<Vid, TableFault>
     ensures ok { IfOk result (λ n. column row.now at ≡ whole n) }
-    ensures foreign { result ≡ Err TableFault.Foreign → (n : ℕ) → IsNumber n → column row.now at ≢ whole n }
+    ensures foreign { result ≡ Err TableFault.Foreign → (n : ℕ) → IsId n → column row.now at ≢ whole n }
 {
     let number = number_at(row, at)?;
     let Ok(number) = u16::try_from(number) else {
@@ -121,7 +121,7 @@ pub fn vid_at(row: &Row, at: usize) -> Result<Vid, TableFault>
 /// Reads the product ID in the column.
 pub fn pid_at(row: &Row, at: usize) -> Result<Pid, TableFault>
     ensures ok { IfOk result (λ n. column row.now at ≡ whole n) }
-    ensures foreign { result ≡ Err TableFault.Foreign → (n : ℕ) → IsNumber n → column row.now at ≢ whole n }
+    ensures foreign { result ≡ Err TableFault.Foreign → (n : ℕ) → IsId n → column row.now at ≢ whole n }
 {
     let number = number_at(row, at)?;
     let Ok(number) = u16::try_from(number) else {
@@ -136,7 +136,7 @@ pub fn pid_at(row: &Row, at: usize) -> Result<Pid, TableFault>
 /// Reads the product ID in the column, or `None` for NULL.
 pub fn pid_or_null_at(row: &Row, at: usize) -> Result<Option<Pid>, TableFault>
     ensures ok { IfOk result (λ pid. MatchOption pid (column row.now at ≡ Null) (λ n. column row.now at ≡ whole n)) }
-    ensures foreign { result ≡ Err TableFault.Foreign → at < length row.now → (column row.now at ≢ Null) × ((n : ℕ) → IsNumber n → column row.now at ≢ whole n) }
+    ensures foreign { result ≡ Err TableFault.Foreign → at < length row.now → (column row.now at ≢ Null) × ((n : ℕ) → IsId n → column row.now at ≢ whole n) }
 {
     match row.get_ref(at) {
         Ok(ValueRef::Null) => Ok(None),

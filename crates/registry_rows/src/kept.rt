@@ -10,7 +10,7 @@ ghost use Rattle.registry_rows.specs.Steps.{Answers, Changes};
 
 use crate::columns::{canonical_form_at, reply_at, text_at};
 use crate::decode::{FromRow, first_from};
-use registry_rules::{CanonicalForm, Kept, ReplyText};
+use registry_rules::{CanonicalForm, KeptReply, ReplyText};
 use registry_schema::TableFault;
 use sqlite::{Alter, Row, Transaction, params};
 use std::alloc::Global;
@@ -24,7 +24,7 @@ pub struct KeptRow {
     /// The key of the request.
     pub key: Key,
     /// The canonical form of the order, and the reply.
-    pub kept: Kept,
+    pub kept: KeptReply,
 }
 
 impl FromRow for KeptRow {
@@ -38,7 +38,7 @@ impl FromRow for KeptRow {
         Ok(KeptRow {
             caller: text_at(alloc, row, 0)?,
             key: text_at(alloc, row, 1)?,
-            kept: Kept {
+            kept: KeptReply {
                 order: canonical_form_at(alloc, row, 2)?,
                 reply: reply_at(alloc, row, 3)?,
             },

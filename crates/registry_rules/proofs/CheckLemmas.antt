@@ -17,7 +17,7 @@ use Rattle.registry_rules.specs.declared.limits.TheConstants.{MOST_ORGS, MOST_OP
 use Rattle.registry_rules.specs.declared.record.Org.{Org}
 use Rattle.registry_rules.specs.declared.record.Petition.{Petition}
 use Rattle.registry_rules.specs.declared.record.PetitionState.{PetitionState}
-use Rattle.registry_rules.specs.declared.record.PetitionState.TheVariants.{Open, Granted as IsGranted, Declined as IsDeclined, Withdrawn as IsWithdrawn}
+use Rattle.registry_rules.specs.declared.record.PetitionState.TheVariants.{Open, Granted as StateGranted, Declined as StateDeclined, Withdrawn as StateWithdrawn}
 use Rattle.registry_rules.specs.declared.record.Card.{Card}
 use Rattle.registry_rules.specs.declared.refusal.Refusal.{Refusal}
 
@@ -44,9 +44,9 @@ was_there (Some a) refusal f x e = (a, refl, e)
 -- `Open` is the only open state
 pub open_is : (state : PetitionState) → is_open state ≡ true → state ≡ Open
 open_is Open e = refl
-open_is (IsGranted pid) e = absurd cc
-open_is IsDeclined e = absurd cc
-open_is IsWithdrawn e = absurd cc
+open_is (StateGranted pid) e = absurd cc
+open_is StateDeclined e = absurd cc
+open_is StateWithdrawn e = absurd cc
 
 opened_by : {B : Type 0} (b : Bool) (refusal : Refusal) (petition : Petition) (f : Petition → Result B Refusal) (x : B) → ((check b refusal >> Ok petition) >>= f) ≡ Ok x → (b ≡ true) × (f petition ≡ Ok x)
 opened_by true refusal petition f x e = (refl, e)

@@ -5,9 +5,9 @@ use Rattle.std.specs.Option.{option_map, option_or}
 use Rattle.std.specs.List.{list_any, filter_map, cons_option, AllByRecursion}
 use Rattle.std.proofs.lemmas.Bool.{cases_eq, eq-eqb, ne_eqb, or_parts}
 use Rattle.usbnum_core.specs.declared.number.Number.{Number}
-use Rattle.registry_rules.specs.Number.{number, is_number}
+use Rattle.registry_rules.specs.Number.{number, number_eq}
 use Rattle.registry_rules.specs.History.{History, sooner, first_of, last_of}
-use Rattle.registry_rules.specs.Query.{given, item_of, receiver, card_given, card_asked, card_of_item, owner_of, card_of}
+use Rattle.registry_rules.specs.Query.{answer_if, item_of, receiver, card_given, card_asked, card_of_item, owner_of, card_of}
 use Rattle.registry_rules.specs.Records.{entry_changed, with_held, with_card, after_all}
 use Rattle.registry_rules.specs.Changes.{entry_granted, entry_imported, item_change}
 use Rattle.registry_rules.specs.Import.{Standing}
@@ -33,7 +33,7 @@ entry_by owner card held = option_and_then (λ org. option_map (λ card. record 
 
 pub granted_entry : (b : Bool) (owner : Option (List ℕ)) (now : Bool) (card : Option Card) (held : Option Bool) (petition : Petition) → (b ≡ true → OwnerFits owner now petition.org) →
     (if b then Some (entry_granted petition) else entry_by owner card held)
-    ≡ entry_by (sooner owner (given b petition.org)) (option_or (given b (card_asked petition)) card) (option_or (given b true) held)
+    ≡ entry_by (sooner owner (answer_if b petition.org)) (option_or (answer_if b (card_asked petition)) card) (option_or (answer_if b true) held)
 granted_entry false owner now card held petition h = refl
 granted_entry true None now card held petition h = refl
 granted_entry true (Some owner) now card held petition h =
@@ -41,7 +41,7 @@ granted_entry true (Some owner) now card held petition h =
 
 -- a return leaves the owner and the card
 pub returned_entry : (b : Bool) (owner : Option (List ℕ)) (card : Option Card) (held : Option Bool) →
-    (if b then option_map (with_held false) (entry_by owner card held) else entry_by owner card held) ≡ entry_by owner card (option_or (given b false) held)
+    (if b then option_map (with_held false) (entry_by owner card held) else entry_by owner card held) ≡ entry_by owner card (option_or (answer_if b false) held)
 returned_entry false owner card held = refl
 returned_entry true None card held = refl
 returned_entry true (Some org) None held = refl
@@ -55,12 +55,12 @@ IsCarded None card = Unit {0}
 IsCarded (Some owner) None = ⊥
 IsCarded (Some owner) (Some card) = Unit {0}
 
-carded_grant : (b : Bool) (owner : Option (List ℕ)) (card : Option Card) (org : List ℕ) (new : Card) → IsCarded owner card → IsCarded (sooner owner (given b org)) (option_or (given b new) card)
+carded_grant : (b : Bool) (owner : Option (List ℕ)) (card : Option Card) (org : List ℕ) (new : Card) → IsCarded owner card → IsCarded (sooner owner (answer_if b org)) (option_or (answer_if b new) card)
 carded_grant false owner card org new was = was
 carded_grant true None card org new was = tt
 carded_grant true (Some owner) card org new was = tt
 
-carded_amendment : (b : Bool) (owner : Option (List ℕ)) (card : Option Card) (new : Card) → IsCarded owner card → IsCarded owner (option_or (given b new) card)
+carded_amendment : (b : Bool) (owner : Option (List ℕ)) (card : Option Card) (new : Card) → IsCarded owner card → IsCarded owner (option_or (answer_if b new) card)
 carded_amendment false owner card new was = was
 carded_amendment true None card new was = tt
 carded_amendment true (Some owner) card new was = tt
@@ -84,8 +84,8 @@ carded_import n vid org standing fresh (Some item) owner card each e was =
 
 carded_by : (h : History) (caller : List ℕ) (act : Act) (n : Number) (owner : Option (List ℕ)) (card : Option Card) → Follows h caller act → IsCarded owner card →
     IsCarded (sooner owner (receiver n act)) (option_or (card_given n act) card)
-carded_by h caller (Granted id petition name) n owner card follows was = carded_grant (is_number n name.number) owner card petition.org (card_asked petition) was
-carded_by h caller (CardAmended name new) n owner card follows was = carded_amendment (is_number n name.number) owner card new was
+carded_by h caller (Granted id petition name) n owner card follows was = carded_grant (number_eq n name.number) owner card petition.org (card_asked petition) was
+carded_by h caller (CardAmended name new) n owner card follows was = carded_amendment (number_eq n name.number) owner card new was
 carded_by h caller (Imported vid org fresh tally) n owner card follows was = carded_import n vid org (standing_at h vid) fresh (item_of vid fresh n) owner card follows.each refl was
 carded_by h caller _ n owner card follows was = was
 
@@ -101,7 +101,7 @@ pub carded : (h : History) (n : Number) → Legal h → IsCarded (owner_of h n) 
 carded h n legal = carded_deeds h.founding h.deeds n legal
 
 pub amended_entry : (b : Bool) (owner : Option (List ℕ)) (card : Option Card) (held : Option Bool) (new : Card) → IsCarded owner card →
-    (if b then option_map (with_card new) (entry_by owner card held) else entry_by owner card held) ≡ entry_by owner (option_or (given b new) card) held
+    (if b then option_map (with_card new) (entry_by owner card held) else entry_by owner card held) ≡ entry_by owner (option_or (answer_if b new) card) held
 amended_entry false owner card held new has = refl
 amended_entry true None card held new has = refl
 amended_entry true (Some org) None held new has = absurd has
@@ -139,11 +139,11 @@ items_entry standing vid org (item ∷ items) n old each apart =
     let text = titled item.title each.0.titled in
     let entry = entry_imported org text.0 in
     ap (λ change. after_all (entry_changed n) (cons_option change (filter_map (item_change vid org) items)) old) (item_is_put vid org item text.0 (nat_eq item.code 0) each.0.code text.1)
-    ∙ items_entry standing vid org items n (if is_number n (number vid item.code) then Some entry else old) each.1 apart.1
+    ∙ items_entry standing vid org items n (if number_eq n (number vid item.code) then Some entry else old) each.1 apart.1
     ∙ next entry (ap (option_map (entry_imported org)) text.1)
   where
     next : (entry : Entry) → option_map (entry_imported org) item.title ≡ Some entry →
-        put_item org (if is_number n (number vid item.code) then Some entry else old) (item_of vid items n) ≡ put_item org old (item_of vid (item ∷ items) n)
+        put_item org (if number_eq n (number vid item.code) then Some entry else old) (item_of vid items n) ≡ put_item org old (item_of vid (item ∷ items) n)
     next entry is = elim (cases_eq vid n.vid) [
       | inr other ↦ rw (ne_eqb vid n.vid other, ne_eqb n.vid vid (λ same. other (sym same))) refl
       | inl same ↦ elim (cases_eq item.code n.pid) [

@@ -7,9 +7,9 @@ use Rattle.std.proofs.lemmas.Bool.{and_parts, eqb-true, cases_Bool, or_from}
 use Rattle.std.proofs.lemmas.List.Elements.{All-from_recursion, All-contains}
 use Rattle.usbnum_core.specs.declared.number.Number.{Number}
 use Rattle.usbnum_core.specs.Spans.{span_has}
-use Rattle.registry_rules.specs.Number.{number, is_number}
+use Rattle.registry_rules.specs.Number.{number, number_eq}
 use Rattle.registry_rules.specs.History.{History, first_of, last_of, sooner}
-use Rattle.registry_rules.specs.Query.{given, item_of, receiver, holds, reserves, owner_of, is_held, is_fixed, is_reserved}
+use Rattle.registry_rules.specs.Query.{answer_if, item_of, receiver, holds, reserves, owner_of, is_held, is_fixed, is_reserved}
 use Rattle.registry_rules.specs.Run.{Legal}
 use Rattle.registry_rules.specs.Verdict.{standing_at}
 use Rattle.registry_rules.proofs.RunLemmas.{legal_before}
@@ -25,16 +25,16 @@ use Rattle.registry_rules.specs.declared.item.Item.{Item}
 -- The tests.
 
 -- two numbers that pass the test are equal
-pub same_number : (a b : Number) → is_number a b ≡ true → a ≡ b
+pub same_number : (a b : Number) → number_eq a b ≡ true → a ≡ b
 same_number a b e =
     let both = and_parts (nat_eq a.vid b.vid) (nat_eq a.pid b.pid) e in
     ap (λ vid. number vid a.pid) (eqb-true a.vid b.vid both.0) ∙ ap (number b.vid) (eqb-true a.pid b.pid both.1)
 
-given_is : {A : Type 0} (b : Bool) (x y : A) → given b x ≡ Some y → (b ≡ true) × (x ≡ y)
+given_is : {A : Type 0} (b : Bool) (x y : A) → answer_if b x ≡ Some y → (b ≡ true) × (x ≡ y)
 given_is true x y e = (refl, cc)
 given_is false x y e = absurd cc
 
-given_none : {A : Type 0} (b : Bool) (x : A) → given b x ≡ None → b ≡ false
+given_none : {A : Type 0} (b : Bool) (x : A) → answer_if b x ≡ None → b ≡ false
 given_none true x e = absurd cc
 given_none false x e = refl
 
@@ -74,7 +74,7 @@ fresh_number h vid fresh n item each e =
 -- an accepted act gives a number to its owner, if it has one
 receiver_allowed : (h : History) (caller : List ℕ) (act : Act) (n : Number) (org : List ℕ) → Follows h caller act → receiver n act ≡ Some org → Allows (owner_of h n) org
 receiver_allowed h caller (Granted id petition name) n org can e =
-    let is = given_is (is_number n name.number) petition.org org e in
+    let is = given_is (number_eq n name.number) petition.org org e in
     let same : n ≡ name.number = same_number n name.number is.0 in
     subst (λ (o : List ℕ). Allows (owner_of h n) o) is.1
     (subst (λ (m : Number). Allows (owner_of h m) petition.org) (sym same)
@@ -84,13 +84,13 @@ receiver_allowed h caller (Imported vid to fresh tally) n org can e =
     allows_none (owner_of h n) org (fresh_number h vid fresh n found.0 can.each found.1).0
 receiver_allowed h caller _ n org can e = absurd cc
 
-owner_now : (owner given : Option (List ℕ)) (org : List ℕ) → Allows owner org → given ≡ Some org → sooner owner given ≡ Some org
+owner_now : (owner found : Option (List ℕ)) (org : List ℕ) → Allows owner org → found ≡ Some org → sooner owner found ≡ Some org
 owner_now None None org fits e = e
 owner_now None (Some x) org fits e = e
 owner_now (Some owner) None org fits e = absurd cc
 owner_now (Some owner) (Some x) org fits e = ap Some fits
 
-owner_still : (owner given : Option (List ℕ)) (org : List ℕ) → owner ≡ Some org → sooner owner given ≡ Some org
+owner_still : (owner found : Option (List ℕ)) (org : List ℕ) → owner ≡ Some org → sooner owner found ≡ Some org
 owner_still owner None org e = e
 owner_still owner (Some x) org e = rw e refl
 
@@ -121,7 +121,7 @@ unmapped : {A B : Type 0} (f : A → B) (found : Option A) → option_map f foun
 unmapped f None e = refl
 unmapped f (Some x) e = absurd cc
 
-neither : (owner given : Option (List ℕ)) → sooner owner given ≡ None → (owner ≡ None) × (given ≡ None)
+neither : (owner found : Option (List ℕ)) → sooner owner found ≡ None → (owner ≡ None) × (found ≡ None)
 neither owner None e = (e, refl)
 neither owner (Some x) e = absurd cc
 
@@ -132,17 +132,17 @@ held_by next so_far = unwrap_or (option_or next so_far) false
 unheld_before : (next so_far : Option Bool) → next ≡ None → unwrap_or so_far false ≡ false → held_by next so_far ≡ false
 unheld_before next so_far none e = rw none e
 
-unheld_if : (b : Bool) (so_far : Option Bool) → unwrap_or so_far false ≡ false → held_by (given b false) so_far ≡ false
+unheld_if : (b : Bool) (so_far : Option Bool) → unwrap_or so_far false ≡ false → held_by (answer_if b false) so_far ≡ false
 unheld_if true so_far e = refl
 unheld_if false so_far e = e
 
 unheld_now : (n : Number) (act : Act) (so_far : Option Bool) → receiver n act ≡ None → unwrap_or so_far false ≡ false → held_by (holds n act) so_far ≡ false
 unheld_now n (Granted id petition name) so_far r e =
-    unheld_before (given (is_number n name.number) true) so_far
-    (ap (λ b. given b true) (given_none (is_number n name.number) petition.org r)) e
+    unheld_before (answer_if (number_eq n name.number) true) so_far
+    (ap (λ b. answer_if b true) (given_none (number_eq n name.number) petition.org r)) e
 unheld_now n (Imported vid to fresh tally) so_far r e =
     unheld_before (option_map (λ item. true) (item_of vid fresh n)) so_far (ap (option_map (λ item. true)) (unmapped (λ item. to) (item_of vid fresh n) r)) e
-unheld_now n (Returned name) so_far r e = unheld_if (is_number n name.number) so_far e
+unheld_now n (Returned name) so_far r e = unheld_if (number_eq n name.number) so_far e
 unheld_now n _ so_far r e = e
 
 unheld_in : (n : Number) (deeds : List Deed) → first_of (λ deed. receiver n deed.act) deeds ≡ None → unwrap_or (last_of (λ deed. holds n deed.act) deeds) false ≡ false
@@ -167,14 +167,14 @@ reserved_by fixed next so_far = fixed || unwrap_or (option_or next so_far) false
 -- a number that an accepted act gives was not reserved
 unreserved_receiver : (h : History) (caller : List ℕ) (act : Act) (n : Number) (org : List ℕ) → Follows h caller act → receiver n act ≡ Some org → is_reserved h n ≡ false
 unreserved_receiver h caller (Granted id petition name) n org can e =
-    let is = given_is (is_number n name.number) petition.org org e in
+    let is = given_is (number_eq n name.number) petition.org org e in
     subst (λ (m : Number). is_reserved h m ≡ false) (sym (same_number n name.number is.0)) can.fits.unreserved
 unreserved_receiver h caller (Imported vid to fresh tally) n org can e =
     let found = item_found (item_of vid fresh n) to org e in
     (fresh_number h vid fresh n found.0 can.each found.1).1
 unreserved_receiver h caller _ n org can e = absurd cc
 
-given_apart : (owner given : Option (List ℕ)) (reserved : Bool) → OwnedOrReserved owner reserved → ((org : List ℕ) → given ≡ Some org → reserved ≡ false) → OwnedOrReserved (sooner owner given) reserved
+given_apart : (owner found : Option (List ℕ)) (reserved : Bool) → OwnedOrReserved owner reserved → ((org : List ℕ) → found ≡ Some org → reserved ≡ false) → OwnedOrReserved (sooner owner found) reserved
 given_apart owner None reserved apart new = apart
 given_apart owner (Some org) reserved apart new = inr (new org refl)
 
@@ -188,11 +188,11 @@ span_cases vid n has P within outside = ⊎_elim
 apart_now : (h : History) (caller : List ℕ) (act : Act) (n : Number) → Follows h caller act → OwnedOrReserved (owner_of h n) (is_reserved h n) →
     OwnedOrReserved (sooner (owner_of h n) (receiver n act)) (reserved_by (is_fixed h n) (reserves n act) (last_of (λ deed. reserves n deed.act) h.deeds))
 apart_now h caller (Reserved name) n can apart =
-    span_cases name.vid n (span_has name.span n.pid) (λ b. OwnedOrReserved (owner_of h n) (reserved_by (is_fixed h n) (given b true) (last_of (λ deed. reserves n deed.act) h.deeds)))
+    span_cases name.vid n (span_has name.span n.pid) (λ b. OwnedOrReserved (owner_of h n) (reserved_by (is_fixed h n) (answer_if b true) (last_of (λ deed. reserves n deed.act) h.deeds)))
     (λ same has. inl (some_not (owner_of h n) (subst (λ v. is_some (owner_of h (number v n.pid)) ≡ false) same (can.unowned n.pid has))))
     apart
 apart_now h caller (Released name) n can apart =
-    span_cases name.vid n (span_has name.span n.pid) (λ b. OwnedOrReserved (owner_of h n) (reserved_by (is_fixed h n) (given b false) (last_of (λ deed. reserves n deed.act) h.deeds)))
+    span_cases name.vid n (span_has name.span n.pid) (λ b. OwnedOrReserved (owner_of h n) (reserved_by (is_fixed h n) (answer_if b false) (last_of (λ deed. reserves n deed.act) h.deeds)))
     (λ same has. inr (or_from (is_fixed h n) false (subst (λ v. is_fixed h (number v n.pid) ≡ false) same (can.unfixed n.pid has)) refl))
     apart
 apart_now h caller act n can apart = given_apart (owner_of h n) (receiver n act) (is_reserved h n) apart (λ org e. unreserved_receiver h caller act n org can e)

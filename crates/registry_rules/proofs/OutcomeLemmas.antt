@@ -8,10 +8,10 @@ use Rattle.usbnum_core.specs.Spans.{span_has, spans_have}
 use Rattle.usbnum_core.specs.declared.number.Number.{Number}
 use Rattle.usbnum_core.specs.declared.number.Span.{Span}
 use Rattle.usbnum_core.proofs.MemberLemmas.{has}
-use Rattle.registry_rules.specs.Number.{number, is_number}
+use Rattle.registry_rules.specs.Number.{number, number_eq}
 use Rattle.registry_rules.specs.History.{History, sooner, first_of, last_of}
 use Rattle.registry_rules.specs.Import.{Standing, class_of, classes_from}
-use Rattle.registry_rules.specs.Query.{owner_of, is_held, is_reserved, holds, receiver, item_of, given, petition_of, least, org_of, open_count, asked, has_vendor, vendor_meant, is_licence}
+use Rattle.registry_rules.specs.Query.{owner_of, is_held, is_reserved, holds, receiver, item_of, answer_if, petition_of, least, org_of, open_count, asked, has_vendor, vendor_meant, is_licence}
 use Rattle.registry_rules.specs.Checks.{ask_checks, grant_checks, amend_checks, return_checks, reserve_checks, release_checks, import_checks}
 use Rattle.registry_rules.specs.Verdict.{outcome, deed_for, verdict, verdict_by, standing_of, standing_at, org_owning, number_chosen, pid_chosen, least_for, least_owned, meets_fixed, new_petition, new_card, kept_under}
 use Rattle.registry_rules.specs.FactsOf.{AreFactsOf, slug_concerned, petition_named, vendor_concerned, open_concerned, org_concerned, concerns, is_wanted, holding_of, holding_in}
@@ -23,7 +23,7 @@ use Rattle.registry_rules.specs.declared.refusal.Refusal.{Refusal}
 use Rattle.registry_rules.specs.declared.verdict.Verdict.{Verdict}
 use Rattle.registry_rules.specs.declared.verdict.Verdict.TheVariants.{New, Refused}
 use Rattle.registry_rules.specs.declared.facts.Facts.{Facts}
-use Rattle.registry_rules.specs.declared.facts.Kept.{Kept}
+use Rattle.registry_rules.specs.declared.facts.KeptReply.{KeptReply}
 use Rattle.registry_rules.specs.declared.item.Item.{Item}
 use Rattle.registry_rules.specs.declared.record.Holding.{Holding}
 use Rattle.registry_rules.specs.declared.record.Petition.{Petition}
@@ -36,13 +36,13 @@ use Rattle.registry_rules.proofs.SpanNumberLemmas.{same_find, same_all}
 held_given : (n : Number) (act : Act) (owner : Option (List ℕ)) (held : Option Bool) → sooner owner (receiver n act) ≡ None →
     (owner ≡ None → unwrap_or held false ≡ false) → unwrap_or (option_or (holds n act) held) false ≡ false
 held_given n (Granted id petition name) owner held e h =
-    elim (is_number n name.number) as (λ b. sooner owner (given b petition.org) ≡ None → unwrap_or (option_or (given b true) held) false ≡ false)
+    elim (number_eq n name.number) as (λ b. sooner owner (answer_if b petition.org) ≡ None → unwrap_or (option_or (answer_if b true) held) false ≡ false)
     [ true ↦ λ no. absurd cc | false ↦ λ no. h no ] e
 held_given n (Imported vid org fresh tally) owner held e h =
     elim (item_of vid fresh n) as (λ o. sooner owner (option_map (λ item. org) o) ≡ None → unwrap_or (option_or (option_map (λ item. true) o) held) false ≡ false)
     [ None ↦ λ no. h no | Some item ↦ λ no. absurd cc ] e
 held_given n (Returned name) owner held e h =
-    elim (is_number n name.number) as (λ b. unwrap_or (option_or (given b false) held) false ≡ false) [ true ↦ refl | false ↦ h e ]
+    elim (number_eq n name.number) as (λ b. unwrap_or (option_or (answer_if b false) held) false ≡ false) [ true ↦ refl | false ↦ h e ]
 held_given n _ owner held e h = h e
 
 -- a number without an owner is not held
@@ -68,7 +68,7 @@ same_standing h facts n reserved holding =
     ∙ ap (λ found. standing_found n (is_reserved h n) found) holding
     ∙ standing_owned n (is_reserved h n) (owner_of h n) (is_held h n) (unowned n h.deeds)
 
-pub is_itself : (n : Number) → is_number n n ≡ true
+pub is_itself : (n : Number) → number_eq n n ≡ true
 is_itself n = and_from (nat_eq n.vid n.vid) _ (eq-eqb n.vid n.vid refl) (eq-eqb n.pid n.pid refl)
 
 -- the same for the number that a petition wants, if any
@@ -81,12 +81,12 @@ same_wanted h facts vid (Some pid) reserved holdings = ap (λ (s : Standing). So
 -- the same for the number that a grant chooses
 same_chosen : (h : History) (facts : Facts) (founding : ℕ) (named : Option ℕ) (petition : Option Petition) →
     ((pid : ℕ) → spans_have facts.reserved.now pid ≡ is_reserved h (number (unwrap_or (option_map (λ there. there.vid) petition) founding) pid)) →
-    ((n : Number) → unwrap_or (option_map (is_number n) (number_chosen named petition (least_for h petition))) false ≡ true → holding_in facts.holdings n ≡ holding_of h n) →
+    ((n : Number) → unwrap_or (option_map (number_eq n) (number_chosen named petition (least_for h petition))) false ≡ true → holding_in facts.holdings n ≡ holding_of h n) →
     option_map (standing_in facts) (number_chosen named petition (least h (unwrap_or (option_map (λ there. there.vid) petition) founding))) ≡ option_map (standing_of h) (number_chosen named petition (least_for h petition))
 same_chosen h facts founding named None reserved holdings = refl
 same_chosen h facts founding named (Some there) reserved holdings = chosen (pid_chosen named (Some there) (least h there.vid)) holdings
   where
-    chosen : (pid : Option ℕ) → ((n : Number) → unwrap_or (option_map (is_number n) (option_map (number there.vid) pid)) false ≡ true → holding_in facts.holdings n ≡ holding_of h n) →
+    chosen : (pid : Option ℕ) → ((n : Number) → unwrap_or (option_map (number_eq n) (option_map (number there.vid) pid)) false ≡ true → holding_in facts.holdings n ≡ holding_of h n) →
         option_map (standing_in facts) (option_map (number there.vid) pid) ≡ option_map (standing_of h) (option_map (number there.vid) pid)
     chosen None found = refl
     chosen (Some pid) found = ap (λ (s : Standing). Some s) (same_standing h facts (number there.vid pid) (reserved pid) (found (number there.vid pid) (is_itself (number there.vid pid))))
@@ -172,7 +172,7 @@ same_verdict h request facts are =
     ap (λ kept. verdict_by kept request (outcome_on facts request.caller request.order)) are.kept
     ∙ ap (λ o. verdict_by (kept_under h request.caller request.key) request o) (same_outcome h request facts are)
 
-pub verdict_kept : (h : History) (request : Request) (facts : Facts) (kept : Kept) (found : Verdict) → AreFactsOf h request facts → facts.kept ≡ Some kept →
+pub verdict_kept : (h : History) (request : Request) (facts : Facts) (kept : KeptReply) (found : Verdict) → AreFactsOf h request facts → facts.kept ≡ Some kept →
     ((o : Result Act Refusal) → found ≡ verdict_by (Some kept) request o) → found ≡ verdict h request
 verdict_kept h request facts kept found are is same =
     same (outcome_on facts request.caller request.order) ∙ ap (λ k. verdict_by k request (outcome_on facts request.caller request.order)) (sym is) ∙ same_verdict h request facts are

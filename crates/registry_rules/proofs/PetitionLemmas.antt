@@ -4,7 +4,7 @@ use Rattle.std.specs.Prelude.{nat_eq, slice_get, unwrap_or, if◌then◌else◌}
 use Rattle.std.specs.Option.{option_map, option_or}
 use Rattle.std.proofs.lemmas.Bool.{ne_eqb, eqb-false}
 use Rattle.registry_rules.specs.History.{History, last_of, all_of, with_answer}
-use Rattle.registry_rules.specs.Query.{asks, closes, asked, state_of, petition_of, with_state, given}
+use Rattle.registry_rules.specs.Query.{asks, closes, asked, state_of, petition_of, with_state, answer_if}
 use Rattle.registry_rules.specs.Run.{Legal}
 use Rattle.registry_rules.proofs.RunLemmas.{legal_before}
 use Rattle.registry_rules.proofs.FollowLemmas.{Follows, legal_follows}
@@ -54,7 +54,7 @@ state_is h i petition e = state_by (nat_eq i 0) (slice_get (asked h) (i - 1)) (s
 
 -- No deed closes a petition past the count.
 
-given_other : {A : Type 0} (id i : ℕ) (answer : A) (so_far : Option A) → id < i → so_far ≡ None → option_or (given (nat_eq id i) answer) so_far ≡ None
+given_other : {A : Type 0} (id i : ℕ) (answer : A) (so_far : Option A) → id < i → so_far ≡ None → option_or (answer_if (nat_eq id i) answer) so_far ≡ None
 given_other id i answer so_far less none = let ne : id ≢ i = omega arith in rw (ne_eqb id i ne) none
 
 unclosed_now : (h : History) (caller : List ℕ) (act : Act) (i : ℕ) → Follows h caller act → (length (asked h) < i → last_of (λ deed. closes i deed.act) h.deeds ≡ None) →

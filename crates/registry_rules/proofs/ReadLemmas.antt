@@ -10,13 +10,12 @@ use Rattle.std.proofs.lemmas.Fmt.{decimal_is_IsNumeral}
 use Rattle.std.proofs.lemmas.List.Elements.{recursion_from_All}
 use Rattle.std.proofs.lemmas.Bool.{or_parts, eqb-false, eq-eqb, and_from, cases_lt, cases_eq}
 use Rattle.std.proofs.lemmas.Bool.Decides.{nat_tests}
-use Rattle.usbnum_core.specs.Number.{IsNumber, digits_of, lower_hex_digit, code_of}
+use Rattle.usbnum_core.specs.Number.{IsId, digits_of, lower_hex_digit, code_of}
 use Rattle.usbnum_core.specs.Text.{IsTitle}
 use Rattle.usbnum_core.specs.declared.number.Span.{Span}
 use Rattle.usbnum_core.proofs.DigitLemmas.{digits_read}
 use Rattle.usbnum_core.proofs.SameSpansLemmas.{span_decides}
-use Rattle.registry_rules.specs.CanonicalForm.{fields_of, canonical_form, number_field, vendor_fields, item_field}
-use Rattle.registry_rules.specs.Orders.{IsOrder, IsItem, IsNumberIfAny}
+use Rattle.registry_rules.specs.Orders.{fields_of, canonical_form, number_field, vendor_fields, item_field, IsOrder, IsItem, IsIdIfAny}
 use Rattle.registry_rules.proofs.FieldLemmas.{HasNoTab, same_fields, slug_has_no_tab, title_has_no_tab, link_has_no_tab}
 use Rattle.registry_rules.specs.declared.item.Item.{Item}
 use Rattle.registry_rules.specs.declared.record.Terms.{Terms}
@@ -124,10 +123,10 @@ code_reads n within = ⊎_elim
     (λ (z : n ≡ 0 → ⊥). code_by (code_of (digits_of n)) n (digits_read n (record { above = omega (arith, z); within = within })))
     (cases_eq n 0)
 
-number_reads : (n : ℕ) → IsNumber n → unwrap_or (code_of (digits_of n)) 0 ≡ n
+number_reads : (n : ℕ) → IsId n → unwrap_or (code_of (digits_of n)) 0 ≡ n
 number_reads n valid = ap (λ found. unwrap_or found 0) (code_reads n valid.within)
 
-named_reads : (number : Option ℕ) → IsNumberIfAny number → code_of (number_field number) ≡ number
+named_reads : (number : Option ℕ) → IsIdIfAny number → code_of (number_field number) ≡ number
 named_reads None valid = refl
 named_reads (Some number) valid = code_reads number valid.within
 
@@ -135,7 +134,7 @@ named_reads (Some number) valid = code_reads number valid.within
 abbrev at : List (List ℕ) → ℕ → List ℕ
 at fields i = slice_index_or fields i []
 
-vendor_reads : (vendor : Option ℕ) → IsNumberIfAny vendor → code_of (at (vendor_fields vendor) 0) ≡ vendor
+vendor_reads : (vendor : Option ℕ) → IsIdIfAny vendor → code_of (at (vendor_fields vendor) 0) ≡ vendor
 vendor_reads None valid = refl
 vendor_reads (Some vid) valid = code_reads vid valid.within
 
@@ -172,14 +171,14 @@ abbrev items_read : List (List ℕ) → List Item
 items_read [] = []
 items_read (field ∷ fields) = if is_some (code_of field) then map item_read fields else map item_read (field ∷ fields)
 
-items_are : (vendor : Option ℕ) (items : List Item) → IsNumberIfAny vendor → AllByRecursion IsItem items → items_read (vendor_fields vendor ++ map item_field items) ≡ items
+items_are : (vendor : Option ℕ) (items : List Item) → IsIdIfAny vendor → AllByRecursion IsItem items → items_read (vendor_fields vendor ++ map item_field items) ≡ items
 items_are None [] valid each = refl
 items_are None (item ∷ items) valid each = each_reads (item ∷ items) each
 items_are (Some vid) items valid each =
     ap (λ found. if is_some found then map item_read (map item_field items) else map item_read (digits_of vid ∷ map item_field items)) (code_reads vid valid.within)
     ∙ each_reads items each
 
-vendor_is : (vendor : Option ℕ) (items : List Item) → IsNumberIfAny vendor → code_of (at (vendor_fields vendor ++ map item_field items) 0) ≡ vendor
+vendor_is : (vendor : Option ℕ) (items : List Item) → IsIdIfAny vendor → code_of (at (vendor_fields vendor ++ map item_field items) 0) ≡ vendor
 vendor_is None [] valid = refl
 vendor_is None (item ∷ items) valid = refl
 vendor_is (Some vid) items valid = code_reads vid valid.within
@@ -202,7 +201,7 @@ span_by : (span : Span) (first last : ℕ) → first ≡ span.first → last ≡
 span_by span first last p q =
     ap (λ a. span_from a last (cases_lt last a)) p ∙ ap (λ b. span_from span.first b (cases_lt b span.first)) q ∙ span_is span (cases_lt span.last span.first)
 
-span_reads : (span : Span) → IsNumber span.first → IsNumber span.last → span_read (digits_of span.first) (digits_of span.last) ≡ Some span
+span_reads : (span : Span) → IsId span.first → IsId span.last → span_read (digits_of span.first) (digits_of span.last) ≡ Some span
 span_reads span p q =
     span_by span (unwrap_or (code_of (digits_of span.first)) 0) (unwrap_or (code_of (digits_of span.last)) 0) (number_reads span.first p) (number_reads span.last q)
 

@@ -7,17 +7,17 @@ use Rattle.std.specs.Str.{bytes_eq}
 use Rattle.std.proofs.lemmas.List.Folds.{find-append, list_any-append}
 use Rattle.usbnum_core.specs.Spans.{span_has, spans_have}
 use Rattle.usbnum_core.specs.declared.number.Number.{Number}
-use Rattle.registry_rules.specs.Number.{is_number}
+use Rattle.registry_rules.specs.Number.{number_eq}
 use Rattle.std.specs.Option.{option_or}
 use Rattle.registry_rules.specs.History.{History, with_deed, last_of, all_of}
 use Rattle.registry_rules.specs.Query.{enrolled, asked, open_count, owner_of, is_reserved, is_fixed, is_licence, licences, vendors, item_of, adds_licence, adds_vendor, reserves}
 use Rattle.registry_rules.specs.Records.{LeadsTo}
 use Rattle.registry_rules.specs.Changes.{act_changes}
 use Rattle.registry_rules.specs.Run.{Legal}
-use Rattle.registry_rules.specs.Sets.{count_at, numbers_at}
-use Rattle.registry_rules.specs.FactsOf.{IsFoundingOf, AreVendorsOf}
+use Rattle.registry_rules.specs.Sets.{count_at, spans_at}
+use Rattle.registry_rules.specs.FactsOf.{IsCurrentFounding, AreVendorsOf}
 use Rattle.registry_rules.specs.TotalsOf.{IsSummary, AreTotalsOf}
-use Rattle.registry_rules.specs.Carrying.{Asks, Closes, HasTaken, Reserves, Releases, Imports, Allows, Carries}
+use Rattle.registry_rules.specs.Carrying.{CarriesAsks, CarriesCloses, HasTaken, CarriesReserves, Releases, CarriesImports, Allows, Carries}
 use Rattle.registry_rules.specs.Verdict.{verdict, standing_at}
 use Rattle.registry_rules.proofs.FollowLemmas.{CanEnrol, CanAsk, CanGrant, CanClose, CanRelease, CanImport, Follows, new_follows}
 use Rattle.registry_rules.proofs.RunLemmas.{legal_new}
@@ -38,7 +38,7 @@ use Rattle.registry_rules.specs.declared.order.Request.{Request}
 use Rattle.registry_rules.specs.declared.record.Org.{Org}
 use Rattle.registry_rules.specs.declared.record.Petition.{Petition}
 use Rattle.registry_rules.specs.declared.record.Card.{Card}
-use Rattle.registry_rules.specs.declared.record.PetitionState.TheVariants.{Granted as IsGranted, Declined as IsDeclined, Withdrawn as IsWithdrawn}
+use Rattle.registry_rules.specs.declared.record.PetitionState.TheVariants.{Granted as StateGranted, Declined as StateDeclined, Withdrawn as StateWithdrawn}
 use Rattle.registry_rules.specs.declared.record.Vendor.{Vendor}
 use Rattle.registry_rules.specs.declared.name.NumberName.{NumberName}
 use Rattle.registry_rules.specs.declared.name.SpanName.{SpanName}
@@ -46,7 +46,7 @@ use Rattle.registry_rules.specs.declared.totals.Totals.{Totals}
 use Rattle.registry_rules.specs.declared.verdict.Verdict.TheVariants.{New}
 
 -- a deed that adds no licence keeps the founding
-keeps_founding : (h : History) (deed : Deed) (founding : Founding) → adds_licence deed.act ≡ None → IsFoundingOf h founding → IsFoundingOf (with_deed h deed) founding
+keeps_founding : (h : History) (deed : Deed) (founding : Founding) → adds_licence deed.act ≡ None → IsCurrentFounding h founding → IsCurrentFounding (with_deed h deed) founding
 keeps_founding h deed founding none s = record {
   vendor = s.vendor;
   name = s.name;
@@ -93,7 +93,7 @@ enrolled_more h caller key order org old new can is s =
 -- an ask: one more petition, which is open
 asked_more : (h : History) (caller key : List ℕ) (order : Order) (id : ℕ) (petition : Petition) (old new : Totals) → CanAsk h caller id petition
     → LeadsTo (act_changes (Asked id petition)) h (with_deed h (the_deed caller key order (Asked id petition)))
-    → Asks old new petition.org → IsSummary h old → IsSummary (with_deed h (the_deed caller key order (Asked id petition))) new
+    → CarriesAsks old new petition.org → IsSummary h old → IsSummary (with_deed h (the_deed caller key order (Asked id petition))) new
 asked_more h caller key order id petition old new can leads is s =
     let deed = the_deed caller key order (Asked id petition) in
     let few : length (asked h) < 4294967295 = below_limit (length (asked h)) MOST_PETITIONS 4294967295 can.below (omega arith) in
@@ -117,7 +117,7 @@ asked_more h caller key order id petition old new can leads is s =
 -- a grant: one fewer open petition, and one more number that is taken
 granted_more : (h : History) (caller key : List ℕ) (order : Order) (id : ℕ) (petition : Petition) (name : NumberName) (old mid new : Totals) → CanGrant h id petition name
     → LeadsTo (act_changes (Granted id petition name)) h (with_deed h (the_deed caller key order (Granted id petition name)))
-    → Closes old mid petition.org → HasTaken mid new name.number.vid name.number.pid → IsSummary h old → IsSummary (with_deed h (the_deed caller key order (Granted id petition name))) new
+    → CarriesCloses old mid petition.org → HasTaken mid new name.number.vid name.number.pid → IsSummary h old → IsSummary (with_deed h (the_deed caller key order (Granted id petition name))) new
 granted_more h caller key order id petition name old mid new can leads closes takes s =
     let deed = the_deed caller key order (Granted id petition name) in
     let now : new ≡ record old { still_open = mid.still_open; taken = new.taken } = takes.same ∙ ap (λ (m : Totals). record m { taken = new.taken }) closes.same in
@@ -127,19 +127,19 @@ granted_more h caller key order id petition name old mid new can leads closes ta
       orgs = s.orgs;
       petitions = s.petitions;
       still_open = λ slug. closes.closed slug ∙ ap (λ n. if bytes_eq petition.org slug then n - 1 else n) (s.still_open slug)
-          ∙ sym (open_after_close h (with_deed h deed) id petition (IsGranted name.number.pid) leads.petitions can.there can.was_open refl refl slug);
+          ∙ sym (open_after_close h (with_deed h deed) id petition (StateGranted name.number.pid) leads.petitions can.there can.was_open refl refl slug);
       taken = λ n. takes.taken n
-          ∙ ap (λ b. spans_have (numbers_at mid.taken n.vid) n.pid || b) (same_test name.number.vid name.number.pid n)
-          ∙ ap (λ (m : Totals). spans_have (numbers_at m.taken n.vid) n.pid || is_number n name.number) closes.same
-          ∙ ap (λ b. b || is_number n name.number) (s.taken n)
-          ∙ taken_more (owner_of h n) (is_reserved h n) (is_number n name.number) petition.org;
+          ∙ ap (λ b. spans_have (spans_at mid.taken n.vid) n.pid || b) (same_test name.number.vid name.number.pid n)
+          ∙ ap (λ (m : Totals). spans_have (spans_at m.taken n.vid) n.pid || number_eq n name.number) closes.same
+          ∙ ap (λ b. b || number_eq n name.number) (s.taken n)
+          ∙ taken_more (owner_of h n) (is_reserved h n) (number_eq n name.number) petition.org;
       reserved = s.reserved;
       nothing = s.nothing;
     })
 
 declined_less : (h : History) (caller key : List ℕ) (order : Order) (id : ℕ) (petition : Petition) (old new : Totals) → CanClose h id petition
     → LeadsTo (act_changes (Declined id petition)) h (with_deed h (the_deed caller key order (Declined id petition)))
-    → Closes old new petition.org → IsSummary h old → IsSummary (with_deed h (the_deed caller key order (Declined id petition))) new
+    → CarriesCloses old new petition.org → IsSummary h old → IsSummary (with_deed h (the_deed caller key order (Declined id petition))) new
 declined_less h caller key order id petition old new can leads is s =
     let deed = the_deed caller key order (Declined id petition) in
     subst (λ t. IsSummary (with_deed h deed) t) (sym is.same) (record {
@@ -148,7 +148,7 @@ declined_less h caller key order id petition old new can leads is s =
       orgs = s.orgs;
       petitions = s.petitions;
       still_open = λ slug. is.closed slug ∙ ap (λ n. if bytes_eq petition.org slug then n - 1 else n) (s.still_open slug)
-          ∙ sym (open_after_close h (with_deed h deed) id petition IsDeclined leads.petitions can.there can.was_open refl refl slug);
+          ∙ sym (open_after_close h (with_deed h deed) id petition StateDeclined leads.petitions can.there can.was_open refl refl slug);
       taken = s.taken;
       reserved = s.reserved;
       nothing = s.nothing;
@@ -156,7 +156,7 @@ declined_less h caller key order id petition old new can leads is s =
 
 withdrawn_less : (h : History) (caller key : List ℕ) (order : Order) (id : ℕ) (petition : Petition) (old new : Totals) → CanClose h id petition
     → LeadsTo (act_changes (Withdrawn id petition)) h (with_deed h (the_deed caller key order (Withdrawn id petition)))
-    → Closes old new petition.org → IsSummary h old → IsSummary (with_deed h (the_deed caller key order (Withdrawn id petition))) new
+    → CarriesCloses old new petition.org → IsSummary h old → IsSummary (with_deed h (the_deed caller key order (Withdrawn id petition))) new
 withdrawn_less h caller key order id petition old new can leads is s =
     let deed = the_deed caller key order (Withdrawn id petition) in
     subst (λ t. IsSummary (with_deed h deed) t) (sym is.same) (record {
@@ -165,7 +165,7 @@ withdrawn_less h caller key order id petition old new can leads is s =
       orgs = s.orgs;
       petitions = s.petitions;
       still_open = λ slug. is.closed slug ∙ ap (λ n. if bytes_eq petition.org slug then n - 1 else n) (s.still_open slug)
-          ∙ sym (open_after_close h (with_deed h deed) id petition IsWithdrawn leads.petitions can.there can.was_open refl refl slug);
+          ∙ sym (open_after_close h (with_deed h deed) id petition StateWithdrawn leads.petitions can.there can.was_open refl refl slug);
       taken = s.taken;
       reserved = s.reserved;
       nothing = s.nothing;
@@ -217,7 +217,7 @@ returned_same h caller key order name old new is s =
       nothing = s.nothing;
     })
 
-reserved_more : (h : History) (caller key : List ℕ) (order : Order) (name : SpanName) (old new : Totals) → Reserves old new name.vid name.span
+reserved_more : (h : History) (caller key : List ℕ) (order : Order) (name : SpanName) (old new : Totals) → CarriesReserves old new name.vid name.span
     → IsSummary h old → IsSummary (with_deed h (the_deed caller key order (Reserved name))) new
 reserved_more h caller key order name old new is s =
     let deed = the_deed caller key order (Reserved name) in
@@ -256,7 +256,7 @@ released_less h caller key order name old new legal can is s =
       nothing = s.nothing;
     })
 
-imported_more : (h : History) (caller key : List ℕ) (order : Order) (vid : ℕ) (org : List ℕ) (fresh : List Item) (tally : Tally) (old new : Totals) → CanImport h vid org fresh → Imports old new vid fresh
+imported_more : (h : History) (caller key : List ℕ) (order : Order) (vid : ℕ) (org : List ℕ) (fresh : List Item) (tally : Tally) (old new : Totals) → CanImport h vid org fresh → CarriesImports old new vid fresh
     → IsSummary h old → IsSummary (with_deed h (the_deed caller key order (Imported vid org fresh tally))) new
 imported_more h caller key order vid org fresh tally old new can is s =
     let deed = the_deed caller key order (Imported vid org fresh tally) in

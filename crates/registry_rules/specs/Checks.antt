@@ -52,12 +52,12 @@ by_curator curators caller = check (list_any (bytes_eq caller) curators) NotCura
 abbrev pub by_keeper : Org → Slug → Result Passed Refusal
 by_keeper org caller = check (bytes_eq org.keeper caller) NotKeeper
 
--- 3: the same for the organisation of a petition or of an owned number, which always exists
+-- 3: the same for the organisation of a petition or of a held number; in a legal history it exists
 abbrev pub by_known_keeper : Option Org → Slug → Result Passed Refusal
 by_known_keeper None caller = Err NotKeeper
 by_known_keeper (Some org) caller = by_keeper org caller
 
--- 6, 7: the petition exists and is open
+-- 6, 7: the petition, if it exists and is open
 abbrev pub open_petition : Option Petition → Result Petition Refusal
 open_petition petition = do
   petition ← present petition NoPetition
@@ -88,7 +88,8 @@ held_by_keeper standing known caller = do
   check standing.held NumberNotHeld
   by_known_keeper known caller
 
--- Each kind of order: its checks by their refusals, then its act. `outcome` in Verdict supplies the arguments.
+-- Each kind of order: its checks by their refusals, then its act. `outcome` in Verdict and `outcome_on` in OnFacts supply the
+-- arguments: `known` is the organisation concerned, if it exists; an argument of type ℕ is a count.
 
 -- Enrol: 5, 18
 abbrev pub enrol_checks : Option Org → ℕ → Org → Result Act Refusal
@@ -118,12 +119,12 @@ ask_checks known vendor_there allowed still_open petitions wanted caller petitio
 
 -- Grant: 2, 6, 7, 12, 8, 9, 10
 abbrev pub grant_checks : List Slug → VendorId → Option Petition → Option Standing → Slug → PetitionId → Result Act Refusal
-grant_checks curators founding petition chosen caller id = do
+grant_checks curators founding_vendor petition chosen caller id = do
   by_curator curators caller
   petition ← open_petition petition
   standing ← present chosen NoneFree
   can_be_given standing petition.org
-  Ok (Granted id petition (name_of founding standing.number))
+  Ok (Granted id petition (name_of founding_vendor standing.number))
 
 -- Decline: 2, 6, 7
 abbrev pub decline_checks : List Slug → Option Petition → Slug → PetitionId → Result Act Refusal
@@ -142,39 +143,39 @@ withdraw_checks petition known caller id = do
 
 -- Amend: 11, 3, 13
 abbrev pub amend_checks : VendorId → Standing → Option Org → Bool → Slug → Card → Result Act Refusal
-amend_checks founding standing known allowed caller card = do
+amend_checks founding_vendor standing known allowed caller card = do
   held_by_keeper standing known caller
   check allowed LicenceUnknown
-  Ok (CardAmended (name_of founding standing.number) card)
+  Ok (CardAmended (name_of founding_vendor standing.number) card)
 
 -- Return: 11, 3
 abbrev pub return_checks : VendorId → Standing → Option Org → Slug → Result Act Refusal
-return_checks founding standing known caller = do
+return_checks founding_vendor standing known caller = do
   held_by_keeper standing known caller
-  Ok (Returned (name_of founding standing.number))
+  Ok (Returned (name_of founding_vendor standing.number))
 
--- 15: no number of the span has an owner; the refusal names the least that has one
+-- 15, for Reserve: no number of the span has an owner; the refusal names the least that has one
 abbrev pub none_owned : VendorId → VendorId → Option ProductId → Result Passed Refusal
-none_owned founding vid None = Ok tt
-none_owned founding vid (Some pid) = Err (RangeOwned (name_of founding (number vid pid)))
+none_owned founding_vendor vid None = Ok tt
+none_owned founding_vendor vid (Some pid) = Err (RangeOwned (name_of founding_vendor (number vid pid)))
 
 -- Reserve: 2, 34, 16, 15
 abbrev pub reserve_checks : List Slug → VendorId → Bool → Bool → Option ProductId → Slug → VendorId → Span → Result Act Refusal
-reserve_checks curators founding vendor_there meets_fixed least_owned caller vid span = do
+reserve_checks curators founding_vendor vendor_there meets_fixed least_owned caller vid span = do
   by_curator curators caller
   check vendor_there NoVendor
   check (not meets_fixed) RangeFixed
-  none_owned founding vid least_owned
-  Ok (Reserved (span_name_of founding vid span))
+  none_owned founding_vendor vid least_owned
+  Ok (Reserved (span_name_of founding_vendor vid span))
 
 -- Release: 2, 34, 16, 17
 abbrev pub release_checks : List Slug → VendorId → Bool → Bool → Bool → Slug → VendorId → Span → Result Act Refusal
-release_checks curators founding vendor_there meets_fixed all_reserved caller vid span = do
+release_checks curators founding_vendor vendor_there meets_fixed all_reserved caller vid span = do
   by_curator curators caller
   check vendor_there NoVendor
   check (not meets_fixed) RangeFixed
   check all_reserved RangeNotReserved
-  Ok (Released (span_name_of founding vid span))
+  Ok (Released (span_name_of founding_vendor vid span))
 
 -- Import: 2, 4, 34, 19
 abbrev pub import_checks : List Slug → Option Org → Bool → List ItemClass → Slug → VendorId → Slug → List Item → Result Act Refusal

@@ -1,4 +1,4 @@
--- The texts of replies: to accepted requests, and of refusals.
+-- The texts of replies to accepted requests, and the numbers, names and texts of refusals.
 use Rattle.std.specs.Prelude.{ℕ, List, [], ◌++◌, codes, Option, Some, None, Bool, if◌then◌else◌}
 use Rattle.std.specs.Fmt.{decimal}
 use Rattle.usbnum_core.specs.Number.{digits_of}
@@ -15,15 +15,15 @@ use Rattle.registry_rules.specs.declared.refusal.Refusal.TheVariants.{KeyReused,
 abbrev pub vendor_text : Bool → VendorId → List ℕ
 vendor_text foreign vid = if foreign then digits_of vid ++ codes ":" else []
 
--- for example 0011, or cafe:0011
+-- the name of a number, for example `0011`, or `cafe:0011`
 abbrev pub number_text : NumberName → List ℕ
 number_text name = vendor_text name.foreign name.number.vid ++ digits_of name.number.pid
 
--- for example 2000-20ff, or cafe:2000-20ff
+-- the name of a span, for example `2000-20ff`, or `cafe:2000-20ff`
 abbrev pub span_text : SpanName → List ℕ
 span_text name = vendor_text name.foreign name.vid ++ digits_of name.span.first ++ codes "-" ++ digits_of name.span.last
 
--- for example: fresh 1, owned 0, reserved 0, doubled 0, untitled 0, zero 0
+-- the text of a tally, for example `fresh 1, owned 0, reserved 0, doubled 0, untitled 0, zero 0`
 abbrev pub tally_text : Tally → List ℕ
 tally_text tally =
     codes "fresh " ++ decimal tally.fresh ++ codes ", owned " ++ decimal tally.owned ++ codes ", reserved " ++ decimal tally.reserved
@@ -45,7 +45,7 @@ act_text (Imported vid org fresh tally) = codes "imported " ++ tally_text tally
 act_text (VendorAdded vendor name) = codes "added vendor " ++ digits_of vendor
 act_text (LicenceAdded licence) = codes "added licence " ++ licence
 
--- the number of a refusal; 20 to 32 are not refusals of the rules
+-- the number of a refusal. Other crates use 20 to 32, for bad input and for faults (docs/requests.md).
 abbrev pub refusal_number : Refusal → ℕ
 refusal_number KeyReused = 1
 refusal_number NotCurator = 2
@@ -101,7 +101,7 @@ refusal_detail (NumberOwned owner) = Some owner
 refusal_detail (RangeOwned name) = Some (number_text name)
 refusal_detail _ = None
 
--- for example NumberReserved, or NumberOwned: acme
+-- the text of a refusal, for example `NumberReserved`, or `NumberOwned: acme`
 abbrev pub name_and_detail : List ℕ → Option (List ℕ) → List ℕ
 name_and_detail name None = name
 name_and_detail name (Some detail) = name ++ codes ": " ++ detail

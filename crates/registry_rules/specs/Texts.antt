@@ -12,7 +12,7 @@ abbrev pub IsAscending : List (List ℕ) → Type 0
 IsAscending = IsStrictlySortedBy (slice_cmp nat_cmp)
 
 -- `ordered` has the texts of `given`, sorted and without repeats
-pub record AreInOrder (given ordered : List (List ℕ)) : Type 0 where
+pub record AreSorted (given ordered : List (List ℕ)) : Type 0 where
   pub ascending : IsAscending ordered
   pub same : (text : List ℕ) → list_any (bytes_eq text) ordered ≡ list_any (bytes_eq text) given
 

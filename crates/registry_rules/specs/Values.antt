@@ -1,13 +1,13 @@
 -- Names for the texts and numbers in requests, deeds and records. A text is the list of its bytes.
--- A caller sends a request: an order under a key. A deed is an accepted request with its effect, elsewhere called an event.
--- A record is the current data of an organisation, a petition, a number or a vendor.
+-- A caller sends a request: an order under a key. A deed (an event) is an accepted request with its effect, the act.
+-- A record is the current data of an organisation, a petition, a number (its entry), a reservation, a vendor or a licence.
 use Rattle.std.specs.Prelude.{ℕ, List}
 
 -- the short name of an organisation or a caller: a-z, 0-9 and hyphens
 abbrev pub Slug : Type 0
 Slug = List ℕ
 
--- the name that a caller gives a request, by which a repeat of it is recognised
+-- the caller's name for a request, by which a repeat of it is recognised; two callers may use the same key
 abbrev pub Key : Type 0
 Key = List ℕ
 
@@ -19,6 +19,7 @@ Title = List ℕ
 abbrev pub Link : Type 0
 Link = List ℕ
 
+-- the name of a licence that a product may have
 abbrev pub Licence : Type 0
 Licence = Title
 
@@ -30,7 +31,7 @@ VendorId = ℕ
 abbrev pub ProductId : Type 0
 ProductId = ℕ
 
--- the number of a petition: 1 for the first. A petition is an organisation's application for a USB number; it is open until
--- a curator grants or declines it or the organisation's keeper withdraws it.
+-- the ID of a petition, 1 for the first. A petition is an organisation's application for a USB number. It is open until a
+-- curator, who runs the registry, grants or declines it, or the keeper, who enrolled the organisation, withdraws it.
 abbrev pub PetitionId : Type 0
 PetitionId = ℕ

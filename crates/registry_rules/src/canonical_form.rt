@@ -4,7 +4,7 @@ ghost use Rattle.std.specs.Prelude.{◌≡◌, ◌++◌, ◌∷◌, Some, IfOk, 
 ghost use Rattle.std.specs.List.{join_with_byte};
 ghost use Rattle.std.specs.String.{string_bytes};
 ghost use Rattle.usbnum_core.specs.Number.{digits_of};
-ghost use Rattle.registry_rules.specs.CanonicalForm.{canonical_form, number_field, vendor_fields, terms_fields, item_field, after_tabs};
+ghost use Rattle.registry_rules.specs.Orders.{canonical_form, number_field, vendor_fields, terms_fields, item_field, after_tabs};
 
 use crate::{
     AddLicence, AddVendor, AmendOrg, CanonicalForm, Decline, Enrol, Grant, Item, Order, Release,
@@ -22,7 +22,7 @@ pub fn request_bytes(alloc: Global, request: &Request) -> Result<CanonicalForm, 
     Ok(CanonicalForm::new(order_text(alloc, &request.order)?.into_bytes()))
 }
 
-#[tactic(auto, unfolding(crate::specs::CanonicalForm::canonical_form))]
+#[tactic(auto, unfolding(crate::specs::Orders::canonical_form))]
 fn order_text(alloc: Global, order: &Order) -> Result<String, AllocError>
     ensures { IfOk result (λ text. string_bytes text ≡ canonical_form order.now) }
 {

@@ -1,7 +1,7 @@
 //! The effect of each kind of act on totals.
 
 ghost use Rattle.std.specs.Prelude.{◌≡◌, ◌<◌, ◌+◌, ◌++◌, ◌∷◌, [], OnOk};
-ghost use Rattle.registry_rules.specs.Carrying.{Asks, Closes, HasTaken, Reserves, Releases, Imports, Allows, Carries};
+ghost use Rattle.registry_rules.specs.Carrying.{CarriesAsks, CarriesCloses, HasTaken, CarriesReserves, Releases, CarriesImports, Allows, Carries};
 
 use crate::counting::{add_number, add_span, cut_span, one_less, one_more};
 use crate::summing::add_items;
@@ -51,14 +51,14 @@ fn enrolled(totals: &mut Totals)
 }
 
 fn asked(totals: &mut Totals, org: &Slug) -> Result<(), NoMemory>
-    ensures { OnOk result (Asks totals.old totals.new org.now) }
+    ensures { OnOk result (CarriesAsks totals.old totals.new org.now) }
 {
     totals.petitions = totals.petitions.saturating_add(1);
     one_more(&mut totals.still_open, org)
 }
 
 fn closed(totals: &mut Totals, org: &Slug) -> Result<(), NoMemory>
-    ensures { OnOk result (Closes totals.old totals.new org.now) }
+    ensures { OnOk result (CarriesCloses totals.old totals.new org.now) }
 {
     one_less(&mut totals.still_open, org)
 }
@@ -70,7 +70,7 @@ fn taken(totals: &mut Totals, vid: Vid, pid: Pid) -> Result<(), NoMemory>
 }
 
 fn reserved(totals: &mut Totals, vid: Vid, span: &Span) -> Result<(), NoMemory>
-    ensures { OnOk result (Reserves totals.old totals.new vid span.now) }
+    ensures { OnOk result (CarriesReserves totals.old totals.new vid span.now) }
 {
     let alloc = totals.alloc;
     add_span(alloc, &mut totals.taken, vid, span)?;
@@ -86,7 +86,7 @@ fn released(totals: &mut Totals, vid: Vid, span: &Span) -> Result<(), NoMemory>
 }
 
 fn imported(totals: &mut Totals, vid: Vid, fresh: &Items) -> Result<(), NoMemory>
-    ensures { OnOk result (Imports totals.old totals.new vid fresh.now) }
+    ensures { OnOk result (CarriesImports totals.old totals.new vid fresh.now) }
 {
     add_items(totals.alloc, &mut totals.taken, vid, fresh.as_slice())
 }

@@ -2,7 +2,7 @@
 
 ghost use Rattle.std.specs.Prelude.{◌≡◌, find};
 ghost use Rattle.std.specs.Option.{option_copied};
-ghost use Rattle.registry_rules.specs.Number.{is_number};
+ghost use Rattle.registry_rules.specs.Number.{number_eq};
 
 use crate::{CanonicalForm, Founding, Holding, Org, Petition, ReplyText, Vendors};
 use std::marker::Model;
@@ -40,7 +40,7 @@ impl Holdings {
 
     /// Returns the holding of the number, or None if the list has none.
     pub fn of(&self, number: Number) -> Option<&Holding>
-        ensures { option_copied result ≡ find (λ holding. is_number number holding.number) self.now }
+        ensures { option_copied result ≡ find (λ holding. number_eq number holding.number) self.now }
     {
         self.items.iter().find(|holding| holding.number == number)
     }
@@ -48,7 +48,7 @@ impl Holdings {
 
 /// What a registry keeps of an accepted request, by its caller and key, to recognise a repeat.
 #[derive(Clone, Debug, Drop)]
-pub struct Kept {
+pub struct KeptReply {
     /// The canonical form of its order.
     pub order: CanonicalForm,
     /// Its reply.
@@ -62,10 +62,11 @@ pub struct Facts<'a> {
     pub founding: &'a Founding,
     /// All vendors, the founding one included.
     pub vendors: &'a Vendors,
-    /// The vendor concerned: the one that the order means, or its petition's.
+    /// The vendor concerned: the one that the order means, or its petition's, otherwise the
+    /// founding vendor.
     pub vendor: Vid,
     /// What the registry keeps under the request's caller and key.
-    pub kept: Option<Kept>,
+    pub kept: Option<KeptReply>,
     /// The organisation concerned: the one that the order names, its petition's, or its number's
     /// owner.
     pub org: Option<Org>,

@@ -13,7 +13,7 @@ use crate::order_checks::{
 };
 use crate::rejection::Rejection;
 use crate::span_checks::{release, reserve};
-use crate::{Act, Deed, Facts, Kept, Order, Refusal, Request, Verdict, request_bytes};
+use crate::{Act, Deed, Facts, KeptReply, Order, Refusal, Request, Verdict, request_bytes};
 use std::alloc::{AllocError, Global};
 use usbnum_core::{NoMemory, Slug};
 
@@ -49,8 +49,8 @@ fn deed_of(request: &Request, act: Act) -> Result<Deed, AllocError>
     })
 }
 
-// The verdict on a request whose caller used the key before.
-fn repeated(alloc: Global, kept: &Kept, request: &Request) -> Result<Verdict, NoMemory>
+// The verdict on a request whose caller had one accepted under the same key.
+fn repeated(alloc: Global, kept: &KeptReply, request: &Request) -> Result<Verdict, NoMemory>
     ensures { IfOk result (λ found. (outcome : Result Act Refusal) → found ≡ verdict_by (Some kept.now) request.now outcome) }
 {
     let order = request_bytes(alloc, request)?;

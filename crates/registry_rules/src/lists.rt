@@ -3,7 +3,7 @@
 ghost use Rattle.std.specs.Prelude.{◌≡◌, ◌≤◌, ◌↔◌, ℕ, List, [], ◌∷◌, ◌++◌, IsTrue, IsSome, IfSome, OnOk, length};
 ghost use Rattle.std.specs.List.{list_any};
 ghost use Rattle.std.specs.Str.{bytes_eq};
-ghost use Rattle.registry_rules.specs.Texts.{AreInOrder};
+ghost use Rattle.registry_rules.specs.Texts.{AreSorted};
 
 use crate::limits::{MOST_CURATORS, MOST_LICENCES};
 use std::alloc::AllocError;
@@ -35,7 +35,7 @@ impl Curators {
     /// than `MOST_CURATORS` elements.
     pub fn new(slugs: Vec<Slug>) -> Option<Curators>
         ensures counted { IsSome result ↔ ((1 ≤ length slugs.items) × (length slugs.items ≤ MOST_CURATORS)) }
-        ensures same { IfSome result (AreInOrder slugs.items) }
+        ensures same { IfSome result (AreSorted slugs.items) }
     {
         if slugs.is_empty() || slugs.len() > MOST_CURATORS {
             return None;
@@ -110,7 +110,7 @@ impl Licences {
     /// than `MOST_LICENCES` elements.
     pub fn new(titles: Vec<Title>) -> Option<Licences>
         ensures counted { IsSome result ↔ ((1 ≤ length titles.items) × (length titles.items ≤ MOST_LICENCES)) }
-        ensures same { IfSome result (AreInOrder titles.items) }
+        ensures same { IfSome result (AreSorted titles.items) }
     {
         if titles.is_empty() || titles.len() > MOST_LICENCES {
             return None;
@@ -123,7 +123,7 @@ impl Licences {
     // Adds a title. Returns NoMemory also if the list has `MOST_LICENCES`. At NoMemory nothing is
     // changed.
     pub(crate) fn add(&mut self, title: Title) -> Result<(), NoMemory>
-        ensures { OnOk result (AreInOrder (self.old ++ title ∷ []) self.new) }
+        ensures { OnOk result (AreSorted (self.old ++ title ∷ []) self.new) }
     {
         if self.titles.len() >= MOST_LICENCES {
             return Err(NoMemory);
@@ -176,7 +176,7 @@ impl Clone for Licences {
 
 // The texts, sorted by their bytes and without repeats.
 fn in_order<R: TextRule>(texts: Vec<Text<R>>) -> Vec<Text<R>>
-    ensures same { AreInOrder texts.items result.items }
+    ensures same { AreSorted texts.items result.items }
     ensures some { 1 ≤ length texts.items → 1 ≤ length result.items }
     ensures most { length result.items ≤ length texts.items }
 {

@@ -135,6 +135,8 @@ pub struct AddLicence {
 }
 
 /// The order of a request. An order that may name a vendor and does not means the founding vendor.
+/// `Enrol` is for any caller, `AmendOrg`, `Ask`, `Withdraw`, `Amend` and `Return` for the keeper of
+/// the organisation concerned, and all other orders for curators.
 #[derive(Debug, Drop)]
 pub enum Order {
     /// Enrols an organisation.

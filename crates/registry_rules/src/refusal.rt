@@ -12,7 +12,7 @@ use usbnum_core::{NoMemory, Slug};
 /// The reason why the rules refuse a request. A refused request changes nothing.
 #[derive(Clone, Debug, PartialEq, Eq, Drop)]
 pub enum Refusal {
-    /// The caller used the key for another order.
+    /// The caller had another order accepted under the key.
     KeyReused,
     /// The caller is not a curator.
     NotCurator,

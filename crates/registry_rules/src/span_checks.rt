@@ -2,7 +2,7 @@
 
 ghost use Rattle.std.specs.Prelude.{◌≡◌};
 ghost use Rattle.registry_rules.specs.Gives.{Gives};
-ghost use Rattle.registry_rules.specs.OnFacts.{is_owned_in, least_with, span_meets_fixed, span_is_reserved, least_owned_in, outcome_on};
+ghost use Rattle.registry_rules.specs.OnFacts.{is_in_span, least_with, span_meets_fixed, span_is_reserved, least_owned_in, outcome_on};
 ghost use Rattle.registry_rules.specs.declared.order.Order.TheVariants as orders;
 
 use crate::checks::{check_curator, check_vendor, number_name, span_name};
@@ -26,7 +26,7 @@ fn is_reserved(reserved: &Spans, span: &Span) -> bool
 
 // Whether the holding's number is in the vendor's span.
 fn is_in(holding: &Holding, vid: Vid, span: &Span) -> bool
-    ensures { result ≡ is_owned_in holding.now vid span.now }
+    ensures { result ≡ is_in_span holding.now vid span.now }
 {
     holding.number.vid == vid
         && span.first() <= holding.number.pid

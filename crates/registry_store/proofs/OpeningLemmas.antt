@@ -53,4 +53,4 @@ pub stands_fresh : {S : Type 0} (g : Ghosts S) (it : Registry S g) (h : History)
     → ((s : S) (db : Trees) → IsTrue (g.view s).is_open → g.recovers s db → db ≡ (g.view s).committed)
     → is_poisoned it ≡ false → Legal h → AreTotalsOf h it.totals → IsFreshAt newest (state_of it) h → Represents it h
 stands_fresh g it h settled not_poisoned legal totals fresh =
-    record { not_poisoned = not_poisoned; counts = record { legal = legal; totals_are = totals }; at = at_rest g it.conn h settled fresh }
+    record { not_poisoned = not_poisoned; legal_with = record { legal = legal; totals_are = totals }; at = at_rest g it.conn h settled fresh }

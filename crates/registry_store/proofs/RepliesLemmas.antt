@@ -7,13 +7,13 @@ use Rattle.sqlite.specs.Store.{Ghosts}
 use Rattle.registry_rules.specs.declared.order.Request.{Request}
 use Rattle.registry_rules.specs.declared.verdict.Reply.{Reply}
 use Rattle.registry_rules.specs.History.{History}
-use Rattle.registry_rules.specs.Run.{answers}
+use Rattle.registry_rules.specs.Run.{replies_to}
 use Rattle.registry_tables.specs.Rows.{newest}
 use Rattle.registry_store.specs.declared.fault.Fault.{Fault}
 use Rattle.registry_store.specs.declared.replies.RunStop.TheVariants as stop
 use Rattle.registry_store.specs.declared.registry.Registry.{Registry}
 use Rattle.registry_store.specs.Promise.{Leaves, is_poisoned, state_of}
-use Rattle.registry_store.specs.Run.{IsPlace, IsStopped}
+use Rattle.registry_store.specs.Run.{IsAfterOrNext, IsStopped}
 use Rattle.registry_store.specs.RunTo.{HaveTaken, IsHalted, replies_between}
 use Rattle.registry_store.specs.Listed.{HasNoRoom, TakesReply}
 use Rattle.registry_store.proofs.RunLemmas.{take_answers}
@@ -28,13 +28,13 @@ listed old new (reply ∷ replies) taken =
 
 module _ (h : History) (rs : List Request) (a n : ℕ) (from : a ≤ n) (within : n < length rs) where
   between_count : length (replies_between h rs a n) ≡ n - a
-  between_count = omega (arith, length-drop a (answers h (take n rs)), answered_of h rs n (omega arith))
+  between_count = omega (arith, length-drop a (replies_to h (take n rs)), answered_of h rs n (omega arith))
 
   -- the replies between two places are a prefix of those from the first place on
-  between_front : replies_between h rs a n ≡ take (n - a) (drop a (answers h rs))
+  between_front : replies_between h rs a n ≡ take (n - a) (drop a (replies_to h rs))
   between_front =
       let far : n ≡ a + (n - a) = omega arith in
-      ap (λ (replies : List Reply). drop a replies) (take_answers n h rs ∙ ap (λ k. take k (answers h rs)) far) ∙ drop-take a (n - a) (answers h rs)
+      ap (λ (replies : List Reply). drop a replies) (take_answers n h rs ∙ ap (λ k. take k (replies_to h rs)) far) ∙ drop-take a (n - a) (replies_to h rs)
 
 module _ {S : Type 0} {g : Ghosts S} (it : Registry S g) (h : History) (rs : List Request) (a n : ℕ) (old new : Vec Reply Global) (none : old.items ≡ []) where
   in_list : (middle : Vec Reply Global) → HaveTaken TakesReply old middle (replies_between h rs a n) → middle.items ≡ replies_between h rs a n
@@ -49,8 +49,8 @@ module _ {S : Type 0} {g : Ghosts S} (it : Registry S g) (h : History) (rs : Lis
       let end : n ≡ a + length new.items = omega (arith, count, halted.from) in
       record {
         within = omega (arith, end, halted.within);
-        front = items ∙ between_front h rs a n halted.from halted.within ∙ ap (λ k. take k (drop a (answers h rs))) (sym count);
-        leaves = subst (λ k. Leaves newest (state_of it) (IsPlace h rs k)) end halted.leaves;
+        front = items ∙ between_front h rs a n halted.from halted.within ∙ ap (λ k. take k (drop a (replies_to h rs))) (sym count);
+        leaves = subst (λ k. Leaves newest (state_of it) (IsAfterOrNext h rs k)) end halted.leaves;
         kind = last.1;
         ends = inl poisoned;
       }

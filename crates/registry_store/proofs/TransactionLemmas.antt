@@ -16,7 +16,7 @@ use Rattle.registry_rules.specs.declared.verdict.Verdict.{Verdict}
 use Rattle.registry_rules.specs.declared.verdict.Verdict.TheVariants.{New}
 use Rattle.registry_rules.specs.declared.change.Change.{Change}
 use Rattle.registry_rules.specs.History.{History, with_deed}
-use Rattle.registry_rules.specs.Run.{Legal, after_verdict, reply_of, after_one, answer_one}
+use Rattle.registry_rules.specs.Run.{Legal, after_verdict, reply_of, after_one, reply_to}
 use Rattle.registry_rules.specs.TotalsOf.{AreTotalsOf}
 use Rattle.registry_rules.specs.Records.{LeadsTo}
 use Rattle.registry_rules.specs.Verdict.{verdict}
@@ -26,7 +26,7 @@ use Rattle.registry_tables.specs.Rows.{Rows, HoldsRows, HoldsUnkept, newest}
 use Rattle.registry_tables.specs.Calls.{IsKeptAs}
 use Rattle.registry_tables.specs.Finds.{Finds}
 use Rattle.registry_tables.proofs.RowsLemmas.{enters, goes_out}
-use Rattle.registry_store.specs.Promise.{Counts, IsAt}
+use Rattle.registry_store.specs.Promise.{IsLegalWith, IsAt}
 use Rattle.registry_store.specs.Attempt.{CommitsOne, Wrote}
 use Rattle.registry_store.proofs.OpeningLemmas.{rows_now}
 
@@ -78,7 +78,7 @@ commits_none g old begun mid end is first ends R =
 pub never_foreign : {S : Type 0} (g : Ghosts S) (old begun mid end : Held S) → begun ≡ record old { in_transaction = true } → IsLive (state g old) → (before : Totals)
     → (HasCleanDisk (state g mid) → IsTrue (state g begun).in_transaction → IsTrue (state g begun).is_open × ((h : History) → Legal h → ¬ HoldsRows newest (state g begun).now h))
     → CommitsNothing (state g begun) (state g mid) → CommitsNothing (state g mid) (state g end)
-    → HasCleanDisk (state g end) → (h : History) → Counts before h → IsAt newest (state g old) h → ⊥
+    → HasCleanDisk (state g end) → (h : History) → IsLegalWith before h → IsAt newest (state g old) h → ⊥
 never_foreign g old begun mid end is live before none first ends clean h counts at =
     let mids : HasCleanDisk (state g mid) = omega (arith, ends.clean) in
     let start : HasCleanDisk (state g begun) = omega (arith, first.clean) in
@@ -106,7 +106,7 @@ module _ {S : Type 0} (g : Ghosts S) (old begun mid : Held S) (is : begun ≡ re
     wrote_at : HasCleanDisk (state g last) → Wrote (state g mid) (state g last) before after r d
     wrote_at clean = let early : HasCleanDisk (state g mid) = omega (arith, second.clean) in wrote clean (judged early inside).0.mode (judged early inside).0.is_open
 
-    says_new : HasCleanDisk (state g last) → (h : History) → Counts before h → HoldsRows newest (state g begun).now h → verdict h r ≡ New d
+    says_new : HasCleanDisk (state g last) → (h : History) → IsLegalWith before h → HoldsRows newest (state g begun).now h → verdict h r ≡ New d
     says_new clean h counts it = let early : HasCleanDisk (state g mid) = omega (arith, second.clean) in sym (((judged early inside).1 h counts.legal it).1 counts.totals_are) ∙ new
 
     was_open : HasCleanDisk (state g last) → IsTrue (state g old).is_open
@@ -139,8 +139,8 @@ module _ {S : Type 0} (g : Ghosts S) (old begun mid : Held S) (is : begun ≡ re
       pub answered : (settled : (s : S) (db : Trees) → IsTrue (g.view s).is_open → g.recovers s db → db ≡ (g.view s).committed)
           → (HasCleanDisk (state g end) → Shows (state g last) (state g end) (state g last).now (state g last).now false)
           → (reply : List ℕ) → reply ≡ act_text d.act
-          → HasCleanDisk (state g end) → (h : History) → Counts before h → IsAt newest (state g old) h
-          → (Done reply ≡ answer_one h r) × Counts after (after_one h r) × IsAt newest (state g end) (after_one h r)
+          → HasCleanDisk (state g end) → (h : History) → IsLegalWith before h → IsAt newest (state g old) h
+          → (Done reply ≡ reply_to h r) × IsLegalWith after (after_one h r) × IsAt newest (state g end) (after_one h r)
       answered settled went reply said clean h counts at =
           let late : HasCleanDisk (state g last) = omega (arith, third.clean) in
           let mids : HasCleanDisk (state g mid) = omega (arith, second.clean) in
@@ -166,7 +166,7 @@ module _ {S : Type 0} (g : Ghosts S) (old begun mid : Held S) (is : begun ≡ re
 
   module _ (end : Held S) (ends : CommitsNothing (state g mid) (state g end)) where
     -- the verdict is that of the history
-    pub said_of : HasCleanDisk (state g end) → (h : History) → Counts before h → IsAt newest (state g old) h → v ≡ verdict h r
+    pub said_of : HasCleanDisk (state g end) → (h : History) → IsLegalWith before h → IsAt newest (state g old) h → v ≡ verdict h r
     said_of clean h counts at =
         let mids : HasCleanDisk (state g mid) = omega (arith, ends.clean) in
         let start : HasCleanDisk (state g begun) = omega (arith, first.clean) in
@@ -180,8 +180,8 @@ module _ {S : Type 0} (g : Ghosts S) (old begun mid : Held S) (is : begun ≡ re
 
     -- the transaction was rolled back, after a verdict that changes nothing
     pub as_before : (HasCleanDisk (state g end) → IsRolledBack (state g mid) (state g end)) → (reply : Reply) → reply_of v ≡ reply → ((h : History) → after_verdict h v ≡ h)
-        → HasCleanDisk (state g end) → (h : History) → Counts before h → IsAt newest (state g old) h
-        → (reply ≡ answer_one h r) × Counts before (after_one h r) × IsAt newest (state g end) (after_one h r)
+        → HasCleanDisk (state g end) → (h : History) → IsLegalWith before h → IsAt newest (state g old) h
+        → (reply ≡ reply_to h r) × IsLegalWith before (after_one h r) × IsAt newest (state g end) (after_one h r)
     as_before back reply is_reply same_history clean h counts at =
         let mids : HasCleanDisk (state g mid) = omega (arith, ends.clean) in
         let start : HasCleanDisk (state g begun) = omega (arith, first.clean) in
@@ -195,7 +195,7 @@ module _ {S : Type 0} (g : Ghosts S) (old begun mid : Held S) (is : begun ≡ re
         let undone = back clean in
         let committed : (state g mid).committed ≡ (state g old).committed = subst (λ b. (state g mid).committed ≡ (state g b).committed) is same.committed_is in (
           sym is_reply ∙ ap reply_of said,
-          subst (Counts before) (sym history) counts,
+          subst (IsLegalWith before) (sym history) counts,
           subst (IsAt newest (state g end)) (sym history) (record {
             shown = λ _ still. let it = undone.undone still in (it.0 ∙ sym it.1, subst (λ db. Rows newest db.trees h) (sym (it.1 ∙ committed)) shown.1);
             left = λ _ db may. at.left start_old db (elim (none_at_all.crash clean db may) [ inl old_may ↦ old_may | inr none ↦ absurd none ]);

@@ -11,14 +11,14 @@ use Rattle.registry_rules.specs.TotalsOf.{AreTotalsOf}
 use Rattle.registry_rules.specs.Verdict.{verdict}
 use Rattle.registry_rules.specs.Run.{after_one}
 use Rattle.registry_tables.specs.Rows.{Rows, HoldsRows, newest}
-use Rattle.registry_store.specs.Promise.{Counts}
+use Rattle.registry_store.specs.Promise.{IsLegalWith}
 
 -- what one request may commit
 abbrev pub CommitsOne : State → Totals → Request → Trees → Type 0
-CommitsOne old totals r db = IsTrue old.is_open × ((h : History) → Counts totals h → Rows newest old.now.trees h → Rows newest db (after_one h r))
+CommitsOne old totals r db = IsTrue old.is_open × ((h : History) → IsLegalWith totals h → Rows newest old.now.trees h → Rows newest db (after_one h r))
 
 -- the transaction shows the rows of the deed and its reply, and nothing is committed
 pub record Wrote (old new : State) (before after : Totals) (r : Request) (d : Deed) : Type 0 where
   pub shown : Shows old new new.now old.committed true
-  pub made : (h : History) → Counts before h → verdict h r ≡ New d → HoldsRows newest old.now h → HoldsRows newest new.now (with_deed h d)
-  pub carried : (h : History) → Counts before h → verdict h r ≡ New d → AreTotalsOf (with_deed h d) after
+  pub made : (h : History) → IsLegalWith before h → verdict h r ≡ New d → HoldsRows newest old.now h → HoldsRows newest new.now (with_deed h d)
+  pub carried : (h : History) → IsLegalWith before h → verdict h r ≡ New d → AreTotalsOf (with_deed h d) after

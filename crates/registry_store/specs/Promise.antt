@@ -25,25 +25,26 @@ LeavesFrom from s These = (db : Trees) → s.may_leave db → (h : History) × T
 abbrev pub LeavesLater : ℕ → State → History → Type 0
 LeavesLater v s h = (db : Trees) → s.may_leave db → (later : ℕ) × (v ≤ later) × Rows later db h
 
--- While the connection is open it shows the rows of the history, and a crash leaves only those.
+-- Over a clean disk: while the connection is open it shows the rows of the history, and a crash leaves only those.
 pub record IsAt (v : ℕ) (s : State) (h : History) : Type 0 where
   pub shown : HasCleanDisk s → IsTrue s.is_open → (s.now ≡ s.committed) × Rows v s.committed.trees h
   pub left : HasCleanDisk s → Leaves v s (λ x. x ≡ h)
 
--- The connection is open and at rest, and shows the rows of the history: a connection just opened.
+-- Over a clean disk: the connection is open and at rest, and shows the rows of the history. It was just opened.
 abbrev pub IsFreshAt : ℕ → State → History → Type 0
 IsFreshAt v s h = HasCleanDisk s → IsTrue s.is_open × (s.now ≡ s.committed) × Rows v s.committed.trees h
 
 -- the history is legal, and these are its totals
-pub record Counts (totals : Totals) (h : History) : Type 0 where
+pub record IsLegalWith (totals : Totals) (h : History) : Type 0 where
   pub legal : Legal h
   pub totals_are : AreTotalsOf h totals
 
--- whatever a call commits: no doubt and no fault is forgotten, and only a fault closes the connection
+-- This holds of every call, whatever it commits: an unclean disk stays unclean, a shielded store stays shielded, the count of
+-- faults never falls, and over a clean disk only a fault closes the connection.
 pub record Endures (old new : State) : Type 0 where
   pub clean : doubt old.is_clean ≤ doubt new.is_clean
   pub shield : old.IsShielded → new.IsShielded
-  pub counts : old.faults ≤ new.faults
+  pub faults_grow : old.faults ≤ new.faults
   pub closes : HasCleanDisk new → IsTrue old.is_open → IsTrue new.is_open ⊎ MoreFaults old.faults new.faults
 
 module _ {S : Type 0} {g : Ghosts S} where
@@ -54,13 +55,13 @@ module _ {S : Type 0} {g : Ghosts S} where
   abbrev pub state_of : Registry S g → State
   state_of it = state g it.conn
 
-  -- an earlier call had a fault
+  -- an earlier `act` had a fault
   abbrev pub is_poisoned : Registry S g → Bool
   is_poisoned it = it.poisoned
 
-  -- a registry represents a history: it is not poisoned, and its totals, its tables and what a crash may leave are those of
-  -- the history
+  -- a registry represents a legal history: it is not poisoned, its totals are those of the history, and over a clean disk so
+  -- are its tables and what a crash may leave
   pub record Represents (it : Registry S g) (h : History) : Type 0 where
     pub not_poisoned : is_poisoned it ≡ false
-    pub counts : Counts it.totals h
+    pub legal_with : IsLegalWith it.totals h
     pub at : IsAt newest (state_of it) h

@@ -9,11 +9,11 @@ ghost use Rattle.registry_rules.specs.Verdict.{verdict};
 ghost use Rattle.registry_rules.specs.declared.deed.Deed.{Deed};
 ghost use Rattle.registry_rules.specs.declared.verdict.Verdict.TheVariants as found;
 ghost use Rattle.registry_rules.specs.Reply.{act_text};
-ghost use Rattle.registry_rules.specs.Run.{after_one, answer_one};
+ghost use Rattle.registry_rules.specs.Run.{after_one, reply_to};
 ghost use Rattle.registry_rules.specs.TotalsOf.{AreTotalsOf};
 ghost use Rattle.registry_tables.specs.Finds.{Finds};
 ghost use Rattle.registry_tables.specs.Rows.{HoldsRows, newest};
-ghost use Rattle.registry_store.specs.Promise.{Counts, IsAt};
+ghost use Rattle.registry_store.specs.Promise.{IsLegalWith, IsAt};
 ghost use Rattle.registry_store.specs.Attempt.{CommitsOne, Wrote};
 
 use registry_rules::{
@@ -80,11 +80,11 @@ pub(crate) fn attempt<S: Alter>(
 ) -> Result<Reply, TableFault>
     requires { conn.old.in_transaction ≡ false }
     ensures idle { conn.new.in_transaction ≡ false }
-    ensures answered { HasCleanDisk (state S.Store conn.new) → IfOk result (λ reply. (h : History) → Counts totals.old h → IsAt newest (state S.Store conn.old) h
-        → (reply ≡ answer_one h request.now) × Counts totals.new (after_one h request.now) × IsAt newest (state S.Store conn.new) (after_one h request.now)) }
-    ensures open { HasCleanDisk (state S.Store conn.new) → OnOk result ((h : History) (deed : Deed) → Counts totals.old h → IsAt newest (state S.Store conn.old) h
+    ensures answered { HasCleanDisk (state S.Store conn.new) → IfOk result (λ reply. (h : History) → IsLegalWith totals.old h → IsAt newest (state S.Store conn.old) h
+        → (reply ≡ reply_to h request.now) × IsLegalWith totals.new (after_one h request.now) × IsAt newest (state S.Store conn.new) (after_one h request.now)) }
+    ensures open { HasCleanDisk (state S.Store conn.new) → OnOk result ((h : History) (deed : Deed) → IsLegalWith totals.old h → IsAt newest (state S.Store conn.old) h
         → verdict h request.now ≡ found.New deed → IsTrue (state S.Store conn.new).is_open) }
-    ensures foreign { HasCleanDisk (state S.Store conn.new) → result ≡ Err TableFault.Foreign → (h : History) → Counts totals.old h → IsAt newest (state S.Store conn.old) h → ⊥ }
+    ensures foreign { HasCleanDisk (state S.Store conn.new) → result ≡ Err TableFault.Foreign → (h : History) → IsLegalWith totals.old h → IsAt newest (state S.Store conn.old) h → ⊥ }
     ensures survives { Survives (state S.Store conn.old) (state S.Store conn.new) (CommitsOne (state S.Store conn.old) totals.old request.now) }
 {
     // For the proof only: the schema that the connection shows.

@@ -4,7 +4,7 @@ use Rattle.std.specs.List.{AllByRecursion}
 use Rattle.std.specs.Option.{option_map}
 use Rattle.sqlite_keyed.specs.Lists.{update_where}
 use Rattle.usbnum_core.specs.declared.number.Number.{Number}
-use Rattle.registry_rules.specs.Number.{is_number}
+use Rattle.registry_rules.specs.Number.{number_eq}
 use Rattle.registry_rules.specs.declared.record.Entry.{Entry}
 use Rattle.registry_rows.specs.Rows.{is_of}
 use Rattle.registry_rows.proofs.KeyLemmas.{turned}
@@ -23,18 +23,18 @@ found_changed {X} test p f keeps (x ∷ xs) = go (p x) refl (test x) refl (found
     go false is false there more = rw there more
 
 module _ (g : Entry → Entry) (number : Number) where
-  told : (n : Number) (b : Bool) (old : Option Entry) → is_number n number ≡ b
+  told : (n : Number) (b : Bool) (old : Option Entry) → number_eq n number ≡ b
       → (let here : Entry → Number × Entry = λ e. (n, e) in option_map (λ (e : Number × Entry). cond (is_of number e) (e.0, g e.1) e) (option_map here old) ≡ option_map here (cond b (option_map g old) old))
   told n true None is = refl
   told n false None is = refl
-  told n true (Some e) is = let same : is_number number n ≡ true = ap₂ ◌&&◌ (turned number.vid n.vid) (turned number.pid n.pid) ∙ is in rw same refl
-  told n false (Some e) is = let same : is_number number n ≡ false = ap₂ ◌&&◌ (turned number.vid n.vid) (turned number.pid n.pid) ∙ is in rw same refl
+  told n true (Some e) is = let same : number_eq number n ≡ true = ap₂ ◌&&◌ (turned number.vid n.vid) (turned number.pid n.pid) ∙ is in rw same refl
+  told n false (Some e) is = let same : number_eq number n ≡ false = ap₂ ◌&&◌ (turned number.vid n.vid) (turned number.pid n.pid) ∙ is in rw same refl
 
   pub entry_set : (entries : List (Number × Entry)) (n : Number) (old : Option Entry) → find (is_of n) entries ≡ option_map (λ e. (n, e)) old
-      → find (is_of n) (update_where (is_of number) (λ e. (e.0, g e.1)) entries) ≡ option_map (λ e. (n, e)) (if is_number n number then option_map g old else old)
+      → find (is_of n) (update_where (is_of number) (λ e. (e.0, g e.1)) entries) ≡ option_map (λ e. (n, e)) (if number_eq n number then option_map g old else old)
   entry_set entries n old was =
       found_changed (is_of n) (is_of number) (λ e. (e.0, g e.1)) (λ e. refl) entries
-      ∙ ap (option_map (λ (e : Number × Entry). cond (is_of number e) (e.0, g e.1) e)) was ∙ told n (is_number n number) old refl
+      ∙ ap (option_map (λ (e : Number × Entry). cond (is_of number e) (e.0, g e.1) e)) was ∙ told n (number_eq n number) old refl
 
   key_kept : (e : Number × Entry) → (cond (is_of number e) (e.0, g e.1) e).0 ≡ e.0
   key_kept e = let new : Number × Entry = (e.0, g e.1) in elim (is_of number e) as (λ b. (cond b new e).0 ≡ e.0) [ true ↦ refl | false ↦ refl ]
@@ -46,4 +46,4 @@ module _ (g : Entry → Entry) (number : Number) where
       apart : (others : List (Number × Entry)) → AllByRecursion (λ o. is_of o.0 e ≡ false) others
           → AllByRecursion (λ o. is_of o.0 (cond (is_of number e) (e.0, g e.1) e) ≡ false) (update_where (is_of number) (λ e. (e.0, g e.1)) others)
       apart [] all = tt
-      apart (o ∷ others) all = (ap₂ is_number (key_kept o) (key_kept e) ∙ all.0, apart others all.1)
+      apart (o ∷ others) all = (ap₂ number_eq (key_kept o) (key_kept e) ∙ all.0, apart others all.1)

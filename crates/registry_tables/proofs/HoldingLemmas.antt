@@ -7,7 +7,7 @@ use Rattle.sqlite_trees.specs.Tree.{IsAscending}
 use Rattle.sqlite_keyed.specs.Lists.{insert_sorted, sort_by}
 use Rattle.sqlite_keyed.proofs.ListLemmas.{filter-filter, slice_get-filter, ascending-filter, ascending_weaker}
 use Rattle.usbnum_core.specs.declared.number.Number.{Number}
-use Rattle.registry_rules.specs.Number.{is_number}
+use Rattle.registry_rules.specs.Number.{number_eq}
 use Rattle.registry_rules.specs.FactsOf.{holding_of}
 use Rattle.registry_rules.specs.History.{History}
 use Rattle.registry_rules.specs.Query.{owner_of, is_held, card_of}
@@ -75,7 +75,7 @@ holdings_are h legal entries are range n within =
     let inside : (e : Number × Entry) → at e ≡ true → there e ≡ true = λ e is.
     subst (λ (m : Number). (nat_eq m.vid range.vid && (nat_le range.span.first m.pid && nat_le m.pid range.span.last)) ≡ true) (same_number n e.0 is) (and_from _ _ (rw within.0 (eq_self n.vid)) within.1) in
     let apart = ascending-filter _ there entries (ascending_weaker _ (λ (a b : Number × Entry). at a ≡ true → at b ≡ false) (λ a b other here. only_one a b other here) entries are.once) in
-    find_each (λ (holding : Holding). is_number n holding.number) holding_at _
+    find_each (λ (holding : Holding). number_eq n holding.number) holding_at _
     ∙ ap (option_map holding_at) (find_sorted at by_number (filter there entries) apart ∙ find_among at there inside entries ∙ are.each n)
     ∙ holding_is h legal n
   where
@@ -87,4 +87,4 @@ holdings_are h legal entries are range n within =
       where
         go : (c : Bool) → is_of n b ≡ c → is_of n b ≡ false
         go false is = is
-        go true is = let same : b.0 ≡ a.0 = sym (same_number n b.0 is) ∙ same_number n a.0 here in absurd (let e : is_of b.0 a ≡ true = subst (λ (m : Number). is_number m a.0 ≡ true) (sym same) (number_same a.0) in cc)
+        go true is = let same : b.0 ≡ a.0 = sym (same_number n b.0 is) ∙ same_number n a.0 here in absurd (let e : is_of b.0 a ≡ true = subst (λ (m : Number). number_eq m a.0 ≡ true) (sym same) (number_same a.0) in cc)

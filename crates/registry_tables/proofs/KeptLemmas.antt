@@ -7,17 +7,17 @@ use Rattle.sqlite.specs.State.{State}
 use Rattle.sqlite_keyed.specs.Lists.{delete_where}
 use Rattle.table_laws.proofs.FoundLemmas.{apart_put}
 use Rattle.registry_rules.specs.History.{History, with_deed, sooner}
-use Rattle.registry_rules.specs.Query.{kept, given}
+use Rattle.registry_rules.specs.Query.{deed_under, answer_if}
 use Rattle.registry_rules.specs.Run.{Legal}
-use Rattle.registry_rules.specs.CanonicalForm.{canonical_form}
+use Rattle.registry_rules.specs.Orders.{canonical_form}
 use Rattle.registry_rules.specs.Verdict.{kept_of, kept_under, verdict, verdict_by}
 use Rattle.registry_rules.specs.declared.deed.Act.{Act}
 use Rattle.registry_rules.specs.declared.deed.Deed.{Deed}
-use Rattle.registry_rules.specs.declared.facts.Kept.{Kept}
+use Rattle.registry_rules.specs.declared.facts.KeptReply.{KeptReply}
 use Rattle.registry_rules.specs.declared.order.Request.{Request}
 use Rattle.registry_rules.specs.declared.refusal.Refusal.{Refusal}
 use Rattle.registry_rules.specs.declared.refusal.Refusal.TheVariants.{KeyReused}
-use Rattle.registry_rules.specs.declared.verdict.Verdict.TheVariants.{Kept as IsKept, Refused, New}
+use Rattle.registry_rules.specs.declared.verdict.Verdict.TheVariants.{Kept as VerdictKept, Refused, New}
 use Rattle.registry_rows.specs.declared.kept.KeptRow.{KeptRow}
 use Rattle.registry_rows.specs.Rows.{is_kept_under}
 use Rattle.registry_rows.specs.Tables.{Tables, Holds}
@@ -25,12 +25,12 @@ use Rattle.registry_tables.specs.Rows.{newest, AreKeptReplies, HoldsRows, HoldsU
 use Rattle.registry_tables.specs.Calls.{IsKeptAs}
 use Rattle.registry_tables.proofs.ViewLemmas.{same_bytes, kept_put}
 
-never_new : (b : Bool) (text : List ℕ) (refusal : Refusal) (deed : Deed) → cond b (IsKept text) (Refused refusal) ≡ New deed → ⊥
+never_new : (b : Bool) (text : List ℕ) (refusal : Refusal) (deed : Deed) → cond b (VerdictKept text) (Refused refusal) ≡ New deed → ⊥
 never_new true text refusal deed e = absurd cc
 never_new false text refusal deed e = absurd cc
 
 -- a new request has no kept reply yet
-new_unkept : (k : Option Kept) (request : Request) (result : Result Act Refusal) (deed : Deed) → verdict_by k request result ≡ New deed → k ≡ None
+new_unkept : (k : Option KeptReply) (request : Request) (result : Result Act Refusal) (deed : Deed) → verdict_by k request result ≡ New deed → k ≡ None
 new_unkept None request result deed is = refl
 new_unkept (Some other) request result deed is = absurd (never_new (bytes_eq other.order (canonical_form request.order)) other.reply KeyReused deed is)
 
@@ -38,12 +38,12 @@ nothing_kept : (o : Option Deed) → option_map kept_of o ≡ None → o ≡ Non
 nothing_kept None is = refl
 nothing_kept (Some deed) is = absurd cc
 
-unkept : (h : History) (deed : Deed) → Legal (with_deed h deed) → kept h deed.caller deed.key ≡ None
+unkept : (h : History) (deed : Deed) → Legal (with_deed h deed) → deed_under h deed.caller deed.key ≡ None
 unfolding Legal verdict
-unkept h deed legal = nothing_kept (kept h deed.caller deed.key) (new_unkept (kept_under h deed.caller deed.key) _ _ deed legal.1)
+unkept h deed legal = nothing_kept (deed_under h deed.caller deed.key) (new_unkept (kept_under h deed.caller deed.key) _ _ deed legal.1)
 
-one_step : (b : Bool) (earlier : Option Deed) (deed : Deed) (x : KeptRow) (row : Kept → KeptRow) → (b ≡ true → earlier ≡ None) → (b ≡ true → x ≡ row (kept_of deed))
-    → cond b (Some x) (option_map row (option_map kept_of earlier)) ≡ option_map row (option_map kept_of (sooner earlier (given b deed)))
+one_step : (b : Bool) (earlier : Option Deed) (deed : Deed) (x : KeptRow) (row : KeptReply → KeptRow) → (b ≡ true → earlier ≡ None) → (b ≡ true → x ≡ row (kept_of deed))
+    → cond b (Some x) (option_map row (option_map kept_of earlier)) ≡ option_map row (option_map kept_of (sooner earlier (answer_if b deed)))
 one_step true earlier deed x row none is = rw (none refl) (ap Some (is refl))
 one_step false earlier deed x row none is = refl
 
@@ -51,27 +51,27 @@ module _ (h : History) (deed : Deed) (legal : Legal (with_deed h deed)) (request
   abbrev row : KeptRow
   row = record { caller = request.caller; key = request.key; kept = record { order = order; reply = reply } }
 
-  abbrev under : List ℕ → List ℕ → Kept → KeptRow
+  abbrev under : List ℕ → List ℕ → KeptReply → KeptRow
   under caller key what = record { caller = caller; key = key; kept = what }
 
   row_is : (caller key : List ℕ) → request.caller ≡ caller → request.key ≡ key → row ≡ under caller key (kept_of deed)
   row_is caller key a b =
-      let kept_is : ◌≡◌ {A = Kept} (record { order = order; reply = reply }) (kept_of deed) =
+      let kept_is : ◌≡◌ {A = KeptReply} (record { order = order; reply = reply }) (kept_of deed) =
       ap (λ o. record { order = o; reply = reply }) (spelled ∙ ap canonical_form (sym keeps.order)) ∙ ap (λ r. record { order = canonical_form deed.order; reply = r }) keeps.said in
-      ap (λ (k : Kept). under request.caller request.key k) kept_is ∙ ap (λ c. under c request.key (kept_of deed)) a ∙ ap (λ k. under caller k (kept_of deed)) b
+      ap (λ (k : KeptReply). under request.caller request.key k) kept_is ∙ ap (λ c. under c request.key (kept_of deed)) a ∙ ap (λ k. under caller k (kept_of deed)) b
 
   kept_after : (rows : List KeptRow) → AreKeptReplies h rows → AreKeptReplies (with_deed h deed) (delete_where (λ other. is_kept_under request.caller request.key other) rows ++ row ∷ [])
   kept_after rows was = record {
     each = λ caller key.
         let b = bytes_eq request.caller caller && bytes_eq request.key key in
         let both = λ (yes : b ≡ true). and_parts (bytes_eq request.caller caller) (bytes_eq request.key key) yes in
-        let none : b ≡ true → kept h caller key ≡ None = λ yes.
+        let none : b ≡ true → deed_under h caller key ≡ None = λ yes.
         (let a = keeps.caller ∙ same_bytes request.caller caller (both yes).0 in let k = keeps.key ∙ same_bytes request.key key (both yes).1 in
         rw (sym a, sym k) (unkept h deed legal)) in
         let test : (bytes_eq deed.caller caller && bytes_eq deed.key key) ≡ b = rw (keeps.caller, keeps.key) refl in
         kept_put row rows caller key ∙ ap (λ o. cond b (Some row) o) (was.each caller key)
-        ∙ one_step b (kept h caller key) deed row (under caller key) none (λ yes. row_is caller key (same_bytes request.caller caller (both yes).0) (same_bytes request.key key (both yes).1))
-        ∙ ap (λ t. option_map (under caller key) (option_map kept_of (sooner (kept h caller key) (given t deed)))) (sym test);
+        ∙ one_step b (deed_under h caller key) deed row (under caller key) none (λ yes. row_is caller key (same_bytes request.caller caller (both yes).0) (same_bytes request.key key (both yes).1))
+        ∙ ap (λ t. option_map (under caller key) (option_map kept_of (sooner (deed_under h caller key) (answer_if t deed)))) (sym test);
     once = apart_put (λ a b. is_kept_under b.caller b.key a) row rows was.once;
   }
 

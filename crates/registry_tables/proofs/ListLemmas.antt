@@ -10,7 +10,7 @@ use Rattle.std.proofs.lemmas.Map.Text.{is_eq-slice_cmp}
 use Rattle.sqlite.specs.Effect.{Database}
 use Rattle.sqlite_keyed.specs.Lists.{sort_by}
 use Rattle.usbnum_core.specs.declared.number.Number.{Number}
-use Rattle.registry_rules.specs.Number.{is_number}
+use Rattle.registry_rules.specs.Number.{number_eq}
 use Rattle.registry_rules.specs.Texts.{IsAscending}
 use Rattle.registry_rules.specs.History.{History}
 use Rattle.registry_rules.specs.declared.record.Org.{Org}
@@ -81,7 +81,7 @@ told_apart a b apart = go (is_eq (by_number a b)) refl
         let both = both_equal (nat_cmp a.0.vid b.0.vid) (nat_cmp a.0.pid b.0.pid) is in
         let v = level a.0.vid b.0.vid both.0 in
         let p = level a.0.pid b.0.pid both.1 in
-        absurd (let here : is_number b.0 a.0 ≡ true = rw (v, p) (number_same b.0) in cc)
+        absurd (let here : number_eq b.0 a.0 ≡ true = rw (v, p) (number_same b.0) in cc)
 
 one_number : (n : Number) (a b : Number × Entry) → is_of n a ≡ true → is_of n b ≡ true → is_of b.0 a ≡ true
 one_number n a b x y = rw (sym (same_number n a.0 x), sym (same_number n b.0 y)) (number_same n)

@@ -20,7 +20,7 @@ use Rattle.registry_rules.specs.FactsOf.{AreVendorsOf}
 use Rattle.registry_rules.specs.History.{History, all_of, with_answer}
 use Rattle.registry_rules.specs.Query.{licences, adds_licence, is_reserved_by_order}
 use Rattle.registry_rules.specs.Run.{Legal}
-use Rattle.registry_rules.specs.Texts.{IsAscending, AreInOrder}
+use Rattle.registry_rules.specs.Texts.{IsAscending, AreSorted}
 use Rattle.registry_rules.specs.declared.deed.Act.{Act}
 use Rattle.registry_rules.specs.declared.deed.Act.TheVariants.{LicenceAdded}
 use Rattle.registry_rules.specs.declared.deed.Deed.{Deed}
@@ -74,13 +74,13 @@ module _ (h : History) (names given : List (List ℕ)) (is : given ≡ sort_by b
   pub curators_given : IsFounding h.founding → AreCurators h names → given ≡ h.founding.curators
   curators_given valid had = same_names given h.founding.curators (given_up had.once) valid.curators.ascending (λ name. any_given name ∙ had.each name)
 
-  pub curators_in_order : IsFounding h.founding → AreCurators h names → (ordered : List (List ℕ)) → AreInOrder given ordered → ordered ≡ h.founding.curators
+  pub curators_in_order : IsFounding h.founding → AreCurators h names → (ordered : List (List ℕ)) → AreSorted given ordered → ordered ≡ h.founding.curators
   curators_in_order valid had ordered in_order = same_names ordered h.founding.curators in_order.ascending valid.curators.ascending (λ name. in_order.same name ∙ any_given name ∙ had.each name)
 
   pub curators_fit : IsFounding h.founding → AreCurators h names → (1 ≤ length given) × (length given ≤ MOST_CURATORS)
   curators_fit valid had = let same = curators_given valid had in (subst (λ l. 1 ≤ length l) (sym same) valid.curators.some, subst (λ l. length l ≤ MOST_CURATORS) (sym same) valid.curators.most)
 
-  pub allowed_in_order : Legal h → AreLicences h names → (ordered : List (List ℕ)) → AreInOrder given ordered → AreAllowed h ordered
+  pub allowed_in_order : Legal h → AreLicences h names → (ordered : List (List ℕ)) → AreSorted given ordered → AreAllowed h ordered
   allowed_in_order legal had ordered in_order =
       let each = λ (name : List ℕ). in_order.same name ∙ any_given name ∙ had.each name in
       record { each = each; count = licences_counted h legal ordered each (ascending_distinct ordered in_order.ascending) }

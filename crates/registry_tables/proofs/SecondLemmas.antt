@@ -5,7 +5,7 @@ use Rattle.sqlite.specs.Effect.{Database}
 use Rattle.sqlite.specs.State.{State, IsUnchanged}
 use Rattle.sqlite_keyed.specs.Keyed.{insert_by}
 use Rattle.table_laws.specs.Inside.{GoesOn, StaysInside}
-use Rattle.usbnum_core.specs.Number.{IsNumber}
+use Rattle.usbnum_core.specs.Number.{IsId}
 use Rattle.usbnum_core.specs.Spans.{spans_have, IsSpread}
 use Rattle.usbnum_core.specs.declared.number.Number.{Number}
 use Rattle.usbnum_core.specs.declared.number.Span.{Span}
@@ -106,7 +106,7 @@ module _ (a s1 : State) (one : a.now.schema ≡ schema_1 → HasMore schema_1 (s
     pub first_raised : (s3 s4 s5 s6 : State) (given : List ℕ) (parts : List Span)
         → ((x : Second) → IsHeld s2.now x → IsUnchanged s2 s3 × (given ≡ x.numbers))
         → IsSpread 1 parts → ((n : ℕ) → spans_have parts n ≡ list_any (nat_eq n) given)
-        → ((vid : ℕ) → IsNumber vid → (t : Tables) (numbers : List ℕ) → HoldsSecond vid s3.now t numbers → HoldsSecond vid s4.now (record t { spans = fold (insert_by old_span_key) t.spans (map (owned vid) parts) }) numbers)
+        → ((vid : ℕ) → IsId vid → (t : Tables) (numbers : List ℕ) → HoldsSecond vid s3.now t numbers → HoldsSecond vid s4.now (record t { spans = fold (insert_by old_span_key) t.spans (map (owned vid) parts) }) numbers)
         → ((vid : ℕ) (t : Tables) (numbers : List ℕ) → HoldsSecond vid s4.now t numbers → HoldsSecond vid s5.now t [])
         → ((vid : ℕ) (t : Tables) (numbers : List ℕ) → HoldsSecond vid s5.now t numbers → HoldsSecond vid s6.now (record t { metas = insert_by meta_key t.metas (meta_by 2 meta.vendor meta.name) }) numbers)
         → (h : History) → HoldsOf 1 a.now h → HoldsOf 2 s6.now h
@@ -121,7 +121,7 @@ module _ (a s1 : State) (one : a.now.schema ≡ schema_1 → HasMore schema_1 (s
         let held = kept_held h t it.1 it.2 in
         let read = three _ held in
         let begun = subst (λ d. HoldsSecond vid d (unspanned (with_version 1 t)) numbers) (sym read.0.0.now_is) held in
-        let own : IsNumber vid = (subst (λ ms. Rattle.std.specs.List.AllByRecursion Rattle.registry_rows.specs.Rows.IsMeta ms) (ap (map (at_version 1)) it.2.metas) begun.rows.first.lasting.metas.valid).0.vendor in
+        let own : IsId vid = (subst (λ ms. Rattle.std.specs.List.AllByRecursion Rattle.registry_rows.specs.Rows.IsMeta ms) (ap (map (at_version 1)) it.2.metas) begun.rows.first.lasting.metas.valid).0.vendor in
         let put = four vid own _ _ begun in
         let left = five vid _ _ put in
         let said = six vid _ _ left in

@@ -240,7 +240,7 @@ module _ (cs : List Change) (h after : History) (founding : after.founding ≡ h
         fixed = rest.fixed ∙ had.fixed ∙ ap (λ (f : Founding). f.fixed) (sym founding);
         orgs = record { each = λ slug. view.orgs slug ∙ leads.orgs slug; once = view.orgs_once };
         vendors = λ vid. view.vendors vid ∙ leads.vendors vid;
-        spans = record { each = λ n. made.each n ∙ ap (after_all (reserved_changed n) cs) (had.spans.each n) ∙ leads.ordered n; apart = made.apart };
+        spans = record { each = λ n. made.each n ∙ ap (after_all (reserved_changed n) cs) (had.spans.each n) ∙ leads.reserved_by_order n; apart = made.apart };
         entries = record { each = λ n. view.entries n ∙ ap (option_map (λ entry. (n, entry))) (leads.entries n); once = view.entries_once };
         petitions = λ i. view.petitions i ∙ ap (option_map (λ petition. (i, petition))) (leads.petitions i);
       }

@@ -7,7 +7,7 @@ use Rattle.std.proofs.lemmas.Slice.Eq.{bytes_eq-Decides}
 use Rattle.sqlite_keyed.specs.Keyed.{insert_by}
 use Rattle.sqlite_keyed.specs.Lists.{delete_where}
 use Rattle.usbnum_core.specs.declared.number.Number.{Number}
-use Rattle.registry_rules.specs.Number.{is_number}
+use Rattle.registry_rules.specs.Number.{number_eq}
 use Rattle.registry_rules.specs.declared.record.Org.{Org}
 use Rattle.registry_rules.specs.declared.record.Entry.{Entry}
 use Rattle.registry_rules.specs.declared.record.Petition.{Petition}
@@ -22,10 +22,10 @@ same_bytes a b h = (bytes_eq-Decides a b).0 h
 pub bytes_same : (a : List ℕ) → bytes_eq a a ≡ true
 bytes_same a = (bytes_eq-Decides a a).1 refl
 
-pub same_number : (a b : Number) → is_number a b ≡ true → a ≡ b
+pub same_number : (a b : Number) → number_eq a b ≡ true → a ≡ b
 same_number a b h = let parts = and_parts _ _ h in let v = eqb-true a.vid b.vid parts.0 in let p = eqb-true a.pid b.pid parts.1 in let make : ℕ → ℕ → Number = λ vid pid. record { vid = vid; pid = pid } in ap₂ make v p
 
-pub number_same : (a : Number) → is_number a a ≡ true
+pub number_same : (a : Number) → number_eq a a ≡ true
 number_same a = and_from _ _ (eq-eqb a.vid a.vid refl) (eq-eqb a.pid a.pid refl)
 
 -- ---- organisations
@@ -41,10 +41,10 @@ entry_as true n number entry old same = let at : Number → Option (Number × En
 entry_as false n number entry old same = refl
 
 pub entry_put : (number : Number) (entry : Entry) (entries : List (Number × Entry)) (n : Number) (old : Option Entry) → find (is_of n) entries ≡ option_map (λ e. (n, e)) old
-    → find (is_of n) (delete_where (λ other. is_of number other) entries ++ (number, entry) ∷ []) ≡ option_map (λ e. (n, e)) (if is_number n number then Some entry else old)
+    → find (is_of n) (delete_where (λ other. is_of number other) entries ++ (number, entry) ∷ []) ≡ option_map (λ e. (n, e)) (if number_eq n number then Some entry else old)
 entry_put number entry entries n old was =
     found_after (λ (e : Number × Entry). e.0) is_of (λ e. number_same e.0) (λ k e h. same_number k e.0 h) (number, entry) entries n
-    ∙ (let there : Number × Entry = (number, entry) in ap (λ o. cond (is_number n number) (Some there) o) was) ∙ entry_as (is_number n number) n number entry old (same_number n number)
+    ∙ (let there : Number × Entry = (number, entry) in ap (λ o. cond (number_eq n number) (Some there) o) was) ∙ entry_as (number_eq n number) n number entry old (same_number n number)
 
 -- ---- petitions
 

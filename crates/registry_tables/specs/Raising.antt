@@ -41,7 +41,7 @@ EndsTwo old db = IsTrue old.is_open × ((h : History) → Rows 1 old.now.trees h
 abbrev pub CommitsTwo : State → Trees → Type 0
 CommitsTwo old db = IsTrue old.is_open × ((h : History) → Rows 1 old.now.trees h → Rows 2 db h ⊎ Rows newest db h)
 
--- what a migration may commit: the rows of the same history in a later schema
+-- what a migration may commit: the rows of the same history in this schema or a later one
 abbrev pub CommitsLater : State → Trees → Type 0
 CommitsLater old db = IsTrue old.is_open × ((h : History) (version : ℕ) → Rows version old.now.trees h → (later : ℕ) × (version ≤ later) × Rows later db h)
 

@@ -7,7 +7,7 @@ use Rattle.toml.specs.Parse.{parse_document}
 use Rattle.usbnum_core.specs.Number.{number_of}
 use Rattle.usbnum_core.specs.Spans.{span_has, spans_have}
 use Rattle.usbnum_core.specs.declared.number.Span.{Span}
-use Rattle.registry_rules.specs.Texts.{AreInOrder}
+use Rattle.registry_rules.specs.Texts.{AreSorted}
 use Rattle.registry_rules.specs.declared.limits.TheConstants.{MOST_CURATORS, MOST_LICENCES}
 use Rattle.registry_rules.specs.declared.founding.Founding.{Founding}
 use Rattle.registry_wire.specs.declared.refusal.WireRefusal.{WireRefusal}
@@ -15,7 +15,7 @@ use Rattle.registry_wire.specs.declared.refusal.WireRefusal.TheVariants.{BadFoun
 use Rattle.registry_wire.specs.declared.refusal.FoundingFault.{FoundingFault}
 use Rattle.registry_wire.specs.declared.refusal.FoundingFault.TheVariants.{Toml, Vendor, Name, Curators, Licences, Fixed}
 use Rattle.registry_wire.specs.Gives.{◌>>=◌, present}
-use Rattle.registry_wire.specs.Fields.{fault_name}
+use Rattle.registry_wire.specs.Names.{fault_name}
 use Rattle.registry_wire.specs.Kinds.{slug_of, title_of}
 use Rattle.registry_wire.specs.Spans.{span_of}
 
@@ -109,8 +109,8 @@ founding_listed bytes = do
 pub record Founds (listed : Listed) (founding : Founding) : Type 0 where
   pub vendor : founding.vendor ≡ listed.vendor
   pub name : founding.name ≡ listed.name
-  pub curators : AreInOrder listed.curators founding.curators
-  pub licences : AreInOrder listed.licences founding.licences
+  pub curators : AreSorted listed.curators founding.curators
+  pub licences : AreSorted listed.licences founding.licences
   pub fixed : (n : ℕ) → spans_have founding.fixed n ≡ list_any (λ span. span_has span n) listed.fixed
 
 -- the result is the founding with the values that the bytes list, or their first fault

@@ -1,10 +1,10 @@
 pub mod Decisions
-pub mod Fields
 pub mod Founding
 pub mod Gives
 pub mod Import
 pub mod Kinds
 pub mod Listing
+pub mod Names
 pub mod Reading
 pub mod Replies
 pub mod Spans

@@ -7,7 +7,8 @@ use Rattle.registry_rules.specs.Reply.{refusal_number, refusal_name, refusal_det
 use Rattle.usbids_text.specs.Faults.{line_fault_text}
 use Rattle.registry_wire.specs.declared.refusal.WireRefusal.{WireRefusal}
 use Rattle.registry_wire.specs.declared.refusal.WireRefusal.TheVariants.{BadHead, BadLength, TooLarge, ShortBody, NoRoute, WrongMethod, BadHeader, BadJson, BadField, BadList, StoreFault, NoMemory, BadFounding}
-use Rattle.registry_wire.specs.Fields as fields
+use Rattle.registry_wire.specs.Names.{fault_name, header_name}
+use Rattle.registry_wire.specs.Reading as reading
 
 -- the number of a refusal
 abbrev pub number_of : WireRefusal → ℕ
@@ -43,10 +44,10 @@ name_of (BadFounding fault) = codes "BadFounding"
 
 -- the name of the bad header or field, the faulty line of a list, or the bad key of a founding file
 abbrev pub detail_of : WireRefusal → Option (List ℕ)
-detail_of (BadHeader header) = Some (fields.header_name header)
-detail_of (BadField field) = Some (fields.name_of field)
+detail_of (BadHeader header) = Some (header_name header)
+detail_of (BadField field) = Some (reading.name_of field)
 detail_of (BadList fault) = Some (line_fault_text fault)
-detail_of (BadFounding fault) = Some (fields.fault_name fault)
+detail_of (BadFounding fault) = Some (fault_name fault)
 detail_of _ = None
 
 -- BadJson, or BadField: title

@@ -21,7 +21,7 @@ pub enum Field {
 
 impl Field {
     ghost use Rattle.std.specs.Prelude.{◌≡◌};
-    ghost use Rattle.registry_wire.specs.Fields.{name_of};
+    ghost use Rattle.registry_wire.specs.Reading.{name_of};
 
     /// Returns the field's name in JSON.
     pub fn name(self) -> &'static str

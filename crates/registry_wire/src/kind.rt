@@ -1,7 +1,7 @@
 //! The kinds of order in JSON, by name.
 
 ghost use Rattle.std.specs.Prelude.{◌≡◌};
-ghost use Rattle.registry_wire.specs.Fields.{kind_of};
+ghost use Rattle.registry_wire.specs.Reading.{kind_of};
 
 // The kind of order that the field `order` names.
 #[derive(Clone, Copy, Debug, PartialEq, Eq)]

@@ -1,7 +1,7 @@
 //! The refusals of input that come before the rules.
 
 ghost use Rattle.std.specs.Prelude.{◌≡◌, IfOk, Some};
-ghost use Rattle.registry_wire.specs.Fields.{fault_name};
+ghost use Rattle.registry_wire.specs.Names.{fault_name};
 ghost use Rattle.registry_wire.specs.Replies.{refusal_text};
 
 use crate::Field;
@@ -53,7 +53,7 @@ pub enum Header {
 
 impl Header {
     ghost use Rattle.std.specs.Prelude.{◌≡◌};
-    ghost use Rattle.registry_wire.specs.Fields.{header_name};
+    ghost use Rattle.registry_wire.specs.Names.{header_name};
 
     /// Returns the header's name, in lower case.
     pub fn name(self) -> &'static str
@@ -80,7 +80,7 @@ pub enum FoundingFault {
 
 impl FoundingFault {
     ghost use Rattle.std.specs.Prelude.{◌≡◌};
-    ghost use Rattle.registry_wire.specs.Fields.{fault_name};
+    ghost use Rattle.registry_wire.specs.Names.{fault_name};
 
     /// Returns the bad key, or `toml`.
     pub fn name(self) -> &'static str

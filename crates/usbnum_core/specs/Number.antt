@@ -2,7 +2,7 @@
 use Rattle.std.specs.Prelude.{ℕ, ◌+◌, ◌-◌, ◌*◌, ◌/◌, ◌%◌, ◌≤◌, List, [], ◌∷◌, ◌++◌, codes, Option, Some, None, option_and_then, nat_lt, nat_le, nat_eq, ◌&&◌, if◌then◌else◌}
 
 -- a number from 1 to 65,535
-pub record IsNumber (n : ℕ) : Type 0 where
+pub record IsId (n : ℕ) : Type 0 where
   pub above : 1 ≤ n
   pub within : n ≤ 65535
 

@@ -1,7 +1,7 @@
 //! The text of a number: four hexadecimal digits.
 
 ghost use Rattle.std.specs.Prelude.{◌≡◌, ◌*◌, ◌+◌, ◌-◌, ◌/◌, ◌%◌, ◌<◌, Some, All, IfSome};
-ghost use Rattle.usbnum_core.specs.Number.{IsNumber, hex_value, code_of, number_of, lower_hex_digit, digits_of};
+ghost use Rattle.usbnum_core.specs.Number.{IsId, hex_value, code_of, number_of, lower_hex_digit, digits_of};
 
 fn hex_digit(byte: u8) -> Option<u8>
     ensures value { result ≡ hex_value byte }
@@ -45,7 +45,7 @@ fn lower_digit(value: u16) -> u8
 pub fn four_digits(number: u16) -> [u8; 4]
     ensures digits { result ≡ digits_of number }
     ensures ascii { All (λ digit. digit < 128) result }
-    ensures reads_back { IsNumber number → number_of result ≡ Some number }
+    ensures reads_back { IsId number → number_of result ≡ Some number }
 {
     [
         lower_digit(number / 4096),

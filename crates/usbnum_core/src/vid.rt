@@ -2,7 +2,7 @@
 
 ghost use Rattle.std.specs.Prelude.{◌≡◌, ℕ, Some};
 ghost use Rattle.std.specs.Option.{SomeIff};
-ghost use Rattle.usbnum_core.specs.Number.{IsNumber, number_of, digits_of};
+ghost use Rattle.usbnum_core.specs.Number.{IsId, number_of, digits_of};
 
 use crate::code::{ascii_text, four_digits, parse_code};
 use std::fmt;
@@ -19,7 +19,7 @@ impl Model for Vid {
 
     ghost view = { λ a. a.number };
 
-    ghost invariant = { λ a. IsNumber a.number };
+    ghost invariant = { λ a. IsId a.number };
 
     ghost inverse = { λ n. record { number = n } };
 }
@@ -35,7 +35,7 @@ pub fn parse_vid(text: &[u8]) -> Option<Vid>
 impl Vid {
     /// Makes a vendor ID from a number, or returns None for 0.
     pub fn new(number: u16) -> Option<Vid>
-        ensures { SomeIff result (IsNumber number) number }
+        ensures { SomeIff result (IsId number) number }
     {
         if number == 0 {
             None
@@ -47,7 +47,7 @@ impl Vid {
     /// Returns the number, from 1 to 65,535.
     pub fn get(&self) -> u16
         ensures number { result ≡ self.now }
-        ensures valid { IsNumber result }
+        ensures valid { IsId result }
     {
         self.number
     }

@@ -1,7 +1,7 @@
 use Rattle.std.proofs.Common.{inl, inr, ap}
 use Rattle.std.specs.Prelude.{Err}
 use Rattle.registry_store.proofs.RunToLemmas.{once, once_left}
-use Rattle.registry_store.specs.RunTo.{MayBeActedOn}
+use Rattle.registry_store.specs.RunTo.{MayHaveBeenActedOn}
 use Rattle.registry_commands.specs.Failures.{IsOfOutput}
 use Rattle.registry_commands.proofs.ImportLemmas.{kind_of, not_of_output, nothing_of, of_act, replied}
 use Rattle.registry_commands.proofs.importing.act_on.Goals as goal
@@ -31,7 +31,7 @@ returns-in-Err g c =
         told = (
           c.failure_of.result,
           rw c.failure_of.ensures (
-            of_act it new (λ h. MayBeActedOn it h r) fault (λ e. c.in-Err.ensures.only_poisoned (ap Err e)) (λ h may clean. kind_of it new h r fault c.in-Err.ensures.kind may clean),
+            of_act it new (λ h. MayHaveBeenActedOn it h r) fault (λ e. c.in-Err.ensures.only_poisoned (ap Err e)) (λ h may clean. kind_of it new h r fault c.in-Err.ensures.kind may clean),
             not_of_output (g.W.Sink.failures c.args.output.now) fault,
           ),
           c.fail.ensures.told,

@@ -1,7 +1,8 @@
 use Rattle.std.proofs.Common.{◌++◌, length, refl, ap, arith}
 use Rattle.std.specs.Io.KnownBytes.{Consumes}
 use Rattle.std.proofs.Common.{length-append}
-use Rattle.registry_http.proofs.HeadLemmas.{consumes_none, consumes_then, all_of, has_no_request_nil, no_head_overflow, no_head_full, whole_head}
+use Rattle.byte_streams.proofs.StreamLemmas.{consumes_none, consumes_then, all_of}
+use Rattle.registry_http.proofs.HeadLemmas.{has_no_request_nil, no_head_overflow, no_head_full, whole_head}
 use Rattle.registry_http.proofs.head.read_head.Goals as goal
 
 pub loop-source-init : goal.loop-source-init

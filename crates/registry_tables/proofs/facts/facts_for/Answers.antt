@@ -9,7 +9,7 @@ use Rattle.registry_rules.specs.Query.{org_of}
 use Rattle.registry_rules.specs.TotalsOf.{AreTotalsOf}
 use Rattle.registry_rules.specs.Verdict.{least_for, kept_under}
 use Rattle.registry_rules.specs.declared.facts.Facts.{Facts}
-use Rattle.registry_rules.specs.declared.facts.Kept.{Kept}
+use Rattle.registry_rules.specs.declared.facts.KeptReply.{KeptReply}
 use Rattle.registry_rules.specs.declared.record.Holding.{Holding}
 use Rattle.registry_rules.specs.declared.record.Org.{Org}
 use Rattle.registry_rules.specs.declared.record.Petition.{Petition}
@@ -50,7 +50,7 @@ returns-in_err-petition-clause-found g c clean inside =
     let s1 = state g.S.Store c.kept_reply.new.tx.conn.now in
     let s2 = state g.S.Store c.petition_for.new.tx.conn.now in
     let AreFacts = λ (h : History) (facts : Facts). AreTotalsOf h c.args.totals.now → AreFactsOf h c.args.request.now facts in
-    let IsKept = λ (h : History) (x : Option Kept). x ≡ kept_under h c.args.request.now.caller c.args.request.now.key in
+    let IsKept = λ (h : History) (x : Option KeptReply). x ≡ kept_under h c.args.request.now.caller c.args.request.now.key in
     let IsPetition = λ (h : History) (x : Option Petition). x ≡ petition_named h c.args.request.now.order in
     let first : HasCleanDisk s1 = omega (arith, c.petition_for.ensures.survives.clean) in
     let F1 = λ (h : History). IsKept h c.in_ok-kept.kept in
@@ -65,7 +65,7 @@ returns-in_err-holdings-clause-found g c clean inside =
     let s2 = state g.S.Store c.petition_for.new.tx.conn.now in
     let s3 = state g.S.Store c.holdings_for.new.tx.conn.now in
     let AreFacts = λ (h : History) (facts : Facts). AreTotalsOf h c.args.totals.now → AreFactsOf h c.args.request.now facts in
-    let IsKept = λ (h : History) (x : Option Kept). x ≡ kept_under h c.args.request.now.caller c.args.request.now.key in
+    let IsKept = λ (h : History) (x : Option KeptReply). x ≡ kept_under h c.args.request.now.caller c.args.request.now.key in
     let IsPetition = λ (h : History) (x : Option Petition). x ≡ petition_named h c.args.request.now.order in
     let AreHeld = λ (h : History) (x : List Holding). (n : Number) → IsSomeAnd c.numbers_concerned-range.result (IsWithin n) → holding_in x n ≡ holding_of h n in
     let second : HasCleanDisk s2 = omega (arith, c.holdings_for.ensures.survives.clean) in
@@ -85,7 +85,7 @@ returns-in_err-org-clause-found g c clean inside =
     let s3 = state g.S.Store c.holdings_for.new.tx.conn.now in
     let s4 = state g.S.Store c.org_for.new.tx.conn.now in
     let AreFacts = λ (h : History) (facts : Facts). AreTotalsOf h c.args.totals.now → AreFactsOf h c.args.request.now facts in
-    let IsKept = λ (h : History) (x : Option Kept). x ≡ kept_under h c.args.request.now.caller c.args.request.now.key in
+    let IsKept = λ (h : History) (x : Option KeptReply). x ≡ kept_under h c.args.request.now.caller c.args.request.now.key in
     let IsPetition = λ (h : History) (x : Option Petition). x ≡ petition_named h c.args.request.now.order in
     let AreHeld = λ (h : History) (x : List Holding). (n : Number) → IsSomeAnd c.numbers_concerned-range.result (IsWithin n) → holding_in x n ≡ holding_of h n in
     let IsOrg = λ (h : History) (x : Option Org). x ≡ option_and_then (org_of h) (option_copied c.slug_concerned-slug.result) in

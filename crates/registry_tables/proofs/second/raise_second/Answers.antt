@@ -3,7 +3,7 @@ use Rattle.sqlite.specs.State.{HasCleanDisk}
 use Rattle.sqlite.specs.Held.{state}
 use Rattle.table_laws.proofs.InsideLemmas.{goes_then}
 use Rattle.std.specs.List.{list_any}
-use Rattle.usbnum_core.specs.Number.{IsNumber}
+use Rattle.usbnum_core.specs.Number.{IsId}
 use Rattle.usbnum_core.specs.Spans.{spans_have}
 use Rattle.registry_old_rows.specs.declared.second.Reserved.{Reserved}
 use Rattle.registry_tables.specs.Raising.{Raises}
@@ -50,7 +50,7 @@ returns-clause-raised g c clean inside =
     let one = c.in_ok-add_second.ensures.made c1 inside in
     let two = c.in_ok-meta.ensures.told c2 one.0.mode in
     let three = c.in_ok-numbers.ensures.listed c3 two.0.mode in
-    let some : IsNumber 1 = record { above = omega arith; within = omega arith } in
+    let some : IsId 1 = record { above = omega arith; within = omega arith } in
     let four = c.in_ok-put_spans.ensures.put 1 some c4 three.0.mode three.0.is_open in
     let five = c.in_ok-empty_reserved.ensures.emptied 1 c5 four.0.mode in
     let six = c.in_ok-put_old_meta.ensures.put 1 clean five.0.mode in (

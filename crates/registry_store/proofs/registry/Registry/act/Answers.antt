@@ -6,8 +6,8 @@ use Rattle.registry_store.proofs.registry.Registry.act.Goals as goal
 pub returns-in-Ok-clause-repeated : goal.returns-in-Ok-clause-repeated
 returns-in-Ok-clause-repeated g c h deed between new stands clean =
     let law = kept_for_good h c.args.request.now deed between new in
-    let it = c.in-Ok.ensures.answered clean _ stands.counts stands.at in
-    (it.0 ∙ law.1, subst (Represents _) law.0 (record { not_poisoned = stands.not_poisoned; counts = it.1; at = it.2 }))
+    let it = c.in-Ok.ensures.answered clean _ stands.legal_with stands.at in
+    (it.0 ∙ law.1, subst (Represents _) law.0 (record { not_poisoned = stands.not_poisoned; legal_with = it.1; at = it.2 }))
 
 pub returns-in-Ok-clause-open : goal.returns-in-Ok-clause-open
-returns-in-Ok-clause-open g c h deed stands clean new = c.in-Ok.ensures.open clean h deed stands.counts stands.at new
+returns-in-Ok-clause-open g c h deed stands clean new = c.in-Ok.ensures.open clean h deed stands.legal_with stands.at new

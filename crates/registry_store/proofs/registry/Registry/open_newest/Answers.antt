@@ -13,7 +13,7 @@ returns-in-Ok-clause-represents g c h legal rest clean =
     let at = at_rest g.S.Store c.args.conn h g.met.S.Store.settled (λ _. (it.0, shown.0, shown.1)) in
     record {
       not_poisoned = refl;
-      counts = record { legal = legal; totals_are = it.1 h legal (rows_now old h at early it.0) };
+      legal_with = record { legal = legal; totals_are = it.1 h legal (rows_now old h at early it.0) };
       at = still_at old (state g.S.Store c.totals.new.conn) h at c.totals.ensures.looked_up.same c.totals.ensures.looked_up.survives;
     }
 

@@ -1,6 +1,6 @@
 use Rattle.std.proofs.Common.{◌≡◌, ◌-◌, ◌≤◌, ◌∙◌, inl, inr, true, List, [], ◌++◌, drop, length, ap, arith, vec_capacity}
 use Rattle.registry_rules.specs.declared.verdict.Reply.{Reply}
-use Rattle.registry_rules.specs.Run.{after, answers}
+use Rattle.registry_rules.specs.Run.{after, replies_to}
 use Rattle.registry_rules.proofs.RunLemmas.{legal_after}
 use Rattle.registry_rules.proofs.NumberLemmas.{one_organisation}
 use Rattle.registry_store.specs.Promise.{is_poisoned}
@@ -11,7 +11,7 @@ pub returns-in-Ok-run_to-clause-run : goal.returns-in-Ok-run_to-clause-run
 returns-in-Ok-run_to-clause-run g c h at clean =
     let got = c.in-Ok-run_to.ensures.through h at clean in
     let none : c.in-Ok.replies.items ≡ [] = c.in-Ok.ensures.items in
-    let rest = drop c.args.answered (answers h c.args.requests.now) in
+    let rest = drop c.args.answered (replies_to h c.args.requests.now) in
     record { all = (listed c.in-Ok.replies c.run_to.new.replies rest got.0).0 ∙ ap (λ (xs : List Reply). xs ++ rest) none; represents = got.1 }
 
 pub returns-in-Err-Fault-clause-run : goal.returns-in-Err-Fault-clause-run
