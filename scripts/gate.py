@@ -25,7 +25,7 @@ from edits import name_of
 
 LEFT_OUT = {".git", "out", "__pycache__"}
 EDITS = re.compile(r"crates/[^/]+/must-fail/")
-PROVED = re.compile(r"rt: (\w+) proved\n")
+PROVED = re.compile(r"rt: (\w+) (?:proved|is kept: .*)\n")
 NAMES = re.compile(r"(rt: )?FAILED: ")
 COUNT = re.compile(r"(\d+) passed, (\d+) failed\n?")
 

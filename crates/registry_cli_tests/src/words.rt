@@ -105,7 +105,7 @@ fn help_and_faults(rt: HostRuntime) {
         ),
         (
             "usbreg --help",
-            "`found`, `apply`, `import` and `serve` change a store",
+            "`found`, `apply`, `import` and `serve` change a registry",
             false,
         ),
         ("usbreg --version", "usbreg 0.1.0", false),
