@@ -58,6 +58,6 @@ pub open_then : {X E : Type 0} (a b : State) (P : Trees → Type 0) (of : X → 
 open_then a b P of st first same (Ok x) quiet was = λ clean.
     (let early : HasCleanDisk b = omega (arith, quiet.clean) in
     let shown = was clean in
-    let later : MoreFaults b.faults (of x).faults → MoreFaults a.faults (of x).faults = λ more. omega (arith, more, first.faults_grow) in
+    let later : MoreFaults b.faults (of x).faults → MoreFaults a.faults (of x).faults = λ more. omega (arith, more, first.counts) in
     ((same early).1 shown.0, elim shown.1 [ inl now ↦ inl now | inr more ↦ inr (later more) ]))
 open_then a b P of st first same (Err e) quiet was = tt
