@@ -1,11 +1,10 @@
 # all:     proves and builds the program usbreg, and prints its version. This is what `make` does.
 # trial:   compiles usbreg without proving it, and acts on three request lines over a
 #          registry in memory.
-# test:    the gate. Checks the format of all files; proves every crate and its tests from nothing,
-#          runs the tests and, as two compilers make it, each program; tries the must-fail edits, many
-#          in one check; runs the tests of the store, of the server and of the program, compiled with checks
-#          and not proved; then the scripts that try the program over files.
-# gate:    a bare `rt ci`, which proves the latter tests too and tries each edit in a check of its own, and the
+# test:    the gate. Checks the format of all files; proves every crate from nothing and runs each program, as
+#          two compilers make it; runs the tests, compiled with checks and not proved; tries the must-fail
+#          edits, many in one check; then runs the scripts that try the program over files.
+# gate:    a bare `rt ci`, which proves the tests too and tries each edit in a check of its own, and the
 #          scripts that try the program: more than twice the time, for a release.
 # install: puts the program that `make` built into PREFIX/bin, and its page into PREFIX/share/man/man1.
 # bench:   reads and writes lists and looks devices up beside plain readers, acts on requests and serves messages

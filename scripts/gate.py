@@ -1,13 +1,12 @@
 #!/usr/bin/env python3
-"""Runs the gate: the format of all files; then `rt ci` over a copy of the repository, and beside it the must-fail edits,
-as many in one check as possible, over the libraries that `rt ci` has just proved; then the tests of the store, of the
-server and of the program, compiled with checks and not proved; then the scripts that try the program. If `rt fmt` would
+"""Runs the gate: the format of all files; then `rt ci` over a copy of the repository without the crates of tests and the
+must-fail edits. Beside it run the tests, compiled with checks and not proved, and the edits, as many in one check as
+possible, over the libraries that `rt ci` has just proved. Last come the scripts that try the program. If `rt fmt` would
 change a file, which `rt ci` would refuse much later, the gate ends there.
 
-The copy has the files as they are, committed or not, in a temporary folder, without the edits and without the crates of
-tests that are not proved here. `make gate` shows what `rt ci` says of these crates, and of each edit by itself; it takes
-longer. The last line counts what passed and failed over all parts, a failed script as one; the exit status is 0 if
-nothing failed."""
+The copies have the files as they are, committed or not, in a temporary folder. `make gate` proves the tests too and
+tries each edit by itself; it takes longer. The last line counts what passed and failed over all parts, a crate of tests
+or a script as one; the exit status is 0 if nothing failed."""
 
 import concurrent.futures
 import os
@@ -29,14 +28,15 @@ PROVED = re.compile(r"rt: (\w+) (?:proved|is kept: .*)\n")
 NAMES = re.compile(r"(rt: )?FAILED: ")
 COUNT = re.compile(r"(\d+) passed, (\d+) failed\n?")
 
-# Crates of tests whose functions hold a registry. Proving a test shows that it meets what its calls require and does not
-# overflow; for these it takes longer than the proof of all that they call, so only `make gate` does it.
-TRIED = ("registry_store_tests", "registry_desk_tests", "registry_cli_tests")
+# How the names of crates of tests end. Proving a test shows that it meets what its calls require and does not overflow,
+# which fails when it runs too. The proofs of all tests take as long as those of all that they call, so only `make gate`
+# has them.
+TESTS = "_tests"
 
-# The parts of edits that run side by side while `rt ci` runs, which leaves about half of four processors idle, or the
-# tests, and after these; the bytes of memory that must be free for one more; and the most edits of one part.
-LANES = 2
-LANES_AFTER = 4
+# The parts that run side by side while `rt ci` runs, which leaves about half of the processors idle, and after it; the
+# bytes of memory that must be free for one more; and the most edits of one part.
+PROCESSORS = len(os.sched_getaffinity(0))
+LANES = max(1, PROCESSORS - 1)
 ROOM = 8 * 2**30
 SHARE = 24
 
@@ -142,8 +142,8 @@ class Tried(Part):
     """A crate of tests that is run and not proved: it passes or fails as one."""
 
     def __init__(self, crate, top):
-        super().__init__(["rt", "try", "--test", "--seconds", "600"], f"{top}/crates/{crate}")
-        self.name = f"{crate}: {self.name}"
+        super().__init__(["nice", "rt", "try", "--test", "--seconds", "1800"], f"{top}/crates/{crate}")
+        self.name = f"rt try {crate} --test"
 
     def run(self, hear=lambda line: None):
         super().run(hear)
@@ -151,12 +151,14 @@ class Tried(Part):
         return self
 
 
-class Edits:
-    """The trials of the must-fail edits, crate by crate as these are proved, a few side by side. The edits of a large
-    crate are tried in several parts."""
+class Beside:
+    """What runs beside `rt ci`, a few parts side by side: the tests, and the must-fail edits, crate by crate as these are
+    proved. The edits of a large crate are tried in several parts. Of the parts that wait, the latest is the first to run:
+    its crate is one of the last that `rt ci` proves, and these have the dearest edits."""
 
     def __init__(self, top, edits, pool):
-        self.top, self.edits, self.pool, self.parts = top, edits, pool, []
+        self.top, self.edits, self.pool = top, edits, pool
+        self.parts, self.waiting = [], []
         self.left = {it.name: [*map(name_of, it.edits(edits))] for it in crates_of(top).values() if it.edits(edits)}
         self.turn, self.choice = threading.Semaphore(LANES), threading.Lock()
         self.running, self.is_alone = 0, False
@@ -174,14 +176,18 @@ class Edits:
             named = [f"{crate}/{it}" for it in names[at::count]]
             part = Part(["nice", "scripts/wrong_bodies.py", "--as-built", "--edits", self.edits, *named], self.top)
             part.name = f"scripts/wrong_bodies.py {crate}" + (f", part {at + 1} of {count}" if count > 1 else "")
-            self.parts.append(self.pool.submit(self.run, part))
+            self.add(part)
 
-    def run(self, part):
+    def add(self, part):
+        self.waiting.append(part)
+        self.parts.append(self.pool.submit(self.run))
+
+    def run(self):
         with self.turn:
             while not self.takes_room() and not Part.is_over:
                 time.sleep(5)
             try:
-                return part.run()
+                return self.waiting.pop().run()
             finally:
                 with self.choice:
                     self.running -= 1
@@ -194,15 +200,15 @@ class Edits:
             return fits
 
     def end(self):
-        """Starts the other trials too, each of which reports that its crate is not proved, and waits for all."""
+        """Starts the edits of the other crates too, which reports that these are not proved, and waits for all parts."""
         self.is_alone = True
         for crate in sorted(self.left):
             self.begin(crate)
         return [it.result() for it in self.parts]
 
     def hurry(self):
-        """Lets more parts run side by side from now on."""
-        self.turn.release(LANES_AFTER - LANES)
+        """Lets as many parts run side by side as there are processors from now on."""
+        self.turn.release(PROCESSORS - LANES or 1)
 
 
 def leave_out(crates, top):
@@ -216,27 +222,30 @@ def leave_out(crates, top):
 
 def gate(room):
     """Runs all parts over copies in a folder, and returns them."""
-    top, edits, names = f"{room}/top", f"{room}/edits", [*files()]
-    tried = [it for it in names if it.startswith(tuple(f"crates/{crate}/" for crate in TRIED))]
     layout = Part(["scripts/layout.py"], TOP).run()
     if layout.failed:
         return [layout]
-    # so that it is the top of a repository, as `rt ci` requires, wherever the folder is
-    os.makedirs(f"{top}/.git")
-    copy([it for it in names if EDITS.match(it)], edits)
-    copy([it for it in names if not EDITS.match(it) and it not in tried], top)
-    leave_out(TRIED, top)
-    with concurrent.futures.ThreadPoolExecutor(LANES_AFTER) as pool:
-        trials = Edits(top, edits, pool)
-        parts = [layout, Part(["rt", "ci"], top).run(trials.hear)]
+    top, tests, edits, names = f"{room}/top", f"{room}/tests", f"{room}/edits", [*files()]
+    of_edits = [it for it in names if EDITS.match(it)]
+    others = [it for it in names if not EDITS.match(it)]
+    crates = [it for it in crates_of() if it.endswith(TESTS)]
+    copy(of_edits, edits)
+    copy(others, tests)
+    copy([it for it in others if not it.startswith(tuple(f"crates/{crate}/" for crate in crates))], top)
+    leave_out(crates, top)
+    for at in (top, tests):
+        # so that it is the top of a repository, as `rt ci` requires, wherever the folder is
+        os.makedirs(f"{at}/.git")
+    with concurrent.futures.ThreadPoolExecutor(PROCESSORS) as pool:
+        beside = Beside(top, edits, pool)
+        for crate in reversed(crates):
+            beside.add(Tried(crate, tests))
+        parts = [layout, Part(["rt", "ci"], top).run(beside.hear)]
         # what stopped scripts leave is removed with the copy
         os.environ["TMPDIR"] = room
-        copy(["crates.txt", *tried], top)
-        with concurrent.futures.ThreadPoolExecutor() as side:
-            parts += side.map(lambda it: Tried(it, top).run(), TRIED)
-        trials.hurry()
-        parts += trials.end()
-    copy([it for it in names if EDITS.match(it)], top)
+        beside.hurry()
+        parts += beside.end()
+    copy(names, top)
     return parts + [Part([f"scripts/{it}"], top).run() for it in ("test_wrong_bodies.py", "try_the_program.sh")]
 
 

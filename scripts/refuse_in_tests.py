@@ -8,11 +8,10 @@ here: running out of memory has changed a result.
 For a test that asks for many allocations it refuses some hundred, evenly spread, except for two tests that make the
 tables and each statement on them once; with --all it refuses each allocation.
 
-Only `make gate` proves and builds the tests of the store. If they are built, the one on memory is tried too: it checks by
-itself which results are right when memory runs out.
+Of the tests of the store it tries the one on memory, which checks by itself which results are right when memory runs out.
 
-Usage: scripts/refuse_in_tests.py [--all] [PROGRAM..], by default the test programs of these crates, as `rt test` builds
-them. Needs cc. The exit status is 0 if all of this holds."""
+Usage: scripts/refuse_in_tests.py [--all] [PROGRAM..], by default the test programs that `rt test` or `make gate` has
+built. Needs cc. The exit status is 0 if all of this holds."""
 
 import itertools
 import os
@@ -22,15 +21,15 @@ import sys
 from refusing import asked_in, each, refusal, run_refused
 from usbreg import TOP, program, run
 
-CRATES = ["usbnum_core", "usbids_text", "registry_rules", "registry_wire", "registry_tables"]
-STORE = f"{TOP}/crates/registry_store_tests/out/registry_store_tests_tests"
+CRATES = ["usbnum_core", "usbids_text", "registry_rules", "registry_wire", "registry_tables", "registry_store"]
 MOST = 650
 WHOLE = {"lists::a_store_has_what_was_put_in", "lookups::a_request_finds_what_it_needs"}
 
 # `write` takes no memory: in these tests the writer that they pass to it runs out of memory, and then has a prefix.
 LEFT_OUT = "writing::"
 
-# The other tests of the store compare what files hold, and treat a disk without memory as one that stops.
+# The tests of the store. The others compare what files hold, and treat a disk without memory as one that stops.
+STORE = "registry_store_tests_tests"
 OF_STORE = "memory::"
 
 # How a test ends that was refused memory: by an error, also one of its own values (a sink that cannot gather its bytes is
@@ -56,7 +55,7 @@ def says_so(errors):
 def tests_of(tests):
     listed = run([tests, "--list"])[1].decode().splitlines()
     named = [it.removesuffix(": test") for it in listed if it.endswith(": test") and not it.startswith(LEFT_OUT)]
-    return [it for it in named if tests != STORE or it.startswith(OF_STORE)]
+    return [it for it in named if os.path.basename(tests) != STORE or it.startswith(OF_STORE)]
 
 
 def try_test(tests, test, shim, room, most):
@@ -76,11 +75,10 @@ def try_test(tests, test, shim, room, most):
 
 def main():
     given = [it for it in sys.argv[1:] if it != "--all"]
-    built = [program(it) for it in given] or [program(crate=f"{it}_tests", name=f"{it}_tests_tests") for it in CRATES]
-    if not given and os.path.exists(STORE):
-        built.append(STORE)
-    elif not given:
-        print("SKIPPED: the test of the store on memory, which `make gate` builds")
+    programs = [f"{TOP}/crates/{it}_tests/out/{it}_tests_tests" for it in CRATES]
+    built = [program(it) for it in given] or [it for it in programs if os.path.exists(it)]
+    if not given and len(built) < len(CRATES):
+        print(f"SKIPPED: {len(CRATES) - len(built)} programs of tests without memory, which `make gate` builds")
     most = sys.maxsize if "--all" in sys.argv else MOST
     with refusal() as (room, shim):
         for tests in built:

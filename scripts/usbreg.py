@@ -21,11 +21,11 @@ def folder():
     return tempfile.TemporaryDirectory(dir="/dev/shm" if os.path.isdir("/dev/shm") else None)
 
 
-def program(given=None, crate="registry_cli", name=None):
+def program(given=None, crate="registry_cli"):
     """Returns the path of the given program, else that in the variable USBREG, else that of the one built in a crate. Ends
     the script if it does not exist."""
     meant = os.environ.get("USBREG") if crate == "registry_cli" else None
-    path = os.path.abspath(given or meant or f"{TOP}/crates/{crate}/out/{name or crate}")
+    path = os.path.abspath(given or meant or f"{TOP}/crates/{crate}/out/{crate}")
     if not os.path.exists(path):
         sys.exit(f"{path} is not there: `make` builds usbreg, and in the folder of another crate `rt run` or `rt test` builds it")
     return path
