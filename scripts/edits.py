@@ -3,10 +3,12 @@
 An edit is a file of lines `file: PATH`, `old: TEXT` and `new: TEXT`; each text is a part of one line, and the old one
 occurs in the file exactly once. So an edit changes whole lines, and edits of different lines can be applied together."""
 
+import functools
 import os
 import re
 
-HEADER = re.compile(r"( *)(?:pub(?:\([a-z]+\))? )?(?:const )?(?:unsafe )?fn (\w+)")
+HEADER = re.compile(r"( *)(?:pub(?:\([a-z]+\))? )?(const )?(?:unsafe )?fn (\w+)")
+TYPE = re.compile(r"^(?:pub(?:\([a-z]+\))? )?(?:struct|enum) (\w+)", re.MULTILINE)
 ITEM = re.compile(r"(?:pub(?:\([a-z]+\))? )?(?:const|static|struct|enum) (\w+)")
 LAW = re.compile(r"(?:^ *///.*\n)*^pub fn (\w+)\(\)\n((?:    ensures .*\n)+)\{\}$", re.MULTILINE)
 DEFINITION = re.compile(r"(?:abbrev |unfoldable )?pub (?:record )?(\w+) ")
@@ -24,7 +26,7 @@ class Function:
         self.module = module
         self.inner = [*([block] if block else []), name]
         self.first, self.body, self.last = lines
-        self.cycle, self.is_law = None, False
+        self.is_const, self.cycle, self.is_law = False, None, False
 
     @property
     def path(self):
@@ -49,6 +51,11 @@ class Function:
         if fits:
             self.module = fits[0].split("::")[: -len(self.inner)]
         return bool(fits)
+
+    def can_be_assumed(self):
+        """Returns whether the rest of a crate can be checked with its contract alone: the body of a `const fn` counts
+        elsewhere, and the functions of a cycle have one proof."""
+        return not self.is_const and not self.cycle and self.last > self.body + 1
 
     def owns(self, path):
         """Returns whether this name in the output of a check is the function or a closure in it."""
@@ -96,7 +103,7 @@ def block_name(line):
     first, is_of_trait, second = rest.partition(" for ")
     own = second or first
     own = short(own if own.startswith("(") else own.partition("<")[0])
-    return own + short(first) if is_of_trait else own
+    return own + short(first) if is_of_trait and first.strip() != "Drop" else own
 
 
 def block_above(lines, at, indent):
@@ -141,8 +148,8 @@ def functions_of(crate, path, text):
         body = extent(lines, at, header[1]) if header else None
         if body:
             block = block_above(lines, at, len(header[1]))
-            made = Function(module_of(crate, path), block, header[2], (at + 1, body[0] + 1, body[1] + 1))
-            made.cycle = cycle_above(lines, at)
+            made = Function(module_of(crate, path), block, header[3], (at + 1, body[0] + 1, body[1] + 1))
+            made.is_const, made.cycle = bool(header[2]), cycle_above(lines, at)
             found.append(made)
     return found
 
@@ -191,7 +198,15 @@ class Sources:
     def functions(self, path):
         if path not in self.found:
             self.found[path] = functions_of(self.crate.name, path, self.text(path))
+            for it in self.found[path]:
+                # a method belongs to the module of its type
+                it.module = self.types.get(it.inner[0], it.module) if len(it.inner) > 1 else it.module
         return self.found[path]
+
+    @functools.cached_property
+    def types(self):
+        """The names of the types of the crate, each with its module."""
+        return {it: module_of(self.crate.name, path) for path in self.files() for it in TYPE.findall(self.text(path))}
 
     def laws(self, path, line):
         """Returns the laws, which are functions with empty bodies, whose contracts name the definition of this line of a

@@ -20,7 +20,6 @@ import threading
 import time
 
 from crates import TOP, crates_of
-from edits import name_of
 
 LEFT_OUT = {".git", "out", "__pycache__"}
 EDITS = re.compile(r"crates/[^/]+/must-fail/")
@@ -29,16 +28,14 @@ NAMES = re.compile(r"(rt: )?FAILED: ")
 COUNT = re.compile(r"(\d+) passed, (\d+) failed\n?")
 
 # How the names of crates of tests end. Proving a test shows that it meets what its calls require and does not overflow,
-# which fails when it runs too. The proofs of all tests take as long as those of all that they call, so only `make gate`
-# has them.
+# which fails when it runs too. Such proofs take two thirds of what those of the crates take, so only `make gate` has them.
 TESTS = "_tests"
 
-# The parts that run side by side while `rt ci` runs, which leaves about half of the processors idle, and after it; the
-# bytes of memory that must be free for one more; and the most edits of one part.
+# The parts that run side by side while `rt ci` runs, which leaves about half of the processors idle, and after it; and
+# the bytes of memory that must be free for one more.
 PROCESSORS = len(os.sched_getaffinity(0))
 LANES = max(1, PROCESSORS - 1)
 ROOM = 8 * 2**30
-SHARE = 24
 
 
 def files():
@@ -53,6 +50,11 @@ def copy(names, to):
     for name in names:
         os.makedirs(os.path.dirname(f"{to}/{name}"), exist_ok=True)
         shutil.copy2(f"{TOP}/{name}", f"{to}/{name}", follow_symlinks=False)
+
+
+def size(folder):
+    """Returns how many bytes the files below a folder have."""
+    return sum(os.path.getsize(f"{at}/{name}") for at, _, names in os.walk(folder) for name in names)
 
 
 def available():
@@ -153,13 +155,13 @@ class Tried(Part):
 
 class Beside:
     """What runs beside `rt ci`, a few parts side by side: the tests, and the must-fail edits, crate by crate as these are
-    proved. The edits of a large crate are tried in several parts. Of the parts that wait, the latest is the first to run:
-    its crate is one of the last that `rt ci` proves, and these have the dearest edits."""
+    proved. Of the parts that wait, the latest is the first to run: its crate is one of the last that `rt ci` proves, and
+    these have the dearest edits. The tests begin before all edits, those with the most text first."""
 
     def __init__(self, top, edits, pool):
         self.top, self.edits, self.pool = top, edits, pool
         self.parts, self.waiting = [], []
-        self.left = {it.name: [*map(name_of, it.edits(edits))] for it in crates_of(top).values() if it.edits(edits)}
+        self.left = {it.name for it in crates_of(top).values() if it.edits(edits)}
         self.turn, self.choice = threading.Semaphore(LANES), threading.Lock()
         self.running, self.is_alone = 0, False
 
@@ -170,17 +172,14 @@ class Beside:
             self.begin(proved[1])
 
     def begin(self, crate):
-        names = self.left.pop(crate)
-        count = -(-len(names) // SHARE)
-        for at in range(count):
-            named = [f"{crate}/{it}" for it in names[at::count]]
-            part = Part(["nice", "scripts/wrong_bodies.py", "--as-built", "--edits", self.edits, *named], self.top)
-            part.name = f"scripts/wrong_bodies.py {crate}" + (f", part {at + 1} of {count}" if count > 1 else "")
-            self.add(part)
+        self.left.discard(crate)
+        part = Part(["nice", "scripts/wrong_bodies.py", "--as-built", "--edits", self.edits, crate], self.top)
+        part.name = f"scripts/wrong_bodies.py {crate}"
+        self.add(part)
 
-    def add(self, part):
-        self.waiting.append(part)
-        self.parts.append(self.pool.submit(self.run))
+    def add(self, *parts):
+        self.waiting += parts
+        self.parts += [self.pool.submit(self.run) for _ in parts]
 
     def run(self):
         with self.turn:
@@ -238,8 +237,7 @@ def gate(room):
         os.makedirs(f"{at}/.git")
     with concurrent.futures.ThreadPoolExecutor(PROCESSORS) as pool:
         beside = Beside(top, edits, pool)
-        for crate in reversed(crates):
-            beside.add(Tried(crate, tests))
+        beside.add(*(Tried(it, tests) for it in sorted(crates, key=lambda it: size(f"{tests}/crates/{it}"))))
         parts = [layout, Part(["rt", "ci"], top).run(beside.hear)]
         # what stopped scripts leave is removed with the copy
         os.environ["TMPDIR"] = room

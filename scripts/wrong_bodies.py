@@ -1,7 +1,8 @@
 #!/usr/bin/env python3
 """Tries the must-fail edits of crates, as many in one check as possible: a wrong body may break only the goals of its
 own function, since all others see only its contract. So each edit is judged by the goals of the functions that it
-changes, and by nothing else that the check prints.
+changes, and by nothing else that the check prints. The other functions of the crate are not proved again: the check
+assumes their contracts, by a proof that is a hole.
 
 An edit counts as refused if a function that it changes is not proved, and a goal of that function itself failed. A call
 of a function that is not proved does not count, nor does a proof that names what the edit removed. Two bodies of one
@@ -39,8 +40,16 @@ NEED = 3_000_000_000
 FOLLOWS = re.compile(r"has no field|has no `|is not in scope|is no name|was not admitted|depends? on")
 UNCOVERED = "the borrow checker does not cover this function"
 
+# The body and the proof that assume the contract of a function.
+BODY = "loop {}"
+PROOF = """use Rattle.{module}.Statement.{{statement}}
+
+pub {name}_spec : {{M : Type 1}} → statement M
+{name}_spec = ?
+"""
+
 VERDICT = re.compile(r"^fn (\S+): (.*)$", re.MULTILINE)
-ENDED = re.compile(r"^only=\d+ proved=\d+$", re.MULTILINE)
+ENDED = re.compile(r"^only=\d+ (?:proved|holes)=\d+.*$", re.MULTILINE)
 GOAL = re.compile(r"^note: (?:\./)?((src/\S+?):(\d+):\d+: it is not proved that .*)$", re.MULTILINE)
 # A long message goes on in further lines.
 ANSWER = re.compile(r"^(?:\./)?(proofs/(\S+)/(?:Answers|Invariants|Proof)\.antt:\d+:\d+: error: .*(?:\n  .*)*)$", re.MULTILINE)
@@ -108,6 +117,7 @@ class Trial:
     def __init__(self, crate, at, room):
         self.crate, self.at, self.room = crate, at, room
         self.refused, self.failed = [], {}
+        self.sources = Sources(crate)
 
     def tell(self, text):
         print(f"{self.crate.name}: {text}", flush=True)
@@ -123,19 +133,44 @@ class Trial:
         for part in PARTS:
             if os.path.isdir(f"{self.crate.folder}/{part}"):
                 shutil.copytree(f"{self.crate.folder}/{part}", f"{copy}/{part}")
+        lines = self.assume_others(copy, [it for edit in edits for _, it in edit.functions])
         for edit in edits:
-            for (path, number), text in edit.lines.items():
-                put_line(f"{copy}/{path}", number, text)
+            lines.update(edit.lines)
+        put_lines(copy, lines)
         said = None
         while said is None or self.rename(said, functions):
             functions = {it.path: it for edit in edits for _, it in edit.functions}
             said = self.rattle(sorted(functions))
         return said
 
+    def assume_others(self, copy, edited):
+        """Lets the copy assume the contracts of all functions but the edited ones and those around them or in them.
+        Returns the lines of the new bodies."""
+        lines = {}
+        for path in self.sources.files():
+            functions = self.sources.functions(path)
+            kept = [it for it in functions if it in edited or not it.can_be_assumed()]
+            for function in functions:
+                if not any(it.first <= function.last and function.first <= it.last for it in kept):
+                    self.assume(copy, function)
+                    inside = range(function.body + 1, function.last)
+                    lines.update({(path, it): BODY if it == inside[0] else "" for it in inside})
+        return lines
+
+    @staticmethod
+    def assume(copy, function):
+        """Puts a hole in place of the proof of a function."""
+        crate, *names = function.path.split("::")
+        folder = "/".join([copy, "proofs", *names])
+        shutil.rmtree(folder, ignore_errors=True)
+        os.makedirs(folder)
+        with open(f"{folder}/Proof.antt", "w", encoding="utf-8") as it:
+            it.write(PROOF.format(module=".".join([crate, "proofs", *names]), name=names[-1]))
+
     def rattle(self, names):
         """Returns what a check of the functions with these names says of the copy."""
         only = [word for it in names for word in ("--only", it)]
-        words = [f"{self.at}/bin/rattle", "check", *only, *self.crate.flags(self.at)]
+        words = [f"{self.at}/bin/rattle", "check", "--allow-holes", *only, *self.crate.flags(self.at)]
         words += ["--incremental", f"{self.room}/kept"]
         return Said(subprocess.run(words, cwd=f"{self.room}/copy", check=False, **HEARD).stdout, self.crate)
 
@@ -189,10 +224,9 @@ class Trial:
 
     def read(self, files):
         """Returns the edits of these files that can be applied."""
-        sources = Sources(self.crate)
         for file in files:
             try:
-                yield Edit(file, sources)
+                yield Edit(file, self.sources)
             except (BadEdit, UnicodeDecodeError) as why:
                 self.fail(name_of(file), f"a bad edit: {why}")
 
@@ -213,13 +247,16 @@ class Trial:
         return "; ".join(verdicts) if said.has_ended and verdicts else said.text[-400:].strip().replace("\n", " | ")
 
 
-def put_line(file, number, text):
-    """Replaces the file's line with this number, counted from 1, by the text."""
-    with open(file, encoding="utf-8") as it:
-        lines = it.read().split("\n")
-    lines[number - 1] = text
-    with open(file, "w", encoding="utf-8") as it:
-        it.write("\n".join(lines))
+def put_lines(copy, lines):
+    """Replaces lines of files in the copy, named by file and number, counted from 1."""
+    for path in {path for path, _ in lines}:
+        with open(f"{copy}/{path}", encoding="utf-8") as it:
+            texts = it.read().split("\n")
+        for (file, number), text in lines.items():
+            if file == path:
+                texts[number - 1] = text
+        with open(f"{copy}/{path}", "w", encoding="utf-8") as it:
+            it.write("\n".join(texts))
 
 
 def is_ready(crate, as_built):
