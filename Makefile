@@ -2,8 +2,8 @@
 # trial:   compiles usbreg without proving it, and acts on three request lines over a
 #          registry in memory.
 # test:    the gate. Checks the format of all files; proves every crate that the kit has not proved before, and
-#          runs each program, as two compilers make it; runs the tests, compiled with checks and not proved; tries the must-fail
-#          edits, many in one check; then runs the scripts that try the program over files.
+#          runs each program, as two compilers make it; runs the tests, compiled with checks and not proved; tries the
+#          must-fail edits, many in one check; then runs the scripts that try the program over files.
 # gate:    a bare `rt ci`, which proves the tests too and tries each edit in a check of its own, and the
 #          scripts that try the program: more than twice the time, for a release.
 # install: puts the program that `make` built into PREFIX/bin, and its page into PREFIX/share/man/man1.
