@@ -5,7 +5,7 @@
 #          runs each program, as two compilers make it; runs the tests, compiled with checks and not proved; tries the
 #          must-fail edits, many in one check; then runs the scripts that try the program over files.
 # gate:    a bare `rt ci`, which proves the tests too and tries each edit in a check of its own, and the
-#          scripts that try the program: more than twice the time, for a release.
+#          scripts that try the program. It takes far longer, and is meant for a release.
 # install: puts the program that `make` built into PREFIX/bin, and its page into PREFIX/share/man/man1.
 # bench:   reads and writes lists and looks devices up beside plain readers, acts on requests and serves messages
 #          beside plain registries, and prints ratios; opens a large store of an older schema. Not part of the gate;
