@@ -215,20 +215,19 @@ fn some_keys(alloc: Global) -> Result<Keys, Fail> {
     })
 }
 
-fn add_number<S: Alter>(registry: &mut Registry<S>, number: Number, text: &mut String) -> bool {
-    let (vid, pid) = (number.vid, number.pid);
-    let reserved = registry.is_reserved(number);
-    let vendor = registry.has_vendor(vid);
-    match registry.entry(number) {
-        Ok(Some(Entry { org, held, card })) => {
-            let title = card.title;
-            writeln!(
-                text,
-                "{vid}:{pid} {vendor:?} {reserved:?} {org} {held} {title}"
-            )
-            .is_ok()
+fn add_number<S: Alter>(registry: &mut Registry<S>, vid: Vid, pid: Pid, text: &mut String) -> bool {
+    let Ok(vendor) = registry.has_vendor(vid) else {
+        return false;
+    };
+    let Ok(reserved) = registry.is_reserved(Number { vid, pid }) else {
+        return false;
+    };
+    match registry.entry(Number { vid, pid }) {
+        Ok(Some(entry)) => {
+            let (org, held, title) = (&entry.org, entry.held, &entry.card.title);
+            writeln!(text, "{vid}:{pid} {vendor} {reserved} {org} {held} {title}").is_ok()
         }
-        Ok(None) => writeln!(text, "{vid}:{pid} {vendor:?} {reserved:?}").is_ok(),
+        Ok(None) => writeln!(text, "{vid}:{pid} {vendor} {reserved}").is_ok(),
         Err(_) => false,
     }
 }
@@ -258,7 +257,7 @@ fn add_org<S: Alter>(registry: &mut Registry<S>, slug: &Slug, text: &mut String)
 // Looks up each key.
 fn look_up<S: Alter>(registry: &mut Registry<S>, keys: &Keys, text: &mut String) -> bool {
     for number in &keys.numbers {
-        if !add_number(registry, *number, text) {
+        if !add_number(registry, number.vid, number.pid, text) {
             return false;
         }
     }
@@ -290,14 +289,14 @@ fn found_after(
     if all { Some(text) } else { None }
 }
 
-const FOUND: &str = "1209:0010 Ok(true) Ok(true)
-1209:0011 Ok(true) Ok(false) acme true Blinker
-1209:0012 Ok(true) Ok(false) acme true New board
-1209:20ff Ok(true) Ok(true)
-1209:2100 Ok(true) Ok(false)
-1000:0001 Ok(true) Ok(false) acme false Lamp
-1000:0002 Ok(true) Ok(false)
-cafe:0001 Ok(false) Ok(false)
+const FOUND: &str = "1209:0010 true true
+1209:0011 true false acme true Blinker
+1209:0012 true false acme true New board
+1209:20ff true true
+1209:2100 true false
+1000:0001 true false acme false Lamp
+1000:0002 true false
+cafe:0001 false false
 1 1209 acme Blinker
 2 1000 acme Lamp
 3
