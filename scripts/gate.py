@@ -28,7 +28,7 @@ NAMES = re.compile(r"(rt: )?FAILED: ")
 COUNT = re.compile(r"(\d+) passed, (\d+) failed\n?")
 
 # How the names of crates of tests end. Proving a test shows that it meets what its calls require and does not overflow,
-# which fails when it runs too. Such proofs take two thirds of what those of the crates take, so only `make gate` has them.
+# which fails when it runs too. Such proofs take longer than those of the crates, so only `make gate` has them.
 TESTS = "_tests"
 
 # The parts that run side by side while `rt ci` runs, which leaves about half of the processors idle, and after it; and
