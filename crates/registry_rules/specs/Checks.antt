@@ -11,7 +11,7 @@ use Rattle.registry_rules.specs.declared.deed.Act.{Act}
 use Rattle.registry_rules.specs.declared.deed.Act.TheVariants.{Enrolled, OrgAmended, Asked, Granted, Declined, Withdrawn, CardAmended, Returned, Reserved, Released, Imported, VendorAdded, LicenceAdded}
 use Rattle.registry_rules.specs.declared.item.Item.{Item}
 use Rattle.registry_rules.specs.declared.item.ItemClass.{ItemClass}
-use Rattle.registry_rules.specs.declared.limits.TheConstants.{MOST_ORGS, MOST_OPEN, MOST_PETITIONS, MOST_ITEMS, MOST_VENDORS, MOST_LICENCES}
+use Rattle.registry_rules.specs.Limits.{most_orgs, most_open, most_petitions, most_items, most_vendors, most_licences}
 use Rattle.registry_rules.specs.declared.record.Org.{Org}
 use Rattle.registry_rules.specs.declared.record.Petition.{Petition}
 use Rattle.registry_rules.specs.declared.record.Card.{Card}
@@ -95,7 +95,7 @@ held_by_keeper standing known caller = do
 abbrev pub enrol_checks : Option Org → ℕ → Org → Result Act Refusal
 enrol_checks known orgs org = do
   check (is_none known) OrgTaken
-  check (nat_lt orgs MOST_ORGS) Full
+  check (nat_lt orgs most_orgs) Full
   Ok (Enrolled org)
 
 -- AmendOrg: 4, 3
@@ -112,8 +112,8 @@ ask_checks known vendor_there allowed still_open petitions wanted caller petitio
   by_keeper org caller
   check vendor_there NoVendor
   check allowed LicenceUnknown
-  check (nat_lt still_open MOST_OPEN) TooManyOpen
-  check (nat_lt petitions MOST_PETITIONS) Full
+  check (nat_lt still_open most_open) TooManyOpen
+  check (nat_lt petitions most_petitions) Full
   wanted_can_be_given wanted petition.org
   Ok (Asked (petitions + 1) petition)
 
@@ -183,7 +183,7 @@ import_checks curators known vendor_there classes caller vid org items = do
   by_curator curators caller
   known ← present known NoOrg
   check vendor_there NoVendor
-  check (nat_le (length items) MOST_ITEMS) ImportTooLong
+  check (nat_le (length items) most_items) ImportTooLong
   Ok (Imported vid org (fresh_of classes items) (tally_of classes))
 
 -- AddVendor: 2, 33, 18
@@ -191,7 +191,7 @@ abbrev pub add_vendor_checks : List Slug → Bool → ℕ → Slug → VendorId 
 add_vendor_checks curators vendor_there vendors caller vid name = do
   by_curator curators caller
   check (not vendor_there) VendorTaken
-  check (nat_lt vendors MOST_VENDORS) Full
+  check (nat_lt vendors most_vendors) Full
   Ok (VendorAdded vid name)
 
 -- AddLicence: 2, 35, 18
@@ -199,5 +199,5 @@ abbrev pub add_licence_checks : List Slug → Bool → ℕ → Slug → Licence 
 add_licence_checks curators allowed licences caller licence = do
   by_curator curators caller
   check (not allowed) LicenceTaken
-  check (nat_lt licences MOST_LICENCES) Full
+  check (nat_lt licences most_licences) Full
   Ok (LicenceAdded licence)

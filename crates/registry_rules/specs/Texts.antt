@@ -5,7 +5,7 @@ use Rattle.std.specs.Str.{bytes_eq}
 use Rattle.std.specs.Ordering.{nat_cmp}
 use Rattle.std.specs.Cmp.Lexicographic.{slice_cmp}
 use Rattle.std.specs.List.Sorted.{IsStrictlySortedBy}
-use Rattle.registry_rules.specs.declared.limits.TheConstants.{MOST_CURATORS, MOST_LICENCES}
+use Rattle.registry_rules.specs.Limits.{most_curators, most_licences}
 
 -- the texts ascend, without repeats
 abbrev pub IsAscending : List (List ℕ) → Type 0
@@ -20,11 +20,11 @@ pub record AreSorted (given ordered : List (List ℕ)) : Type 0 where
 -- import, and add vendors and licences
 pub record IsCurators (slugs : List (List ℕ)) : Type 0 where
   pub some : 1 ≤ length slugs
-  pub most : length slugs ≤ MOST_CURATORS
+  pub most : length slugs ≤ most_curators
   pub ascending : IsAscending slugs
 
 -- a valid list of the licences that a product may have
 pub record IsLicences (titles : List (List ℕ)) : Type 0 where
   pub some : 1 ≤ length titles
-  pub most : length titles ≤ MOST_LICENCES
+  pub most : length titles ≤ most_licences
   pub ascending : IsAscending titles

@@ -3,6 +3,7 @@
 ghost use Rattle.std.specs.Prelude.{◌≡◌, ◌≤◌, ◌↔◌, ℕ, List, [], ◌∷◌, ◌++◌, IsTrue, IsSome, IfSome, OnOk, length};
 ghost use Rattle.std.specs.List.{list_any};
 ghost use Rattle.std.specs.Str.{bytes_eq};
+ghost use Rattle.registry_rules.specs.Limits.{most_curators, most_licences};
 ghost use Rattle.registry_rules.specs.Texts.{AreSorted};
 
 use crate::limits::{MOST_CURATORS, MOST_LICENCES};
@@ -34,7 +35,7 @@ impl Curators {
     /// Sorts these slugs and removes repeats. Returns None if the list given is empty or has more
     /// than `MOST_CURATORS` elements.
     pub fn new(slugs: Vec<Slug>) -> Option<Curators>
-        ensures counted { IsSome result ↔ ((1 ≤ length slugs.items) × (length slugs.items ≤ MOST_CURATORS)) }
+        ensures counted { IsSome result ↔ ((1 ≤ length slugs.items) × (length slugs.items ≤ most_curators)) }
         ensures same { IfSome result (AreSorted slugs.items) }
     {
         if slugs.is_empty() || slugs.len() > MOST_CURATORS {
@@ -109,7 +110,7 @@ impl Licences {
     /// Sorts these titles and removes repeats. Returns None if the list given is empty or has more
     /// than `MOST_LICENCES` elements.
     pub fn new(titles: Vec<Title>) -> Option<Licences>
-        ensures counted { IsSome result ↔ ((1 ≤ length titles.items) × (length titles.items ≤ MOST_LICENCES)) }
+        ensures counted { IsSome result ↔ ((1 ≤ length titles.items) × (length titles.items ≤ most_licences)) }
         ensures same { IfSome result (AreSorted titles.items) }
     {
         if titles.is_empty() || titles.len() > MOST_LICENCES {
