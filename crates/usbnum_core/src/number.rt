@@ -1,6 +1,6 @@
 //! A product ID with its vendor ID, and a span of product IDs.
 
-ghost use Rattle.std.specs.Prelude.{◌≡◌, ◌≤◌, ◌↔◌, Some, IfSome, IsSome};
+ghost use Rattle.std.specs.Prelude.{◌≡◌, ◌≤◌, ◌<◌, ◌⊎◌, ◌↔◌, Some, IfSome, IsSome, IsTrue};
 ghost use Rattle.usbnum_core.specs.Number.{range_text};
 
 use crate::{Pid, Vid};
@@ -13,6 +13,15 @@ pub struct Number {
     pub vid: Vid,
     /// The product ID.
     pub pid: Pid,
+}
+
+impl Number {
+    /// Returns whether the number comes before the other: by vendor ID, then by product ID.
+    pub fn is_before(&self, other: &Number) -> bool
+        ensures { IsTrue result ↔ ((self.now.vid < other.now.vid) ⊎ ((self.now.vid ≡ other.now.vid) × (self.now.pid < other.now.pid))) }
+    {
+        self < other
+    }
 }
 
 /// All product IDs from the first to the last.
