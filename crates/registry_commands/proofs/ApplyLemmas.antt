@@ -1,5 +1,5 @@
 -- Requests that are acted on one after another, and their reply lines.
-use Rattle.std.proofs.Common.{◌≡◌, inl, inr, ℕ, ◌+◌, ◌≤◌, List, [], length, Option, Some, None, refl, sym, ap, subst, arith}
+use Rattle.std.proofs.Common.{◌≡◌, ◌⊎◌, inl, inr, ℕ, ◌+◌, ◌≤◌, List, [], length, Option, Some, None, refl, sym, ap, subst, arith}
 use Rattle.std.specs.Prelude.{Result, Ok, Err}
 use Rattle.std.specs.Io.KnownBytes.{Appends, Keeps}
 use Rattle.sqlite.specs.Store.{Ghosts}
@@ -14,6 +14,7 @@ use Rattle.registry_store.specs.Run.{HasAnswered}
 use Rattle.registry_store.proofs.RunToLemmas.{between_none, place_left}
 use Rattle.registry_commands.specs.declared.lines.BadLine.{BadLine}
 use Rattle.registry_commands.specs.declared.messages.Failure.{Failure}
+use Rattle.registry_commands.specs.declared.messages.Failure.TheVariants.{Poisoned}
 use Rattle.registry_commands.specs.Failures.{PrintsFailure, ErrorOutput}
 use Rattle.registry_commands.specs.Messages.{bad_line_text, exceeds_text, reply_lines}
 use Rattle.registry_commands.specs.Apply.{IsApplied, IsRejected, IsRun, IsStoppedAt, lines_between}
@@ -56,6 +57,7 @@ module _ {S : Type 0} {g : Ghosts S} where
       quiet = λ zero. absurd (omega (arith, one, zero));
       stopped = λ _ h at clean. (a, stopped_before it h rs a out within at clean);
       told = λ _. inl (record { same = refl; silent = keeps_same out; told = told });
+      poisoned = λ _. (one, refl, refl, tells_more OfInput (λ failure. (failure ≡ Poisoned) ⊎ OfInput failure) errors (λ failure is. inr is) told);
     },
   )
 
@@ -78,6 +80,13 @@ module _ {S : Type 0} {g : Ghosts S} where
         | inl unread ↦ inl (record { same = unread.same; silent = unread.silent; told = tells_more OfMemory OfInput errors more unread.told })
         | inr told ↦ inr told
       ];
+      poisoned = λ e. let all = is.poisoned e in (
+        all.0,
+        all.1,
+        all.2,
+        tells_more (λ failure. (failure ≡ Poisoned) ⊎ OfMemory failure) (λ failure. (failure ≡ Poisoned) ⊎ OfInput failure) errors
+            (λ failure. elim [ inl e ↦ inl e | inr m ↦ inr (more failure m) ]) all.3,
+      );
     }
 
     -- the requests were read from an input, which may fail too

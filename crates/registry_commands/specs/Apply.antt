@@ -59,7 +59,8 @@ module _ {S : Type 0} {g : Ghosts S} where
     pub silent : Keeps out out_new
     pub told : PrintsFailure OfInput errors
 
-  -- The requests after the first a were acted on in turn: all of them, or up to a failure.
+  -- The requests after the first a were acted on in turn: all of them, or up to a failure. A poisoned registry acts on none, no
+  -- reply is written, and the error output says that it is poisoned, or that the input failed or memory ran out.
   pub record IsRun (OfInput OfOutput : Failure → Type 0) (it new : Registry S g) (rs : List Request) (a : ℕ) (out out_new : Option (List ℕ)) (errors : ErrorOutput) (status : ℕ) : Type 0 where
     pub statuses : (status ≡ 0) ⊎ (status ≡ 1)
     pub through : status ≡ 0 → (h : History) → HasAnswered it h rs a → HasCleanDisk (state_of new) → IsThrough new h rs a out out_new
@@ -67,6 +68,7 @@ module _ {S : Type 0} {g : Ghosts S} where
     pub stopped : status ≡ 1 → (h : History) → HasAnswered it h rs a → HasCleanDisk (state_of new) → (n : ℕ) × IsStoppedAt new h rs a n out out_new
     pub told : status ≡ 1 → IsUnread OfInput it new out out_new errors
         ⊎ PrintsFailure (λ failure. IsOfRun it new (λ h. HasAnswered it h rs a) failure × OfOutput failure) errors
+    pub poisoned : is_poisoned it ≡ true → (status ≡ 1) × (new ≡ it) × (out_new ≡ out) × PrintsFailure (λ failure. (failure ≡ Poisoned) ⊎ OfInput failure) errors
 
   -- How a command on request lines ends. Ok: these requests were read, and the first a of them were answered before. Err: this
   -- is the first line that is not a request.

@@ -21,6 +21,7 @@ use Rattle.registry_store.specs.RunTo.{MayHaveBeenActedOn}
 use Rattle.registry_wire.specs.Import.{import_of}
 use Rattle.registry_commands.specs.declared.importing.Import.{Import}
 use Rattle.registry_commands.specs.declared.messages.Failure.{Failure}
+use Rattle.registry_commands.specs.declared.messages.Failure.TheVariants.{Poisoned}
 use Rattle.registry_commands.specs.declared.arguments.BadArgument.{BadArgument}
 use Rattle.registry_commands.specs.declared.arguments.BadArgument.TheVariants.{Caller, Key, Org, Vendor}
 use Rattle.registry_commands.specs.Apply.{IsOfRun}
@@ -94,10 +95,12 @@ module _ {S : Type 0} {g : Ghosts S} where
     pub cut : (h : History) → MayHaveBeenActedOn it h r → HasCleanDisk (state_of new) → IsCut new h r out out_new
     pub told : PrintsFailure (λ failure. IsOfRun it new (λ h. MayHaveBeenActedOn it h r) failure × OfOutput failure) errors
 
-  -- one request was acted on, or stopped by a failure
+  -- One request was acted on, or stopped by a failure. A poisoned registry stays as it is, nothing is written, and the error
+  -- output says that it is poisoned.
   pub record IsActedOn (OfOutput : Failure → Type 0) (it new : Registry S g) (r : Request) (out out_new : Option (List ℕ)) (errors : ErrorOutput) (status : ℕ) : Type 0 where
     pub ends : GivesReply it new r out out_new errors status ⊎ IsFailed OfOutput it new r out out_new errors status
     pub endures : Endures (state_of it) (state_of new)
+    pub poisoned : is_poisoned it ≡ true → (status ≡ 1) × (new ≡ it) × (out_new ≡ out) × PrintsFailure (λ failure. failure ≡ Poisoned) errors
 
   -- no request was made, after a failure, and nothing was done
   abbrev pub IsNotMade : (Failure → Type 0) → Registry S g → Registry S g → Option (List ℕ) → Option (List ℕ) → ErrorOutput → ℕ → Type 0

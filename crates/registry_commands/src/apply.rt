@@ -1,10 +1,10 @@
 //! Acts on request lines over a registry, one after another.
 
-ghost use Rattle.std.specs.Prelude.{◌≡◌, ◌≤◌, ◌⊎◌, ℕ, List, length, IfErr, Ok, OnOk, OnErr};
+ghost use Rattle.std.specs.Prelude.{◌≡◌, ◌≤◌, ◌⊎◌, ℕ, List, true, length, IfErr, Ok, Err, OnOk, OnErr};
 ghost use Rattle.sqlite.specs.State.{HasCleanDisk};
 ghost use Rattle.byte_streams.specs.Streams.{MayGive};
 ghost use Rattle.registry_rules.specs.History.{History};
-ghost use Rattle.registry_store.specs.Promise.{Endures, state_of};
+ghost use Rattle.registry_store.specs.Promise.{Endures, is_poisoned, state_of};
 ghost use Rattle.registry_store.specs.Run.{HasAnswered};
 ghost use Rattle.registry_commands.specs.Lines.{requests_in};
 ghost use Rattle.registry_commands.specs.Messages.{bad_line_text};
@@ -37,6 +37,7 @@ fn write_replies<S: Alter, W: Sink>(
         → OnErr result ((n : ℕ) × IsStoppedAt registry.new h requests.now answered n (W.contents lines.old.output.now) (W.contents lines.new.output.now)) }
     ensures failure { IfErr result (λ failure. IsOfRun registry.old registry.new (λ h. HasAnswered registry.old h requests.now answered) failure
         × IsOfOutput (W.failures lines.old.output.now) (W.failures lines.new.output.now) failure) }
+    ensures when_poisoned { is_poisoned registry.old ≡ true → (result ≡ Err Failure.Poisoned) × (registry.new ≡ registry.old) × (W.contents lines.new.output.now ≡ W.contents lines.old.output.now) }
     ensures endures { Endures (state_of registry.old) (state_of registry.new) }
 {
     match registry.run_to(requests, answered, lines) {
@@ -64,6 +65,7 @@ fn answer_from<S: Alter, W: Sink>(
         → OnErr result ((n : ℕ) × IsStoppedAt registry.new h requests.now answered n (W.contents output.old) (W.contents output.new)) }
     ensures failure { IfErr result (λ failure. IsOfRun registry.old registry.new (λ h. HasAnswered registry.old h requests.now answered) failure
         × IsOfOutput (W.failures output.old) (W.failures output.new) failure) }
+    ensures when_poisoned { is_poisoned registry.old ≡ true → (result ≡ Err Failure.Poisoned) × (registry.new ≡ registry.old) × (W.contents output.new ≡ W.contents output.old) }
     ensures endures { Endures (state_of registry.old) (state_of registry.new) }
 {
     let mut lines = ReplyLines {

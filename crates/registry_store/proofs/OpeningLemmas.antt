@@ -1,5 +1,5 @@
 -- What a connection shows after a registry is opened or founded on it.
-use Rattle.std.proofs.Common.{◌≡◌, inl, inr, IsTrue, false, refl, sym, subst, ◌∙◌, arith}
+use Rattle.std.proofs.Common.{◌≡◌, ℕ, inl, inr, IsTrue, false, refl, sym, subst, ◌∙◌, arith}
 use Rattle.sqlite.specs.Tree.{Trees}
 use Rattle.sqlite.specs.Store.{Ghosts}
 use Rattle.sqlite.specs.State.{State, HasCleanDisk, Survives}
@@ -28,12 +28,12 @@ still_at old new h at back survives = record {
 }
 
 -- a crash leaves what an open connection at rest shows
-pub at_rest : {S : Type 0} (g : Ghosts S) (it : Held S) (h : History)
+pub at_rest : {S : Type 0} (g : Ghosts S) (it : Held S) (v : ℕ) (h : History)
     → ((s : S) (db : Trees) → IsTrue (g.view s).is_open → g.recovers s db → db ≡ (g.view s).committed)
-    → IsFreshAt newest (state g it) h → IsAt newest (state g it) h
-at_rest g it h settled fresh = record {
+    → IsFreshAt v (state g it) h → IsAt v (state g it) h
+at_rest g it v h settled fresh = record {
   shown = λ clean _. let found = fresh clean in (found.1, found.2);
-  left = λ clean db may. let found = fresh clean in (h, refl, subst (λ x. Rows newest x h) (sym (settled it.store db found.0 may)) found.2);
+  left = λ clean db may. let found = fresh clean in (h, refl, subst (λ x. Rows v x h) (sym (settled it.store db found.0 may)) found.2);
 }
 
 -- the rows that the connection shows now
@@ -53,4 +53,4 @@ pub stands_fresh : {S : Type 0} (g : Ghosts S) (it : Registry S g) (h : History)
     → ((s : S) (db : Trees) → IsTrue (g.view s).is_open → g.recovers s db → db ≡ (g.view s).committed)
     → is_poisoned it ≡ false → Legal h → AreTotalsOf h it.totals → IsFreshAt newest (state_of it) h → Represents it h
 stands_fresh g it h settled not_poisoned legal totals fresh =
-    record { not_poisoned = not_poisoned; legal_with = record { legal = legal; totals_are = totals }; at = at_rest g it.conn h settled fresh }
+    record { not_poisoned = not_poisoned; legal_with = record { legal = legal; totals_are = totals }; at = at_rest g it.conn newest h settled fresh }

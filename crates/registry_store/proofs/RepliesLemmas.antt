@@ -1,5 +1,5 @@
 -- A run whose replies go to a list.
-use Rattle.std.proofs.Common.{◌≡◌, ℕ, ◌+◌, ◌-◌, ◌<◌, ◌≤◌, List, [], ◌∷◌, ◌++◌, length, take, drop, true, inl, sym, ap, subst, ◌∙◌, arith, append_assoc, length-drop, vec_capacity}
+use Rattle.std.proofs.Common.{◌≡◌, ℕ, ◌+◌, ◌-◌, ◌<◌, ◌≤◌, List, [], ◌∷◌, ◌++◌, length, take, drop, refl, sym, ap, subst, ◌∙◌, arith, append_assoc, length-drop, vec_capacity}
 use Rattle.std.specs.Prelude.{Vec}
 use Rattle.std.specs.declared.alloc.Global.{Global}
 use Rattle.std.proofs.lemmas.List.{append-nil, drop-take}
@@ -12,9 +12,9 @@ use Rattle.registry_tables.specs.Rows.{newest}
 use Rattle.registry_store.specs.declared.fault.Fault.{Fault}
 use Rattle.registry_store.specs.declared.replies.RunStop.TheVariants as stop
 use Rattle.registry_store.specs.declared.registry.Registry.{Registry}
-use Rattle.registry_store.specs.Promise.{Leaves, is_poisoned, state_of}
+use Rattle.registry_store.specs.Promise.{Leaves, state_of}
 use Rattle.registry_store.specs.Run.{IsAfterOrNext, IsStopped}
-use Rattle.registry_store.specs.RunTo.{HaveTaken, IsHalted, replies_between}
+use Rattle.registry_store.specs.RunTo.{HaveBeenGiven, HaveTaken, IsHalted, replies_between}
 use Rattle.registry_store.specs.Listed.{HasNoRoom, TakesReply}
 use Rattle.registry_store.proofs.RunLemmas.{take_answers}
 use Rattle.registry_store.proofs.RunToLemmas.{answered_of}
@@ -41,8 +41,8 @@ module _ {S : Type 0} {g : Ghosts S} (it : Registry S g) (h : History) (rs : Lis
   in_list middle taken = (listed old middle (replies_between h rs a n) taken).0 ∙ ap (λ (xs : List Reply). xs ++ replies_between h rs a n) none
 
   -- after a fault the list has the replies so far
-  pub stopped_list : (fault : Fault) → is_poisoned it ≡ true → IsHalted TakesReply HasNoRoom it h rs a n old new (stop.Fault fault) → IsStopped it h rs a new.items fault
-  stopped_list fault poisoned halted =
+  pub stopped_list : (fault : Fault) → IsHalted TakesReply HasNoRoom it h rs a n old new (stop.Fault fault) → IsStopped it h rs a new.items fault
+  stopped_list fault halted =
       let last = halted.reply.2 in
       let items : new.items ≡ replies_between h rs a n = ap (λ (v : Vec Reply Global). v.items) last.0 ∙ in_list halted.middle halted.taken in
       let count : length new.items ≡ n - a = ap (λ (xs : List Reply). length xs) items ∙ between_count h rs a n halted.from halted.within in
@@ -52,7 +52,6 @@ module _ {S : Type 0} {g : Ghosts S} (it : Registry S g) (h : History) (rs : Lis
         front = items ∙ between_front h rs a n halted.from halted.within ∙ ap (λ k. take k (drop a (replies_to h rs))) (sym count);
         leaves = subst (λ k. Leaves newest (state_of it) (IsAfterOrNext h rs k)) end halted.leaves;
         kind = last.1;
-        ends = inl poisoned;
       }
 
   -- a list with room for all replies is never full
@@ -62,3 +61,10 @@ module _ {S : Type 0} {g : Ghosts S} (it : Registry S g) (h : History) (rs : Lis
       let grown = listed old middle (replies_between h rs a n) halted.taken in
       let count : length middle.items ≡ n - a = ap (λ (xs : List Reply). length xs) (in_list middle halted.taken) ∙ between_count h rs a n halted.from halted.within in
       omega (arith, room, grown.1, count, halted.reply.2.1, middle.ok.0, halted.from, halted.within)
+
+-- a list with room for a reply to each request that is left has room for one more
+pub never_full : (old new : Vec Reply Global) (left : ℕ) → old.items ≡ [] → left ≤ vec_capacity old → HaveBeenGiven TakesReply HasNoRoom left stop.Cut old new → ⊥
+never_full old new left none room given =
+    let grown = listed old given.middle given.replies given.taken in
+    let count : length given.middle.items ≡ length given.replies = ap (λ (xs : List Reply). length xs) (grown.0 ∙ ap (λ (xs : List Reply). xs ++ given.replies) none) in
+    omega (arith, room, grown.1, count, given.last.1.1, given.middle.ok.0, given.fewer refl)

@@ -1,8 +1,10 @@
-use Rattle.std.proofs.Common.{inl, inr, ap}
+use Rattle.std.proofs.Common.{◌≡◌, inl, inr, refl, ap, ◌∙◌}
 use Rattle.std.specs.Prelude.{Err}
 use Rattle.registry_store.proofs.RunToLemmas.{once, once_left}
 use Rattle.registry_store.specs.RunTo.{MayHaveBeenActedOn}
+use Rattle.registry_store.specs.declared.fault.Fault.TheVariants as faults
 use Rattle.registry_commands.specs.Failures.{IsOfOutput}
+use Rattle.registry_commands.specs.Messages.{failure_of}
 use Rattle.registry_commands.proofs.ImportLemmas.{kind_of, not_of_output, nothing_of, of_act, replied}
 use Rattle.registry_commands.proofs.importing.act_on.Goals as goal
 
@@ -12,6 +14,7 @@ returns-in-Ok g c = record {
       c.put_status.result c.in-Ok.reply
       (λ h may clean. once c.args.registry.now c.act.new.self h c.args.request.now c.in-Ok.reply c.in-Ok.ensures.answered may clean) c.put_status.ensures;
   endures = c.act.ensures.endures;
+  poisoned = λ e. let failed = c.in-Ok.ensures.when_poisoned e in absurd (cc failed.0);
 }
 
 pub returns-in-Err : goal.returns-in-Err
@@ -38,4 +41,8 @@ returns-in-Err g c =
         );
       });
       endures = c.act.ensures.endures;
+      poisoned = λ e.
+          let failed = c.in-Err.ensures.when_poisoned e in
+          let spent : fault ≡ faults.Poisoned = cc failed.0 in
+          (c.fail.ensures.status, failed.1, refl, (c.failure_of.result, c.failure_of.ensures ∙ ap failure_of spent, c.fail.ensures.told));
     }

@@ -6,6 +6,7 @@ use Rattle.registry_schema.specs.declared.fault.TableFault.TheVariants.{Foreign}
 use Rattle.registry_tables.specs.Raising.{CommitsLater, StaysOpen}
 use Rattle.registry_store.specs.Promise.{state_of}
 use Rattle.registry_store.proofs.MigrationLemmas.{leaves_then, quiet_after, commits_then, foreign_after, open_then}
+use Rattle.registry_store.proofs.OpeningLemmas.{at_rest}
 use Rattle.registry_store.proofs.registry.Registry.open.Goals as goal
 
 pub returns-in-Ok-clause-represents : goal.returns-in-Ok-clause-represents
@@ -65,3 +66,17 @@ returns-in-Ok-clause-untouched g c = elim c.migrate.ensures.untouched [
   | inl older ↦ inl older
   | inr quiet ↦ inr (commits_then (state g.S.Store c.args.conn) (state g.S.Store c.migrate.new.conn) (λ _. ⊥) state_of (λ e. state g.S.Store e.1) quiet c.open_newest.result c.open_newest.ensures.survives)
 ]
+
+-- ---- the same of a connection that was just opened
+
+pub returns-in-Ok-clause-leaves_fresh : goal.returns-in-Ok-clause-leaves_fresh
+returns-in-Ok-clause-leaves_fresh g c version h legal fresh =
+    let a = state g.S.Store c.args.conn in
+    let b = state g.S.Store c.migrate.new.conn in
+    let at = at_rest g.S.Store c.args.conn version h g.met.S.Store.settled fresh in
+    quiet_after b state_of (λ e. state g.S.Store e.1) version h (leaves_then a b c.migrate.ensures.survives version h at) c.open_newest.result c.open_newest.ensures.survives
+
+pub returns-in-Err-clause-leaves_fresh : goal.returns-in-Err-clause-leaves_fresh
+returns-in-Err-clause-leaves_fresh g c version h legal fresh =
+    leaves_then (state g.S.Store c.args.conn) (state g.S.Store c.migrate.new.conn) c.migrate.ensures.survives version h
+    (at_rest g.S.Store c.args.conn version h g.met.S.Store.settled fresh)

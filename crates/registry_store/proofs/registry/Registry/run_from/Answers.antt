@@ -1,10 +1,9 @@
-use Rattle.std.proofs.Common.{◌≡◌, ◌-◌, ◌≤◌, ◌∙◌, inl, inr, true, List, [], ◌++◌, drop, length, ap, arith, vec_capacity}
+use Rattle.std.proofs.Common.{◌≡◌, ◌-◌, ◌≤◌, ◌∙◌, inl, inr, List, [], ◌++◌, drop, length, ap, arith, vec_capacity}
 use Rattle.registry_rules.specs.declared.verdict.Reply.{Reply}
 use Rattle.registry_rules.specs.Run.{after, replies_to}
 use Rattle.registry_rules.proofs.RunLemmas.{legal_after}
 use Rattle.registry_rules.proofs.NumberLemmas.{one_organisation}
-use Rattle.registry_store.specs.Promise.{is_poisoned}
-use Rattle.registry_store.proofs.RepliesLemmas.{has_room, listed, stopped_list}
+use Rattle.registry_store.proofs.RepliesLemmas.{has_room, listed, never_full, stopped_list}
 use Rattle.registry_store.proofs.registry.Registry.run_from.Goals as goal
 
 pub returns-in-Ok-run_to-clause-run : goal.returns-in-Ok-run_to-clause-run
@@ -17,8 +16,7 @@ returns-in-Ok-run_to-clause-run g c h at clean =
 pub returns-in-Err-Fault-clause-run : goal.returns-in-Err-Fault-clause-run
 returns-in-Err-Fault-clause-run g c h at clean =
     let stop = rw c.in-Err-Fault.field-0-is at (c.in-Err-Fault.ensures.stopped h at clean) in
-    let poisoned : is_poisoned c.run_to.new.self ≡ true = elim c.in-Err-Fault.ensures.ends [ inl cut ↦ absurd (cc (cut, c.in-Err-Fault.field-0-is)) | inr s ↦ s ] in
-    stopped_list c.run_to.new.self h c.args.requests.now c.args.answered stop.0 c.in-Ok.replies c.run_to.new.replies c.in-Ok.ensures.items c.in-Err-Fault.fault poisoned stop.1
+    stopped_list c.run_to.new.self h c.args.requests.now c.args.answered stop.0 c.in-Ok.replies c.run_to.new.replies c.in-Ok.ensures.items c.in-Err-Fault.fault stop.1
 
 pub returns-in-Err-Cut-clause-run : goal.returns-in-Err-Cut-clause-run
 returns-in-Err-Cut-clause-run g c h at clean =
@@ -40,3 +38,14 @@ returns-then-self-clause-holders g c h legal n deed org has gives = one_organisa
 
 pub returns-in_default-clause-holders : goal.returns-in_default-clause-holders
 returns-in_default-clause-holders g c h legal n deed org has gives = one_organisation (after h c.args.requests.now) (legal_after h c.args.requests.now legal) n deed org has gives
+
+-- ---- how a run ends early
+
+pub returns-in-Err-Fault-clause-ends : goal.returns-in-Err-Fault-clause-ends
+returns-in-Err-Fault-clause-ends g c = elim c.in-Err-Fault.ensures.ends [ inl cut ↦ absurd (cc (cut, c.in-Err-Fault.field-0-is)) | inr s ↦ inl s ]
+
+pub returns-in-Err-Cut-clause-ends : goal.returns-in-Err-Cut-clause-ends
+returns-in-Err-Cut-clause-ends g c =
+    let given = rw c.in-Err-Cut.field-0-is at c.in-Err-Cut.ensures.cut in
+    let room : length c.args.requests.now - c.args.answered ≤ vec_capacity c.in-Ok.replies = omega (arith, c.in-Ok.ensures.exact) in
+    absurd (never_full c.in-Ok.replies c.run_to.new.replies (length c.args.requests.now - c.args.answered) c.in-Ok.ensures.items room given)
