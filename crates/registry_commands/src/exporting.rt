@@ -1,6 +1,6 @@
 //! Exports the list of a registry's held numbers.
 
-ghost use Rattle.std.specs.Prelude.{◌≡◌, IfErr, IfOk};
+ghost use Rattle.std.specs.Prelude.{◌≡◌, true, Err, IfErr, IfOk};
 ghost use Rattle.usbids_text.specs.Documents.{IsTextOf};
 ghost use Rattle.usbids_text.specs.Writing.{written};
 ghost use Rattle.registry_rules.specs.History.{History};
@@ -8,7 +8,7 @@ ghost use Rattle.registry_reports.specs.History.{IsListing};
 ghost use Rattle.registry_reports.specs.Listing.{list_of};
 ghost use Rattle.registry_tables.specs.Lists.{IsVendorList};
 ghost use Rattle.sqlite.specs.State.{HasCleanDisk};
-ghost use Rattle.registry_store.specs.Promise.{Represents, state_of};
+ghost use Rattle.registry_store.specs.Promise.{Represents, is_poisoned, state_of};
 ghost use Rattle.registry_commands.specs.Failures.{IsOfOutput, error_output};
 ghost use Rattle.registry_commands.specs.Printed.{IsPrinted};
 ghost use Rattle.registry_commands.specs.Shown.{IsExported, IsLeft, IsOfReading};
@@ -58,6 +58,7 @@ pub fn document_of<S: Alter>(alloc: Global, registry: &mut Registry<S>) -> Resul
     ensures answered { (h : History) → Represents registry.old h → HasCleanDisk (state_of registry.new) → IfOk result (λ doc. IsListing h doc) }
     ensures failure { IfErr result (IsOfReading registry.old registry.new) }
     ensures left { IsLeft registry.old registry.new }
+    ensures when_poisoned { is_poisoned registry.old ≡ true → (result ≡ Err Failure.Poisoned) × (registry.new ≡ registry.old) }
 {
     match vendors_of(registry) {
         Ok(vendors) => list_under(alloc, registry, vendors.as_slice()),

@@ -1,10 +1,10 @@
 //! Reads the lists of a registry for a command that shows them.
 
-ghost use Rattle.std.specs.Prelude.{IfErr, IfOk};
+ghost use Rattle.std.specs.Prelude.{◌≡◌, true, Err, IfErr, IfOk};
 ghost use Rattle.sqlite.specs.State.{HasCleanDisk};
 ghost use Rattle.registry_rules.specs.History.{History};
 ghost use Rattle.registry_tables.specs.Lists.{IsNumberList, IsPetitionList, IsVendorList};
-ghost use Rattle.registry_store.specs.Promise.{Represents, state_of};
+ghost use Rattle.registry_store.specs.Promise.{Represents, is_poisoned, state_of};
 ghost use Rattle.registry_commands.specs.Shown.{IsLeft, IsOfReading};
 
 use crate::messages::Failure;
@@ -18,6 +18,7 @@ pub(crate) fn vendors_of<S: Alter>(registry: &mut Registry<S>) -> Result<Vec<Ven
     ensures answered { (h : History) → Represents registry.old h → HasCleanDisk (state_of registry.new) → IfOk result (λ list. IsVendorList h list.items) }
     ensures failure { IfErr result (IsOfReading registry.old registry.new) }
     ensures left { IsLeft registry.old registry.new }
+    ensures when_poisoned { is_poisoned registry.old ≡ true → (result ≡ Err Failure.Poisoned) × (registry.new ≡ registry.old) }
 {
     Ok(registry.vendors()?)
 }
@@ -29,6 +30,7 @@ pub(crate) fn numbers_of<S: Alter>(
     ensures answered { (h : History) → Represents registry.old h → HasCleanDisk (state_of registry.new) → IfOk result (λ list. IsNumberList h list.items) }
     ensures failure { IfErr result (IsOfReading registry.old registry.new) }
     ensures left { IsLeft registry.old registry.new }
+    ensures when_poisoned { is_poisoned registry.old ≡ true → (result ≡ Err Failure.Poisoned) × (registry.new ≡ registry.old) }
 {
     Ok(registry.numbers()?)
 }
@@ -40,6 +42,7 @@ pub(crate) fn petitions_of<S: Alter>(
     ensures answered { (h : History) → Represents registry.old h → HasCleanDisk (state_of registry.new) → IfOk result (λ list. IsPetitionList h list.items) }
     ensures failure { IfErr result (IsOfReading registry.old registry.new) }
     ensures left { IsLeft registry.old registry.new }
+    ensures when_poisoned { is_poisoned registry.old ≡ true → (result ≡ Err Failure.Poisoned) × (registry.new ≡ registry.old) }
 {
     Ok(registry.petitions()?)
 }

@@ -1,6 +1,6 @@
 //! Reports on a registry.
 
-ghost use Rattle.std.specs.Prelude.{◌≡◌, ◌++◌, ◌∷◌, [], ℕ, List, IfErr, IfOk, OnOk, string_bytes};
+ghost use Rattle.std.specs.Prelude.{◌≡◌, true, Err, ◌++◌, ◌∷◌, [], ℕ, List, IfErr, IfOk, OnOk, string_bytes};
 ghost use Rattle.sqlite.specs.State.{HasCleanDisk};
 ghost use Rattle.usbnum_core.specs.Spans.{spans_have};
 ghost use Rattle.usbnum_core.specs.declared.number.Span.{Span};
@@ -8,7 +8,7 @@ ghost use Rattle.registry_rules.specs.History.{History};
 ghost use Rattle.registry_rules.specs.Number.{number};
 ghost use Rattle.registry_rules.specs.Query.{is_reserved};
 ghost use Rattle.registry_tables.specs.Lists.{IsNumberList, IsPetitionList, IsVendorList};
-ghost use Rattle.registry_store.specs.Promise.{Represents, state_of};
+ghost use Rattle.registry_store.specs.Promise.{Represents, is_poisoned, state_of};
 ghost use Rattle.registry_commands.specs.Failures.{IsOfOutput, error_output};
 ghost use Rattle.registry_commands.specs.Reports.{AreReserved, IsCensus, IsHoldersReport, IsPetitionsReport, IsReport, IsReported, report_named};
 ghost use Rattle.registry_commands.specs.Shown.{IsLeft, IsOfReading};
@@ -154,6 +154,7 @@ fn census_of<S: Alter>(alloc: Global, registry: &mut Registry<S>) -> Result<Stri
     ensures answered { (h : History) → Represents registry.old h → HasCleanDisk (state_of registry.new) → IfOk result (λ text. IsCensus h (string_bytes text)) }
     ensures failure { IfErr result (IsOfReading registry.old registry.new) }
     ensures left { IsLeft registry.old registry.new }
+    ensures when_poisoned { is_poisoned registry.old ≡ true → (result ≡ Err Failure.Poisoned) × (registry.new ≡ registry.old) }
 {
     match vendors_of(registry) {
         Ok(vendors) => census_under(alloc, registry, vendors.as_slice()),
@@ -173,6 +174,7 @@ fn holders_of<S: Alter>(alloc: Global, registry: &mut Registry<S>) -> Result<Str
     ensures answered { (h : History) → Represents registry.old h → HasCleanDisk (state_of registry.new) → IfOk result (λ text. IsHoldersReport h (string_bytes text)) }
     ensures failure { IfErr result (IsOfReading registry.old registry.new) }
     ensures left { IsLeft registry.old registry.new }
+    ensures when_poisoned { is_poisoned registry.old ≡ true → (result ≡ Err Failure.Poisoned) × (registry.new ≡ registry.old) }
 {
     match numbers_of(registry) {
         Ok(numbers) => held_by(alloc, numbers.as_slice()),
@@ -192,6 +194,7 @@ fn open_ones_of<S: Alter>(alloc: Global, registry: &mut Registry<S>) -> Result<S
     ensures answered { (h : History) → Represents registry.old h → HasCleanDisk (state_of registry.new) → IfOk result (λ text. IsPetitionsReport h (string_bytes text)) }
     ensures failure { IfErr result (IsOfReading registry.old registry.new) }
     ensures left { IsLeft registry.old registry.new }
+    ensures when_poisoned { is_poisoned registry.old ≡ true → (result ≡ Err Failure.Poisoned) × (registry.new ≡ registry.old) }
 {
     let founding = registry.founding().vendor;
     match petitions_of(registry) {
@@ -211,6 +214,7 @@ pub fn report_of<S: Alter>(
     ensures answered { (h : History) → Represents registry.old h → HasCleanDisk (state_of registry.new) → IfOk result (λ text. IsReport name h (string_bytes text)) }
     ensures failure { IfErr result (IsOfReading registry.old registry.new) }
     ensures left { IsLeft registry.old registry.new }
+    ensures when_poisoned { is_poisoned registry.old ≡ true → (result ≡ Err Failure.Poisoned) × (registry.new ≡ registry.old) }
 {
     match name {
         ReportKind::Census => census_of(alloc, registry),

@@ -1,5 +1,6 @@
 pub mod AskLemmas
 pub mod LawLemmas
 pub mod OnceLemmas
+pub mod ReopenLemmas
 pub mod ServeLemmas
 pub mod ServerLemmas

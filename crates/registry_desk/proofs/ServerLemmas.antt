@@ -1,13 +1,13 @@
 -- Serving one connection after another.
 use Rattle.std.proofs.Common.{◌≡◌, ◌⊎◌, inl, inr, ℕ, ◌+◌, ◌<◌, ◌≤◌, List, [], ◌∷◌, ◌++◌, length, refl, sym, ap, subst, ◌∙◌, arith, length-append}
-use Rattle.std.specs.Prelude.{Option, Some, None, Result, Ok, Err, OnOk}
+use Rattle.std.specs.Prelude.{true, Option, Some, None, Result, Ok, Err, OnOk, IfOk}
 use Rattle.sqlite.specs.Store.{Ghosts}
 use Rattle.sqlite.specs.State.{HasCleanDisk}
 use Rattle.registry_rules.specs.History.{History}
 use Rattle.registry_store.specs.declared.fault.Fault.{Fault}
 use Rattle.registry_store.specs.declared.registry.Registry.{Registry as TheRegistry}
 use Rattle.registry_tables.specs.Rows.{newest}
-use Rattle.registry_store.specs.Promise.{Represents, Leaves, state_of}
+use Rattle.registry_store.specs.Promise.{Represents, Leaves, is_poisoned, state_of}
 use Rattle.registry_http.specs.Responses.{response_bytes, unavailable_response}
 use Rattle.registry_desk.specs.declared.fault.DeskFault.{DeskFault}
 use Rattle.registry_desk.specs.declared.fault.DeskFault.TheVariants.{NoMemory, Registry}
@@ -15,19 +15,19 @@ use Rattle.registry_desk.specs.declared.serve.Served.{Served}
 use Rattle.registry_desk.specs.declared.serve.Exchange.{Exchange}
 use Rattle.registry_desk.specs.Faults.{fault_of, unavailable_of}
 use Rattle.registry_desk.specs.Acting.{after_message, IsOfSoundRegistry, IsLeftAt}
-use Rattle.registry_desk.specs.Serving.{IsNext, IsServed}
+use Rattle.registry_desk.specs.Serving.{IsNext, IsOfServed, IsServed}
 use Rattle.registry_desk.specs.declared.server.ServerStop.{ServerStop}
 use Rattle.registry_desk.specs.declared.server.ServerStop.TheVariants as stops
-use Rattle.registry_desk.specs.Server.{Visit, IsVisit, HaveVisited, IsTurn, Turns, RepresentsAfter, IsHalted, EndsVisit, EndsServing, IsLeftAfter, EndsAt, IfVisited, fault_in}
+use Rattle.registry_desk.specs.Server.{Visit, IsVisit, IsTurnedAwayAt, HaveVisited, IsTurn, Turns, RepresentsAfter, IsHalted, EndsVisit, EndsServing, IsLeftAfter, EndsAt, IfVisited, fault_in}
 
 -- one more connection
-pub visited_more : {C R W : Type 0} (opens : C → C → R → W → Type 0) (closes : C → C → R → W → Option ℕ → Type 0) (remaining : R → Option (List ℕ)) (contents : W → Option (List ℕ)) (failures : W → ℕ)
-    (old middle new : C) (visits : List Visit) (visit : Visit) → HaveVisited opens closes remaining contents failures old middle visits
-    → IsVisit opens closes remaining contents failures middle new visit → HaveVisited opens closes remaining contents failures old new (visits ++ visit ∷ [])
-visited_more opens closes remaining contents failures old middle new [] visit same one =
-    (new, subst (λ c. IsVisit opens closes remaining contents failures c new visit) same one, refl)
-visited_more opens closes remaining contents failures old middle new (first ∷ visits) visit before one =
-    (before.0, before.1, visited_more opens closes remaining contents failures before.0 middle new visits visit before.2 one)
+pub visited_more : {C R W : Type 0} (opens : C → C → R → W → Type 0) (closes : C → C → R → W → Option ℕ → Type 0) (remaining : R → Option (List ℕ)) (reads_failed : R → ℕ) (contents : W → Option (List ℕ)) (writes_failed : W → ℕ)
+    (old middle new : C) (visits : List Visit) (visit : Visit) → HaveVisited opens closes remaining reads_failed contents writes_failed old middle visits
+    → IsVisit opens closes remaining reads_failed contents writes_failed middle new visit → HaveVisited opens closes remaining reads_failed contents writes_failed old new (visits ++ visit ∷ [])
+visited_more opens closes remaining reads_failed contents writes_failed old middle new [] visit same one =
+    (new, subst (λ c. IsVisit opens closes remaining reads_failed contents writes_failed c new visit) same one, refl)
+visited_more opens closes remaining reads_failed contents writes_failed old middle new (first ∷ visits) visit before one =
+    (before.0, before.1, visited_more opens closes remaining reads_failed contents writes_failed before.0 middle new visits visit before.2 one)
 
 -- one more turn
 pub turns_more : (h middle next : History) (visits : List Visit) (visit : Visit) → Turns h visits middle → IsTurn middle visit next → Turns h (visits ++ visit ∷ []) next
@@ -37,30 +37,39 @@ turns_more h middle next (first ∷ visits) visit before one = (before.0, before
 module _ {S : Type 0} {g : Ghosts S} where
   -- serving a message for which memory ran out, by the history that the registry represents
   short_turn : (new : TheRegistry S g) (h : History) (bytes text : List ℕ) (exchange : Exchange) (next : History)
-      → text ≡ response_bytes (unavailable_response (unavailable_of NoMemory)) → IsNext h bytes NoMemory next → Represents new h ⊎ Represents new next
+      → text ≡ response_bytes (unavailable_response (unavailable_of NoMemory)) → IfOk exchange.sent (λ status. status ≡ 503) → IsNext h bytes NoMemory next → Represents new h ⊎ Represents new next
       → EndsVisit new h (record { bytes = bytes; text = text; end = Ok exchange }) None
-  short_turn new h bytes text exchange next text_is next_is (inl stands) = (h, inr (text_is, inl (refl, refl)), stands)
-  short_turn new h bytes text exchange next text_is next_is (inr stands) = (next, inr (text_is, next_is), stands)
+  short_turn new h bytes text exchange next text_is status_is next_is (inl stands) = (h, inr (record { text_is = text_is; status_is = status_is; next_is = inl (refl, refl) }), stands)
+  short_turn new h bytes text exchange next text_is status_is next_is (inr stands) = (next, inr (record { text_is = text_is; status_is = status_is; next_is = next_is }), stands)
 
   given_up_visit : (new : TheRegistry S g) (h : History) (bytes text : List ℕ) (exchange : Exchange) (fault : DeskFault) (next : History)
-      → IsOfSoundRegistry fault → text ≡ response_bytes (unavailable_response (unavailable_of fault)) → IsNext h bytes fault next → IsLeftAt fault new h next
+      → IsOfSoundRegistry fault → text ≡ response_bytes (unavailable_response (unavailable_of fault)) → IfOk exchange.sent (λ status. status ≡ 503)
+      → IsNext h bytes fault next → IsLeftAt fault new h next
       → EndsVisit new h (record { bytes = bytes; text = text; end = Ok exchange }) (fault_of fault)
-  given_up_visit new h bytes text exchange NoMemory next kind text_is next_is left = short_turn new h bytes text exchange next text_is next_is left.ends
-  given_up_visit new h bytes text exchange (Registry fault) next kind text_is next_is left =
-      record { kind = kind; text_is = text_is; next = next; next_is = next_is; left = left }
+  given_up_visit new h bytes text exchange NoMemory next kind text_is status_is next_is left = short_turn new h bytes text exchange next text_is status_is next_is left.ends
+  given_up_visit new h bytes text exchange (Registry fault) next kind text_is status_is next_is left =
+      record { kind = kind; text_is = text_is; status_is = status_is; next = next; next_is = next_is; left = left }
 
   -- serving a message is a visit
-  pub served_visit : (new : TheRegistry S g) (h : History) (bytes text : List ℕ) (exchange : Exchange) (served : Served) → exchange.fault ≡ served.fault
+  pub served_visit : (new : TheRegistry S g) (h : History) (bytes text : List ℕ) (exchange : Exchange) (served : Served) → IsOfServed exchange served
       → IsServed new h bytes text served → EndsVisit new h (record { bytes = bytes; text = text; end = Ok exchange }) exchange.fault
   served_visit new h bytes text exchange served same (inl it) =
-      subst (λ (f : Option Fault). EndsVisit new h (record { bytes = bytes; text = text; end = Ok exchange }) f) (sym (same ∙ ap (λ (s : Served). s.fault) it.served_is)) (
+      subst (λ (f : Option Fault). EndsVisit new h (record { bytes = bytes; text = text; end = Ok exchange }) f) (sym (same.fault ∙ ap (λ (s : Served). s.fault) it.served_is)) (
         after_message h it.said,
-        inl (record { said = it.said; says = it.says; response = it.response; is = it.is; text_is = it.text_is; next_is = refl }),
+        inl (record {
+          said = it.said;
+          says = it.says;
+          response = it.response;
+          is = it.is;
+          text_is = it.text_is;
+          status_is = subst (λ (s : Served). IfOk exchange.sent (λ status. status ≡ s.status)) it.served_is same.status;
+          next_is = refl;
+        }),
         it.represents,
       )
   served_visit new h bytes text exchange served same (inr it) =
-      subst (λ (f : Option Fault). EndsVisit new h (record { bytes = bytes; text = text; end = Ok exchange }) f) (sym (same ∙ ap (λ (s : Served). s.fault) it.served_is))
-      (given_up_visit new h bytes text exchange it.fault it.next it.kind it.text_is it.next_is it.left)
+      subst (λ (f : Option Fault). EndsVisit new h (record { bytes = bytes; text = text; end = Ok exchange }) f) (sym (same.fault ∙ ap (λ (s : Served). s.fault) it.served_is))
+      (given_up_visit new h bytes text exchange it.fault it.next it.kind it.text_is (subst (λ (s : Served). IfOk exchange.sent (λ status. status ≡ s.status)) it.served_is same.status) it.next_is it.left)
 
   -- the history after one more connection
   pub represents_more : (mid new : TheRegistry S g) (h : History) (visits : List Visit) (visit : Visit) → RepresentsAfter mid h visits
@@ -95,6 +104,7 @@ module _ {S : Type 0} {g : Ghosts S} where
             turns = ends.turns;
             fault = fault;
             text_is = ends.halted.text_is;
+            status_is = ends.halted.status_is;
             next = ends.halted.next;
             next_is = ends.halted.next_is;
             is = left.1;
@@ -106,21 +116,22 @@ module _ {S : Type 0} {g : Ghosts S} where
 pub length_more : (visits : List Visit) (visit : Visit) (n : ℕ) → length visits ≡ n → length (visits ++ visit ∷ []) ≡ n + 1
 length_more visits visit n is = length-append visits (visit ∷ []) ∙ ap (λ (k : ℕ). k + 1) is
 
-module _ {S C R W : Type 0} {g : Ghosts S} (opens : C → C → R → W → Type 0) (closes : C → C → R → W → Option ℕ → Type 0) (remaining : R → Option (List ℕ)) (contents : W → Option (List ℕ)) (failures : W → ℕ) (fails : C → C → Type 0) where
+module _ {S C R W : Type 0} {g : Ghosts S} (opens : C → C → R → W → Type 0) (closes : C → C → R → W → Option ℕ → Type 0) (remaining : R → Option (List ℕ)) (reads_failed : R → ℕ) (contents : W → Option (List ℕ)) (writes_failed : W → ℕ) (fails : C → C → Type 0) where
   abbrev Ends : C → C → TheRegistry S g → TheRegistry S g → ℕ → Result (Unit {0}) ServerStop → Type 0
   Ends old new first last count result = (visits : List Visit) × (middle : C)
-      × HaveVisited opens closes remaining contents failures old middle visits
+      × HaveVisited opens closes remaining reads_failed contents writes_failed old middle visits
       × EndsAt fails middle new result
       × (length visits ≤ count) × OnOk result (length visits ≡ count)
       × ((h : History) → Represents first h → HasCleanDisk (state_of last) → EndsServing last h visits (fault_in result) × Leaves newest (state_of last) (IsLeftAfter h visits))
 
   -- a server stops when no more connections come, or at a fault
   pub stops_at : (old middle new : C) (first mid last : TheRegistry S g) (count : ℕ) (visits : List Visit) (stop : ServerStop)
-      → HaveVisited opens closes remaining contents failures old middle visits → length visits < count
+      → HaveVisited opens closes remaining reads_failed contents writes_failed old middle visits → length visits < count
       → (HasCleanDisk (state_of last) → HasCleanDisk (state_of mid))
       → ((h : History) → Represents first h → HasCleanDisk (state_of mid) → RepresentsAfter mid h visits)
-      → IfVisited (Err stop) ((visit : Visit) × IsVisit opens closes remaining contents failures middle new visit
-      × ((h : History) → Represents mid h → HasCleanDisk (state_of last) → EndsVisit last h visit (fault_in (Err stop))))
+      → IfVisited (Err stop) ((visit : Visit) × IsVisit opens closes remaining reads_failed contents writes_failed middle new visit
+      × ((h : History) → Represents mid h → HasCleanDisk (state_of last) → EndsVisit last h visit (fault_in (Err stop)))
+      × (is_poisoned mid ≡ true → IsTurnedAwayAt visit (fault_in (Err stop)) × (last ≡ mid)))
       → (stop ≡ stops.Connections → fails middle new × (last ≡ mid)) → Ends old new first last count (Err stop)
   stops_at old middle new first mid last count visits stops.Connections before less early so_far came none = (
     visits,
@@ -135,7 +146,7 @@ module _ {S C R W : Type 0} {g : Ghosts S} (opens : C → C → R → W → Type
       let longer = length_more visits came.0 (length visits) refl in (
         visits ++ came.0 ∷ [],
         new,
-        visited_more opens closes remaining contents failures old middle new visits came.0 before came.1,
+        visited_more opens closes remaining reads_failed contents writes_failed old middle new visits came.0 before came.1,
         refl,
         omega (arith, less, longer),
         tt,
@@ -143,11 +154,12 @@ module _ {S C R W : Type 0} {g : Ghosts S} (opens : C → C → R → W → Type
       )
 
   pub stopped_at : (result : Result (Unit {0}) ServerStop) (stop : ServerStop) → result ≡ Err stop → (old middle new : C) (first mid last : TheRegistry S g) (count : ℕ) (visits : List Visit)
-      → HaveVisited opens closes remaining contents failures old middle visits → length visits < count
+      → HaveVisited opens closes remaining reads_failed contents writes_failed old middle visits → length visits < count
       → (HasCleanDisk (state_of last) → HasCleanDisk (state_of mid))
       → ((h : History) → Represents first h → HasCleanDisk (state_of mid) → RepresentsAfter mid h visits)
-      → IfVisited (Err stop) ((visit : Visit) × IsVisit opens closes remaining contents failures middle new visit
-      × ((h : History) → Represents mid h → HasCleanDisk (state_of last) → EndsVisit last h visit (fault_in (Err stop))))
+      → IfVisited (Err stop) ((visit : Visit) × IsVisit opens closes remaining reads_failed contents writes_failed middle new visit
+      × ((h : History) → Represents mid h → HasCleanDisk (state_of last) → EndsVisit last h visit (fault_in (Err stop)))
+      × (is_poisoned mid ≡ true → IsTurnedAwayAt visit (fault_in (Err stop)) × (last ≡ mid)))
       → (stop ≡ stops.Connections → fails middle new × (last ≡ mid)) → Ends old new first last count result
   stopped_at result stop is old middle new first mid last count visits before less early so_far came none =
       subst (λ (r : Result (Unit {0}) ServerStop). Ends old new first last count r) (sym is) (stops_at old middle new first mid last count visits stop before less early so_far came none)

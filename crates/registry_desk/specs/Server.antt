@@ -3,9 +3,9 @@
 -- A message gets its response over the history before it, and the next message starts from the history after it. Two kinds
 -- of connections differ: one whose reader failed has no message, and one that got refusal 31 because memory ran out has a
 -- message that may have been acted on.
-use Rattle.std.specs.Prelude.{◌≡◌, ◌⊎◌, ⊤, ℕ, List, [], ◌∷◌, ◌++◌, Option, Some, None, Result, Ok, Err}
+use Rattle.std.specs.Prelude.{◌≡◌, ◌≢◌, ◌⊎◌, ⊤, ℕ, List, [], ◌∷◌, ◌++◌, Option, Some, None, Result, Ok, Err, IfOk}
 use Rattle.sqlite.specs.Store.{Ghosts}
-use Rattle.byte_streams.specs.Streams.{MayGive, Writes}
+use Rattle.byte_streams.specs.Streams.{HasFailed, MayGive, Writes}
 use Rattle.registry_rules.specs.History.{History}
 use Rattle.registry_store.specs.declared.fault.Fault.{Fault}
 use Rattle.registry_store.specs.declared.registry.Registry.{Registry as TheRegistry}
@@ -18,11 +18,12 @@ use Rattle.registry_http.specs.Messages.{Says}
 use Rattle.byte_streams.specs.declared.streams.Broken.{Broken}
 use Rattle.registry_desk.specs.declared.fault.DeskFault.TheVariants.{Registry, NoMemory}
 use Rattle.registry_desk.specs.declared.serve.Exchange.{Exchange}
+use Rattle.registry_desk.specs.declared.serve.Served.{Served}
 use Rattle.registry_desk.specs.declared.server.ServerStop.{ServerStop}
 use Rattle.registry_desk.specs.declared.server.ServerStop.TheVariants as stops
 use Rattle.registry_desk.specs.Faults.{unavailable_of}
 use Rattle.registry_desk.specs.Acting.{IsResponse, after_message, IsOfSoundRegistry, IsEither, IsLeftAt}
-use Rattle.registry_desk.specs.Serving.{IsNext}
+use Rattle.registry_desk.specs.Serving.{IsNext, IsOfServed, IsTurnedAway}
 
 -- ---- connections
 
@@ -42,15 +43,33 @@ abbrev pub status_of : Result Exchange Broken → Option ℕ
 status_of (Ok exchange) = status_in exchange.sent
 status_of (Err broken) = None
 
--- all of the text was written, or the writer failed; nothing was written if the reader failed
+-- the text is a response, with this status if all of it was written
+abbrev pub IsSentAs : List ℕ → Result ℕ Broken → Type 0
+IsSentAs text sent = (response : Response) × (text ≡ response_bytes response) × IfOk sent (λ status. status ≡ response.status)
+
+-- all of the text was written, or the writer failed, and the text is a response with this status; nothing was written if the
+-- reader failed
 abbrev pub IsWritten : {W : Type 0} → (W → Option (List ℕ)) → (W → ℕ) → W → W → Visit → Type 0
 IsWritten contents failures old new visit = WrittenAt visit.end
   where
     WrittenAt : Result Exchange Broken → Type 0
-    WrittenAt (Ok exchange) = Writes (contents old) (contents new) (failures old) (failures new) exchange.sent visit.text
+    WrittenAt (Ok exchange) = Writes (contents old) (contents new) (failures old) (failures new) exchange.sent visit.text × IsSentAs visit.text exchange.sent
     WrittenAt (Err broken) = new ≡ old
 
-module _ {C R W : Type 0} (opens : C → C → R → W → Type 0) (closes : C → C → R → W → Option ℕ → Type 0) (remaining : R → Option (List ℕ)) (contents : W → Option (List ℕ)) (failures : W → ℕ) where
+-- a message came, and its reader did not fail; or the reader failed
+abbrev pub IsRead : {R : Type 0} → (R → ℕ) → R → R → Visit → Type 0
+IsRead failures old new visit = ReadAt visit.end
+  where
+    ReadAt : Result Exchange Broken → Type 0
+    ReadAt (Ok exchange) = failures new ≡ failures old
+    ReadAt (Err broken) = HasFailed (failures old) (failures new)
+
+-- a message came, and if its response was written whole, it has this status
+abbrev pub IsSentWith : Result Exchange Broken → ℕ → Type 0
+IsSentWith (Ok exchange) status = IfOk exchange.sent (λ sent. sent ≡ status)
+IsSentWith (Err broken) status = ⊥
+
+module _ {C R W : Type 0} (opens : C → C → R → W → Type 0) (closes : C → C → R → W → Option ℕ → Type 0) (remaining : R → Option (List ℕ)) (reads_failed : R → ℕ) (contents : W → Option (List ℕ)) (writes_failed : W → ℕ) where
   -- a connection was opened, its message was served, and it was closed
   pub record IsVisit (old new : C) (visit : Visit) : Type 0 where
     pub opened : C
@@ -60,7 +79,8 @@ module _ {C R W : Type 0} (opens : C → C → R → W → Type 0) (closes : C �
     pub writer_new : W
     pub opens_with : opens old opened reader writer
     pub gives : MayGive (remaining reader) visit.bytes
-    pub written : IsWritten contents failures writer writer_new visit
+    pub read : IsRead reads_failed reader reader_new visit
+    pub written : IsWritten contents writes_failed writer writer_new visit
     pub status : Option ℕ
     pub status_is : status ≡ status_of visit.end
     pub closes_with : closes opened new reader_new writer_new status
@@ -70,24 +90,40 @@ module _ {C R W : Type 0} (opens : C → C → R → W → Type 0) (closes : C �
   HaveVisited old new [] = new ≡ old
   HaveVisited old new (visit ∷ visits) = (middle : C) × IsVisit old middle visit × HaveVisited middle new visits
 
+-- What a connection gets over a poisoned registry, which is not changed: its message is turned away, with the status of what
+-- was written if all was. The fault is that of the registry, if it was asked.
+abbrev pub IsTurnedAwayAt : Visit → Option Fault → Type 0
+IsTurnedAwayAt visit fault = TurnedAt visit.end
+  where
+    TurnedAt : Result Exchange Broken → Type 0
+    TurnedAt (Ok exchange) = (served : Served) × IsTurnedAway visit.bytes visit.text served × IsOfServed exchange served × (fault ≡ served.fault)
+    TurnedAt (Err broken) = fault ≡ None
+
 -- ---- histories
 
--- the text is the response to all bytes over the history, and the next history is the one after the message
-pub record IsResponded (h : History) (bytes text : List ℕ) (next : History) : Type 0 where
+-- the text is the response to all bytes over the history, with its status if all was written, and the next history is the
+-- one after the message
+pub record IsResponded (h : History) (visit : Visit) (next : History) : Type 0 where
   pub said : Result Message HttpRefusal
-  pub says : Says h.founding.vendor bytes said
+  pub says : Says h.founding.vendor visit.bytes said
   pub response : Response
   pub is : IsResponse h said response
-  pub text_is : text ≡ response_bytes response
+  pub text_is : visit.text ≡ response_bytes response
+  pub status_is : IsSentWith visit.end response.status
   pub next_is : next ≡ after_message h said
+
+-- the text is refusal 31, with status 503 if all was written, and the next history is the one after the message or the same
+pub record IsShort (h : History) (visit : Visit) (next : History) : Type 0 where
+  pub text_is : visit.text ≡ response_bytes (unavailable_response (unavailable_of NoMemory))
+  pub status_is : IsSentWith visit.end 503
+  pub next_is : IsNext h visit.bytes NoMemory next
 
 -- one connection leads from the history h to the next one
 abbrev pub IsTurn : History → Visit → History → Type 0
 IsTurn h visit next = TurnAt visit.end
   where
     TurnAt : Result Exchange Broken → Type 0
-    TurnAt (Ok exchange) = IsResponded h visit.bytes visit.text next
-        ⊎ ((visit.text ≡ response_bytes (unavailable_response (unavailable_of NoMemory))) × IsNext h visit.bytes NoMemory next)
+    TurnAt (Ok exchange) = IsResponded h visit next ⊎ IsShort h visit next
     TurnAt (Err broken) = next ≡ h
 
 -- connections lead from the first history to the last, one after another
@@ -102,10 +138,12 @@ module _ {S : Type 0} {g : Ghosts S} where
   abbrev pub RepresentsAfter : TheRegistry S g → History → List Visit → Type 0
   RepresentsAfter it h visits = (next : History) × Turns h visits next × Represents it next
 
-  -- The registry had a fault at this connection. A crash leaves the history before its message or after it.
+  -- The registry had a fault at this connection: its message came, and refusal 30 or 31 was written, with status 503, or the
+  -- writer failed. A crash leaves the history before its message or after it.
   pub record IsHaltedAt (it : TheRegistry S g) (h : History) (visit : Visit) (fault : Fault) : Type 0 where
     pub kind : IsOfSoundRegistry (Registry fault)
     pub text_is : visit.text ≡ response_bytes (unavailable_response (unavailable_of (Registry fault)))
+    pub status_is : IsSentWith visit.end 503
     pub next : History
     pub next_is : IsNext h visit.bytes (Registry fault) next
     pub left : IsLeftAt (Registry fault) it h next
@@ -155,15 +193,36 @@ pub record IsCutShort (h : History) (visits : List Visit) (x : History) : Type 0
   pub turns : Turns h before middle
   pub fault : Fault
   pub text_is : last.text ≡ response_bytes (unavailable_response (unavailable_of (Registry fault)))
+  pub status_is : IsSentWith last.end 503
   pub next : History
   pub next_is : IsNext middle last.bytes (Registry fault) next
   pub is : IsEither middle next x
 
 -- What a crash leaves: the history after the messages of all these connections, or of all but the last one, if the registry
--- had a fault there. So it holds each message whose response was written whole. It also holds a message that was acted on
--- while its writer failed, and may hold one that got refusal 31.
+-- had a fault there. So it holds each message whose response was written whole with a status other than 503. A message that
+-- got refusal 30 or 31, with status 503, may be held or not. A message whose writer failed is held unless its response was
+-- one of these refusals.
 abbrev pub IsLeftAfter : History → List Visit → History → Type 0
 IsLeftAfter h visits x = Turns h visits x ⊎ IsCutShort h visits x
+
+-- the response was written whole, with a status other than 503
+abbrev pub IsAnsweredWhole : Visit → Type 0
+IsAnsweredWhole visit = (status : ℕ) × (status_of visit.end ≡ Some status) × (status ≢ 503)
+
+-- the history after the message in these bytes
+abbrev pub IsAfterMessage : History → List ℕ → History → Type 0
+IsAfterMessage h bytes next = (said : Result Message HttpRefusal) × Says h.founding.vendor bytes said × (next ≡ after_message h said)
+
+-- x is the history after the messages of some of these connections, in their order: at least of each one whose response was
+-- written whole with a status other than 503
+abbrev pub HoldsAnswered : History → List Visit → History → Type 0
+HoldsAnswered h [] x = x ≡ h
+HoldsAnswered h (visit ∷ visits) x =
+    (middle : History) × (IsAfterMessage h visit.bytes middle ⊎ ((middle ≡ h) × ¬ IsAnsweredWhole visit)) × HoldsAnswered middle visits x
+
+-- a crash leaves each message whose response was written whole with a status other than 503
+abbrev pub LeavesAnswered : Type 0
+LeavesAnswered = (h : History) (visits : List Visit) (x : History) → IsLeftAfter h visits x → HoldsAnswered h visits x
 
 module _ {S : Type 0} {g : Ghosts S} where
   abbrev pub EndsServing : TheRegistry S g → History → List Visit → Option Fault → Type 0

@@ -2,15 +2,16 @@
 use Rattle.std.specs.Prelude.{◌≡◌, ◌≢◌, ◌⊎◌, ℕ, List, None, Result, Ok, Err, IsOk, IfOk}
 use Rattle.sqlite.specs.Store.{Ghosts}
 use Rattle.registry_rules.specs.History.{History}
+use Rattle.registry_store.specs.declared.fault.Fault.TheVariants as faults
 use Rattle.registry_store.specs.declared.registry.Registry.{Registry as TheRegistry}
 use Rattle.registry_store.specs.Promise.{Represents}
 use Rattle.registry_http.specs.declared.response.Response.{Response}
 use Rattle.registry_http.specs.declared.refusal.HttpRefusal.{HttpRefusal}
 use Rattle.registry_http.specs.declared.message.Message.{Message}
-use Rattle.registry_http.specs.Responses.{response_bytes, unavailable_response, IsInPlaceOf}
+use Rattle.registry_http.specs.Responses.{response_bytes, refusal_response, unavailable_response, IsInPlaceOf}
 use Rattle.registry_http.specs.Messages.{Says}
 use Rattle.registry_desk.specs.declared.fault.DeskFault.{DeskFault}
-use Rattle.registry_desk.specs.declared.fault.DeskFault.TheVariants.{NoMemory}
+use Rattle.registry_desk.specs.declared.fault.DeskFault.TheVariants.{Registry, NoMemory}
 use Rattle.registry_desk.specs.declared.serve.Served.{Served}
 use Rattle.registry_desk.specs.declared.serve.Exchange.{Exchange}
 use Rattle.registry_desk.specs.Faults.{unavailable_of, fault_of}
@@ -33,10 +34,26 @@ abbrev pub IsTold : Result Response DeskFault → List ℕ → Served → Type 0
 IsTold (Ok response) text served = IsSent response text served
 IsTold (Err fault) text served = (text ≡ response_bytes (unavailable_response (unavailable_of fault))) × (served ≡ given_up fault)
 
+-- the text is a whole response, with the status of what was served
+abbrev pub IsTextOf : List ℕ → Served → Type 0
+IsTextOf text served = (response : Response) × (text ≡ response_bytes response) × (served.status ≡ response.status)
+
 -- The exchange has this fault, and this status if all was written.
 pub record IsOfServed (exchange : Exchange) (served : Served) : Type 0 where
   pub fault : exchange.fault ≡ served.fault
   pub status : IfOk exchange.sent (λ status. status ≡ served.status)
+
+-- What is written over a poisoned registry, which is not changed: refusal 30 to an order or a query, and its refusal to a
+-- message that is refused; refusal 31 may come in place of a refusal.
+abbrev pub IsSaidPoisoned : Result Message HttpRefusal → List ℕ → Served → Type 0
+IsSaidPoisoned (Ok message) text served = IsTold (Err (Registry faults.Poisoned)) text served
+IsSaidPoisoned (Err refusal) text served = IsSent (refusal_response refusal) text served ⊎ IsTold (Err NoMemory) text served
+
+-- The text is what is written for all bytes over a poisoned registry, or refusal 31 if memory ran out before the message was
+-- read.
+abbrev pub IsTurnedAway : List ℕ → List ℕ → Served → Type 0
+IsTurnedAway bytes text served =
+    IsTold (Err NoMemory) text served ⊎ ((founding : ℕ) × (said : Result Message HttpRefusal) × Says founding bytes said × IsSaidPoisoned said text served)
 
 -- the history that a registry may represent besides h: the one after the message, or h itself if memory ran out before the
 -- message was read

@@ -1,6 +1,6 @@
 //! Returns the response to a query, or acts on an order.
 
-ghost use Rattle.std.specs.Prelude.{◌≡◌, ◌≢◌, true, Err, IfOk, IfErr, OnOk, OnErr, IsOk};
+ghost use Rattle.std.specs.Prelude.{◌≡◌, ◌≢◌, true, Err, IfOk, IfErr, OnOk, IsOk};
 ghost use Rattle.sqlite.specs.State.{HasCleanDisk};
 ghost use Rattle.registry_rules.specs.History.{History};
 ghost use Rattle.registry_rules.specs.Run.{after_one, reply_to};
@@ -29,6 +29,7 @@ fn act_on<S: Alter>(
     ensures left { (h : History) → Represents registry.old h → HasCleanDisk (state_of registry.new)
         → IfErr result (λ fault. IsOfSoundRegistry fault × IsLeftAt fault registry.new h (after_one h request.now)) }
     ensures only_poisoned { result ≡ Err (desk_faults.Registry faults.Poisoned) → is_poisoned registry.old ≡ true }
+    ensures when_poisoned { is_poisoned registry.old ≡ true → (result ≡ Err (desk_faults.Registry faults.Poisoned)) × (registry.new ≡ registry.old) }
     ensures endures { Endures (state_of registry.old) (state_of registry.new) }
 {
     let reply = registry.act(request)?;
@@ -54,6 +55,10 @@ pub(crate) fn response_to<S: Alter>(
     ensures left { (h : History) → Represents registry.old h → HasCleanDisk (state_of registry.new)
         → IfErr result (λ fault. IsOfSoundRegistry fault × IsLeftAt fault registry.new h (after_message h said)) }
     ensures asked { IfErr result (λ fault. fault ≢ desk_faults.NoMemory → IsOk said) }
+    // A message that is refused gets its refusal, over any registry.
+    ensures refused { IfErr said (λ refusal. IfOk result (λ response. response ≡ refusal_response refusal) × IfErr result (λ fault. fault ≡ desk_faults.NoMemory) × (registry.new ≡ registry.old)) }
+    // An order or a query gets no response over a poisoned registry.
+    ensures when_poisoned { is_poisoned registry.old ≡ true → OnOk said ((result ≡ Err (desk_faults.Registry faults.Poisoned)) × (registry.new ≡ registry.old)) }
     ensures only_poisoned { result ≡ Err (desk_faults.Registry faults.Poisoned) → is_poisoned registry.old ≡ true }
     ensures endures { Endures (state_of registry.old) (state_of registry.new) }
 {

@@ -43,6 +43,7 @@ fn ask_number<S: Alter>(
     ensures kind { (h : History) → Represents registry.old h → HasCleanDisk (state_of registry.new) → IfErr result IsOfSoundRegistry }
     ensures left { IsLeft registry.old registry.new }
     ensures only_poisoned { result ≡ Err (desk_faults.Registry faults.Poisoned) → is_poisoned registry.old ≡ true }
+    ensures when_poisoned { is_poisoned registry.old ≡ true → (result ≡ Err (desk_faults.Registry faults.Poisoned)) × (registry.new ≡ registry.old) }
 {
     let reserved = registry.is_reserved(Number { vid, pid })?;
     let entry = registry.entry(Number { vid, pid })?;
@@ -68,6 +69,7 @@ fn ask_vendor_number<S: Alter>(
     ensures kind { (h : History) → Represents registry.old h → HasCleanDisk (state_of registry.new) → IfErr result IsOfSoundRegistry }
     ensures left { IsLeft registry.old registry.new }
     ensures only_poisoned { result ≡ Err (desk_faults.Registry faults.Poisoned) → is_poisoned registry.old ≡ true }
+    ensures when_poisoned { is_poisoned registry.old ≡ true → (result ≡ Err (desk_faults.Registry faults.Poisoned)) × (registry.new ≡ registry.old) }
 {
     if registry.has_vendor(vid)? {
         ask_number(alloc, registry, Some(vid), vid, pid)
@@ -86,6 +88,7 @@ fn ask_org<S: Alter>(
     ensures kind { (h : History) → Represents registry.old h → HasCleanDisk (state_of registry.new) → IfErr result IsOfSoundRegistry }
     ensures left { IsLeft registry.old registry.new }
     ensures only_poisoned { result ≡ Err (desk_faults.Registry faults.Poisoned) → is_poisoned registry.old ≡ true }
+    ensures when_poisoned { is_poisoned registry.old ≡ true → (result ≡ Err (desk_faults.Registry faults.Poisoned)) × (registry.new ≡ registry.old) }
 {
     let org = registry.org(slug)?;
     Ok(org_response(alloc, org.as_ref())?)
@@ -101,6 +104,7 @@ fn ask_petition<S: Alter>(
     ensures kind { (h : History) → Represents registry.old h → HasCleanDisk (state_of registry.new) → IfErr result IsOfSoundRegistry }
     ensures left { IsLeft registry.old registry.new }
     ensures only_poisoned { result ≡ Err (desk_faults.Registry faults.Poisoned) → is_poisoned registry.old ≡ true }
+    ensures when_poisoned { is_poisoned registry.old ≡ true → (result ≡ Err (desk_faults.Registry faults.Poisoned)) × (registry.new ≡ registry.old) }
 {
     let founding = registry.founding().vendor;
     let petition = registry.petition(id)?;
@@ -125,6 +129,7 @@ fn ask_list<S: Alter>(alloc: Global, registry: &mut Registry<S>) -> Result<Respo
     ensures kind { (h : History) → Represents registry.old h → HasCleanDisk (state_of registry.new) → IfErr result IsOfSoundRegistry }
     ensures left { IsLeft registry.old registry.new }
     ensures only_poisoned { result ≡ Err (desk_faults.Registry faults.Poisoned) → is_poisoned registry.old ≡ true }
+    ensures when_poisoned { is_poisoned registry.old ≡ true → (result ≡ Err (desk_faults.Registry faults.Poisoned)) × (registry.new ≡ registry.old) }
 {
     match document_of(alloc, registry) {
         Ok(document) => list_response(alloc, &document),
@@ -152,6 +157,7 @@ fn ask_report<S: Alter>(
     ensures kind { (h : History) → Represents registry.old h → HasCleanDisk (state_of registry.new) → IfErr result IsOfSoundRegistry }
     ensures left { IsLeft registry.old registry.new }
     ensures only_poisoned { result ≡ Err (desk_faults.Registry faults.Poisoned) → is_poisoned registry.old ≡ true }
+    ensures when_poisoned { is_poisoned registry.old ≡ true → (result ≡ Err (desk_faults.Registry faults.Poisoned)) × (registry.new ≡ registry.old) }
 {
     match report_of(alloc, registry, kind_of(report)) {
         Ok(text) => Ok(text_response(text.into_bytes())),
@@ -169,6 +175,7 @@ pub(crate) fn ask<S: Alter>(
     ensures kind { (h : History) → Represents registry.old h → HasCleanDisk (state_of registry.new) → IfErr result IsOfSoundRegistry }
     ensures left { IsLeft registry.old registry.new }
     ensures only_poisoned { result ≡ Err (desk_faults.Registry faults.Poisoned) → is_poisoned registry.old ≡ true }
+    ensures when_poisoned { is_poisoned registry.old ≡ true → (result ≡ Err (desk_faults.Registry faults.Poisoned)) × (registry.new ≡ registry.old) }
 {
     match query {
         Query::Number { vendor, pid } => match vendor {

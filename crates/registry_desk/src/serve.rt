@@ -1,6 +1,6 @@
 //! Serves one message: reads it, acts on it, and writes its response.
 
-ghost use Rattle.std.specs.Prelude.{◌≡◌, ◌≢◌, ◌⊎◌, true, ℕ, List, Option, Err, Some, IfOk, OnErr};
+ghost use Rattle.std.specs.Prelude.{◌≡◌, ◌≢◌, ◌⊎◌, true, ℕ, List, Option, Err, Some, IfOk, OnOk, OnErr};
 ghost use Rattle.sqlite.specs.State.{HasCleanDisk};
 ghost use Rattle.byte_streams.specs.Streams.{HasFailed, MayGive, Writes};
 ghost use Rattle.registry_rules.specs.History.{History};
@@ -9,7 +9,7 @@ ghost use Rattle.registry_store.specs.declared.fault.Fault.TheVariants as faults
 ghost use Rattle.registry_http.specs.Responses.{response_bytes, unavailable_response};
 ghost use Rattle.registry_desk.specs.declared.serve.Served.{Served};
 ghost use Rattle.registry_desk.specs.Faults.{unavailable_of, peer_fault_text};
-ghost use Rattle.registry_desk.specs.Serving.{IsOfServed, IsSent, IsTold, IsServed, given_up};
+ghost use Rattle.registry_desk.specs.Serving.{IsOfServed, IsSent, IsTextOf, IsTold, IsServed, IsTurnedAway, given_up};
 
 use crate::acting::response_to;
 use crate::fault::{DeskFault, fault_of, unavailable_of};
@@ -104,10 +104,12 @@ pub(crate) fn serve_message<R: Source, W: Sink, S: Alter>(
 ) -> Result<Exchange, Broken>
     ensures served { (bytes : List ℕ) × MayGive (R.remaining source.old) bytes × IfOk result (λ exchange. (text : List ℕ) × (served : Served)
         × Writes (W.contents sink.old) (W.contents sink.new) (W.failures sink.old) (W.failures sink.new) exchange.sent text
-        × IsOfServed exchange served
-        × ((h : History) → Represents registry.old h → HasCleanDisk (state_of registry.new) → IsServed registry.new h bytes text served)) }
+        × IsOfServed exchange served × IsTextOf text served
+        × ((h : History) → Represents registry.old h → HasCleanDisk (state_of registry.new) → IsServed registry.new h bytes text served)
+        × (is_poisoned registry.old ≡ true → IsTurnedAway bytes text served × (registry.new ≡ registry.old))) }
     ensures poisoned { IfOk result (λ exchange. exchange.fault ≡ Some faults.Poisoned → is_poisoned registry.old ≡ true) }
     ensures read { OnErr result (HasFailed (R.failures source.old) (R.failures source.new) × (sink.new ≡ sink.old) × (registry.new ≡ registry.old)) }
+    ensures kept { OnOk result (R.failures source.new ≡ R.failures source.old) }
     ensures endures { Endures (state_of registry.old) (state_of registry.new) }
 {
     let founding = registry.founding().vendor;
@@ -153,10 +155,12 @@ pub fn serve_one<R: Source, W: Sink, S: Alter>(
 ) -> Result<Served, PeerFault>
     ensures served { (bytes : List ℕ) × MayGive (R.remaining source.old) bytes × (text : List ℕ) × (served : Served)
         × ((result ≡ Err PeerFault.Read) ⊎ (Writes (W.contents sink.old) (W.contents sink.new) (W.failures sink.old) (W.failures sink.new) result text
-        × IfOk result (λ it. it ≡ served)
-        × ((h : History) → Represents registry.old h → HasCleanDisk (state_of registry.new) → IsServed registry.new h bytes text served))) }
+        × IfOk result (λ it. it ≡ served) × IsTextOf text served
+        × ((h : History) → Represents registry.old h → HasCleanDisk (state_of registry.new) → IsServed registry.new h bytes text served)
+        × (is_poisoned registry.old ≡ true → IsTurnedAway bytes text served × (registry.new ≡ registry.old)))) }
     ensures poisoned { IfOk result (λ it. it.fault ≡ Some faults.Poisoned → is_poisoned registry.old ≡ true) }
     ensures read { result ≡ Err PeerFault.Read → HasFailed (R.failures source.old) (R.failures source.new) × (sink.new ≡ sink.old) × (registry.new ≡ registry.old) }
+    ensures kept { result ≢ Err PeerFault.Read → R.failures source.new ≡ R.failures source.old }
     ensures endures { Endures (state_of registry.old) (state_of registry.new) }
 {
     match serve_message(alloc, source, sink, registry) {

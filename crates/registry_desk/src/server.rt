@@ -1,13 +1,13 @@
 //! The server: it serves one connection after another over one registry.
 
-ghost use Rattle.std.specs.Prelude.{◌≡◌, ◌≤◌, ℕ, List, Option, Some, length, IfOk, IfErr, OnOk, Err};
+ghost use Rattle.std.specs.Prelude.{◌≡◌, ◌≤◌, true, ℕ, List, Option, Some, length, IfOk, IfErr, OnOk, Err};
 ghost use Rattle.sqlite.specs.State.{HasCleanDisk};
 ghost use Rattle.byte_streams.specs.Streams.{MayGive};
 ghost use Rattle.registry_rules.specs.History.{History};
 ghost use Rattle.registry_tables.specs.Rows.{newest};
-ghost use Rattle.registry_store.specs.Promise.{Represents, Endures, Leaves, state_of};
+ghost use Rattle.registry_store.specs.Promise.{Represents, Endures, Leaves, is_poisoned, state_of};
 ghost use Rattle.registry_desk.specs.Faults.{server_stop_text};
-ghost use Rattle.registry_desk.specs.Server.{Visit, IsVisit, IsWritten, HaveVisited, EndsVisit, EndsServing, IsLeftAfter, EndsAt, IfVisited, fault_in, status_in, status_of};
+ghost use Rattle.registry_desk.specs.Server.{Visit, IsVisit, IsRead, IsTurnedAwayAt, IsWritten, HaveVisited, EndsVisit, EndsServing, IsLeftAfter, EndsAt, IfVisited, fault_in, status_in, status_of};
 
 use crate::serve::serve_message;
 use byte_streams::{Broken, Sink, Source};
@@ -100,9 +100,11 @@ fn serve_between<R: Source, W: Sink, S: Alter>(
     registry: &mut Registry<S>,
 ) -> Outcome
     ensures served { (visit : Visit) × MayGive (R.remaining reader.old) visit.bytes
+        × IsRead R.failures reader.old reader.new visit
         × IsWritten W.contents W.failures writer.old writer.new visit
         × (result.status ≡ status_of visit.end)
-        × ((h : History) → Represents registry.old h → HasCleanDisk (state_of registry.new) → EndsVisit registry.new h visit result.fault) }
+        × ((h : History) → Represents registry.old h → HasCleanDisk (state_of registry.new) → EndsVisit registry.new h visit result.fault)
+        × (is_poisoned registry.old ≡ true → IsTurnedAwayAt visit result.fault × (registry.new ≡ registry.old)) }
     ensures endures { Endures (state_of registry.old) (state_of registry.new) }
 {
     match serve_message(alloc, reader, writer, registry) {
@@ -128,8 +130,9 @@ pub fn serve_next<C: Connections, S: Alter>(
     registry: &mut Registry<S>,
 ) -> Result<(), ServerStop>
     ensures visited { IfVisited result ((visit : Visit)
-        × IsVisit C.opens C.closes C.Reader.remaining C.Writer.contents C.Writer.failures connections.old connections.new visit
-        × ((h : History) → Represents registry.old h → HasCleanDisk (state_of registry.new) → EndsVisit registry.new h visit (fault_in result))) }
+        × IsVisit C.opens C.closes C.Reader.remaining C.Reader.failures C.Writer.contents C.Writer.failures connections.old connections.new visit
+        × ((h : History) → Represents registry.old h → HasCleanDisk (state_of registry.new) → EndsVisit registry.new h visit (fault_in result))
+        × (is_poisoned registry.old ≡ true → IsTurnedAwayAt visit (fault_in result) × (registry.new ≡ registry.old))) }
     ensures none { result ≡ Err ServerStop.Connections → C.fails connections.old connections.new × (registry.new ≡ registry.old) }
     ensures endures { Endures (state_of registry.old) (state_of registry.new) }
 {
@@ -153,7 +156,7 @@ pub fn serve_next<C: Connections, S: Alter>(
 /// before it, and the registry then represents the history after all messages, in order. A crash
 /// leaves the history after the messages of all connections, or, if the registry had a fault at
 /// the last one, perhaps of all but that one. So it holds each message whose response was written
-/// whole.
+/// whole with a status other than 503.
 pub fn serve_all<C: Connections, S: Alter>(
     alloc: Global,
     connections: &mut C,
@@ -161,7 +164,7 @@ pub fn serve_all<C: Connections, S: Alter>(
     count: u64,
 ) -> Result<(), ServerStop>
     ensures served { (visits : List Visit) × (middle : C)
-        × HaveVisited C.opens C.closes C.Reader.remaining C.Writer.contents C.Writer.failures connections.old middle visits
+        × HaveVisited C.opens C.closes C.Reader.remaining C.Reader.failures C.Writer.contents C.Writer.failures connections.old middle visits
         × EndsAt C.fails middle connections.new result
         × (length visits ≤ count) × OnOk result (length visits ≡ count)
         × ((h : History) → Represents registry.old h → HasCleanDisk (state_of registry.new) → EndsServing registry.new h visits (fault_in result) × Leaves newest (state_of registry.new) (IsLeftAfter h visits)) }

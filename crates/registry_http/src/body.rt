@@ -21,6 +21,7 @@ fn read_up_to<R: Source>(
         × Consumes (R.remaining source.old) (R.remaining source.new) more
         × (whole ≡ nat_le wanted (length buffer.new.items)) × (whole ≡ false → IsAtEnd (R.remaining source.new))) }
     ensures kept { OnOk result (R.failures source.new ≡ R.failures source.old) }
+    ensures short { result ≡ Err InputFault.NoMemory → R.failures source.new ≡ R.failures source.old }
     ensures broken { result ≡ Err InputFault.Broken → HasFailed (R.failures source.old) (R.failures source.new) }
 {
     while buffer.len() < wanted {
@@ -46,6 +47,7 @@ pub(crate) fn read_body<R: Source>(
     ensures ok { IfOk result (λ whole. (rest : List ℕ) × MayGive (R.remaining source.old) rest
         × IsHeld whole buffer.new.items start count (drop start buffer.old.items ++ rest)) }
     ensures kept { OnOk result (R.failures source.new ≡ R.failures source.old) }
+    ensures short { result ≡ Err InputFault.NoMemory → R.failures source.new ≡ R.failures source.old }
     ensures broken { result ≡ Err InputFault.Broken → HasFailed (R.failures source.old) (R.failures source.new) }
 {
     read_up_to(source, buffer, start.saturating_add(count))
@@ -63,6 +65,7 @@ fn feed_more<R: Source>(
         × Consumes (R.remaining source.old) (R.remaining source.new) more × (n ≡ 0 → IsAtEnd (R.remaining source.new))
         × ((t : List ℕ) → WasFed reader.old t → WasFed reader.new (t ++ more))) }
     ensures kept { OnOk result (R.failures source.new ≡ R.failures source.old) }
+    ensures short { result ≡ Err InputFault.NoMemory → R.failures source.new ≡ R.failures source.old }
     ensures broken { result ≡ Err InputFault.Broken → HasFailed (R.failures source.old) (R.failures source.new) }
 {
     let mut chunk = [0u8; 4096];
@@ -87,6 +90,7 @@ fn feed_from<R: Source>(
         × (length more ≤ wanted) × (whole ≡ nat_le wanted (length more)) × (whole ≡ false → IsAtEnd (R.remaining source.new))
         × ((t : List ℕ) → WasFed reader.old t → WasFed reader.new (t ++ more))) }
     ensures kept { OnOk result (R.failures source.new ≡ R.failures source.old) }
+    ensures short { result ≡ Err InputFault.NoMemory → R.failures source.new ≡ R.failures source.old }
     ensures broken { result ≡ Err InputFault.Broken → HasFailed (R.failures source.old) (R.failures source.new) }
 {
     let mut left = wanted;
@@ -111,6 +115,7 @@ pub(crate) fn feed_body<R: Source>(
     requires { WasFed reader.old [] }
     ensures ok { IfOk result (λ whole. (rest : List ℕ) × MayGive (R.remaining source.old) rest × IsFed whole reader.new count (come.now ++ rest)) }
     ensures kept { OnOk result (R.failures source.new ≡ R.failures source.old) }
+    ensures short { result ≡ Err InputFault.NoMemory → R.failures source.new ≡ R.failures source.old }
     ensures broken { result ≡ Err InputFault.Broken → HasFailed (R.failures source.old) (R.failures source.new) }
 {
     let first = come.len().min(count);

@@ -58,6 +58,7 @@ pub(crate) fn take_more<R: Source>(
     ensures ok { IfOk result (λ n. (more : List ℕ) × (buffer.new.items ≡ buffer.old.items ++ more) × (length more ≡ n) × (n ≤ most)
         × Consumes (R.remaining source.old) (R.remaining source.new) more × (n ≡ 0 → IsAtEnd (R.remaining source.new))
         × (R.failures source.new ≡ R.failures source.old)) }
+    ensures short { result ≡ Err InputFault.NoMemory → R.failures source.new ≡ R.failures source.old }
     ensures broken { result ≡ Err InputFault.Broken → HasFailed (R.failures source.old) (R.failures source.new) }
 {
     let mut chunk = [0u8; 2048];
@@ -85,6 +86,7 @@ pub(crate) fn read_head<R: Source>(
         × Consumes (R.remaining source.old) (R.remaining source.new) buffer.new.items)) }
     ensures missing { IfOk result (λ end. OnMissing end ((bytes : List ℕ) × MayGive (R.remaining source.old) bytes × HasNoHead bytes)) }
     ensures kept { OnOk result (R.failures source.new ≡ R.failures source.old) }
+    ensures short { result ≡ Err InputFault.NoMemory → R.failures source.new ≡ R.failures source.old }
     ensures broken { result ≡ Err InputFault.Broken → HasFailed (R.failures source.old) (R.failures source.new) }
 {
     while buffer.len() < 8192 {

@@ -92,6 +92,7 @@ fn read_import<R: Source>(
 ) -> Result<Result<Request, WireRefusal>, InputFault>
     ensures ok { IfOk result (λ said. (rest : List ℕ) × MayGive (R.remaining source.old) rest × BodySays founding (endpoints.Imports org vendor) caller key (body_in count (come.now ++ rest)) said) }
     ensures kept { OnOk result (R.failures source.new ≡ R.failures source.old) }
+    ensures short { result ≡ Err InputFault.NoMemory → R.failures source.new ≡ R.failures source.old }
     ensures broken { result ≡ Err InputFault.Broken → HasFailed (R.failures source.old) (R.failures source.new) }
 {
     let mut reader = Reader::new(alloc);
@@ -116,6 +117,7 @@ fn read_command<R: Source>(
     requires small { count < 4294967296 }
     ensures ok { IfOk result (λ said. (rest : List ℕ) × MayGive (R.remaining source.old) rest × ((founding : ℕ) → BodySays founding endpoints.Commands caller key (body_in count (drop start buffer.old.items ++ rest)) said)) }
     ensures kept { OnOk result (R.failures source.new ≡ R.failures source.old) }
+    ensures short { result ≡ Err InputFault.NoMemory → R.failures source.new ≡ R.failures source.old }
     ensures broken { result ≡ Err InputFault.Broken → HasFailed (R.failures source.old) (R.failures source.new) }
 {
     match read_body(source, buffer, start, count) {
@@ -139,6 +141,7 @@ fn read_order<R: Source>(
     ensures ok { IfOk result (λ said. (rest : List ℕ) × MayGive (R.remaining source.old) rest
         × BodySays founding order.endpoint order.caller order.key (body_in order.length (drop start buffer.old.items ++ rest)) said) }
     ensures kept { OnOk result (R.failures source.new ≡ R.failures source.old) }
+    ensures short { result ≡ Err InputFault.NoMemory → R.failures source.new ≡ R.failures source.old }
     ensures broken { result ≡ Err InputFault.Broken → HasFailed (R.failures source.old) (R.failures source.new) }
 {
     let OrderHead {
@@ -202,6 +205,7 @@ fn read_rest<R: Source>(
     requires front { start ≤ 8192 }
     ensures ok { IfOk result (λ said. (rest : List ℕ) × MayGive (R.remaining source.old) rest × HeadSays founding (Ok call) (drop start buffer.old.items ++ rest) said) }
     ensures kept { OnOk result (R.failures source.new ≡ R.failures source.old) }
+    ensures short { result ≡ Err InputFault.NoMemory → R.failures source.new ≡ R.failures source.old }
     ensures broken { result ≡ Err InputFault.Broken → HasFailed (R.failures source.old) (R.failures source.new) }
 {
     match call {
@@ -228,6 +232,7 @@ fn read_after_head<R: Source>(
     ensures ok { IfOk result (λ said. (rest : List ℕ) × MayGive (R.remaining source.old) rest
         × HeadSays founding (head_in (span_bytes buffer.old.items head.method) (span_bytes buffer.old.items head.path) (map (header_bytes buffer.old.items) (take head.headers spans.now))) (drop head.len buffer.old.items ++ rest) said) }
     ensures kept { OnOk result (R.failures source.new ≡ R.failures source.old) }
+    ensures short { result ≡ Err InputFault.NoMemory → R.failures source.new ≡ R.failures source.old }
     ensures broken { result ≡ Err InputFault.Broken → HasFailed (R.failures source.old) (R.failures source.new) }
 {
     match head_at(alloc, buffer, spans, head) {
@@ -253,6 +258,7 @@ pub fn read_message<R: Source>(
 ) -> Result<Result<Message, HttpRefusal>, InputFault>
     ensures ok { IfOk result (λ said. (bytes : List ℕ) × MayGive (R.remaining source.old) bytes × Says founding bytes said) }
     ensures kept { OnOk result (R.failures source.new ≡ R.failures source.old) }
+    ensures short { result ≡ Err InputFault.NoMemory → R.failures source.new ≡ R.failures source.old }
     ensures broken { result ≡ Err InputFault.Broken → HasFailed (R.failures source.old) (R.failures source.new) }
 {
     let mut buffer = Vec::new(alloc);

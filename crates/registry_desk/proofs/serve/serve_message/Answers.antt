@@ -1,11 +1,11 @@
-use Rattle.std.proofs.Common.{ℕ, subst}
+use Rattle.std.proofs.Common.{inr, ℕ, refl, subst}
 use Rattle.registry_http.specs.Messages.{Says}
 use Rattle.registry_http.specs.Responses.{response_bytes, unavailable_response}
 use Rattle.registry_http.proofs.MessageLemmas.{gives_some}
 use Rattle.registry_desk.specs.declared.fault.DeskFault.TheVariants.{NoMemory}
 use Rattle.registry_desk.specs.Faults.{unavailable_of}
 use Rattle.registry_desk.specs.Serving.{given_up}
-use Rattle.registry_desk.proofs.ServeLemmas.{served_early, served_then}
+use Rattle.registry_desk.proofs.ServeLemmas.{away_early, given_up_text, served_early, served_then, told_text, turned_away}
 use Rattle.registry_desk.proofs.serve.serve_message.Goals as goal
 
 pub returns-in-Ok-clause-served : goal.returns-in-Ok-clause-served
@@ -20,10 +20,14 @@ returns-in-Ok-clause-served g c =
         told.1,
         told.3,
         told.4,
+        told_text c.response_to-done.result told.0 told.1 told.2,
         λ h stands clean.
             served_then c.response_to-done.new.registry h says.0 told.0 told.1 c.in-Ok.said c.response_to-done.result
             (subst (λ (founding : ℕ). Says founding says.0 c.in-Ok.said) (c.founding.ensures h stands).vendor says.2)
             clean (acted.answered h stands clean) (acted.left h stands clean) acted.asked told.2,
+        λ poisoned.
+            let turned = turned_away c.args.registry.now c.response_to-done.new.registry c.in-Ok.said c.response_to-done.result told.0 told.1 acted.refused (acted.when_poisoned poisoned) told.2 in
+            (inr (_, c.in-Ok.said, says.2, turned.0), turned.1),
       ),
     )
 
@@ -42,6 +46,8 @@ returns-in-Err-NoMemory-clause-served g c =
         given_up NoMemory,
         c.give_up.ensures.writes,
         c.give_up.ensures.told,
+        given_up_text NoMemory,
         λ h stands clean. served_early c.args.registry.now h all.0 stands clean,
+        λ poisoned. (away_early all.0, refl {a = c.args.registry.now}),
       ),
     )

@@ -13,7 +13,7 @@ loop-preserved g c =
       endures = search rules;
       served = (
         so_far.0 ++ came.0 ∷ [],
-        visited_more g.C.Connections.opens g.C.Connections.closes g.C.Reader.Source.remaining g.C.Writer.Sink.contents g.C.Writer.Sink.failures _ c.loop.connections _ so_far.0 came.0 so_far.1 came.1,
+        visited_more g.C.Connections.opens g.C.Connections.closes g.C.Reader.Source.remaining g.C.Reader.Source.failures g.C.Writer.Sink.contents g.C.Writer.Sink.failures _ c.loop.connections _ so_far.0 came.0 so_far.1 came.1,
         length_more so_far.0 came.0 c.loop.counter so_far.2,
         λ h stands clean.
             let early : HasCleanDisk (state_of c.loop.registry) = omega (arith, c.serve_next.ensures.endures.clean, clean) in
@@ -26,7 +26,7 @@ returns-in_err-serve_next-clause-served g c =
     let so_far = c.loop.invariant.served in
     let stop = c.in_err-serve_next.field-0.0 in
     let is : c.from_residual.result ≡ Err stop = search rules in
-    stopped_at g.C.Connections.opens g.C.Connections.closes g.C.Reader.Source.remaining g.C.Writer.Sink.contents g.C.Writer.Sink.failures g.C.Connections.fails
+    stopped_at g.C.Connections.opens g.C.Connections.closes g.C.Reader.Source.remaining g.C.Reader.Source.failures g.C.Writer.Sink.contents g.C.Writer.Sink.failures g.C.Connections.fails
     c.from_residual.result stop is c.args.connections.now c.loop.connections c.serve_next.new.connections c.args.registry.now c.loop.registry c.serve_next.new.registry c.args.count so_far.0
     so_far.1 (omega (arith, so_far.2, c.loop-test.true))
     (λ clean. omega (arith, c.serve_next.ensures.endures.clean, clean))

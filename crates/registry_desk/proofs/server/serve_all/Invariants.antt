@@ -10,7 +10,7 @@ abbrev pub invariant-loop : goal.invariant-loop
 invariant-loop g l = record {
   endures : Endures (state_of l.initial.registry) (state_of l.registry);
   served : (visits : List Visit)
-      × HaveVisited g.C.Connections.opens g.C.Connections.closes g.C.Reader.Source.remaining g.C.Writer.Sink.contents g.C.Writer.Sink.failures l.initial.connections l.connections visits
+      × HaveVisited g.C.Connections.opens g.C.Connections.closes g.C.Reader.Source.remaining g.C.Reader.Source.failures g.C.Writer.Sink.contents g.C.Writer.Sink.failures l.initial.connections l.connections visits
       × (length visits ≡ l.counter)
       × ((h : History) → Represents l.initial.registry h → HasCleanDisk (state_of l.registry) → RepresentsAfter l.registry h visits);
 }

@@ -1,6 +1,7 @@
 use Rattle.std.proofs.Common.{[], refl, sym, subst}
 use Rattle.std.specs.Prelude.{Ok, Err}
 use Rattle.registry_store.specs.Promise.{Represents}
+use Rattle.registry_desk.proofs.ServeLemmas.{sent_as}
 use Rattle.registry_desk.proofs.ServerLemmas.{served_visit}
 use Rattle.registry_desk.proofs.server.serve_between.Goals as goal
 
@@ -10,9 +11,11 @@ returns-in-Ok-clause-served g c =
     let sent = it.2 in (
       record { bytes = it.0; text = sent.0; end = Ok c.in-Ok.exchange },
       it.1,
-      sent.2,
+      c.in-Ok.ensures.kept,
+      (sent.2, sent_as sent.0 sent.1 c.in-Ok.exchange.sent sent.3.status sent.4),
       c.status_in.ensures,
-      λ h stands clean. served_visit c.serve_message.new.registry h it.0 sent.0 c.in-Ok.exchange sent.1 sent.3.fault (sent.4 h stands clean),
+      λ h stands clean. served_visit c.serve_message.new.registry h it.0 sent.0 c.in-Ok.exchange sent.1 sent.3 (sent.5 h stands clean),
+      λ poisoned. let away = sent.6 poisoned in ((sent.1, away.0, sent.3, sent.3.fault), away.1),
     )
 
 pub returns-in-Err-clause-served : goal.returns-in-Err-clause-served
@@ -21,7 +24,9 @@ returns-in-Err-clause-served g c =
     let read = c.in-Err.ensures.read in (
       record { bytes = it.0; text = []; end = Err c.in-Err.field-0 },
       it.1,
+      read.0,
       read.1,
       refl,
       λ h stands clean. (h, refl, subst (λ it. Represents it h) (sym read.2) stands),
+      λ poisoned. (refl, read.2),
     )

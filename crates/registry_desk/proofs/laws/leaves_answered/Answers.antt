@@ -1,0 +1,5 @@
+use Rattle.registry_desk.proofs.ReopenLemmas.{leaves_answered}
+use Rattle.registry_desk.proofs.laws.leaves_answered.Goals as goal
+
+pub returns : goal.returns
+returns c = leaves_answered
