@@ -78,7 +78,7 @@ pub struct Facts<'a> {
     pub petition: Option<Petition>,
     /// The number of petitions.
     pub petitions: u32,
-    /// The holdings of the numbers that the order concerns.
+    /// The holdings of the numbers that the order concerns, and perhaps of others, in any order.
     pub holdings: Holdings,
     /// The reserved numbers of the vendor concerned, including the fixed ones.
     pub reserved: &'a Spans,
