@@ -1,6 +1,6 @@
 //! The faults of a text.
-ghost use Rattle.std.specs.Prelude.{Some};
-ghost use Rattle.usbids_text.specs.Faults.{line_fault_text, read_fault_text};
+ghost use Rattle.std.specs.Prelude.{◌≡◌, Some};
+ghost use Rattle.usbids_text.specs.Faults.{line_fault_text, read_fault_number, read_fault_text};
 
 use crate::line::Why;
 use std::error::Error;
@@ -20,6 +20,18 @@ pub struct LineFault {
 pub enum ReadFault {
     Line(LineFault),
     NoMemory,
+}
+
+impl ReadFault {
+    /// Returns the number of the fault: that of the faulty line's fault, or 5 if out of memory.
+    pub fn number(&self) -> u8
+        ensures { result ≡ read_fault_number self.now }
+    {
+        match self {
+            ReadFault::Line(fault) => fault.why.number(),
+            ReadFault::NoMemory => 5,
+        }
+    }
 }
 
 impl fmt::Display for LineFault {

@@ -1,6 +1,6 @@
 //! The class of a line: an entry, no entry, or a fault.
 ghost use Rattle.std.specs.Prelude.{◌≡◌, ◌≤◌, ℕ, MatchResult, Ok, Err, Option, Some, length};
-ghost use Rattle.usbids_text.specs.Faults.{why_text};
+ghost use Rattle.usbids_text.specs.Faults.{why_number, why_text};
 ghost use Rattle.usbids_text.specs.Lines.{entry_lines, short_enough, below, tagged, top, after_tab, by_tabs, is_comment, class_of, line_of};
 
 use crate::kind::{Depth, Kind};
@@ -21,6 +21,15 @@ pub enum Why {
     NoParent = 3,
     /// The line has more than 65,536 bytes, or its name more than 65,000.
     LineTooLong = 4,
+}
+
+impl Why {
+    /// Returns the number of the fault.
+    pub fn number(&self) -> u8
+        ensures { result ≡ why_number self.now }
+    {
+        *self as u8
+    }
 }
 
 impl fmt::Display for Why {
