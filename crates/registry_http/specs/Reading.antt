@@ -6,6 +6,7 @@ use Rattle.httparse.specs.Spans.{name_and_value}
 use Rattle.registry_http.specs.Refusals.{◌>>=◌, present}
 use Rattle.registry_wire.specs.Names.{header_name}
 use Rattle.registry_wire.specs.Kinds.{slug_of, key_of}
+use Rattle.registry_http.specs.Limits.{most_command, most_list}
 use Rattle.registry_http.specs.Fields.{is_named, values_of, only, length_of}
 use Rattle.registry_http.specs.Routes.{route_of}
 use Rattle.registry_wire.specs.declared.refusal.WireRefusal.TheVariants.{NoRoute, BadLength, TooLarge, BadHeader}
@@ -38,8 +39,8 @@ header_in header fields = only (values_of (header_name header) fields)
 
 -- the most bytes that a body may have
 abbrev pub limit_of : Endpoint → ℕ
-limit_of endpoints.Commands = 16384
-limit_of (endpoints.Imports org vendor) = 4194304
+limit_of endpoints.Commands = most_command
+limit_of (endpoints.Imports org vendor) = most_list
 
 abbrev pub within : ℕ → ℕ → Result ℕ HttpRefusal
 within most length = if nat_le length most then Ok length else Err (Wire TooLarge)

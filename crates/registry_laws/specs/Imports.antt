@@ -11,13 +11,13 @@ use Rattle.usbids_text.specs.Entries.{TopEntry}
 use Rattle.usbids_text.specs.Finding.{find_mid}
 use Rattle.registry_rules.specs.Changes.{entry_imported}
 use Rattle.registry_rules.specs.History.{History, with_deed}
+use Rattle.registry_rules.specs.Limits.{most_items}
 use Rattle.registry_rules.specs.Number.{number}
 use Rattle.registry_rules.specs.Query.{org_of, vendor_of, has_vendor, vendor_meant, is_free, deed_under}
 use Rattle.registry_rules.specs.Records.{entry_of}
 use Rattle.registry_rules.specs.Run.{after_one}
 use Rattle.registry_rules.specs.Verdict.{verdict}
 use Rattle.registry_rules.specs.declared.deed.Deed.{Deed}
-use Rattle.registry_rules.specs.declared.limits.TheConstants.{MOST_ITEMS}
 use Rattle.registry_rules.specs.declared.order.Request.{Request}
 use Rattle.registry_rules.specs.declared.record.Entry.{Entry}
 use Rattle.registry_rules.specs.declared.record.Vendor.{Vendor}
@@ -32,7 +32,7 @@ pub record MayImport (h : History) (caller key org : List ℕ) (vid : ℕ) (item
   pub curator : list_any (bytes_eq caller) h.founding.curators ≡ true
   pub known : is_some (org_of h org) ≡ true
   pub vendor : has_vendor h vid ≡ true
-  pub short : items ≤ MOST_ITEMS
+  pub short : items ≤ most_items
   pub unused : deed_under h caller key ≡ None
 
 -- each code under the vendor in the list is a product ID, and its name is a title

@@ -7,8 +7,8 @@ use Rattle.toml.specs.Parse.{parse_document}
 use Rattle.usbnum_core.specs.Number.{number_of}
 use Rattle.usbnum_core.specs.Spans.{span_has, spans_have}
 use Rattle.usbnum_core.specs.declared.number.Span.{Span}
+use Rattle.registry_rules.specs.Limits.{most_curators, most_licences}
 use Rattle.registry_rules.specs.Texts.{AreSorted}
-use Rattle.registry_rules.specs.declared.limits.TheConstants.{MOST_CURATORS, MOST_LICENCES}
 use Rattle.registry_rules.specs.declared.founding.Founding.{Founding}
 use Rattle.registry_wire.specs.declared.refusal.WireRefusal.{WireRefusal}
 use Rattle.registry_wire.specs.declared.refusal.WireRefusal.TheVariants.{BadFounding}
@@ -87,8 +87,8 @@ unfoldable pub listed_in : Members → Result Listed WireRefusal
 listed_in table = do
   vendor ← one_in number_from Vendor table
   name ← one_in title_from Name table
-  curators ← some_in slug_from MOST_CURATORS Curators table
-  licences ← some_in title_from MOST_LICENCES Licences table
+  curators ← some_in slug_from most_curators Curators table
+  licences ← some_in title_from most_licences Licences table
   fixed ← fixed_in table
   Ok (record { vendor = vendor; name = name; curators = curators; licences = licences; fixed = fixed })
 
