@@ -18,7 +18,7 @@ use Rattle.registry_desk.specs.Acting.{after_message, IsOfSoundRegistry, IsLeftA
 use Rattle.registry_desk.specs.Serving.{IsNext, IsOfServed, IsServed}
 use Rattle.registry_desk.specs.declared.server.ServerStop.{ServerStop}
 use Rattle.registry_desk.specs.declared.server.ServerStop.TheVariants as stops
-use Rattle.registry_desk.specs.Server.{Visit, IsVisit, IsTurnedAwayAt, HaveVisited, IsTurn, Turns, RepresentsAfter, IsHalted, EndsVisit, EndsServing, IsLeftAfter, EndsAt, IfVisited, fault_in}
+use Rattle.registry_desk.specs.Server.{Visit, IsVisit, IsTurnedAwayAt, AreTurnedAway, HaveVisited, IsTurn, Turns, RepresentsAfter, IsHalted, EndsVisit, EndsServing, IsLeftAfter, EndsAt, IfVisited, fault_in}
 
 -- one more connection
 pub visited_more : {C R W : Type 0} (opens : C → C → R → W → Type 0) (closes : C → C → R → W → Option ℕ → Type 0) (remaining : R → Option (List ℕ)) (reads_failed : R → ℕ) (contents : W → Option (List ℕ)) (writes_failed : W → ℕ)
@@ -28,6 +28,12 @@ visited_more opens closes remaining reads_failed contents writes_failed old midd
     (new, subst (λ c. IsVisit opens closes remaining reads_failed contents writes_failed c new visit) same one, refl)
 visited_more opens closes remaining reads_failed contents writes_failed old middle new (first ∷ visits) visit before one =
     (before.0, before.1, visited_more opens closes remaining reads_failed contents writes_failed before.0 middle new visits visit before.2 one)
+
+-- one more connection that a poisoned registry turned away
+pub turned_more : (visits : List Visit) (visit : Visit) (fault : Option Fault) → AreTurnedAway visits None → IsTurnedAwayAt visit fault → AreTurnedAway (visits ++ visit ∷ []) fault
+turned_more [] visit fault none last = inl (refl, last)
+turned_more (first ∷ visits) visit fault (inl only) last = inr (only.1, subst (λ vs. AreTurnedAway (vs ++ visit ∷ []) fault) (sym only.0) (inl (refl, last)))
+turned_more (first ∷ visits) visit fault (inr both) last = inr (both.0, turned_more visits visit fault both.1 last)
 
 -- one more turn
 pub turns_more : (h middle next : History) (visits : List Visit) (visit : Visit) → Turns h visits middle → IsTurn middle visit next → Turns h (visits ++ visit ∷ []) next
@@ -123,17 +129,19 @@ module _ {S C R W : Type 0} {g : Ghosts S} (opens : C → C → R → W → Type
       × EndsAt fails middle new result
       × (length visits ≤ count) × OnOk result (length visits ≡ count)
       × ((h : History) → Represents first h → HasCleanDisk (state_of last) → EndsServing last h visits (fault_in result) × Leaves newest (state_of last) (IsLeftAfter h visits))
+      × (is_poisoned first ≡ true → AreTurnedAway visits (fault_in result) × (last ≡ first))
 
   -- a server stops when no more connections come, or at a fault
   pub stops_at : (old middle new : C) (first mid last : TheRegistry S g) (count : ℕ) (visits : List Visit) (stop : ServerStop)
       → HaveVisited opens closes remaining reads_failed contents writes_failed old middle visits → length visits < count
       → (HasCleanDisk (state_of last) → HasCleanDisk (state_of mid))
       → ((h : History) → Represents first h → HasCleanDisk (state_of mid) → RepresentsAfter mid h visits)
+      → (is_poisoned first ≡ true → AreTurnedAway visits None × (mid ≡ first))
       → IfVisited (Err stop) ((visit : Visit) × IsVisit opens closes remaining reads_failed contents writes_failed middle new visit
       × ((h : History) → Represents mid h → HasCleanDisk (state_of last) → EndsVisit last h visit (fault_in (Err stop)))
       × (is_poisoned mid ≡ true → IsTurnedAwayAt visit (fault_in (Err stop)) × (last ≡ mid)))
       → (stop ≡ stops.Connections → fails middle new × (last ≡ mid)) → Ends old new first last count (Err stop)
-  stops_at old middle new first mid last count visits stops.Connections before less early so_far came none = (
+  stops_at old middle new first mid last count visits stops.Connections before less early so_far turned came none = (
     visits,
     middle,
     before,
@@ -141,8 +149,9 @@ module _ {S C R W : Type 0} {g : Ghosts S} (opens : C → C → R → W → Type
     omega (arith, less),
     tt,
     λ h stands clean. with_crash last h visits None (subst (λ it. RepresentsAfter it h visits) (sym (none refl).1) (so_far h stands (early clean))) clean,
+    λ poisoned. let away = turned poisoned in (away.0, (none refl).1 ∙ away.1),
   )
-  stops_at old middle new first mid last count visits (stops.Registry fault) before less early so_far came none =
+  stops_at old middle new first mid last count visits (stops.Registry fault) before less early so_far turned came none =
       let longer = length_more visits came.0 (length visits) refl in (
         visits ++ came.0 ∷ [],
         new,
@@ -151,15 +160,20 @@ module _ {S C R W : Type 0} {g : Ghosts S} (opens : C → C → R → W → Type
         omega (arith, less, longer),
         tt,
         λ h stands clean. with_crash last h (visits ++ came.0 ∷ []) (Some fault) (halted_more mid last h visits came.0 fault (so_far h stands (early clean)) (λ x at. came.2 x at clean)) clean,
+        λ poisoned.
+            let away = turned poisoned in
+            let one = came.3 (subst (λ (r : TheRegistry S g). is_poisoned r ≡ true) (sym away.1) poisoned) in
+            (turned_more visits came.0 (Some fault) away.0 one.0, one.1 ∙ away.1),
       )
 
   pub stopped_at : (result : Result (Unit {0}) ServerStop) (stop : ServerStop) → result ≡ Err stop → (old middle new : C) (first mid last : TheRegistry S g) (count : ℕ) (visits : List Visit)
       → HaveVisited opens closes remaining reads_failed contents writes_failed old middle visits → length visits < count
       → (HasCleanDisk (state_of last) → HasCleanDisk (state_of mid))
       → ((h : History) → Represents first h → HasCleanDisk (state_of mid) → RepresentsAfter mid h visits)
+      → (is_poisoned first ≡ true → AreTurnedAway visits None × (mid ≡ first))
       → IfVisited (Err stop) ((visit : Visit) × IsVisit opens closes remaining reads_failed contents writes_failed middle new visit
       × ((h : History) → Represents mid h → HasCleanDisk (state_of last) → EndsVisit last h visit (fault_in (Err stop)))
       × (is_poisoned mid ≡ true → IsTurnedAwayAt visit (fault_in (Err stop)) × (last ≡ mid)))
       → (stop ≡ stops.Connections → fails middle new × (last ≡ mid)) → Ends old new first last count result
-  stopped_at result stop is old middle new first mid last count visits before less early so_far came none =
-      subst (λ (r : Result (Unit {0}) ServerStop). Ends old new first last count r) (sym is) (stops_at old middle new first mid last count visits stop before less early so_far came none)
+  stopped_at result stop is old middle new first mid last count visits before less early so_far turned came none =
+      subst (λ (r : Result (Unit {0}) ServerStop). Ends old new first last count r) (sym is) (stops_at old middle new first mid last count visits stop before less early so_far turned came none)

@@ -99,6 +99,11 @@ IsTurnedAwayAt visit fault = TurnedAt visit.end
     TurnedAt (Ok exchange) = (served : Served) × IsTurnedAway visit.bytes visit.text served × IsOfServed exchange served × (fault ≡ served.fault)
     TurnedAt (Err broken) = fault ≡ None
 
+-- Each of these connections was turned away, without a fault of the registry; the last one may have this fault.
+abbrev pub AreTurnedAway : List Visit → Option Fault → Type 0
+AreTurnedAway [] fault = fault ≡ None
+AreTurnedAway (visit ∷ visits) fault = ((visits ≡ []) × IsTurnedAwayAt visit fault) ⊎ (IsTurnedAwayAt visit None × AreTurnedAway visits fault)
+
 -- ---- histories
 
 -- the text is the response to all bytes over the history, with its status if all was written, and the next history is the

@@ -7,7 +7,7 @@ ghost use Rattle.registry_rules.specs.History.{History};
 ghost use Rattle.registry_tables.specs.Rows.{newest};
 ghost use Rattle.registry_store.specs.Promise.{Represents, Endures, Leaves, is_poisoned, state_of};
 ghost use Rattle.registry_desk.specs.Faults.{server_stop_text};
-ghost use Rattle.registry_desk.specs.Server.{Visit, IsVisit, IsRead, IsTurnedAwayAt, IsWritten, HaveVisited, EndsVisit, EndsServing, IsLeftAfter, EndsAt, IfVisited, fault_in, status_in, status_of};
+ghost use Rattle.registry_desk.specs.Server.{Visit, IsVisit, IsRead, IsTurnedAwayAt, AreTurnedAway, IsWritten, HaveVisited, EndsVisit, EndsServing, IsLeftAfter, EndsAt, IfVisited, fault_in, status_in, status_of};
 
 use crate::serve::serve_message;
 use byte_streams::{Broken, Sink, Source};
@@ -157,6 +157,9 @@ pub fn serve_next<C: Connections, S: Alter>(
 /// leaves the history after the messages of all connections, or, if the registry had a fault at
 /// the last one, perhaps of all but that one. So it holds each message whose response was written
 /// whole with a status other than 503.
+///
+/// A poisoned registry is not changed: each message that is not refused by itself gets refusal 30,
+/// which ends the server.
 pub fn serve_all<C: Connections, S: Alter>(
     alloc: Global,
     connections: &mut C,
@@ -167,7 +170,8 @@ pub fn serve_all<C: Connections, S: Alter>(
         × HaveVisited C.opens C.closes C.Reader.remaining C.Reader.failures C.Writer.contents C.Writer.failures connections.old middle visits
         × EndsAt C.fails middle connections.new result
         × (length visits ≤ count) × OnOk result (length visits ≡ count)
-        × ((h : History) → Represents registry.old h → HasCleanDisk (state_of registry.new) → EndsServing registry.new h visits (fault_in result) × Leaves newest (state_of registry.new) (IsLeftAfter h visits)) }
+        × ((h : History) → Represents registry.old h → HasCleanDisk (state_of registry.new) → EndsServing registry.new h visits (fault_in result) × Leaves newest (state_of registry.new) (IsLeftAfter h visits))
+        × (is_poisoned registry.old ≡ true → AreTurnedAway visits (fault_in result) × (registry.new ≡ registry.old)) }
     ensures endures { Endures (state_of registry.old) (state_of registry.new) }
 {
     for _ in 0..count {

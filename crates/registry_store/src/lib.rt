@@ -13,8 +13,8 @@ pub use fault::Fault;
 pub use registry::Registry;
 pub use reopen::{
     Closed, abandon, close_and_open, close_files, crash_and_open, crash_and_open_store,
-    crash_until_open, leave, leave_and_open, leave_store, open_files, open_files_or_return,
-    open_through, run_in_memory, run_through, take_up, take_up_or_return,
+    crash_and_run_through, crash_until_open, leave, leave_and_open, leave_store, open_files,
+    open_files_or_return, open_through, run_in_memory, run_through, take_up, take_up_or_return,
 };
 pub use replies::{Cut, Replies, RunStop};
 pub use run::RunEnd;

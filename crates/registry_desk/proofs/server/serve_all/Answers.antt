@@ -1,8 +1,8 @@
-use Rattle.std.proofs.Common.{rules, ◌≡◌, [], ◌∷◌, ◌++◌, ap, arith}
-use Rattle.std.specs.Prelude.{Err}
+use Rattle.std.proofs.Common.{rules, ◌≡◌, [], ◌∷◌, ◌++◌, ap, arith, sym, subst, ◌∙◌}
+use Rattle.std.specs.Prelude.{Err, None, true}
 use Rattle.sqlite.specs.State.{HasCleanDisk}
-use Rattle.registry_store.specs.Promise.{state_of}
-use Rattle.registry_desk.proofs.ServerLemmas.{length_more, represents_more, stopped_at, visited_more}
+use Rattle.registry_store.specs.Promise.{is_poisoned, state_of}
+use Rattle.registry_desk.proofs.ServerLemmas.{length_more, represents_more, stopped_at, turned_more, visited_more}
 use Rattle.registry_desk.proofs.server.serve_all.Goals as goal
 
 pub loop-preserved : goal.loop-preserved
@@ -18,6 +18,10 @@ loop-preserved g c =
         λ h stands clean.
             let early : HasCleanDisk (state_of c.loop.registry) = omega (arith, c.serve_next.ensures.endures.clean, clean) in
             represents_more c.loop.registry c.serve_next.new.registry h so_far.0 came.0 (so_far.3 h stands early) (λ x at. came.2 x at clean),
+        λ poisoned.
+            let away = so_far.4 poisoned in
+            let one = came.3 (subst (λ r. is_poisoned r ≡ true) (sym away.1) poisoned) in
+            (turned_more so_far.0 came.0 None away.0 one.0, one.1 ∙ away.1),
       );
     }
 
@@ -30,4 +34,4 @@ returns-in_err-serve_next-clause-served g c =
     c.from_residual.result stop is c.args.connections.now c.loop.connections c.serve_next.new.connections c.args.registry.now c.loop.registry c.serve_next.new.registry c.args.count so_far.0
     so_far.1 (omega (arith, so_far.2, c.loop-test.true))
     (λ clean. omega (arith, c.serve_next.ensures.endures.clean, clean))
-    so_far.3 c.in_err-serve_next.ensures.visited (λ same. c.in_err-serve_next.ensures.none (ap Err same))
+    so_far.3 so_far.4 c.in_err-serve_next.ensures.visited (λ same. c.in_err-serve_next.ensures.none (ap Err same))

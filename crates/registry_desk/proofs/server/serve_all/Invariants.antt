@@ -1,8 +1,9 @@
 use Rattle.std.proofs.Common.{◌≡◌, List, length}
+use Rattle.std.specs.Prelude.{true, None}
 use Rattle.sqlite.specs.State.{HasCleanDisk}
 use Rattle.registry_rules.specs.History.{History}
-use Rattle.registry_store.specs.Promise.{Represents, Endures, state_of}
-use Rattle.registry_desk.specs.Server.{Visit, HaveVisited, RepresentsAfter}
+use Rattle.registry_store.specs.Promise.{Represents, Endures, is_poisoned, state_of}
+use Rattle.registry_desk.specs.Server.{Visit, HaveVisited, AreTurnedAway, RepresentsAfter}
 use Rattle.registry_desk.proofs.server.serve_all.Given as goal
 
 -- as many connections as the counter says were served, and the registry represents the history after their messages
@@ -12,5 +13,6 @@ invariant-loop g l = record {
   served : (visits : List Visit)
       × HaveVisited g.C.Connections.opens g.C.Connections.closes g.C.Reader.Source.remaining g.C.Reader.Source.failures g.C.Writer.Sink.contents g.C.Writer.Sink.failures l.initial.connections l.connections visits
       × (length visits ≡ l.counter)
-      × ((h : History) → Represents l.initial.registry h → HasCleanDisk (state_of l.registry) → RepresentsAfter l.registry h visits);
+      × ((h : History) → Represents l.initial.registry h → HasCleanDisk (state_of l.registry) → RepresentsAfter l.registry h visits)
+      × (is_poisoned l.initial.registry ≡ true → AreTurnedAway visits None × (l.registry ≡ l.initial.registry));
 }
