@@ -6,6 +6,9 @@ of request lines. Then SQLite opens the file: the texts of its tables must be th
 each statement of examples/orders.rows must return the lines below it there, as `sqlite3 -quote` prints them. Each table
 has a statement, so the store has these rows and no others.
 
+Two copies of the store must open with the same list and reports, and give its first request the same reply: one after a
+VACUUM, and one that SQLite made from a dump. One whose tables were made in another order must be foreign.
+
 Usage: scripts/look_into_a_store.py [PROGRAM [ROWS]], by default the program that `make` builds, and
 examples/orders.rows. The exit status is 0 if all of this holds.
 """
@@ -14,7 +17,7 @@ import difflib
 import re
 import sys
 
-from usbreg import EXAMPLES, TOP, apply, content, folder, found, opened, program
+from usbreg import EXAMPLES, TOP, apply, content, copy, done, folder, found, opened, program, run, tables, write
 
 TEXTS = "SELECT sql FROM sqlite_schema WHERE sql IS NOT NULL ORDER BY rowid"
 TABLES = "SELECT name FROM sqlite_schema WHERE type = 'table' ORDER BY name"
@@ -55,6 +58,41 @@ def statements(rows):
         yield statement, lines
 
 
+def vacuumed(store, other):
+    """Writes a copy of the store after a VACUUM, and returns its path."""
+    with opened(copy(store, other)) as connection:
+        connection.execute("VACUUM")
+    return other
+
+
+def dumped(store, other):
+    """Writes the store that SQLite makes from a dump, whose tables are in the order in which they were made, and returns
+    its path."""
+    with opened(store) as connection:
+        texts = [text for (text,) in connection.execute(TEXTS)]
+    with opened(other) as connection:
+        connection.executescript("".join(f"{it};\n" for it in texts + rows_of(store)))
+    return other
+
+
+def shuffled(store, other):
+    """Writes a store with the same tables and rows, whose tables are made by name, and returns its path."""
+    with opened(other) as connection:
+        connection.executescript("\n".join(tables(store)))
+    return other
+
+
+def rows_of(store):
+    """Returns the statements that insert all rows of a store."""
+    return [it.rstrip(";") for it in tables(store) if it.startswith("INSERT")]
+
+
+def shown(usbreg, store, first):
+    """Returns what the program shows of a store: its list, each report, and the reply to a request that it keeps."""
+    reports = [done([usbreg, "report", store, name]) for name in ("census", "holders", "petitions")]
+    return [done([usbreg, "export", store]), *reports, apply(usbreg, store, first)]
+
+
 def main():
     usbreg = program(*sys.argv[1:2])
     rows = sys.argv[2] if len(sys.argv) > 2 else f"{EXAMPLES}/orders.rows"
@@ -71,7 +109,15 @@ def main():
                 looked_at += re.findall(r" FROM (\w+)", statement)
             wanted = [f"'{name}'" for name in sorted(looked_at)]
             same("the statements are not on all tables", asked(connection, TABLES), wanted)
+        first = write(f"{room}/first.jsonl", content(f"{EXAMPLES}/orders.jsonl").decode().splitlines(keepends=True)[0])
+        wanted = shown(usbreg, store, first)
+        for make in (vacuumed, dumped):
+            if shown(usbreg, make(store, f"{room}/{make.__name__}.db"), first) != wanted:
+                sys.exit(f"the store that SQLite {make.__name__} does not show the same")
+        if run([usbreg, "export", shuffled(store, f"{room}/shuffled.db")]) != (1, b"", b"fault: foreign\n"):
+            sys.exit("a store with its tables in another order is not foreign")
     print(f"{len(texts)} tables with the texts and the rows that they should have, and SQLite finds the file sound")
+    print("after a VACUUM, and read back from a dump, the store shows the same")
 
 
 if __name__ == "__main__":
