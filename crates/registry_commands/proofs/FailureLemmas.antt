@@ -39,20 +39,21 @@ module _ {S : Type 0} {g : Ghosts S} where
 
   -- a run that ends by a fault, and the output did not fail
   pub of_fault : (it new : Registry S g) (These : History → Type 0) (old_count new_count : ℕ) → new_count ≡ old_count → (fault : Fault) → (fault ≡ faults.Poisoned → is_poisoned it ≡ true)
+      → (fault ≡ faults.Taken → ⊥) → is_poisoned new ≡ true
       → ((h : History) → These h → HasCleanDisk (state_of new) → (fault ≡ faults.Store) ⊎ (fault ≡ faults.NoMemory))
       → IsOfRun it new These (failure_of fault) × IsOfOutput old_count new_count (failure_of fault)
-  of_fault it new These old_count new_count same faults.Store poisoned kind = (tt, same)
-  of_fault it new These old_count new_count same faults.NoMemory poisoned kind = (tt, same)
-  of_fault it new These old_count new_count same faults.Foreign poisoned kind = (λ at. elim (kind at.0 at.1 at.2) [ inl e ↦ absurd cc | inr e ↦ absurd cc ], same)
-  of_fault it new These old_count new_count same faults.Taken poisoned kind = (λ at. elim (kind at.0 at.1 at.2) [ inl e ↦ absurd cc | inr e ↦ absurd cc ], same)
-  of_fault it new These old_count new_count same faults.Poisoned poisoned kind = (poisoned refl, same)
+  of_fault it new These old_count new_count same faults.Store poisoned never spent kind = (spent, same)
+  of_fault it new These old_count new_count same faults.NoMemory poisoned never spent kind = (tt, same)
+  of_fault it new These old_count new_count same faults.Foreign poisoned never spent kind = (λ at. elim (kind at.0 at.1 at.2) [ inl e ↦ absurd cc | inr e ↦ absurd cc ], same)
+  of_fault it new These old_count new_count same faults.Taken poisoned never spent kind = (never refl, same)
+  of_fault it new These old_count new_count same faults.Poisoned poisoned never spent kind = (poisoned refl, same)
 
   -- a sound registry over a clean disk
   pub of_sound_run : (it new : Registry S g) (These : History → Type 0) (h : History) → These h → is_poisoned it ≡ false → HasCleanDisk (state_of new)
       → (failure : Failure) → IsOfRun it new These failure → IsOfSoundRun failure
   of_sound_run it new These h here not_poisoned clean Poisoned poisoned = absurd cc
   of_sound_run it new These h here not_poisoned clean Foreign none = absurd (none (h, here, clean))
-  of_sound_run it new These h here not_poisoned clean Taken none = absurd (none (h, here, clean))
+  of_sound_run it new These h here not_poisoned clean Taken never = absurd never
   of_sound_run it new These h here not_poisoned clean Store is = tt
   of_sound_run it new These h here not_poisoned clean Memory is = tt
   of_sound_run it new These h here not_poisoned clean File is = tt

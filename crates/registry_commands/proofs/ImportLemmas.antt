@@ -38,12 +38,13 @@ not_of_output n faults.Poisoned = refl
 module _ {S : Type 0} {g : Ghosts S} where
   -- the failures of a request
   pub of_act : (it new : Registry S g) (These : History → Type 0) (fault : Fault) → (fault ≡ faults.Poisoned → is_poisoned it ≡ true)
+      → (fault ≡ faults.Taken → ⊥) → is_poisoned new ≡ true
       → ((h : History) → These h → HasCleanDisk (state_of new) → (fault ≡ faults.Store) ⊎ (fault ≡ faults.NoMemory)) → IsOfRun it new These (failure_of fault)
-  of_act it new These faults.Store poisoned kind = tt
-  of_act it new These faults.NoMemory poisoned kind = tt
-  of_act it new These faults.Foreign poisoned kind = λ at. elim (kind at.0 at.1 at.2) [ inl e ↦ absurd cc | inr e ↦ absurd cc ]
-  of_act it new These faults.Taken poisoned kind = λ at. elim (kind at.0 at.1 at.2) [ inl e ↦ absurd cc | inr e ↦ absurd cc ]
-  of_act it new These faults.Poisoned poisoned kind = poisoned refl
+  of_act it new These faults.Store poisoned never spent kind = spent
+  of_act it new These faults.NoMemory poisoned never spent kind = tt
+  of_act it new These faults.Foreign poisoned never spent kind = λ at. elim (kind at.0 at.1 at.2) [ inl e ↦ absurd cc | inr e ↦ absurd cc ]
+  of_act it new These faults.Taken poisoned never spent kind = never refl
+  of_act it new These faults.Poisoned poisoned never spent kind = poisoned refl
 
   -- the failures of writing a reply
   of_end : (it new : Registry S g) (These : History → Type 0) (failure : Failure) → (failure ≡ Memory) ⊎ (failure ≡ File) → IsOfRun it new These failure

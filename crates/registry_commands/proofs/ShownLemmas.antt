@@ -13,18 +13,17 @@ use Rattle.registry_store.proofs.TransactionLemmas.{quiet_then}
 use Rattle.registry_commands.specs.declared.messages.Failure.{Failure}
 use Rattle.registry_commands.specs.declared.messages.Failure.TheVariants.{Store, Memory, Foreign, Taken, Poisoned, File}
 use Rattle.registry_commands.specs.Messages.{failure_of}
-use Rattle.registry_commands.specs.Apply.{IsOfRun}
 use Rattle.registry_commands.specs.Shown.{IsLeft, IsOfReading}
 
 module _ {S : Type 0} {g : Ghosts S} where
   -- a list is not returned, after a fault
-  pub of_list : (it new : Registry S g) (fault : Fault) → (fault ≡ faults.Poisoned → is_poisoned it ≡ true)
+  pub of_list : (it new : Registry S g) (fault : Fault) → (fault ≡ faults.Poisoned → is_poisoned it ≡ true) → (fault ≡ faults.Taken → ⊥)
       → ((h : History) → Represents it h → HasCleanDisk (state_of new) → (fault ≡ faults.Store) ⊎ (fault ≡ faults.NoMemory)) → IsOfReading it new (failure_of fault)
-  of_list it new faults.Store poisoned kind = tt
-  of_list it new faults.NoMemory poisoned kind = tt
-  of_list it new faults.Foreign poisoned kind = λ at. elim (kind at.0 at.1 at.2) [ inl e ↦ absurd cc | inr e ↦ absurd cc ]
-  of_list it new faults.Taken poisoned kind = λ at. elim (kind at.0 at.1 at.2) [ inl e ↦ absurd cc | inr e ↦ absurd cc ]
-  of_list it new faults.Poisoned poisoned kind = poisoned refl
+  of_list it new faults.Store poisoned never kind = tt
+  of_list it new faults.NoMemory poisoned never kind = tt
+  of_list it new faults.Foreign poisoned never kind = λ at. elim (kind at.0 at.1 at.2) [ inl e ↦ absurd cc | inr e ↦ absurd cc ]
+  of_list it new faults.Taken poisoned never kind = never refl
+  of_list it new faults.Poisoned poisoned never kind = poisoned refl
 
   -- two readings, one after the other
   pub left_then : (it mid new : Registry S g) → IsLeft it mid → IsLeft mid new → IsLeft it new
@@ -42,7 +41,7 @@ module _ {S : Type 0} {g : Ghosts S} where
   pub of_second : (it mid new : Registry S g) → IsLeft it mid → (failure : Failure) → IsOfReading mid new failure → IsOfReading it new failure
   of_second it mid new a Store may = tt
   of_second it mid new a Memory may = tt
-  of_second it mid new a File may = tt
+  of_second it mid new a File may = may
   of_second it mid new a Poisoned may = sym a.poisons_nothing ∙ may
   of_second it mid new a Foreign may = λ at. may (at.0, a.stays at.0 at.1, at.2)
-  of_second it mid new a Taken may = λ at. may (at.0, a.stays at.0 at.1, at.2)
+  of_second it mid new a Taken may = may

@@ -13,7 +13,7 @@ use Rattle.registry_store.specs.Promise.{Leaves, Represents, is_poisoned, state_
 use Rattle.registry_store.specs.Run.{HasAnswered, IsAfterOrNext}
 use Rattle.registry_commands.specs.declared.lines.BadLine.{BadLine}
 use Rattle.registry_commands.specs.declared.messages.Failure.{Failure}
-use Rattle.registry_commands.specs.declared.messages.Failure.TheVariants.{Foreign, Poisoned, Taken}
+use Rattle.registry_commands.specs.declared.messages.Failure.TheVariants.{Foreign, Poisoned, Store, Taken}
 use Rattle.registry_commands.specs.Failures.{Prints, PrintsFailure, PrintsNothing, ErrorOutput}
 use Rattle.registry_commands.specs.Messages.{bad_line_text, exceeds_text, reply_lines}
 
@@ -22,12 +22,14 @@ abbrev pub lines_between : History → List Request → ℕ → ℕ → List ℕ
 lines_between h rs a n = reply_lines (drop a (replies_to h (take n rs)))
 
 module _ {S : Type 0} {g : Ghosts S} where
-  -- The failures of a run over this registry: Poisoned only if it was poisoned before, Foreign and Taken only if it
-  -- represented none of these histories or the disk is not clean.
+  -- The failures of a run over this registry. Store: the registry had a fault, so it is poisoned. Poisoned: it was poisoned
+  -- before. Foreign: it represented none of these histories, or the disk is not clean. Never Taken. Memory may run out in the
+  -- registry or for a reply line, and a file fails only if the output did.
   abbrev pub IsOfRun : Registry S g → Registry S g → (History → Type 0) → Failure → Type 0
+  IsOfRun it new These Store = is_poisoned new ≡ true
   IsOfRun it new These Poisoned = is_poisoned it ≡ true
   IsOfRun it new These Foreign = ¬ ((h : History) × These h × HasCleanDisk (state_of new))
-  IsOfRun it new These Taken = ¬ ((h : History) × These h × HasCleanDisk (state_of new))
+  IsOfRun it new These Taken = ⊥
   IsOfRun it new These _ = ⊤
 
   -- All requests after the first a are answered: their reply lines are written, and the registry represents the history

@@ -1,5 +1,5 @@
 -- What a report shows of a history.
-use Rattle.std.specs.Prelude.{◌≡◌, ◌⊎◌, ℕ, List, map, codes, Option, Some, None, if◌then◌else◌}
+use Rattle.std.specs.Prelude.{◌≡◌, ◌⊎◌, ℕ, true, List, map, codes, Option, Some, None, if◌then◌else◌}
 use Rattle.std.specs.List.{All}
 use Rattle.std.specs.Str.{bytes_eq}
 use Rattle.usbnum_core.specs.Spans.{spans_have}
@@ -17,12 +17,13 @@ use Rattle.registry_reports.specs.Census.{census_lines}
 use Rattle.registry_reports.specs.Holders.{IsHolders}
 use Rattle.registry_reports.specs.Petitions.{petition_lines}
 use Rattle.registry_store.specs.declared.registry.Registry.{Registry}
+use Rattle.registry_store.specs.Promise.{is_poisoned}
 use Rattle.registry_commands.specs.declared.messages.Failure.{Failure}
 use Rattle.registry_commands.specs.declared.reporting.ReportKind.{ReportKind}
 use Rattle.registry_commands.specs.declared.reporting.ReportKind.TheVariants.{Census, Holders, Petitions}
 use Rattle.registry_commands.specs.Failures.{ErrorOutput}
 use Rattle.registry_commands.specs.Printed.{IsPrinted, IsUnprinted}
-use Rattle.registry_commands.specs.Shown.{Gives, IsLeft, IsOfReading}
+use Rattle.registry_commands.specs.Shown.{Gives, IsLeft, IsOfReading, ShowsNothing}
 
 -- the kind of report with this name
 unfoldable pub report_named : List ℕ → Option ReportKind
@@ -72,3 +73,4 @@ module _ {S : Type 0} {g : Ghosts S} where
     pub left : IsLeft it new
     pub shown : ((text : List ℕ) × Gives it new (λ h. IsReport name h text) × IsPrinted OfOutput text out out_new errors status)
         ⊎ IsUnprinted (IsOfReading it new) out out_new errors status
+    pub poisoned : is_poisoned it ≡ true → ShowsNothing it new out out_new errors status

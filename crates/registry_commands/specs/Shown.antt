@@ -1,5 +1,5 @@
 -- What a command shows of a registry without changing it.
-use Rattle.std.specs.Prelude.{◌≡◌, ◌⊎◌, ℕ, List, Option}
+use Rattle.std.specs.Prelude.{◌≡◌, ◌⊎◌, ⊤, ℕ, true, List, Option}
 use Rattle.sqlite.specs.Store.{Ghosts}
 use Rattle.sqlite.specs.State.{HasCleanDisk, Survives}
 use Rattle.usbids_text.specs.Documents.{IsTextOf}
@@ -11,8 +11,8 @@ use Rattle.registry_reports.specs.History.{IsListing}
 use Rattle.registry_store.specs.declared.registry.Registry.{Registry}
 use Rattle.registry_store.specs.Promise.{Represents, is_poisoned, state_of}
 use Rattle.registry_commands.specs.declared.messages.Failure.{Failure}
-use Rattle.registry_commands.specs.Apply.{IsOfRun}
-use Rattle.registry_commands.specs.Failures.{ErrorOutput}
+use Rattle.registry_commands.specs.declared.messages.Failure.TheVariants.{Store, Memory, Foreign, Taken, Poisoned, File}
+use Rattle.registry_commands.specs.Failures.{PrintsFailure, ErrorOutput}
 use Rattle.registry_commands.specs.Printed.{IsPrinted, IsUnprinted}
 
 module _ {S : Type 0} {g : Ghosts S} where
@@ -22,14 +22,23 @@ module _ {S : Type 0} {g : Ghosts S} where
     pub poisons_nothing : is_poisoned new ≡ is_poisoned it
     pub survives : Survives (state_of it) (state_of new) (λ _. ⊥)
 
-  -- the failures of reading a registry: Poisoned only if it was poisoned before, Foreign and Taken only if it represented no
-  -- history or the disk is not clean
+  -- The failures of reading a registry. Poisoned: it was poisoned before. Foreign: it represented no history, or the disk is
+  -- not clean. Never Taken, and never File, since nothing is written yet.
   abbrev pub IsOfReading : Registry S g → Registry S g → Failure → Type 0
-  IsOfReading it new = IsOfRun it new (λ h. Represents it h)
+  IsOfReading it new Store = ⊤
+  IsOfReading it new Memory = ⊤
+  IsOfReading it new Poisoned = is_poisoned it ≡ true
+  IsOfReading it new Foreign = ¬ ((h : History) × Represents it h × HasCleanDisk (state_of new))
+  IsOfReading it new Taken = ⊥
+  IsOfReading it new File = ⊥
 
   -- this holds of each history that the registry represented, over a clean disk
   abbrev pub Gives : Registry S g → Registry S g → (History → Type 0) → Type 0
   Gives it new P = (h : History) → Represents it h → HasCleanDisk (state_of new) → P h
+
+  -- nothing is shown of a poisoned registry: it stays as it is, and the error output says that it is poisoned
+  abbrev pub ShowsNothing : Registry S g → Registry S g → Option (List ℕ) → Option (List ℕ) → ErrorOutput → ℕ → Type 0
+  ShowsNothing it new out out_new errors status = (status ≡ 1) × (new ≡ it) × (out_new ≡ out) × PrintsFailure (λ failure. failure ≡ Poisoned) errors
 
   -- the list of the history is written, whole or in part, and the whole is the text of its document; or nothing is written,
   -- after a failure
@@ -37,3 +46,4 @@ module _ {S : Type 0} {g : Ghosts S} where
     pub left : IsLeft it new
     pub shown : ((doc : List TopEntry) × Gives it new (λ h. IsListing h doc) × IsTextOf (written doc stamp) doc × IsPrinted OfOutput (written doc stamp) out out_new errors status)
         ⊎ IsUnprinted (IsOfReading it new) out out_new errors status
+    pub poisoned : is_poisoned it ≡ true → ShowsNothing it new out out_new errors status

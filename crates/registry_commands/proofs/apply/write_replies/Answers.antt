@@ -1,4 +1,4 @@
-use Rattle.std.proofs.Common.{◌≡◌, ◌⊎◌, ℕ, ap, subst, ◌∙◌}
+use Rattle.std.proofs.Common.{◌≡◌, ◌⊎◌, inl, inr, ℕ, ap, subst, ◌∙◌}
 use Rattle.std.specs.Prelude.{Err}
 use Rattle.sqlite.specs.State.{HasCleanDisk}
 use Rattle.registry_rules.specs.History.{History}
@@ -44,7 +44,9 @@ returns-in-Err-Fault-clause-failure g c =
     λ h at clean. let halted = rw c.in-Err-Fault.field-0-is at (c.in-Err-Fault.ensures.stopped h at clean) in halted.1.reply.2.1 in
     rw c.failure_of.ensures (of_fault c.args.registry.now c.run_to.new.self (λ h. HasAnswered c.args.registry.now h c.args.requests.now c.args.answered)
     (g.W.Sink.failures old.output.now) (g.W.Sink.failures new.output.now) kept fault
-    (λ poisoned. c.in-Err-Fault.ensures.only_poisoned (ap Err (c.in-Err-Fault.field-0-is ∙ ap stop.Fault poisoned))) kind)
+    (λ poisoned. c.in-Err-Fault.ensures.only_poisoned (ap Err (c.in-Err-Fault.field-0-is ∙ ap stop.Fault poisoned)))
+    (λ taken. c.in-Err-Fault.ensures.never_taken (ap Err (c.in-Err-Fault.field-0-is ∙ ap stop.Fault taken)))
+    (elim c.in-Err-Fault.ensures.ends [ inl cut ↦ absurd (cc (cut, c.in-Err-Fault.field-0-is)) | inr spent ↦ spent ]) kind)
 
 pub unreachable-requires : goal.unreachable-requires
 unreachable-requires g c =

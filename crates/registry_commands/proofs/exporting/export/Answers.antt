@@ -1,4 +1,5 @@
-use Rattle.std.proofs.Common.{inl, inr}
+use Rattle.std.proofs.Common.{◌≡◌, inl, inr, refl}
+use Rattle.registry_commands.specs.declared.messages.Failure.TheVariants.{Poisoned}
 use Rattle.registry_commands.proofs.ApplyLemmas.{keeps_same}
 use Rattle.registry_commands.proofs.exporting.export.Goals as goal
 
@@ -6,10 +7,15 @@ pub returns-in-Ok : goal.returns-in-Ok
 returns-in-Ok g c = record {
   left = c.in-Ok.ensures.left;
   shown = inl (c.in-Ok.document, c.in-Ok.ensures.answered, c.put_document.ensures.is_text, c.put_document.ensures.printed);
+  poisoned = λ e. let failed = c.in-Ok.ensures.when_poisoned e in absurd (cc failed.0);
 }
 
 pub returns-in-Err : goal.returns-in-Err
 returns-in-Err g c = record {
   left = c.in-Err.ensures.left;
   shown = inr (c.fail.ensures.status, keeps_same _, (c.in-Err.failure, c.in-Err.ensures.failure, c.fail.ensures.told));
+  poisoned = λ e.
+      let failed = c.in-Err.ensures.when_poisoned e in
+      let spent : c.in-Err.failure ≡ Poisoned = cc failed.0 in
+      (c.fail.ensures.status, failed.1, refl, (c.in-Err.failure, spent, c.fail.ensures.told));
 }

@@ -34,7 +34,8 @@ returns-in-Err g c =
         told = (
           c.failure_of.result,
           rw c.failure_of.ensures (
-            of_act it new (λ h. MayHaveBeenActedOn it h r) fault (λ e. c.in-Err.ensures.only_poisoned (ap Err e)) (λ h may clean. kind_of it new h r fault c.in-Err.ensures.kind may clean),
+            of_act it new (λ h. MayHaveBeenActedOn it h r) fault (λ e. c.in-Err.ensures.only_poisoned (ap Err e)) (λ e. c.in-Err.ensures.never_taken (ap Err e)) c.in-Err.ensures.ends
+                (λ h may clean. kind_of it new h r fault c.in-Err.ensures.kind may clean),
             not_of_output (g.W.Sink.failures c.args.output.now) fault,
           ),
           c.fail.ensures.told,

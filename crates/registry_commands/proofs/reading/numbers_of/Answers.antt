@@ -13,4 +13,4 @@ returns-in_err-numbers-clause-left g c = record { stays = c.in_err-numbers.ensur
 pub returns-in_err-numbers-clause-failure : goal.returns-in_err-numbers-clause-failure
 returns-in_err-numbers-clause-failure g c =
     let failed = err_from_is_err_and c.from_residual.result c.from_residual.ensures.1 in
-    rw (failed.1, failed.2) (of_list c.args.registry.now c.numbers.new.self c.in_err-numbers.field-0.0 (λ e. c.in_err-numbers.ensures.only_poisoned (ap Err e)) c.in_err-numbers.ensures.kind)
+    rw (failed.1, failed.2) (of_list c.args.registry.now c.numbers.new.self c.in_err-numbers.field-0.0 (λ e. c.in_err-numbers.ensures.only_poisoned (ap Err e)) (λ e. c.in_err-numbers.ensures.never_taken (ap Err e)) c.in_err-numbers.ensures.kind)

@@ -1,5 +1,6 @@
-use Rattle.std.proofs.Common.{inl, inr}
+use Rattle.std.proofs.Common.{◌≡◌, inl, inr, refl}
 use Rattle.std.specs.String.{string_bytes}
+use Rattle.registry_commands.specs.declared.messages.Failure.TheVariants.{Poisoned}
 use Rattle.registry_commands.proofs.ApplyLemmas.{keeps_same}
 use Rattle.registry_commands.proofs.reporting.report.Goals as goal
 
@@ -7,10 +8,15 @@ pub returns-in-Ok : goal.returns-in-Ok
 returns-in-Ok g c = record {
   left = c.in-Ok.ensures.left;
   shown = inl (string_bytes c.in-Ok.text, c.in-Ok.ensures.answered, rw (← c.as_bytes.ensures.value) c.print.ensures);
+  poisoned = λ e. let failed = c.in-Ok.ensures.when_poisoned e in absurd (cc failed.0);
 }
 
 pub returns-in-Err : goal.returns-in-Err
 returns-in-Err g c = record {
   left = c.in-Err.ensures.left;
   shown = inr (c.fail.ensures.status, keeps_same _, (c.in-Err.failure, c.in-Err.ensures.failure, c.fail.ensures.told));
+  poisoned = λ e.
+      let failed = c.in-Err.ensures.when_poisoned e in
+      let spent : c.in-Err.failure ≡ Poisoned = cc failed.0 in
+      (c.fail.ensures.status, failed.1, refl, (c.in-Err.failure, spent, c.fail.ensures.told));
 }
