@@ -4,22 +4,15 @@ given number, runs with it, and attempts that run side by side."""
 import concurrent.futures
 import contextlib
 import os
-import shutil
-import subprocess
-import sys
 
-from usbreg import TOP, content, folder, run
+from usbreg import content, folder, library, run
 
 
 @contextlib.contextmanager
 def refusal():
     """Yields a folder for files of the run, and the library."""
-    if not shutil.which("cc"):
-        sys.exit("no C compiler: apt-get install gcc")
     with folder() as room:
-        shim = f"{room}/refuse.so"
-        subprocess.run(["cc", "-O2", "-shared", "-fPIC", "-o", shim, f"{TOP}/scripts/refuse.c", "-ldl"], check=True)
-        yield room, shim
+        yield room, library(room, "refuse")
 
 
 def refusing(shim, refused, counted=None):

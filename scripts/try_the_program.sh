@@ -1,8 +1,8 @@
 #!/usr/bin/env bash
 # Runs the scripts that try what was built: cases over stores in files, a plain history beside it, the man page, the
 # examples in docstrings and those in the help, what SQLite sees of a store, stores of older schemas, Debian's list of
-# USB numbers, each allocation refused in turn, kills at random moments, and clients that talk HTTP to it, with nginx in
-# front and without.
+# USB numbers, each allocation refused in turn, kills at random moments, power cuts, clients that talk HTTP to it, with
+# nginx in front and without, a backup and its restore, and the names on a host.
 # It shows the output of a script only if it fails or says that it was skipped. The last line counts the scripts.
 # Needs python3 and cc, and fails if one is missing; with SKIP=1 the scripts are skipped.
 cd "$(dirname "$0")" || exit 1
@@ -19,9 +19,12 @@ scripts=(
     "refuse_allocations.py --only trial"
     refuse_in_tests.py
     stop_and_go_on.py
+    cut_the_power.py
     run_http_examples.py
     talk_to_the_desk.py
     serve_behind_nginx.py
+    restore_a_backup.py
+    name_devices.py
 )
 passed=0
 failed=0

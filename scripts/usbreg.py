@@ -57,6 +57,15 @@ def done(words):
     return output
 
 
+def library(room, name):
+    """Compiles a C file of this folder into a library to preload before a program, and returns the library's path."""
+    if not shutil.which("cc"):
+        sys.exit("no C compiler: apt-get install gcc")
+    path = f"{room}/{name}.so"
+    subprocess.run(["cc", "-O2", "-shared", "-fPIC", "-o", path, f"{TOP}/scripts/{name}.c", "-ldl"], check=True)
+    return path
+
+
 def found(usbreg, store, founding=FOUNDING):
     """Founds a registry in a new file, and returns the file's path."""
     remove(store)
