@@ -32,7 +32,7 @@ HEARD = {"stdin": subprocess.DEVNULL, "stdout": subprocess.PIPE, "stderr": subpr
 
 # The first line of a function, and the first of what a method stands in, whose type has the name that is found last.
 HEADER = re.compile(r"( *)(?:pub(?:\([a-z]+\))? )?(?:const )?(?:unsafe )?fn (\w+)")
-BLOCK = re.compile(r"( *)(?:pub )?(?:unsafe )?(?:impl|trait)\b(?:<.*?>(?= ))?(?: .*? for)? &?(?:\w+::)*(\w*)")
+BLOCK = re.compile(r"( *)(?:pub )?(?:impl|trait)\b(?:<.*?>(?= ))?(?: (?:\w+::)*(\w+).*? for)? &?(?:\w+::)*(\w*)")
 # A constant or a type.
 ITEM = re.compile(r"(?:pub(?:\([a-z]+\))? )?(?:const|static|struct|enum|type) (\w+)")
 
@@ -94,7 +94,7 @@ def crates_of(top):
 
 
 class Function:
-    """A function of a source file: its lines, counted from 1, where its body begins, and the type it belongs to."""
+    """A function of a source file: its lines, counted from 1, where its body begins, and whose method it is."""
 
     def __init__(self, path, owner, name, lines):
         self.path, self.owner, self.name = path, owner, name
@@ -108,7 +108,7 @@ class Function:
         """Returns whether this name in what a check prints, or this folder of proofs, is of it or of a closure in it. A
         method has there the name of its type and behind it that of the trait, maybe in the module of its type."""
         if self.owner:
-            return any(one.startswith(self.owner) and two == self.name for one, two in zip(words, words[1:]))
+            return any(re.fullmatch(self.owner, one) and two == self.name for one, two in zip(words, words[1:]))
         module = [it for it in self.path[len("src/") : -len(".rt")].split("/") if it not in ("lib", "main")]
         return words == [*module, self.name] or words[: len(module) + 2] == [*module, "fn", self.name]
 
@@ -131,8 +131,8 @@ def functions_of(path, text):
         block, header = BLOCK.match(line) or block, HEADER.match(line)
         body = body_of(lines, at, header[1]) if header else None
         if body:
-            name = block[2] if block and block[1] < header[1] else None
-            yield Function(path, name, header[2], (at + 1, body[0] + 1, body[1] + 1))
+            owner = block[3] + (rf"({block[2]}\w*)?" if block[2] else "") if block and block[1] < header[1] else None
+            yield Function(path, owner, header[2], (at + 1, body[0] + 1, body[1] + 1))
 
 
 class Edit:
