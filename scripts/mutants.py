@@ -230,7 +230,8 @@ def judge(said, edit):
         goals += [words for words in stands if "`search` did not prove" in words]
         if wrong or goals:
             return ("a bad edit", wrong[0]) if wrong else ("refused", goals[0])
-    return "not refused", "; ".join(stands) if ENDED.search(said) else said[-400:]
+    is_cut = not ENDED.search(said)
+    return ("not tried", f"its check did not end: {said[-400:]}") if is_cut else ("not refused", "; ".join(stands))
 
 
 def try_round(crate, edits):
@@ -238,12 +239,11 @@ def try_round(crate, edits):
     begun, said = time.monotonic(), check(crate, edits)
     print(f"{crate.name}: {len(edits)} in one check, {time.monotonic() - begun:.0f} s", flush=True)
     judged = {it: judge(said, it) for it in edits}
-    good = [it for it in edits if judged[it][0] != "a bad edit"]
-    again = [] if len(edits) == 1 else [[it] for it in edits if judged[it][0] == "not refused"]
-    if len(good) < len(edits):
-        again = [good] if good else []
-    elif again and not ENDED.search(said):
-        again = [edits[: len(edits) // 2], edits[len(edits) // 2 :]]
+    again = [[it] for it in edits if judged[it][0] == "not refused"]
+    if not ENDED.search(said):
+        good = [it for it in edits if judged[it][0] != "a bad edit"]
+        again = [good] if len(good) < len(edits) else [edits[: len(edits) // 2], edits[len(edits) // 2 :]]
+    again = [it for it in again if it] if len(edits) > 1 else []
     found = {}
     for it in (it for it in edits if not any(it in others for others in again)):
         verdict, words = judged[it]
