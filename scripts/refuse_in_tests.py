@@ -1,16 +1,19 @@
 #!/usr/bin/env python3
 """Runs tests of the crates again and again, each time with another allocation refused, and checks what they print.
 
-A test that is refused memory passes, because it did without, or it fails and says so: by an out-of-memory error, or
-because a call returned nothing where a result was expected. A test that compares another result than the right one fails
-here: running out of memory has changed a result.
+The tests of the lower crates are programs that read rows and show a result for each. They run here on the rows of one kind
+at a time. A row that is refused memory shows what it always shows, because it did without, or it says that memory ran out.
 
-For a test that asks for many allocations it refuses some hundred, evenly spread, except for two tests that make the
+A test of the other crates that is refused memory passes, because it did without, or it fails and says so: by an out-of-memory
+error, or because a call returned nothing where a result was expected. A test that compares another result than the right one
+fails here: running out of memory has changed a result.
+
+For rows or a test that ask for many allocations it refuses some hundred, evenly spread, except for two tests that make the
 tables and each statement on them once; with --all it refuses each allocation.
 
 Of the tests of the store it tries the one on memory, which checks by itself which results are right when memory runs out.
 
-Usage: scripts/refuse_in_tests.py [--all] [PROGRAM..], by default the test programs that `rt test` or `make gate` has
+Usage: scripts/refuse_in_tests.py [--all] [PROGRAM..], by default the test programs that `rt test`, `rt run` or `rt ci` has
 built. Needs cc. The exit status is 0 if all of this holds."""
 
 import itertools
@@ -19,14 +22,16 @@ import re
 import sys
 
 from refusing import asked_in, each, refusal, run_refused
-from usbreg import TOP, program, run
+from usbreg import TOP, content, program, run, write
 
-CRATES = ["usbnum_core", "usbids_text", "registry_rules", "registry_wire", "registry_tables", "registry_store"]
+# The crates of tests that are programs over rows, and the others.
+ROWS = ["usbids_text_tests", "registry_tests"]
+CRATES = ["example_tests", "registry_tables_tests", "registry_store_tests"]
 MOST = 650
 WHOLE = {"lists::a_store_has_what_was_put_in", "lookups::a_request_finds_what_it_needs"}
 
-# `write` takes no memory: in these tests the writer that they pass to it runs out of memory, and then has a prefix.
-LEFT_OUT = "writing::"
+# In these rows the writer that a call is given runs out of memory, and then has a prefix.
+LEFT_OUT = {"room", "short", "brim"}
 
 # The tests of the store. The others compare what files hold, and treat a disk without memory as one that stops.
 STORE = "registry_store_tests_tests"
@@ -39,6 +44,8 @@ SIDES = re.compile(r"^  left: (.*)\n right: (.*)$", re.MULTILINE)
 NOTHING = {"None", '""'}
 # A disk in memory fails when memory runs out.
 SHORT = re.compile(r"NoMemory|Err\(Store\)")
+# What a row shows that ran out of memory; for a response it may be the response that needs none.
+ROW_ENDS = re.compile(r'out of memory|HTTP/1\.1 503 Service Unavailable.*"name":"NoMemory","refused":31.*')
 
 
 def says_so(errors):
@@ -54,7 +61,7 @@ def says_so(errors):
 
 def tests_of(tests):
     listed = run([tests, "--list"])[1].decode().splitlines()
-    named = [it.removesuffix(": test") for it in listed if it.endswith(": test") and not it.startswith(LEFT_OUT)]
+    named = [it.removesuffix(": test") for it in listed if it.endswith(": test")]
     return [it for it in named if os.path.basename(tests) != STORE or it.startswith(OF_STORE)]
 
 
@@ -73,17 +80,58 @@ def try_test(tests, test, shim, room, most):
     print(f"{test}: {len(passed)} of {count} allocations refused; {sum(passed)} runs did without it, the others said so", flush=True)
 
 
+def rows_of(crate):
+    """Returns the rows and what they show, by kind."""
+    given, wanted = (content(f"{TOP}/crates/{crate}/{name}").decode().splitlines() for name in ("stdin", "stdout"))
+    kinds = {}
+    for line, shown in zip(given, wanted, strict=True):
+        kinds.setdefault(line.partition(" ")[0], []).append((line, shown))
+    return {kind: rows for kind, rows in kinds.items() if kind not in LEFT_OUT | {"#"}}
+
+
+def shows_less(given, rows, ended_well):
+    """Returns whether each line is what its row shows, or says that memory ran out. A run may end before all lines only if
+    it says so."""
+    return all(line == shown or ROW_ENDS.fullmatch(line) for line, (_, shown) in zip(given, rows)) and (
+        len(given) == len(rows) if ended_well else len(given) <= len(rows)
+    )
+
+
+def try_rows(tests, kind, rows, shim, room, most):
+    path = write(f"{room}/rows", "".join(f"{line}\n" for line, _ in rows))
+    count = asked_in([tests], shim, room, path)
+
+    def attempt(number, _):
+        status, output, errors = run_refused([tests], shim, number, path)
+        given = output.decode().splitlines()
+        if not shows_less(given, rows, not status) or (status and not ENDS.search(errors.decode(errors="replace"))):
+            sys.exit(f"{tests}, rows of {kind} without allocation {number}: status {status}, {output[-600:]!r} and {errors[:600]!r}")
+        return given == [shown for _, shown in rows]
+
+    passed = each(range(1, count + 1, max(1, count // most)), room, attempt)
+    print(f"{kind}: {len(passed)} of {count} allocations refused; {sum(passed)} runs did without it, the others said so", flush=True)
+
+
+def try_program(tests, shim, room, most):
+    crate = os.path.basename(tests)
+    if crate in ROWS:
+        for kind, rows in rows_of(crate).items():
+            try_rows(tests, kind, rows, shim, room, most)
+    else:
+        for test in tests_of(tests):
+            try_test(tests, test, shim, room, most)
+
+
 def main():
     given = [it for it in sys.argv[1:] if it != "--all"]
-    programs = [f"{TOP}/crates/{it}_tests/out/{it}_tests_tests" for it in CRATES]
+    programs = [f"{TOP}/crates/{it}/out/{it}" for it in ROWS] + [f"{TOP}/crates/{it}/out/{it}_tests" for it in CRATES]
     built = [program(it) for it in given] or [it for it in programs if os.path.exists(it)]
-    if not given and len(built) < len(CRATES):
-        print(f"SKIPPED: {len(CRATES) - len(built)} programs of tests without memory, which `make gate` builds")
+    if not given and len(built) < len(programs):
+        print(f"SKIPPED: {len(programs) - len(built)} programs of tests without memory, which `make gate` builds")
     most = sys.maxsize if "--all" in sys.argv else MOST
     with refusal() as (room, shim):
         for tests in built:
-            for test in tests_of(tests):
-                try_test(tests, test, shim, room, most)
+            try_program(tests, shim, room, most)
 
 
 if __name__ == "__main__":

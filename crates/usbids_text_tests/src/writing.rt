@@ -1,16 +1,11 @@
 //! Writes documents, also to writers that fail.
 
 use byte_streams::Outlet;
-use std::alloc::{AllocError, Global};
+use row_texts::{RowFault, bytes_of, cut, number_of, text_of};
+use std::alloc::Global;
 use std::io;
 use std::io::Write;
-use std::test::Fail;
-use usbids_text::{Stamp, WriteFault, read_all, write};
-
-const TITLE: &str = "# List of USB numbers in the syntax of usb.ids\n";
-
-const USUAL: &str =
-    "1209  Shared products\n\t0011  Blinker\n\t\t07  Port\n\t0012\nC 00  (Defined at Interface level)\nHID 21  HID\nBIAS 0  Not Applicable\nL 0001  Arabic\n";
+use usbids_text::{Document, ReadFault, Stamp, WriteFault, read_all, write};
 
 /// A writer that takes `room` bytes and then none.
 #[derive(Drop)]
@@ -32,104 +27,113 @@ impl Write for Few {
     }
 }
 
-fn text_of(alloc: Global, stamp: &str, entries: &str) -> Result<String, AllocError> {
-    let mut text = String::from_str(alloc, TITLE)?;
-    text.push_str(stamp)?;
-    text.push_str("\n")?;
-    text.push_str(entries)?;
-    Ok(text)
-}
-
-#[test]
-fn writes_the_usual_list(rt: HostRuntime) -> Result<(), Fail> {
-    let alloc = rt.alloc();
-    let document = read_all(alloc, USUAL.as_bytes())?;
-    let stamp = Stamp::new(2024, 1, 30, 20, 34, 2);
-    assert!(rt; stamp.is_some());
-    for (stamp, comments) in [
-        (None, ""),
-        (
-            stamp,
-            "# Version: 2024.01.30\n# Date:    2024-01-30 20:34:02\n",
-        ),
-    ] {
-        let mut sink = Outlet::new(Vec::new(alloc));
-        write(&document, stamp, &mut sink)?;
-        let want = text_of(alloc, comments, USUAL)?;
-        assert_eq!(rt; sink.into_inner().as_slice(), want.as_bytes());
+fn document_of(alloc: Global, bytes: &[u8]) -> Result<Document, RowFault> {
+    match read_all(alloc, bytes) {
+        Ok(document) => Ok(document),
+        Err(ReadFault::NoMemory) => Err(RowFault::OutOfMemory),
+        Err(ReadFault::Line(_)) => Err(RowFault::BadRow),
     }
-    Ok(())
 }
 
-#[test]
-fn writes_a_list_in_its_one_form(rt: HostRuntime) -> Result<(), Fail> {
-    let alloc = rt.alloc();
-    let document = read_all(alloc, b"# x\n\n1209 \tA \r\n\t00AB\tB\r\n\t00ac")?;
+fn text_with(
+    alloc: Global,
+    document: &Document,
+    stamp: Option<Stamp>,
+) -> Result<Vec<u8>, RowFault> {
     let mut sink = Outlet::new(Vec::new(alloc));
-    write(&document, None, &mut sink)?;
-    let want = text_of(alloc, "", "1209  A\n\t00ab  B\n\t00ac\n")?;
-    assert_eq!(rt; sink.into_inner().as_slice(), want.as_bytes());
-    Ok(())
+    match write(document, stamp, &mut sink) {
+        Ok(()) => Ok(sink.into_inner()),
+        Err(WriteFault) => Err(RowFault::OutOfMemory),
+    }
 }
 
-#[test]
-fn reports_a_failed_writer(rt: HostRuntime) -> Result<(), Fail> {
-    let alloc = rt.alloc();
-    let mut entries = String::from_str(alloc, USUAL)?;
-    for _ in 0..200u8 {
-        entries.push_str("1209  A vendor more\n\t0011  A device of it\n")?;
+/// Shows a list as it is written.
+pub(crate) fn written(
+    alloc: Global,
+    list: &[u8],
+    stamp: Option<Stamp>,
+) -> Result<Vec<u8>, RowFault> {
+    let document = document_of(alloc, list)?;
+    text_with(alloc, &document, stamp)
+}
+
+fn part(text: Option<&str>) -> Result<u8, RowFault> {
+    match number_of(text.unwrap_or(""))?.try_into() {
+        Ok(part) => Ok(part),
+        Err(_) => Err(RowFault::BadRow),
     }
-    let document = read_all(alloc, entries.as_bytes())?;
-    let whole = text_of(alloc, "", &entries)?;
-    for room in [0, 1, 46, 47, 100, 4095, 4096, 4097, 8000] {
-        let mut sink = Outlet::new(Few {
-            bytes: Vec::new(alloc),
-            room,
-        });
-        assert_eq!(rt; write(&document, None, &mut sink), Err(WriteFault));
-        let taken = sink.into_inner().bytes;
-        assert_eq!(rt; Some(taken.as_slice()), whole.as_bytes().get(..room));
+}
+
+fn year(text: Option<&str>) -> Result<u16, RowFault> {
+    match number_of(text.unwrap_or(""))?.try_into() {
+        Ok(year) => Ok(year),
+        Err(_) => Err(RowFault::BadRow),
     }
+}
+
+// The stamp of six numbers.
+fn stamp_of(text: &str) -> Result<Option<Stamp>, RowFault> {
+    let mut words = text.split(' ');
+    Ok(Stamp::new(
+        year(words.next())?,
+        part(words.next())?,
+        part(words.next())?,
+        part(words.next())?,
+        part(words.next())?,
+        part(words.next())?,
+    ))
+}
+
+/// Shows whether six numbers are a stamp.
+pub(crate) fn stamp(alloc: Global, text: &str) -> Result<Vec<u8>, RowFault> {
+    match stamp_of(text)? {
+        Some(_) => text_of(alloc, "some"),
+        None => text_of(alloc, "none"),
+    }
+}
+
+/// Shows a list as it is written with a stamp.
+pub(crate) fn dated(alloc: Global, text: &str) -> Result<Vec<u8>, RowFault> {
+    let (stamp, list) = cut(text)?;
+    let stamp = stamp_of(stamp)?.ok_or(RowFault::BadRow)?;
+    let list = bytes_of(alloc, list)?;
+    written(alloc, &list, Some(stamp))
+}
+
+// Writes to a writer that takes so many bytes. Returns whether it did not fail, and whether the
+// writer has the front of the text.
+fn short_write(alloc: Global, document: &Document, whole: &[u8], room: usize) -> (bool, bool) {
     let mut sink = Outlet::new(Few {
         bytes: Vec::new(alloc),
-        room: whole.len(),
+        room,
     });
-    assert_eq!(rt; write(&document, None, &mut sink), Ok(()));
-    Ok(())
+    let went_well = write(document, None, &mut sink).is_ok();
+    let taken = sink.into_inner().bytes;
+    (went_well, Some(taken.as_slice()) == whole.get(..room))
 }
 
-#[test]
-fn stops_a_short_text_anywhere(rt: HostRuntime) -> Result<(), Fail> {
-    let alloc = rt.alloc();
-    let document = read_all(alloc, USUAL.as_bytes())?;
-    let whole = text_of(alloc, "", USUAL)?;
+/// Writes a list to a writer that takes so many bytes, and shows how that ended.
+pub(crate) fn room(alloc: Global, text: &str) -> Result<Vec<u8>, RowFault> {
+    let (room, list) = cut(text)?;
+    let room = number_of(room)? as usize;
+    let list = bytes_of(alloc, list)?;
+    let document = document_of(alloc, &list)?;
+    let whole = text_with(alloc, &document, None)?;
+    let (went_well, has_front) = short_write(alloc, &document, &whole, room);
+    Ok(format!(in alloc; "{went_well} {has_front}")?.into_bytes())
+}
+
+/// Writes a list to writers that take fewer bytes than it has, and shows their number. Each must
+/// have the front of the text.
+pub(crate) fn short(alloc: Global, list: &[u8]) -> Result<Vec<u8>, RowFault> {
+    let document = document_of(alloc, list)?;
+    let whole = text_with(alloc, &document, None)?;
     for room in 0..whole.len() {
-        let mut sink = Outlet::new(Few {
-            bytes: Vec::new(alloc),
-            room,
-        });
-        assert_eq!(rt; write(&document, None, &mut sink), Err(WriteFault));
-        let taken = sink.into_inner().bytes;
-        assert_eq!(rt; Some(taken.as_slice()), whole.as_bytes().get(..room));
+        let (went_well, has_front) = short_write(alloc, &document, &whole, room);
+        if went_well || !has_front {
+            return Err(RowFault::Wrong);
+        }
     }
-    Ok(())
-}
-
-#[test]
-fn bounds_a_stamp(rt: HostRuntime) {
-    assert!(rt; Stamp::new(0, 1, 1, 0, 0, 0).is_some());
-    assert!(rt; Stamp::new(9999, 12, 31, 23, 59, 59).is_some());
-    assert!(rt; Stamp::new(2023, 2, 31, 0, 0, 0).is_some());
-    for (year, month, day, hour, minute, second) in [
-        (10000, 1, 1, 0, 0, 0),
-        (0, 0, 1, 0, 0, 0),
-        (0, 13, 1, 0, 0, 0),
-        (0, 1, 0, 0, 0, 0),
-        (0, 1, 32, 0, 0, 0),
-        (0, 1, 1, 24, 0, 0),
-        (0, 1, 1, 0, 60, 0),
-        (0, 1, 1, 0, 0, 60),
-    ] {
-        assert!(rt; Stamp::new(year, month, day, hour, minute, second).is_none());
-    }
+    let count = whole.len();
+    Ok(format!(in alloc; "{count}")?.into_bytes())
 }

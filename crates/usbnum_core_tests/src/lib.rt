@@ -1,5 +1,0 @@
-//! Tests of numbers, spans and texts: what no contract says.
-#![tactic(auto)]
-
-#[cfg(test)]
-mod values;
