@@ -124,14 +124,16 @@ def bad_inputs(room):
     bad_json, field = '{"name":"BadJson","refused":27}', '{"detail":"%s","name":"BadField","refused":28}'
     for lines, number, refusal in (
         ("[]", 1, bad_json),
+        ("\n \t\r\n[]\n", 3, bad_json),
         ("{}\n[]", 1, field % "caller"),
+        (f"{enrol}\n{{}}\n[]", 2, field % "caller"),
         (f"{enrol}\n \t\r\n\n{{}}\n[]", 4, field % "caller"),
         (f"\n{enrol} x", 2, bad_json),
         (reserve, 1, field % "last"),
         (f"\n\n{imported}", 3, field % "order"),
     ):
         room.case(["trial"], 2, errors=f"line {number}: {refusal}\n", lines=lines.encode())
-    for lines, replies in (("", 0), ("\n \t\r\n", 0), (f"\r\n{enrol}\r\n\n{enrol}\n", 2), (f"{enrol}\n\n{enrol}\n \n{enrol}", 3)):
+    for lines, replies in (("", 0), ("\n \t\r\n", 0), (enrol, 1), (f"\r\n{enrol}\r\n\n{enrol}\n", 2), (f"{enrol}\n\n{enrol}\n \n{enrol}", 3)):
         room.case(["trial"], output=REPLIES[0] * replies, lines=lines.encode())
     for text, key in (("=", "toml"), ('vendor = "0000"\n', "vendor")):
         bad, store = room.file("bad.toml", text), f"{room.folder}/bad.db"
@@ -152,17 +154,49 @@ def repeats(room):
 
 
 def words(room):
-    """Without arguments the program runs a trial."""
+    """Without arguments the program runs a trial. An option may stand before the arguments, and have = before its value,
+    which may begin with -."""
     lines = content(f"{EXAMPLES}/first.jsonl")
     replies = '{"done":"enrolled acme"}\n{"done":"petition 1"}\n{"done":"granted 0011 to acme by petition 1"}\n'
     for said in ([], ["trial"]):
         room.case(said, output=replies, lines=lines)
+    store = room.founded("words")
+    room.case(["apply", "--answered=6", store, TEN], output="".join(REPLIES[6:]))
+    room.case(["import", store, TEN, "--org=-x", "--caller", "cora", "--key=k", "--vendor", "1209"], 2, errors="bad word: org\n")
+
+
+# Arguments, a part of what they print, and the exit status.
+TOLD = (
+    (["--help"], "usbreg [COMMAND]", 0),
+    (["--help"], "lookup  Print the name of a device in a list", 0),
+    (["--help"], "`found`, `apply`, `import` and `serve` change a registry", 0),
+    (["--version"], "usbreg 0.1.0", 0),
+    (["apply", "--help"], "usbreg apply numbers.db examples/first.jsonl --answered 3", 0),
+    (["help", "found"], "usbreg found <STORE> <FOUNDING>", 0),
+    (["grant"], "unrecognized subcommand 'grant'", 2),
+    (["apply", "numbers.db"], "<FILE>", 2),
+    (["apply", "s", "f", "--answered", "x"], "invalid value 'x' for '--answered <N>'", 2),
+    (["serve", "s", "--port", "65536"], "65536 is not in 1..=65535", 2),
+    (["export", "s", "s"], "unexpected argument 's' found", 2),
+)
+
+
+def help_and_faults(room):
+    """Help and the version are printed to the output, and why arguments are refused to the error output."""
+    usbreg = f"{room.folder}/usbreg"
+    os.symlink(room.program, usbreg)
+    for said, part, status in TOLD:
+        ended, *printed = run([usbreg, *said])
+        told, other = reversed(printed) if status else printed
+        if ended != status or other or part not in told.decode():
+            sys.exit(f"usbreg {' '.join(said)}: status {ended}, printed {printed!r}, where {part!r} is expected")
+        room.seen += 1
 
 
 def main():
     with folder() as made:
         room = Room(program(*sys.argv[1:2]), made)
-        for cases in (ten_enrolments, what_is_not_acted_on, outputs_that_fail, bad_inputs, repeats, words):
+        for cases in (ten_enrolments, what_is_not_acted_on, outputs_that_fail, bad_inputs, repeats, words, help_and_faults):
             cases(room)
         print(f"stores in files: {room.seen} cases are as they should be")
 

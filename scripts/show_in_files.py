@@ -76,7 +76,7 @@ def census(vendor, free, reserved, held, returned):
 
 
 def reports(room):
-    """Reports on an empty registry, on the first one, after another petition, and on two vendors with a returned number."""
+    """Reports on an empty registry, on the first one, after another petition, on two vendors, and with a returned number."""
     empty, store = room.founded("unused"), first(room, "reported")
     for name, text in (("census", census("1209", 65519, 16, 0, 0)), ("holders", ""), ("petitions", "")):
         room.case(["report", empty, name], output=text)
@@ -85,6 +85,16 @@ def reports(room):
         room.case(["report", store, name], output=text)
     act(room, store, [ask("k4", "Lamp")], ["petition 2"])
     room.case(["report", store, "petitions"], output=f"      2  {holder}  any   Lamp\n")
+    lines = [
+        line("cora", "v1", "add-vendor", vendor="cafe", name="Second vendor"),
+        ask("k5", "Clock", vendor="cafe"),
+        line("cora", "v2", "grant", petition=3),
+        ask("k6", "Drive", vendor="cafe", number="00ff"),
+    ]
+    act(room, store, lines, ["added vendor cafe", "petition 3", "granted cafe:0001 to acme by petition 3", "petition 4"])
+    room.case(["report", store, "census"], output=census("1209", 65518, 16, 1, 0) + census("cafe", 65534, 0, 1, 0))
+    room.case(["report", store, "petitions"], output=f"      2  {holder}  any   Lamp\n      4  {holder}  cafe:00ff  Drive\n")
+    room.case(["export", store], output=f"{HEADER}{VENDOR}\t0011  Blinker\ncafe  Second vendor\n\t0001  Clock\n")
     other = first(room, "vendors")
     more_vendors(room, other)
     act(room, other, [ask("k6", "Drive", vendor="cafe"), ask("k7", "Clock", vendor="cafe", number="00ff")], ["petition 3", "petition 4"])
@@ -162,6 +172,11 @@ def look_ups(room):
     room.case(["lookup", listed, "1209", "0011"], output="Blinker\n")
     room.case(["lookup", listed, "1209", "0012"], 2, errors="not found\n")
     room.case(["lookup", orphan, "1209", "0011"], 2, errors='{"detail":"line 2: NoParent","name":"BadList","refused":29}\n')
+    room.case(["lookup", room.file("doubled.ids", "1209  One\n\t0011  First\n\t0011  Second\n"), "1209", "0011"], output="First\n")
+    # The last line has no line feed.
+    cut = room.file("cut.ids", "1210  One\n\t0011  First\n1209  Two\n\t0012  Other")
+    room.case(["lookup", cut, "1209", "0012"], output="Other\n")
+    room.case(["lookup", room.file("other.ids", "1210  One\n\t0011  First\n"), "1209", "0011"], 2, errors="not found\n")
     usual, faulty = room.file("usual.ids", USUAL), room.file("faulty.ids", FAULTY)
     for vid, pid, name in (("1209", "0011", "First"), ("1209", "0012", "Late"), ("1210", "0012", "Other"), ("1209", "0000", "")):
         room.case(["lookup", usual, vid, pid], output=f"{name}\n")

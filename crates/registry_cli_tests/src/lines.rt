@@ -1,89 +1,133 @@
-//! Reads bytes of a source as requests.
+//! Request lines where the input or the output fails: the exit status and both outputs.
 
+use crate::ends::{AMPLE, Stumbling, add_answer, add_run};
+use crate::registries::{Calls, check};
+use crate::texts::{ENROL_LINE, FIND_ACME, NO_ORG, add_bytes, compare};
 use byte_streams::Inlet;
-use registry_commands::{BadLine, InputFault, read_all, requests_in};
-use registry_wire::{Field, WireRefusal};
-use std::io;
-use std::test::Fail;
+use registry_store::Registry;
+use sqlite::Alter;
+use std::alloc::Global;
 
-/// A reader that gives one byte per read, and fails after `good` reads.
-#[derive(Drop)]
-pub(crate) struct Stumbling<'a> {
-    pub(crate) rest: &'a [u8],
-    pub(crate) good: u32,
+// An input that fails after each number of good reads, and then one that does not.
+struct Inputs;
+
+// The line is 108 bytes, read one by one, and one more read finds its end.
+const READS: u32 = 109;
+
+fn add_input<S: Alter>(
+    alloc: Global,
+    good: u32,
+    wanted: &str,
+    registry: &mut Registry<S>,
+    seen: &mut String,
+) -> bool {
+    let mut source = Inlet::new(Stumbling {
+        rest: ENROL_LINE.as_bytes(),
+        good,
+    });
+    let mut text = String::new(alloc);
+    add_run(alloc, &mut source, 0, AMPLE, registry, &mut text)
+        && compare("an input", &text, wanted, seen)
 }
 
-impl io::Read for Stumbling<'_> {
-    fn read(&mut self, buf: &mut [u8]) -> io::Result<usize> {
-        if self.good == 0 {
-            return Err(io::Error::from(io::ErrorKind::Other));
+fn add_failing_inputs<S: Alter>(
+    alloc: Global,
+    registry: &mut Registry<S>,
+    seen: &mut String,
+) -> bool {
+    for good in 0..READS {
+        if !add_input(alloc, good, "1: fault: file\n", registry, seen) {
+            return false;
         }
-        self.good -= 1;
-        match (self.rest.split_first(), buf.first_mut()) {
-            (Some((first, rest)), Some(room)) => {
-                *room = *first;
-                self.rest = rest;
-                Ok(1)
-            }
-            _ => Ok(0),
+    }
+    true
+}
+
+impl Calls for Inputs {
+    fn add_text<S: Alter>(
+        &self,
+        alloc: Global,
+        registry: &mut Registry<S>,
+        text: &mut String,
+    ) -> bool {
+        let wanted = "0: {\"done\":\"enrolled acme\"}\n";
+        add_failing_inputs(alloc, registry, text)
+            && add_answer(alloc, FIND_ACME, registry, text)
+            && add_input(alloc, READS, wanted, registry, text)
+    }
+}
+
+// Where the input fails nothing is acted on.
+#[test]
+fn an_input_that_fails(rt: HostRuntime) {
+    check(&rt, &Inputs, NO_ORG);
+}
+
+// An output that fails after each number of bytes, and then one that does not.
+struct Outputs;
+
+// Two replies.
+const WHOLE: &[u8] = b"{\"done\":\"enrolled acme\"}\n{\"done\":\"enrolled acme\"}\n";
+
+fn add_wanted(most: usize, text: &mut String) -> bool {
+    match WHOLE.get(..most) {
+        Some(part) if most < WHOLE.len() => {
+            text.push_str("1: ").is_ok()
+                && add_bytes(part, text)
+                && text.push_str("fault: file\n").is_ok()
+        }
+        _ => text.push_str("0: ").is_ok() && add_bytes(WHOLE, text),
+    }
+}
+
+fn add_output<S: Alter>(
+    alloc: Global,
+    lines: &str,
+    most: usize,
+    registry: &mut Registry<S>,
+    seen: &mut String,
+) -> bool {
+    let mut source = Inlet::new(lines.as_bytes());
+    let mut wanted = String::new(alloc);
+    let mut text = String::new(alloc);
+    add_wanted(most, &mut wanted)
+        && add_run(alloc, &mut source, 0, most, registry, &mut text)
+        && compare("an output", &text, &wanted, seen)
+}
+
+fn add_outputs<S: Alter>(
+    alloc: Global,
+    lines: &str,
+    registry: &mut Registry<S>,
+    seen: &mut String,
+) -> bool {
+    for most in 0..=WHOLE.len() {
+        if !add_output(alloc, lines, most, registry, seen) {
+            return false;
+        }
+    }
+    true
+}
+
+fn two_lines(alloc: Global) -> Option<String> {
+    format!(in alloc; "{ENROL_LINE}\n{ENROL_LINE}\n").ok()
+}
+
+impl Calls for Outputs {
+    fn add_text<S: Alter>(
+        &self,
+        alloc: Global,
+        registry: &mut Registry<S>,
+        text: &mut String,
+    ) -> bool {
+        match two_lines(alloc) {
+            Some(lines) => add_outputs(alloc, &lines, registry, text),
+            None => false,
         }
     }
 }
 
 #[test]
-fn reads_to_the_end_or_fails(rt: HostRuntime) -> Result<(), Fail> {
-    for good in 0..5 {
-        let mut source = Inlet::new(Stumbling {
-            rest: b"ab".as_slice(),
-            good,
-        });
-        match read_all(rt.alloc(), &mut source) {
-            Ok(bytes) => {
-                assert!(rt; good >= 3, "after {good} reads");
-                assert_eq!(rt; bytes.as_slice(), b"ab".as_slice());
-            }
-            Err(fault) => {
-                assert!(rt; good < 3, "after {good} reads");
-                assert_eq!(rt; fault, InputFault::File);
-            }
-        }
-    }
-    Ok(())
-}
-
-const ENROL: &str = "{\"caller\":\"ann\",\"key\":\"k1\",\"order\":\"enrol\",\"org\":\"acme\",\
-                     \"title\":\"Acme Tools\",\"site\":\"https://acme.example/\"}";
-
-#[test]
-fn lines_as_requests(rt: HostRuntime) -> Result<(), Fail> {
-    let cases = [
-        ("", 0),
-        ("\n \t\r\n", 0),
-        ("{enrol}", 1),
-        ("\r\n{enrol}\r\n\n{enrol}\n", 2),
-        ("{enrol}\n\n{enrol}\n \n{enrol}", 3),
-    ];
-    for (text, count) in cases {
-        let text = text.replace(rt.alloc(), "{enrol}", ENROL)?;
-        let read = requests_in(rt.alloc(), text.as_bytes())?;
-        assert_eq!(rt; read.map(|requests| requests.len()), Ok(count), "at {text}");
-    }
-    Ok(())
-}
-
-#[test]
-fn bad_lines(rt: HostRuntime) -> Result<(), Fail> {
-    let cases = [
-        ("[]", 1, WireRefusal::BadJson),
-        ("\n \t\r\n[]\n", 3, WireRefusal::BadJson),
-        ("{enrol}\n{}\n[]", 2, WireRefusal::BadField(Field::Caller)),
-        ("\n{enrol} x", 2, WireRefusal::BadJson),
-    ];
-    for (text, number, refusal) in cases {
-        let text = text.replace(rt.alloc(), "{enrol}", ENROL)?;
-        let read = requests_in(rt.alloc(), text.as_bytes())?;
-        let wanted = Err(BadLine { number, refusal });
-        assert_eq!(rt; read.map(|requests| requests.len()), wanted, "at {text}");
-    }
-    Ok(())
+fn an_output_that_fails(rt: HostRuntime) {
+    check(&rt, &Outputs, "");
 }

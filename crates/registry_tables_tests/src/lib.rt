@@ -1,5 +1,5 @@
 //! Tests of the tables of a registry, over a store in memory and one of files: each call once with
-//! ample memory, and the rows of spans.
+//! ample memory, and the rows of spans. A case is a list of steps and the text that they give.
 #![tactic(auto)]
 
 #[cfg(test)]
@@ -11,7 +11,11 @@ mod lookups;
 #[cfg(test)]
 mod migrations;
 #[cfg(test)]
+mod rows;
+#[cfg(test)]
 mod spans;
+#[cfg(test)]
+mod steps;
 #[cfg(test)]
 mod stores;
 #[cfg(test)]

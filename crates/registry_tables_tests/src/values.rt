@@ -1,69 +1,113 @@
-//! The foundings and records of the tests.
+//! The founding, records and requests of the tests, from plain data.
 
 use registry_rules::{
-    Card, Change, Curators, Entry, Founding, Licences, Org, Petition, PetitionState, Terms,
+    Card, Change, Curators, Entry, Founding, Licences, Order, Org, Petition, PetitionState,
+    Request, Return, Terms, Withdraw,
 };
 use std::alloc::Global;
-use std::test::Fail;
-use usbnum_core::{Link, Number, Pid, Slug, Span, Spans, Title, Vid};
+use usbnum_core::{Key, Link, Number, Pid, Slug, Span, Spans, Title, Vid};
 
-pub fn slug(alloc: Global, text: &str) -> Result<Slug, Fail> {
-    Ok(Slug::new(alloc, text.as_bytes())?.ok_or("no slug")?)
+fn slug(alloc: Global, text: &str) -> Option<Slug> {
+    Slug::new(alloc, text.as_bytes()).ok()?
 }
 
-pub fn title(alloc: Global, text: &str) -> Result<Title, Fail> {
-    Ok(Title::new(alloc, text.as_bytes())?.ok_or("no title")?)
+fn title(alloc: Global, text: &str) -> Option<Title> {
+    Title::new(alloc, text.as_bytes()).ok()?
 }
 
-fn site(alloc: Global) -> Result<Link, Fail> {
-    Ok(Link::new(alloc, b"https://acme.example/")?.ok_or("no link")?)
+fn site(alloc: Global) -> Option<Link> {
+    Link::new(alloc, b"https://acme.example/").ok()?
 }
 
-pub fn span(first: u16, last: u16) -> Option<Span> {
+fn span(first: u16, last: u16) -> Option<Span> {
     Span::new(Pid::new(first)?, Pid::new(last)?)
 }
 
 /// Returns the number 0011 of the vendor.
-pub fn a_number(vid: u16) -> Option<Number> {
+fn a_number(vid: u16) -> Option<Number> {
     Some(Number {
         vid: Vid::new(vid)?,
         pid: Pid::new(0x11)?,
     })
 }
 
-/// Returns a founding of the vendor 1209, with the numbers up to 0010 fixed.
-pub fn founding(alloc: Global) -> Result<Founding, Fail> {
-    let curators = vec![in alloc; slug(alloc, "cora")?]?;
-    let licences = vec![in alloc; title(alloc, "MIT")?]?;
+fn curators(alloc: Global) -> Option<Curators> {
+    let slugs = vec![in alloc; slug(alloc, "cora")?].ok()?;
+    Curators::new(slugs)
+}
+
+fn licences(alloc: Global) -> Option<Licences> {
+    let titles = vec![in alloc; title(alloc, "MIT")?].ok()?;
+    Licences::new(titles)
+}
+
+fn fixed(alloc: Global) -> Option<Spans> {
     let mut fixed = Spans::new(alloc);
-    fixed.add(span(1, 16).ok_or("no span")?)?;
-    Ok(Founding {
-        vendor: Vid::new(0x1209).ok_or("no vendor")?,
+    fixed.add(span(1, 16)?).ok()?;
+    Some(fixed)
+}
+
+/// Returns a founding of the vendor 1209, with the numbers up to 0010 fixed.
+pub fn founding(alloc: Global) -> Option<Founding> {
+    Some(Founding {
+        vendor: Vid::new(0x1209)?,
         name: title(alloc, "InterBiometrics")?,
-        curators: Curators::new(curators).ok_or("no curators")?,
-        licences: Licences::new(licences).ok_or("no licences")?,
-        fixed,
+        curators: curators(alloc)?,
+        licences: licences(alloc)?,
+        fixed: fixed(alloc)?,
     })
 }
 
-fn terms(alloc: Global) -> Result<Terms, Fail> {
-    Ok(Terms {
+fn terms(alloc: Global) -> Option<Terms> {
+    Some(Terms {
         licence: title(alloc, "MIT")?,
         site: site(alloc)?,
         source: site(alloc)?,
     })
 }
 
-fn card(alloc: Global, text: &str) -> Result<Card, Fail> {
-    Ok(Card {
+fn card(alloc: Global, text: &str) -> Option<Card> {
+    Some(Card {
         title: title(alloc, text)?,
         terms: Some(terms(alloc)?),
     })
 }
 
-/// Returns the change that puts the organisation acme with this title.
-pub fn put_org(alloc: Global, text: &str) -> Result<Change, Fail> {
-    Ok(Change::PutOrg(Org {
+/// The state of a petition. A granted one has the number 0011.
+#[derive(Clone, Copy)]
+pub enum State {
+    Open,
+    Granted,
+    Declined,
+    Withdrawn,
+}
+
+fn state_of(state: State) -> Option<PetitionState> {
+    match state {
+        State::Open => Some(PetitionState::Open),
+        State::Granted => Some(PetitionState::Granted(Pid::new(0x11)?)),
+        State::Declined => Some(PetitionState::Declined),
+        State::Withdrawn => Some(PetitionState::Withdrawn),
+    }
+}
+
+/// A change. The organisation is acme, the vendor of petitions and spans 1209, and the number of
+/// an entry 0011 of the vendor.
+#[derive(Clone, Copy)]
+pub enum Put<'a> {
+    Vendor(u16, &'a str),
+    Licence(&'a str),
+    Reserve(u16, u16),
+    Release(u16, u16),
+    Org(&'a str),
+    Petition(u32, Option<u16>, State),
+    Entry(u16, &'a str),
+    Returned(u16),
+    Card(u16, &'a str),
+}
+
+fn put_org(alloc: Global, text: &str) -> Option<Change> {
+    Some(Change::PutOrg(Org {
         slug: slug(alloc, "acme")?,
         title: title(alloc, text)?,
         site: site(alloc)?,
@@ -71,46 +115,108 @@ pub fn put_org(alloc: Global, text: &str) -> Result<Change, Fail> {
     }))
 }
 
-/// Returns the change that puts a petition of acme for any number of the vendor 1209, in this
-/// state.
-pub fn put_petition(alloc: Global, id: u32, state: PetitionState) -> Result<Change, Fail> {
-    put_petition_for(alloc, id, None, state)
-}
-
-/// Returns the same for a particular number, if given.
-pub fn put_petition_for(
-    alloc: Global,
-    id: u32,
-    want: Option<Pid>,
-    state: PetitionState,
-) -> Result<Change, Fail> {
+fn put_petition(alloc: Global, id: u32, want: Option<u16>, state: State) -> Option<Change> {
     let petition = Petition {
-        vid: Vid::new(0x1209).ok_or("no vendor")?,
+        vid: Vid::new(0x1209)?,
+        want: want.and_then(Pid::new),
+        state: state_of(state)?,
         org: slug(alloc, "acme")?,
-        want,
         title: title(alloc, "Probe")?,
         terms: terms(alloc)?,
-        state,
     };
-    Ok(Change::PutPetition { id, petition })
+    Some(Change::PutPetition { id, petition })
 }
 
-/// Returns the change that puts the number, held by acme, with this title.
-pub fn put_entry(alloc: Global, number: Number, text: &str) -> Result<Change, Fail> {
+fn put_entry(alloc: Global, vid: u16, text: &str) -> Option<Change> {
+    let number = a_number(vid)?;
     let entry = Entry {
         org: slug(alloc, "acme")?,
         held: true,
         card: card(alloc, text)?,
     };
-    Ok(Change::PutEntry { number, entry })
+    Some(Change::PutEntry { number, entry })
 }
 
-pub fn set_card(alloc: Global, number: Number, text: &str) -> Result<Change, Fail> {
-    let card = card(alloc, text)?;
-    Ok(Change::SetCard { number, card })
+fn set_card(alloc: Global, vid: u16, text: &str) -> Option<Change> {
+    Some(Change::SetCard {
+        number: a_number(vid)?,
+        card: card(alloc, text)?,
+    })
 }
 
-pub fn put_vendor(alloc: Global, vid: Vid, text: &str) -> Result<Change, Fail> {
-    let name = title(alloc, text)?;
-    Ok(Change::PutVendor { vid, name })
+fn put_vendor(alloc: Global, vid: u16, text: &str) -> Option<Change> {
+    Some(Change::PutVendor {
+        vid: Vid::new(vid)?,
+        name: title(alloc, text)?,
+    })
+}
+
+fn change_span(first: u16, last: u16, reserved: bool) -> Option<Change> {
+    let vid = Vid::new(0x1209)?;
+    let span = span(first, last)?;
+    if reserved {
+        Some(Change::ReserveSpan { vid, span })
+    } else {
+        Some(Change::ReleaseSpan { vid, span })
+    }
+}
+
+fn set_returned(vid: u16) -> Option<Change> {
+    Some(Change::SetHeld {
+        number: a_number(vid)?,
+        held: false,
+    })
+}
+
+fn change_of(alloc: Global, put: Put<'_>) -> Option<Change> {
+    match put {
+        Put::Vendor(vid, name) => put_vendor(alloc, vid, name),
+        Put::Licence(name) => Some(Change::PutLicence(title(alloc, name)?)),
+        Put::Reserve(first, last) => change_span(first, last, true),
+        Put::Release(first, last) => change_span(first, last, false),
+        Put::Org(name) => put_org(alloc, name),
+        Put::Petition(id, want, state) => put_petition(alloc, id, want, state),
+        Put::Entry(vid, name) => put_entry(alloc, vid, name),
+        Put::Returned(vid) => set_returned(vid),
+        Put::Card(vid, name) => set_card(alloc, vid, name),
+    }
+}
+
+pub fn changes(alloc: Global, puts: &[Put<'_>]) -> Option<Vec<Change>> {
+    let mut all = Vec::new(alloc);
+    for put in puts {
+        all.push(change_of(alloc, *put)?).ok()?;
+    }
+    Some(all)
+}
+
+/// An order of a caller: to withdraw petition 1, or to return the number 0011.
+#[derive(Clone, Copy)]
+pub enum Asked<'a> {
+    Withdraw(&'a str),
+    Return(&'a str),
+}
+
+fn return_order() -> Option<Order> {
+    Some(Order::Return(Return {
+        number: Pid::new(0x11)?,
+        vendor: None,
+    }))
+}
+
+fn request(alloc: Global, caller: &str, order: Order) -> Option<Request> {
+    Some(Request {
+        caller: slug(alloc, caller)?,
+        key: Key::new(alloc, b"k1").ok()??,
+        order,
+    })
+}
+
+pub fn request_of(alloc: Global, asked: Asked<'_>) -> Option<Request> {
+    match asked {
+        Asked::Withdraw(caller) => {
+            request(alloc, caller, Order::Withdraw(Withdraw { petition: 1 }))
+        }
+        Asked::Return(caller) => request(alloc, caller, return_order()?),
+    }
 }

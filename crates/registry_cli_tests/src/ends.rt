@@ -1,0 +1,116 @@
+//! Readers and writers that fail, and what one message or one input gives between them.
+
+use crate::texts::add_bytes;
+use byte_streams::{Inlet, Outlet, Source};
+use registry_commands::apply_lines;
+use registry_desk::{PeerFault, serve_one};
+use registry_store::Registry;
+use sqlite::Alter;
+use std::alloc::Global;
+use std::io;
+
+/// A reader that gives one byte per read, and fails after `good` reads.
+#[derive(Drop)]
+pub struct Stumbling<'a> {
+    pub rest: &'a [u8],
+    pub good: u32,
+}
+
+impl io::Read for Stumbling<'_> {
+    fn read(&mut self, buf: &mut [u8]) -> io::Result<usize> {
+        if self.good == 0 {
+            return Err(io::Error::from(io::ErrorKind::Other));
+        }
+        self.good -= 1;
+        match (self.rest.split_first(), buf.first_mut()) {
+            (Some((first, rest)), Some(room)) => {
+                *room = *first;
+                self.rest = rest;
+                Ok(1)
+            }
+            _ => Ok(0),
+        }
+    }
+}
+
+/// A writer that takes one byte per write, and fails once it has `most` bytes.
+#[derive(Drop)]
+pub struct Narrow {
+    pub bytes: Vec<u8>,
+    pub most: usize,
+}
+
+impl io::Write for Narrow {
+    fn write(&mut self, buf: &[u8]) -> io::Result<usize> {
+        match buf.first() {
+            Some(_) if self.bytes.len() >= self.most => Err(io::Error::from(io::ErrorKind::Other)),
+            Some(byte) => {
+                self.bytes.push(*byte)?;
+                Ok(1)
+            }
+            None => Ok(0),
+        }
+    }
+
+    fn flush(&mut self) -> io::Result<()> {
+        Ok(())
+    }
+}
+
+/// A writer with room for each response of the tests.
+pub const AMPLE: usize = 100_000;
+
+fn narrow(alloc: Global, most: usize) -> Outlet<Narrow> {
+    Outlet::new(Narrow {
+        bytes: Vec::new(alloc),
+        most,
+    })
+}
+
+fn add_taken(taken: Outlet<Narrow>, text: &mut String) -> bool {
+    let Narrow { bytes, most: _ } = taken.into_inner();
+    add_bytes(&bytes, text)
+}
+
+/// Adds what is written for one message to a writer that takes at most so many bytes, after `Read`
+/// or `Write` if its reader or the writer failed.
+pub fn add_response<R: Source, S: Alter>(
+    alloc: Global,
+    source: &mut R,
+    most: usize,
+    registry: &mut Registry<S>,
+    text: &mut String,
+) -> bool {
+    let mut sink = narrow(alloc, most);
+    let told = match serve_one(alloc, source, &mut sink, registry) {
+        Ok(_) => "",
+        Err(PeerFault::Read) => "Read:",
+        Err(PeerFault::Write) => "Write:",
+    };
+    text.push_str(told).is_ok() && add_taken(sink, text)
+}
+
+/// Adds the response to a message that is read whole at once.
+pub fn add_answer<S: Alter>(
+    alloc: Global,
+    message: &[u8],
+    registry: &mut Registry<S>,
+    text: &mut String,
+) -> bool {
+    add_response(alloc, &mut Inlet::new(message), AMPLE, registry, text)
+}
+
+/// Adds the exit status, the output and the error output of a run over request lines.
+pub fn add_run<R: Source, S: Alter>(
+    alloc: Global,
+    source: &mut R,
+    answered: u64,
+    most: usize,
+    registry: &mut Registry<S>,
+    text: &mut String,
+) -> bool {
+    let mut output = narrow(alloc, most);
+    let mut errors = narrow(alloc, AMPLE);
+    let status = apply_lines(alloc, source, answered, registry, &mut output, &mut errors);
+    write!(text, "{status}: ").is_ok() && add_taken(output, text) && add_taken(errors, text)
+}
