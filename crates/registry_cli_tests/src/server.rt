@@ -10,6 +10,7 @@ use std::alloc::Global;
 use std::test::Fail;
 
 /// Messages, one per connection, and the text that gets the status and the bytes of each response.
+#[derive(Drop)]
 pub struct Messages<'a> {
     pub alloc: Global,
     pub messages: &'a [&'a [u8]],
