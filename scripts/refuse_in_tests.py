@@ -127,7 +127,7 @@ def main():
     programs = [f"{TOP}/crates/{it}/out/{it}" for it in ROWS] + [f"{TOP}/crates/{it}/out/{it}_tests" for it in CRATES]
     built = [program(it) for it in given] or [it for it in programs if os.path.exists(it)]
     if not given and len(built) < len(programs):
-        print(f"SKIPPED: {len(programs) - len(built)} programs of tests without memory, which `make gate` builds")
+        print(f"SKIPPED: {len(programs) - len(built)} programs of tests without memory, which `make test` builds")
     most = sys.maxsize if "--all" in sys.argv else MOST
     with refusal() as (room, shim):
         for tests in built:
