@@ -144,7 +144,7 @@ fn serve_first<D: Crash + Drop>(
         alloc,
         messages: &[ENROL],
         opened: 0,
-        text,
+        text: String::new(alloc),
         whole: true,
     };
     let options = Options::new(1);
@@ -152,7 +152,8 @@ fn serve_first<D: Crash + Drop>(
         End::Closed => serve_and_open(alloc, &mut connections, found, count, options),
         End::Crashed => serve_and_crash(alloc, &mut connections, found, count, options),
     };
-    let _whole = add_end(served, connections.text);
+    let _whole = add_end(served, &mut connections.text)
+        && text.push_str(connections.text.as_str()).is_ok();
     opened
 }
 

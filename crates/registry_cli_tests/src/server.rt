@@ -9,13 +9,13 @@ use sqlite::Alter;
 use std::alloc::Global;
 use std::test::Fail;
 
-/// Messages, one per connection, and the text that gets the status and the bytes of each response.
+/// Messages, one per connection, and the status and the bytes of each response.
 #[derive(Drop)]
 pub struct Messages<'a> {
     pub alloc: Global,
     pub messages: &'a [&'a [u8]],
     pub opened: usize,
-    pub text: &'a mut String,
+    pub text: String,
     /// Whether the text has them all.
     pub whole: bool,
 }
@@ -45,7 +45,7 @@ impl<'a> Connections for Messages<'a> {
     fn close(&mut self, reader: Inlet<&'a [u8]>, writer: Outlet<Vec<u8>>, status: Option<u16>) {
         drop(reader);
         let bytes = writer.into_inner();
-        if !add_closed(status, &bytes, self.text) {
+        if !add_closed(status, &bytes, &mut self.text) {
             self.whole = false;
         }
     }
@@ -72,7 +72,7 @@ fn serve_counts<S: Alter>(
 ) -> bool {
     for count in COUNTS {
         let served = serve_all(alloc, connections, registry, count);
-        if !add_end(served, connections.text) {
+        if !add_end(served, &mut connections.text) {
             return false;
         }
     }
@@ -92,10 +92,11 @@ impl Calls for OneAfterAnother {
             alloc,
             messages: MESSAGES,
             opened: 0,
-            text,
+            text: String::new(alloc),
             whole: true,
         };
         serve_counts(alloc, &mut connections, registry)
+            && text.push_str(connections.text.as_str()).is_ok()
     }
 }
 
