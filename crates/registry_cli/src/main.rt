@@ -3,6 +3,7 @@
 
 ghost use Rattle.registry_cli.specs.Statuses.{IsExplained, IsStatus};
 
+mod blank;
 mod files;
 mod imports;
 mod serving;
