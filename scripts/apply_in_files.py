@@ -9,7 +9,7 @@ import os
 import subprocess
 import sys
 
-from usbreg import EXAMPLES, FOUNDING, content, folder, opened, program, run, tables, write
+from usbreg import EXAMPLES, FOUNDING, content, folder, opened, program, run, seal, tables, write
 
 TEN = f"{EXAMPLES}/ten.jsonl"
 REPLIES = [f'{{"done":"enrolled o{number}"}}\n' for number in range(1, 11)]
@@ -43,6 +43,7 @@ def change_from_outside(store, change):
         connection.execute("PRAGMA journal_mode = WAL")
         connection.execute(change)
         connection.commit()
+    seal(store)
 
 
 def same_tables(what, store, other):

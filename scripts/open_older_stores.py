@@ -28,7 +28,7 @@ from compare_with_plain_history import Chance, Registry, Room, all_cases, reques
 from look_into_a_store import TEXTS, asked, documented_texts, same
 from plain_history import History
 from usbreg import (
-    EXAMPLES, FOUNDING, apply, content, copy, declined, done, folder, found, older, older_text, opened, program, remove, rounds, run, write,
+    EXAMPLES, FOUNDING, apply, content, copy, declined, done, folder, found, older, older_text, opened, program, remove, rounds, run, seal, write,
     write_requests,
 )
 
@@ -289,6 +289,7 @@ def foreign_stores(stores):
             with opened(store) as connection:
                 connection.execute(change)
                 connection.commit()
+            seal(store)
             for words in ([stores.program, "apply", store, lines], *views(stores.program, store)):
                 keeps_bytes(f"schema {version} after {change}", store, words, (1, b"", b"fault: foreign\n"))
             count += 1

@@ -5,6 +5,7 @@ import json
 import os
 import shutil
 import sqlite3
+import struct
 import subprocess
 import sys
 import tempfile
@@ -14,6 +15,8 @@ EXAMPLES = f"{TOP}/examples"
 FOUNDING = f"{EXAMPLES}/founding.toml"
 # A store is its file, its log while it is open, and the index that other programs make of the log.
 ENDINGS = ("", "-wal", "-shm")
+# The size of a page of a new store, and the bytes at its end that hold its sum.
+PAGE_SIZE, SUM_SIZE = 1024, 8
 
 
 def folder():
@@ -71,6 +74,48 @@ def found(usbreg, store, founding=FOUNDING):
     remove(store)
     done([usbreg, "found", store, founding])
     return store
+
+
+def without_sums(store):
+    """Makes an empty database as new stores were before they had sums: its pages have 4,096 bytes, and none is reserved.
+    Returns the file's path."""
+    remove(store)
+    with opened(store) as connection:
+        connection.execute("PRAGMA page_size = 4096")
+        connection.execute("PRAGMA journal_mode = WAL")
+    return store
+
+
+def found_without_sums(usbreg, store, founding=FOUNDING):
+    """Founds a registry in such a database, and returns the file's path."""
+    done([usbreg, "found", without_sums(store), founding])
+    return store
+
+
+def sum_of(page):
+    """Returns the sum of a page, by the rule of SQLite's extension cksumvfs."""
+    first = second = 0
+    words = struct.unpack(f"<{(len(page) - SUM_SIZE) // 4}I", page[:-SUM_SIZE])
+    for one, other in zip(words[::2], words[1::2]):
+        first = (first + one + second) & 0xFFFFFFFF
+        second = (second + other + first) & 0xFFFFFFFF
+    return struct.pack("<II", first, second)
+
+
+def form(store):
+    """Returns the page size of a database file, and the bytes that are reserved at the end of each page."""
+    header = content(store)[:21]
+    return int.from_bytes(header[16:18], "big"), header[20]
+
+
+def seal(store):
+    """Gives each page of a closed store its sum again, after another program wrote to it."""
+    size, reserved = form(store)
+    if reserved == SUM_SIZE:
+        bytes_there = content(store)
+        pages = [bytes_there[at : at + size] for at in range(0, len(bytes_there), size)]
+        with open(store, "wb") as file:
+            file.write(b"".join(it[:-SUM_SIZE] + sum_of(it) for it in pages))
 
 
 def apply(usbreg, store, lines):
