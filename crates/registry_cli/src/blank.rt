@@ -6,8 +6,8 @@ ghost use Rattle.registry_commands.specs.Failures.{IsOfStore};
 
 use registry_commands::Failure;
 use std::fs::{File, OpenOptions};
-use std::io::{ErrorKind, Write};
-use std::os::unix::fs::{MetadataExt, OpenOptionsExt, fchown};
+use std::io::ErrorKind;
+use std::os::unix::fs::{FileExt, MetadataExt, OpenOptionsExt, fchown};
 use std::{fs, io};
 
 const PAGE_SIZE: usize = 1024;
@@ -80,8 +80,11 @@ fn length_of(rt: &HostRuntime, path: &str) -> io::Result<Option<u64>> {
     }
 }
 
-/// Returns whether to make the store: it does not exist or has no bytes, and its log holds no
-/// commit. The engine opens no file by the other names.
+/// Returns whether to make the store: it does not exist or has no bytes. The engine opens no file by
+/// the names that are left out.
+///
+/// It fails if the log of such a store may hold commits. They belong to a file that is gone, and the
+/// engine would drop them.
 fn is_to_make(rt: &HostRuntime, store: &str) -> io::Result<bool> {
     if store.is_empty() || store == ":memory:" || store.starts_with("file:") {
         return Ok(false);
@@ -91,8 +94,8 @@ fn is_to_make(rt: &HostRuntime, store: &str) -> io::Result<bool> {
     }
     let log = format!(in rt.alloc(); "{store}-wal")?;
     match length_of(rt, log.as_str())? {
-        Some(length) => Ok(length < LEAST_LOG),
-        None => Ok(false),
+        Some(length) if length < LEAST_LOG => Ok(true),
+        _ => Err(ErrorKind::AlreadyExists.into()),
     }
 }
 
@@ -137,14 +140,14 @@ fn make(rt: &HostRuntime, store: &str) -> io::Result<()> {
         return Ok(());
     }
     let made = format!(in rt.alloc(); "{store}-new")?;
-    let mut file = open_alone(rt, made.as_str())?;
+    let file = open_alone(rt, made.as_str())?;
     // Another process may have made it since the first look.
     if !is_to_make(rt, store)? {
         return fs::remove_file(rt, made.as_str());
     }
     copy_access(rt, store, &file)?;
     file.set_len(0)?;
-    file.write_all(&blank_page())?;
+    file.write_all_at(&blank_page(), 0)?;
     file.sync_all()?;
     fs::rename(rt, made.as_str(), store)?;
     sync_folder(rt, store)
