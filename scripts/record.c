@@ -1,5 +1,5 @@
 // Preloaded before a program: writes to the file RECORD, in their order, the calls by which the program opens, writes,
-// cuts, syncs and closes files, and its writes to its output and its sockets. Before each call's bytes stands its head.
+// cuts, syncs, renames and closes files, and its writes to its output and its sockets. Before each call's bytes stands its head.
 // A call that would change files in a way that is not recorded ends the program.
 #define _GNU_SOURCE
 #include <dlfcn.h>
@@ -110,6 +110,18 @@ CUT(ftruncate64, off64_t)
     }
 SYNC(fsync)
 SYNC(fdatasync)
+
+// Notes the path of a file and the one that it gets.
+int rename(const char *from, const char *to) {
+    int done = REAL(rename)(from, to);
+    if (!done) {
+        char both[8192];
+        int size = snprintf(both, sizeof both, "%s%c%s", from, 0, to);
+        if (size < 0 || size >= (int)sizeof both) abort();
+        note('r', -1, 0, both, size);
+    }
+    return done;
+}
 
 int close(int file) {
     int done = REAL(close)(file);

@@ -16,8 +16,8 @@ FOLDER = ""
 
 
 class Step(NamedTuple):
-    """What a call did: `made` an entry, `write`, `cut`, `sync`, or `said` something to the output or a socket. The last
-    step of a run that ended by itself is its `end`."""
+    """What a call did: `made` an entry, `renamed` the one that `data` names, `write`, `cut`, `sync`, or `said` something to
+    the output or a socket. The last step of a run that ended by itself is its `end`."""
 
     kind: str
     name: str = FOLDER
@@ -31,6 +31,11 @@ class Step(NamedTuple):
 KINDS = {"w": "write", "t": "cut", "s": "sync"}
 
 
+def within(folder, path):
+    """Returns the name of a path in a folder, or None if it leads elsewhere."""
+    return path.removeprefix(folder).lstrip("/") if path.startswith(folder) else None
+
+
 def steps_in(record, folder):
     """Returns the steps on the files of a folder in the bytes of a record, and what was written to files of other kinds."""
     names, steps, place = {}, [], 0
@@ -39,10 +44,13 @@ def steps_in(record, folder):
         place += HEAD.size + size
         kind, data = chr(kind), record[place - size : place]
         if kind == "o":
-            path = data.decode()
-            names[file] = path.removeprefix(folder).lstrip("/") if path.startswith(folder) else None
+            names[file] = within(folder, data.decode())
             if names[file] and not at:
                 steps.append(Step("made", names[file]))
+        elif kind == "r":
+            before, after = (within(folder, it) for it in data.decode().split("\0"))
+            names = {it: after if name == before else name for it, name in names.items()}
+            steps.append(Step("renamed", after, data=before.encode()))
         elif kind == "c":
             names.pop(file, None)
         elif kind == "p" and file not in names:
@@ -130,16 +138,24 @@ class Disk:
 
     def __init__(self, files, lost=()):
         self.certain, self.later, self.new, self.lost = dict(files), {it: [] for it in files}, set(), lost
+        # the files that were renamed since the last sync of the folder, with their names before
+        self.renamed = {}
 
     def take(self, step):
         if step.kind == "made":
             self.new.add(step.name)
             self.certain[step.name], self.later[step.name] = b"", []
+        elif step.kind == "renamed":
+            before = step.data.decode()
+            self.new = self.new - {before} | {step.name}
+            self.certain[step.name], self.later[step.name] = self.certain.pop(before), self.later.pop(before)
+            self.renamed[step.name] = before
         elif step.kind in ("write", "cut"):
             self.later[step.name] += pieces(step)
         elif step.kind == "sync" and step.name not in self.lost:
             if step.name == FOLDER:
                 self.new.clear()
+                self.renamed.clear()
             else:
                 self.certain[step.name] = with_pieces(self.certain[step.name], self.later[step.name])
                 self.later[step.name] = []
@@ -149,15 +165,18 @@ class Disk:
         files = {}
         for name in sorted(self.certain):
             its = way or dice.choice(WAYS)
+            entry = name
             if name in self.new and (its is nothing or its is not everything and dice.random() < 0.5):
-                continue
+                entry = self.renamed.get(name)
+                if not entry or its is nothing or dice.random() < 0.5:
+                    continue
             before, later = self.certain[name], self.later[name]
-            files[name] = after = with_pieces(before, its(later, dice))
+            files[entry] = after = with_pieces(before, its(later, dice))
             longest = max([len(before), *(it.at + len(it.data) for it in later)])
             if its not in (nothing, everything) and dice.random() < 0.25:
                 # the file has its new length, but not yet its new bytes
                 more = longest - len(after)
-                files[name] += dice.randbytes(more) if its is garbled else bytes(max(0, more))
+                files[entry] += dice.randbytes(more) if its is garbled else bytes(max(0, more))
         return files
 
 
