@@ -6,8 +6,9 @@ of request lines. Then SQLite opens the file: the texts of its tables must be th
 each statement of examples/orders.rows must return the lines below it there, as `sqlite3 -quote` prints them. Each table
 has a statement, so the store has these rows and no others.
 
-Two copies of the store must open with the same list and reports, and give its first request the same reply: one after a
-VACUUM, and one that SQLite made from a dump. One whose tables were made in another order must be foreign.
+Two copies of the store must open with the same list and reports, and give its first request the same reply: one that
+SQLite made from a dump, which has no sums, and one after a VACUUM, once its pages have their sums again; before that it
+must be refused. One whose tables were made in another order must be foreign.
 
 Usage: scripts/look_into_a_store.py [PROGRAM [ROWS]], by default the program that `make` builds, and
 examples/orders.rows. The exit status is 0 if all of this holds.
@@ -17,7 +18,7 @@ import difflib
 import re
 import sys
 
-from usbreg import EXAMPLES, TOP, apply, content, copy, done, folder, found, opened, program, run, tables, write
+from usbreg import EXAMPLES, TOP, apply, content, copy, done, folder, found, opened, program, run, seal, tables, write
 
 TEXTS = "SELECT sql FROM sqlite_schema WHERE sql IS NOT NULL ORDER BY rowid"
 TABLES = "SELECT name FROM sqlite_schema WHERE type = 'table' ORDER BY name"
@@ -59,9 +60,15 @@ def statements(rows):
 
 
 def vacuumed(store, other):
-    """Writes a copy of the store after a VACUUM, and returns its path."""
+    """Writes a copy of the store after a VACUUM, which spoils the sums of its pages, and returns its path."""
     with opened(copy(store, other)) as connection:
         connection.execute("VACUUM")
+    return other
+
+
+def sealed(store, other):
+    """Writes the same with the right sums, and returns its path."""
+    seal(vacuumed(store, other))
     return other
 
 
@@ -111,13 +118,15 @@ def main():
             same("the statements are not on all tables", asked(connection, TABLES), wanted)
         first = write(f"{room}/first.jsonl", content(f"{EXAMPLES}/orders.jsonl").decode().splitlines(keepends=True)[0])
         wanted = shown(usbreg, store, first)
-        for make in (vacuumed, dumped):
+        if run([usbreg, "export", vacuumed(store, f"{room}/vacuumed.db")]) != (1, b"", b"fault: store\n"):
+            sys.exit("a store without the right sums is not refused")
+        for make in (sealed, dumped):
             if shown(usbreg, make(store, f"{room}/{make.__name__}.db"), first) != wanted:
                 sys.exit(f"the store that SQLite {make.__name__} does not show the same")
         if run([usbreg, "export", shuffled(store, f"{room}/shuffled.db")]) != (1, b"", b"fault: foreign\n"):
             sys.exit("a store with its tables in another order is not foreign")
     print(f"{len(texts)} tables with the texts and the rows that they should have, and SQLite finds the file sound")
-    print("after a VACUUM, and read back from a dump, the store shows the same")
+    print("after a VACUUM, with its sums, and read back from a dump, the store shows the same")
 
 
 if __name__ == "__main__":

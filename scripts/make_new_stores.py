@@ -4,41 +4,24 @@
 The first page of a new store must be the one that this script makes from SQLite's file format: the fields of the header of
 an empty database, and the sum by the rule of SQLite's extension cksumvfs. Each page of a founded store must have its sum,
 also after requests. The other cases: a store without bytes keeps its mode; a leftover of an earlier stop is overwritten; a
-log that may hold commits is never taken for that of a new store, nor lost; a database that is there keeps its page size; a
-link, a missing folder and the names that SQLite gives another meaning are refused; of several programs that found the same
-store at once one succeeds.
+log that may hold commits is never taken for that of a new store, nor lost; a database that is there keeps its page size,
+and can be renewed by renew_a_store.py; a link, a missing folder and the names that SQLite gives another meaning are
+refused; of several programs that found the same store at once one succeeds.
 
 Usage: scripts/make_new_stores.py [PROGRAM], by default the one that `make` builds. The exit status is 0 if every case
 passes."""
 
 import os
-import struct
 import subprocess
 import sys
 
 from usbreg import (
-    EXAMPLES, FOUNDING, PAGE_SIZE, SUM_SIZE, apply, content, copy, folder, form, found, opened, program, remove, run, sum_of, tables, without_sums,
-    write,
+    EXAMPLES, FOUNDING, PAGE_SIZE, SUM_SIZE, TOP, apply, blank_page, content, copy, done, folder, form, found, found_without_sums, opened, program,
+    remove, run, sum_of, tables, write,
 )
 
 DONE, TAKEN, FAILED = (0, b"", b""), (1, b"", b"fault: taken\n"), (1, b"", b"fault: store\n")
 AT_ONCE, ROUNDS = 4, 10
-
-
-def blank_page():
-    """Returns the only page of an empty database, from "Database File Format" of SQLite, https://www.sqlite.org/fileformat2.html."""
-    page = bytearray(PAGE_SIZE)
-    page[:16] = b"SQLite format 3\0"
-    # the page size, the versions of a write-ahead log, the reserved bytes, and the three payload fractions
-    struct.pack_into(">H6B", page, 16, PAGE_SIZE, 2, 2, SUM_SIZE, 64, 32, 32)
-    # the change counter and the number of pages; the schema format; UTF-8; the change counter of the version, and the version
-    for at, value in ((24, 1), (28, 1), (44, 4), (56, 1), (92, 1), (96, 3040001)):
-        struct.pack_into(">I", page, at, value)
-    # an empty leaf of a table: its kind, and where its cells begin
-    page[100] = 13
-    struct.pack_into(">H", page, 105, PAGE_SIZE - SUM_SIZE)
-    page[-SUM_SIZE:] = sum_of(page)
-    return bytes(page)
 
 
 class Cases:
@@ -118,9 +101,16 @@ def logs(cases):
 
 def other_stores(cases):
     """A database is there, or the name is none of a new file."""
-    plain = without_sums(f"{cases.room}/plain.db")
-    cases.found(plain, DONE)
+    plain, renewed = (f"{cases.room}/{it}.db" for it in ("plain", "renewed"))
+    found_without_sums(cases.program, plain)
+    apply(cases.program, plain, f"{EXAMPLES}/orders.jsonl")
     cases.holds("a database of another form", form(plain), (4096, 0))
+    before = content(plain)
+    done([sys.executable, f"{TOP}/scripts/renew_a_store.py", plain, renewed, cases.program])
+    cases.holds("a store that is renewed", content(plain), before)
+    cases.sums("a renewed store", renewed)
+    cases.holds("a renewed store", tables(copy(renewed, f"{cases.room}/looked.db")), tables(copy(plain, f"{cases.room}/looked2.db")))
+    cases.holds("a renewed store", *(apply(cases.program, it, f"{EXAMPLES}/orders.jsonl") for it in (renewed, plain)))
     for name in ("", ":memory:", "file:uri.db", "no_folder/store.db"):
         cases.found(name, FAILED)
     for name in (":memory:", "file:", "-new", "uri", "no_folder"):

@@ -28,8 +28,8 @@ from compare_with_plain_history import Chance, Registry, Room, all_cases, reques
 from look_into_a_store import TEXTS, asked, documented_texts, same
 from plain_history import History
 from usbreg import (
-    EXAMPLES, FOUNDING, apply, content, copy, declined, done, folder, found, older, older_text, opened, program, remove, rounds, run, seal, write,
-    write_requests,
+    EXAMPLES, FOUNDING, apply, content, copy, declined, done, folder, found, found_without_sums, older, older_text,
+    opened, program, remove, rounds, run, seal, write, write_requests,
 )
 
 REPORTS = ("census", "holders", "petitions")
@@ -297,14 +297,19 @@ def foreign_stores(stores):
 
 
 def newest(stores):
-    """Checks that a store of the newest schema keeps its bytes, whichever command opens it."""
-    store = found(stores.program, f"{stores.folder}/newest.db")
-    lines = f"{EXAMPLES}/orders.jsonl"
-    replies = apply(stores.program, store, lines)
-    repeats = write(f"{stores.folder}/again.jsonl", "".join(content(lines).decode().splitlines(keepends=True)[:16]))
-    keeps_bytes("repeats", store, [stores.program, "apply", store, repeats], (0, b"".join(replies.splitlines(keepends=True)[:16]), b""))
-    for words in views(stores.program, store):
-        keeps_bytes("the newest schema", store, words, (0, done(words), b""))
+    """Checks that a store of the newest schema keeps its bytes, whichever command opens it: a new one, and one with pages
+    of 4,096 bytes and without sums. Both show the same."""
+    lines, shown = f"{EXAMPLES}/orders.jsonl", []
+    for make_store in (found, found_without_sums):
+        store = make_store(stores.program, f"{stores.folder}/newest.db")
+        replies = apply(stores.program, store, lines)
+        repeats = write(f"{stores.folder}/again.jsonl", "".join(content(lines).decode().splitlines(keepends=True)[:16]))
+        keeps_bytes("repeats", store, [stores.program, "apply", store, repeats], (0, b"".join(replies.splitlines(keepends=True)[:16]), b""))
+        for words in views(stores.program, store):
+            keeps_bytes("the newest schema", store, words, (0, done(words), b""))
+        shown.append((replies, rows_of(store), [done(words) for words in views(stores.program, store)]))
+    if shown[0] != shown[1]:
+        sys.exit("a store without sums shows other rows, replies, lists or reports than a new one")
 
 
 def main():

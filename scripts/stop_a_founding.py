@@ -10,14 +10,12 @@ beside the store but its log.
 Usage: scripts/stop_a_founding.py [PROGRAM], by default the one that `make` builds. Needs a C compiler. The exit status
 is 0 if all of this holds."""
 
-import contextlib
 import os
 import shutil
-import subprocess
 import sys
 
 from refusing import each
-from usbreg import FOUNDING, PAGE_SIZE, SUM_SIZE, TOP, content, copy, folder, form, found, opened, program, run, tables
+from usbreg import FOUNDING, PAGE_SIZE, SUM_SIZE, content, copy, folder, form, found, library, opened, program, run, tables
 
 
 def missing(_store):
@@ -80,20 +78,10 @@ def stop(usbreg, shim, begin, number, wanted, room):
     return is_there
 
 
-@contextlib.contextmanager
-def library():
-    """Yields a folder for files of the run, and the library."""
-    if not shutil.which("cc"):
-        sys.exit("no C compiler: apt-get install gcc")
-    with folder() as room:
-        shim = f"{room}/stop.so"
-        subprocess.run(["cc", "-O2", "-shared", "-fPIC", "-o", shim, f"{TOP}/scripts/stop.c", "-ldl"], check=True)
-        yield room, shim
-
-
 def main():
     usbreg = program(*sys.argv[1:2])
-    with library() as (room, shim):
+    with folder() as room:
+        shim = library(room, "stop")
         wanted = tables(copy(found(usbreg, f"{room}/wanted.db"), f"{room}/copy.db"))
         for begin in (missing, empty, left):
             store = f"{room}/{begin.__name__}.db"

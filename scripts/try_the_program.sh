@@ -1,6 +1,6 @@
 #!/usr/bin/env bash
 # Runs the scripts that try what was built: cases over stores in files, a plain history beside it, the man page, the
-# examples in docstrings and those in the help, what SQLite sees of a store, stores of older schemas, Debian's list of
+# examples in docstrings and those in the help, what SQLite sees of a store, new stores, damaged ones, stores of older schemas, Debian's list of
 # USB numbers, each allocation refused in turn, kills at random moments, power cuts, clients that talk HTTP to it, with
 # nginx in front and without, a backup and its restore, and the names on a host.
 # It shows the output of a script only if it fails or says that it was skipped. The last line counts the scripts.
@@ -14,10 +14,13 @@ scripts=(
     compare_doc_examples.py
     run_help_examples.py
     look_into_a_store.py
+    make_new_stores.py
+    damage_a_store.py
     open_older_stores.py
     use_debian_list.py
     "refuse_allocations.py --only trial"
     refuse_in_tests.py
+    stop_a_founding.py
     stop_and_go_on.py
     cut_the_power.py
     run_http_examples.py

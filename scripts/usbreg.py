@@ -102,6 +102,22 @@ def sum_of(page):
     return struct.pack("<II", first, second)
 
 
+def blank_page():
+    """Returns the only page of an empty database, from "Database File Format" of SQLite, https://www.sqlite.org/fileformat2.html."""
+    page = bytearray(PAGE_SIZE)
+    page[:16] = b"SQLite format 3\0"
+    # the page size, the versions of a write-ahead log, the reserved bytes, and the three payload fractions
+    struct.pack_into(">H6B", page, 16, PAGE_SIZE, 2, 2, SUM_SIZE, 64, 32, 32)
+    # the change counter and the number of pages; the schema format; UTF-8; the change counter of the version, and the version
+    for at, value in ((24, 1), (28, 1), (44, 4), (56, 1), (92, 1), (96, 3040001)):
+        struct.pack_into(">I", page, at, value)
+    # an empty leaf of a table: its kind, and where its cells begin
+    page[100] = 13
+    struct.pack_into(">H", page, 105, PAGE_SIZE - SUM_SIZE)
+    page[-SUM_SIZE:] = sum_of(page)
+    return bytes(page)
+
+
 def form(store):
     """Returns the page size of a database file, and the bytes that are reserved at the end of each page."""
     header = content(store)[:21]
@@ -124,8 +140,8 @@ def apply(usbreg, store, lines):
 
 
 def remove(store):
-    """Removes a store, if it exists."""
-    for ending in ENDINGS:
+    """Removes a store, if it exists, and what a stop of its founding left."""
+    for ending in (*ENDINGS, "-new"):
         if os.path.exists(store + ending):
             os.remove(store + ending)
 
