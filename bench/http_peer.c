@@ -1,8 +1,9 @@
 // A plain registry over HTTP, without proofs: the peer that `usbreg serve` is timed beside. It is the registry of peer.c
 // behind a loop of accept, read and write, one connection after another.
 //
-// Usage: http_peer STORE PORT TABLES: serves POST /commands, GET /numbers/{pid} and GET /list of a new store or one that is
-// there, on 127.0.0.1, until it is killed. It believes its clients: their messages are whole and have the usual form.
+// Usage: http_peer STORE PORT TABLES [PAGE_SIZE]: serves POST /commands, GET /numbers/{pid} and GET /list of a new store or
+// one that is there, on 127.0.0.1, until it is killed. It believes its clients: their messages are whole and have the usual
+// form.
 #define NO_MAIN
 #include "peer.c"
 
@@ -96,8 +97,8 @@ static void ask_list(int stream) {
 }
 
 int main(int count, char **words) {
-    if (count != 4) return 2;
-    open_store(words[1], words[3]);
+    if (count != 4 && count != 5) return 2;
+    open_store(words[1], words[3], count == 5 ? words[4] : "4096");
     must(sqlite3_prepare_v3(db, "SELECT org, title, licence, site, source, held FROM entries3 WHERE vid = 4617 AND pid = ?1", -1, SQLITE_PREPARE_PERSISTENT, &one_number, NULL) == SQLITE_OK);
     must(sqlite3_prepare_v3(db, "SELECT pid, title FROM entries3 WHERE vid = 4617 AND held = 1 ORDER BY pid", -1, SQLITE_PREPARE_PERSISTENT, &all_numbers, NULL) == SQLITE_OK);
     int listener = socket(AF_INET, SOCK_STREAM, 0), yes = 1;

@@ -1,6 +1,6 @@
 // A registry of a few lines over libsqlite3, without proofs: the peer that `usbreg` is timed beside.
 //
-// Usage: peer STORE FILE TABLES: acts on the request lines of a file over a new store, or over one that is
+// Usage: peer STORE FILE TABLES [PAGE_SIZE]: acts on the request lines of a file over a new store, or over one that is
 // there (:memory: for memory). It makes the checks of enrol, ask, grant and decline by prepared SQL statements,
 // keeps counts and the least free number in memory, commits each accepted request, and writes each reply before
 // the next request. The lines are those of registry.py: their texts have no escapes.
@@ -237,10 +237,13 @@ static long long number(const char *text) {
     return found;
 }
 
-// Opens a store, a new one by the statements of a file, and reads the totals.
-static void open_store(const char *store, const char *tables) {
+// Opens a store, a new one with pages of this size and by the statements of a file, and reads the totals.
+static void open_store(const char *store, const char *tables, const char *page_size) {
     int is_new = !strcmp(store, ":memory:") || access(store, F_OK);
     must(sqlite3_open(store, &db) == SQLITE_OK);
+    char form[64];
+    snprintf(form, sizeof form, "PRAGMA page_size = %s", page_size);
+    must(sqlite3_exec(db, form, NULL, NULL, NULL) == SQLITE_OK);
     must(sqlite3_exec(db, "PRAGMA journal_mode = WAL; PRAGMA synchronous = FULL", NULL, NULL, NULL) == SQLITE_OK);
     if (is_new) must(sqlite3_exec(db, whole(tables), NULL, NULL, NULL) == SQLITE_OK);
     for (int at = 0; at < STATEMENTS; at++) must(sqlite3_prepare_v3(db, texts[at], -1, SQLITE_PREPARE_PERSISTENT, &made[at], NULL) == SQLITE_OK);
@@ -270,8 +273,8 @@ static int reply_line(const char *line, char *shown) {
 
 #ifndef NO_MAIN
 int main(int count, char **words) {
-    if (count != 4) return 2;
-    open_store(words[1], words[3]);
+    if (count != 4 && count != 5) return 2;
+    open_store(words[1], words[3], count == 5 ? words[4] : "4096");
     char shown[2 * TEXT + 64];
     for (char *line = strtok(whole(words[2]), "\n"); line; line = strtok(NULL, "\n")) {
         int length = reply_line(line, shown);

@@ -1,6 +1,7 @@
 #!/usr/bin/env python3
 """Times `usbreg` beside two registries of a few lines without proofs, one in C over libsqlite3 and one in
-Python over sqlite3, on the same made-up requests: whole programs, from request lines to reply lines.
+Python over sqlite3, on the same made-up requests: whole programs, from request lines to reply lines. The one in C runs
+once with the pages that SQLite gives it, of 4,096 bytes, and once with pages as small as those of usbreg.
 
 Prints requests per second and their ratios, in memory and in a file on tmpfs (/dev/shm), best and median of five runs
 that alternate (of 99,999 in memory only one: there a table is a sorted list). Then it prints the cost of a request on a
@@ -17,7 +18,7 @@ import time
 
 HERE = os.path.dirname(os.path.abspath(__file__))
 sys.path.insert(0, f"{HERE}/../scripts")
-from usbreg import content, copy, declined, found, program, remove, rounds, write_requests
+from usbreg import PAGE_SIZE, content, copy, declined, found, program, remove, rounds, write_requests
 
 RUNS = int(os.environ.get("TIMES", "5"))
 
@@ -66,6 +67,7 @@ def programs(room):
     if shutil.which("cc") and os.path.exists("/usr/include/sqlite3.h"):
         subprocess.run(["cc", "-O2", "-o", f"{room}/peer", f"{HERE}/peer.c", "-lsqlite3"], check=True)
         yield Peer("C, libsqlite3", [f"{room}/peer"], [f"{HERE}/tables.sql"])
+        yield Peer("C, small pages", [f"{room}/peer"], [f"{HERE}/tables.sql", str(PAGE_SIZE)])
     else:
         print("no peer in C: apt-get install gcc libsqlite3-dev")
     yield Peer("Python, sqlite3", [sys.executable, f"{HERE}/peer.py"], [])

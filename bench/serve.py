@@ -1,6 +1,7 @@
 #!/usr/bin/env python3
 """Times `usbreg serve` beside two registries over HTTP of a few lines without proofs, one in C over libsqlite3 and one in
-Python by http.server and sqlite3: the same messages, one connection each, from a client in C that keeps up.
+Python by http.server and sqlite3: the same messages, one connection each, from a client in C that keeps up. The one in C
+runs once with the pages that SQLite gives it, of 4,096 bytes, and once with pages as small as those of usbreg.
 
 Prints messages per second and their ratios, in a file on tmpfs (/dev/shm), best and median of five runs that alternate:
 orders on a new store, and numbers and the list of a store with 60,000 numbers and 100,000 petitions. Then, for usbreg
@@ -19,7 +20,7 @@ import tempfile
 HERE = os.path.dirname(os.path.abspath(__file__))
 sys.path.insert(0, f"{HERE}/../scripts")
 from serving import Serving, command, exchange, free_port, get, post
-from usbreg import apply, content, declined, done, found, program, remove, rounds, write_requests
+from usbreg import PAGE_SIZE, apply, content, declined, done, found, program, remove, rounds, write_requests
 
 RUNS = int(os.environ.get("TIMES", "5"))
 # The number of connections that the client has open at a time.
@@ -54,6 +55,8 @@ def programs(room):
     if os.path.exists("/usr/include/sqlite3.h"):
         peer, by_lines = build(room, "http_peer", "-lsqlite3"), build(room, "peer", "-lsqlite3")
         yield Program("C, libsqlite3", lambda store, port: [peer, store, str(port), TABLES], absent, lambda store, lines: done([by_lines, store, lines, TABLES]))
+        small = [TABLES, str(PAGE_SIZE)]
+        yield Program("C, small pages", lambda store, port: [peer, store, str(port), *small], absent, lambda store, lines: done([by_lines, store, lines, *small]))
     else:
         print("no peer in C: apt-get install libsqlite3-dev")
     python = sys.executable

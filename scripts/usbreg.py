@@ -76,20 +76,19 @@ def found(usbreg, store, founding=FOUNDING):
     return store
 
 
-def without_sums(store):
-    """Makes an empty database as new stores were before they had sums: its pages have 4,096 bytes, and none is reserved.
-    Returns the file's path."""
+def found_in(usbreg, store, size, reserved):
+    """Founds a registry in an empty database with pages of this size and so many reserved bytes, and returns the file's
+    path."""
     remove(store)
-    with opened(store) as connection:
-        connection.execute("PRAGMA page_size = 4096")
-        connection.execute("PRAGMA journal_mode = WAL")
+    with open(store, "wb") as file:
+        file.write(blank_page(size, reserved))
+    done([usbreg, "found", store, FOUNDING])
     return store
 
 
-def found_without_sums(usbreg, store, founding=FOUNDING):
-    """Founds a registry in such a database, and returns the file's path."""
-    done([usbreg, "found", without_sums(store), founding])
-    return store
+def found_without_sums(usbreg, store):
+    """Founds a registry as in new stores before they had sums, and returns the file's path."""
+    return found_in(usbreg, store, 4096, 0)
 
 
 def sum_of(page):
@@ -102,19 +101,21 @@ def sum_of(page):
     return struct.pack("<II", first, second)
 
 
-def blank_page():
-    """Returns the only page of an empty database, from "Database File Format" of SQLite, https://www.sqlite.org/fileformat2.html."""
-    page = bytearray(PAGE_SIZE)
+def blank_page(size=PAGE_SIZE, reserved=SUM_SIZE):
+    """Returns the only page of an empty database, from "Database File Format" of SQLite,
+    https://www.sqlite.org/fileformat2.html: one of a new store, or one of another size, without a sum if none is reserved."""
+    page = bytearray(size)
     page[:16] = b"SQLite format 3\0"
     # the page size, the versions of a write-ahead log, the reserved bytes, and the three payload fractions
-    struct.pack_into(">H6B", page, 16, PAGE_SIZE, 2, 2, SUM_SIZE, 64, 32, 32)
+    struct.pack_into(">H6B", page, 16, size, 2, 2, reserved, 64, 32, 32)
     # the change counter and the number of pages; the schema format; UTF-8; the change counter of the version, and the version
     for at, value in ((24, 1), (28, 1), (44, 4), (56, 1), (92, 1), (96, 3040001)):
         struct.pack_into(">I", page, at, value)
     # an empty leaf of a table: its kind, and where its cells begin
     page[100] = 13
-    struct.pack_into(">H", page, 105, PAGE_SIZE - SUM_SIZE)
-    page[-SUM_SIZE:] = sum_of(page)
+    struct.pack_into(">H", page, 105, size - reserved)
+    if reserved == SUM_SIZE:
+        page[-SUM_SIZE:] = sum_of(page)
     return bytes(page)
 
 
