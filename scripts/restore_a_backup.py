@@ -4,7 +4,8 @@ day, the port, and `systemctl`, for which a script stands that starts and stops 
 
 The registry that is restored has the list and the tables of the backup, and later orders are acted on anew. As a control,
 the restore is run without the line that moves the last store away, on a backup of the file alone: the command at its end
-must notice.
+must notice. Then the newest of two backups is damaged by one bit, and the commands that look for a sound one must find the
+other.
 
 Usage: scripts/restore_a_backup.py [PROGRAM], by default the one that `make` builds. If curl is not installed it says that
 it was skipped. The exit status is 0 if all of this holds."""
@@ -70,6 +71,21 @@ class Machine:
         return tables(copy(self.store, f"{self.room}/looked.db"))
 
 
+def find_a_sound_one(machine, commands):
+    """Changes a bit of the newest backup, and checks that the commands find the one before it."""
+    backups, before = f"{machine.room}/backups", "2001-02-03"
+    (newest,) = (it for it in os.listdir(backups) if re.fullmatch(r"\d{4}-\d\d-\d\d", it))
+    shutil.copytree(f"{backups}/{newest}", f"{backups}/{before}")
+    with open(f"{backups}/{newest}/numbers.db", "r+b") as file:
+        there = bytearray(file.read())
+        there[len(there) // 2] ^= 1
+        file.seek(0)
+        file.write(there)
+    ended = machine.runs(commands)
+    if ended != (0, f"fault: store\n{backups}/{before}\n".encode()):
+        sys.exit(f"looking for a sound backup ended with {ended}")
+
+
 def main():
     usbreg = program(*sys.argv[1:2])
     if not shutil.which("curl"):
@@ -101,6 +117,7 @@ def main():
             status, said = machine.runs(wrong)
             if not status:
                 sys.exit("an old file beside a newer log was not noticed")
+            find_a_sound_one(machine, block("A damaged store"))
         finally:
             machine.runs("systemctl stop usbreg")
     print(f"docs/operating.md: a backup and a restore ran as they are written; without the removal, the check at the end says {said[:80]!r}")
