@@ -7,6 +7,7 @@ use sqlite_disk::{Disk, Memory};
 use std::alloc::Global;
 use std::process::Abort;
 use std::test::Fail;
+use usbnum_core::NoMemory;
 
 /// Parts of a list of steps, and parts of the text that they give.
 pub type Case<'a> = (&'a [&'a [Step<'a>]], &'a [&'a str]);
@@ -102,7 +103,7 @@ fn check_case(
 /// files.
 pub fn check<R: AllocGlobal + Abort>(rt: &R, cases: &[Case<'_>]) -> Result<(), Fail> {
     let alloc = rt.alloc();
-    let founding = founding(alloc).ok_or("no founding")?;
+    let founding = founding(alloc).ok_or(NoMemory)?;
     let given = Given {
         alloc,
         founding: &founding,
