@@ -163,7 +163,9 @@ def words(room):
         room.case(said, output=replies, lines=lines)
     store = room.founded("words")
     room.case(["apply", "--answered=6", store, TEN], output="".join(REPLIES[6:]))
-    room.case(["import", store, TEN, "--org=-x", "--caller", "cora", "--key=k", "--vendor", "1209"], 2, errors="bad word: org\n")
+    listed = room.file("words.ids", "1209  x\n\t0011  Lamp\n")
+    said = ["import", store, listed, "--org=-x", "--caller", "cora", "--key=k", "--vendor", "1209"]
+    room.case(said, 2, output='{"name":"NoOrg","refused":4}\n')
 
 
 # Arguments, a part of what they print, and the exit status.
