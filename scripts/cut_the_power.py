@@ -19,7 +19,6 @@ Usage: scripts/cut_the_power.py [STATES [PROGRAM]], by default 60 states of each
 with --all in place of the number every cut of each run, in several ways. The exit status is 0 if all of this holds."""
 
 import itertools
-import json
 import os
 import random
 import re
@@ -37,7 +36,8 @@ from usbreg import EXAMPLES, FOUNDING, apply, content, copy, done, folder, found
 STORE = "store.db"
 LOG = f"{STORE}-wal"
 # Syncs that a control takes as not made, and the states of each run that it tries at most.
-LOST = {"all syncs": (STORE, LOG, FOLDER), "syncs of the log": (LOG,), "syncs of the file": (STORE,), "syncs of the folder": (FOLDER,)}
+ALL = "any sync"
+LOST = {ALL: (STORE, LOG, FOLDER), "those of the log": (LOG,), "those of the file": (STORE,), "those of the folder": (FOLDER,)}
 CONTROL = 200
 # One in so many states is opened by a run that is cut too.
 TWICE = 4
@@ -268,15 +268,22 @@ def main():
     given = sys.argv[1] if len(sys.argv) > 1 else "60"
     count = None if given == "--all" else int(given)
     usbreg = program(*sys.argv[2:3])
+    caught, total = set(), 0
     with folder() as room:
         recorder = library(room, "record")
         for what in runs(usbreg, room):
-            cuts = Cuts(what, room, recorder, 1)
+            cuts = Cuts(what, room, recorder, seed=1)
             faults = list(cuts.faults(count))
             if any(faults):
                 sys.exit("\n".join(filter(None, faults)))
-            caught = {name: sum(map(bool, cuts.faults(CONTROL, lost))) for name, lost in LOST.items()}
-            print(f"{what.name}: {len(cuts.steps)} steps, {len(faults)} states; {caught}")
+            its = {name for name, lost in LOST.items() if any(cuts.faults(CONTROL, lost))}
+            if ALL not in its:
+                sys.exit(f"{what.name}: no state was wrong with all syncs taken as not made")
+            caught, total = caught | its, total + len(faults)
+            print(f"{what.name}: {len(cuts.steps)} steps, {len(faults)} states; wrong without {', '.join(sorted(its))}")
+    if caught != set(LOST):
+        sys.exit(f"no state of any run was wrong without {set(LOST) - caught}")
+    print(f"{total} states that a power cut can leave, each right and the same in the end; without syncs some are wrong")
 
 
 if __name__ == "__main__":

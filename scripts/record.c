@@ -10,6 +10,7 @@
 #include <stdio.h>
 #include <stdlib.h>
 #include <string.h>
+#include <sys/socket.h>
 #include <sys/stat.h>
 #include <sys/uio.h>
 #include <unistd.h>
@@ -53,6 +54,7 @@ static int opened(int file, const char *path, int was_there) {
     return file;
 }
 
+// Says whether a path is there.
 static int is_there(int folder, const char *path) {
     struct stat found;
     int before = errno, there = fstatat(folder, path, &found, AT_SYMLINK_NOFOLLOW) == 0;
@@ -135,9 +137,9 @@ ssize_t write(int file, const void *bytes, size_t size) {
     return done;
 }
 
-ssize_t writev(int file, const struct iovec *parts, int count) {
-    ssize_t done = REAL(writev)(file, parts, count), left = done;
-    for (int i = 0; i < count && left > 0; i++) {
+static ssize_t wrote(int file, const struct iovec *parts, size_t count, ssize_t done) {
+    ssize_t left = done;
+    for (size_t i = 0; i < count && left > 0; i++) {
         ssize_t size = left < (ssize_t)parts[i].iov_len ? left : (ssize_t)parts[i].iov_len;
         note('p', file, 0, parts[i].iov_base, size);
         left -= size;
@@ -145,9 +147,38 @@ ssize_t writev(int file, const struct iovec *parts, int count) {
     return done;
 }
 
-#define UNRECORDED(name)                                        \
-    int name(void) {                                            \
+ssize_t writev(int file, const struct iovec *parts, int count) {
+    return wrote(file, parts, count, REAL(writev)(file, parts, count));
+}
+
+ssize_t send(int file, const void *bytes, size_t size, int flags) {
+    struct iovec whole = {(void *)bytes, size};
+    return wrote(file, &whole, 1, REAL(send)(file, bytes, size, flags));
+}
+
+ssize_t sendmsg(int file, const struct msghdr *message, int flags) {
+    return wrote(file, message->msg_iov, message->msg_iovlen, REAL(sendmsg)(file, message, flags));
+}
+
+#define UNRECORDED(name)                                                   \
+    int unrecorded_##name(void) __asm__(#name);                            \
+    int unrecorded_##name(void) {                                          \
         static const char said[] = "record.c does not record " #name "\n"; \
-        REAL(write)(2, said, sizeof said - 1);                  \
-        abort();                                                \
+        REAL(write)(2, said, sizeof said - 1);                             \
+        abort();                                                           \
     }
+UNRECORDED(copy_file_range)
+UNRECORDED(creat)
+UNRECORDED(fallocate)
+UNRECORDED(link)
+UNRECORDED(msync)
+UNRECORDED(posix_fallocate)
+UNRECORDED(pwritev)
+UNRECORDED(rename)
+UNRECORDED(renameat)
+UNRECORDED(renameat2)
+UNRECORDED(sendfile)
+UNRECORDED(sync_file_range)
+UNRECORDED(truncate)
+UNRECORDED(unlink)
+UNRECORDED(unlinkat)

@@ -175,8 +175,8 @@ class Disk:
             longest = max([len(before), *(it.at + len(it.data) for it in later)])
             if its not in (nothing, everything) and dice.random() < 0.25:
                 # the file has its new length, but not yet its new bytes
-                more = longest - len(after)
-                files[entry] += dice.randbytes(more) if its is garbled else bytes(max(0, more))
+                more = max(0, longest - len(after))
+                files[entry] += dice.randbytes(more) if its is garbled else bytes(more)
         return files
 
 

@@ -32,6 +32,8 @@ FOUNDING = f'vendor = "1209"\nname = "Shared products"\ncurators = ["{CURATOR}"]
 PORTS = (8000, 8081, 8080)
 # The clients that stop in the middle of a head, and those that ask at once, each from one of several addresses.
 HALF, MANY = 600, 240
+# The seconds that a report is kept, and one more.
+KEPT = 11
 DEBIAN = "/etc/nginx/nginx.conf"
 
 
@@ -71,7 +73,8 @@ def typed(line, at, answers):
 def shell(line, at):
     """Runs a command in a folder as it is written."""
     ran = subprocess.run(["sh", "-c", line], cwd=at, capture_output=True, timeout=PATIENCE, check=False)
-    same(line, (ran.returncode, ran.stderr), (0, b""))
+    if ran.returncode:
+        sys.exit(f"{line}: status {ran.returncode}, {ran.stderr!r}")
 
 
 def let_in(line, at):
@@ -263,8 +266,9 @@ def floods(gate):
     same("an address that has sent too many", enrol("bob", 2, "127.0.0.4"), by_proxy(429))
 
 
-def what_is_kept(gate, server):
-    """Checks that the proxy keeps the list and the reports, the list also while the server is down; and its log."""
+def what_is_kept(gate, server, census, began):
+    """Checks that the proxy keeps the list and the reports, also while the server is down and when they are too old; and
+    not that of a number."""
     listed = b"# List of USB numbers in the syntax of usb.ids\n\n1209  Shared products\n\t0011  Lamp\n"
     for what in ("miss", "hit"):
         for target, wanted in (("/list", listed), ("/reports/holders", b"acme                                 1     0\n")):
@@ -276,6 +280,10 @@ def what_is_kept(gate, server):
     server.kill()
     gate.gives("the list without the server", get("/list"), 200, listed)
     gate.gives("a number without the server", get("/numbers/0011"), *by_proxy(502))
+    time.sleep(max(0, began + KEPT - time.monotonic()))
+    status, body, lines = gate.ask(get("/reports/census"))
+    if (status, body) != (200, census) or "cache-status: stale" not in lines:
+        sys.exit(f"an old report without the server: status {status}, {lines}, {body!r}, where {census!r} is wanted")
 
 
 def logged(recipe):
@@ -293,9 +301,10 @@ def main():
         store = found(usbreg, f"{room}/store.db", write(f"{room}/founding.toml", FOUNDING))
         with serving(usbreg, store).up() as server, Recipe(room, server) as recipe:
             gate = Gate(recipe.port)
+            began, census = time.monotonic(), gate.ask(get("/reports/census"))[1]
             for cases in (names, sizes, slow_clients, many_clients):
                 cases(gate)
-            what_is_kept(gate, server)
+            what_is_kept(gate, server, census, began)
             logged(recipe)
         with serving(usbreg, store, port=server.port).up(), recipe:
             floods(gate)
