@@ -170,12 +170,12 @@ fn orders_as_the_main_file_stops(rt: HostRuntime) -> Result<(), Fail> {
 
 #[test]
 fn a_founding_as_the_log_stops(rt: HostRuntime) -> Result<(), Fail> {
-    stop_in(&rt, rt.alloc(), founding(LOG, 4))
+    stop_in(&rt, rt.alloc(), founding(LOG, 1))
 }
 
 #[test]
 fn a_founding_as_the_log_of_a_process_stops(rt: HostRuntime) -> Result<(), Fail> {
-    stop_in(&rt, rt.alloc(), founding(PROCESS, 4))
+    stop_in(&rt, rt.alloc(), founding(PROCESS, 1))
 }
 
 #[test]

@@ -238,7 +238,11 @@ pub fn stop_in(rt: &impl Abort, alloc: Global, row: Row) -> Result<(), Fail> {
     }
     // Without a stop the run must have stopped before; with a stop at each call another row must go
     // on.
-    assert!(rt; end.map_or(to < MANY, |calls| from < calls), "{end:?}");
+    let goes_on = match end {
+        Some(calls) => from < calls,
+        None => to < MANY,
+    };
+    assert!(rt; goes_on, "{end:?}");
     assert!(rt; progress.in_run >= row.least, "{} calls", progress.in_run);
     assert_eq!(rt; progress.schemas.as_str(), row.schemas);
     Ok(())
