@@ -1,5 +1,6 @@
 // Preloaded before a program: writes to the file RECORD, in their order, the calls by which the program opens, writes,
-// cuts, syncs, renames and closes files, and its writes to its output and its sockets. Before each call's bytes stands its head.
+// cuts, syncs, renames and closes files, and its writes to its output and its sockets. Before each call's bytes stands its
+// head.
 // A call that would change files in a way that is not recorded ends the program.
 #define _GNU_SOURCE
 #include <dlfcn.h>
@@ -174,7 +175,6 @@ UNRECORDED(link)
 UNRECORDED(msync)
 UNRECORDED(posix_fallocate)
 UNRECORDED(pwritev)
-UNRECORDED(rename)
 UNRECORDED(renameat)
 UNRECORDED(renameat2)
 UNRECORDED(sendfile)
