@@ -133,24 +133,34 @@ fn sync_folder(rt: &HostRuntime, path: &str) -> io::Result<()> {
     File::open(rt, folder.as_str())?.sync_all()
 }
 
-/// Makes the store if it does not exist or has no bytes. It is written under another name, so that
-/// a stop leaves it whole or as it was.
+/// Writes the empty database to a file, with the access of the store, and syncs it.
+fn fill(rt: &HostRuntime, store: &str, file: &File) -> io::Result<()> {
+    copy_access(rt, store, file)?;
+    file.set_len(0)?;
+    file.write_all_at(&blank_page(), 0)?;
+    file.sync_all()
+}
+
+/// Makes the store under another name, which it changes at the end, so that a stop leaves the store
+/// whole or as it was.
+fn make_as(rt: &HostRuntime, made: &str, store: &str) -> io::Result<()> {
+    let file = open_alone(rt, made)?;
+    // Another process may have made the store since the first look.
+    if !is_to_make(rt, store)? {
+        return fs::remove_file(rt, made);
+    }
+    fill(rt, store, &file)?;
+    fs::rename(rt, made, store)?;
+    sync_folder(rt, store)
+}
+
+/// Makes the store if it does not exist or has no bytes.
 fn make(rt: &HostRuntime, store: &str) -> io::Result<()> {
     if !is_to_make(rt, store)? {
         return Ok(());
     }
     let made = format!(in rt.alloc(); "{store}-new")?;
-    let file = open_alone(rt, made.as_str())?;
-    // Another process may have made it since the first look.
-    if !is_to_make(rt, store)? {
-        return fs::remove_file(rt, made.as_str());
-    }
-    copy_access(rt, store, &file)?;
-    file.set_len(0)?;
-    file.write_all_at(&blank_page(), 0)?;
-    file.sync_all()?;
-    fs::rename(rt, made.as_str(), store)?;
-    sync_folder(rt, store)
+    make_as(rt, made.as_str(), store)
 }
 
 /// Makes the store as an empty database if it does not exist or has no bytes. Otherwise it changes
