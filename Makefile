@@ -2,7 +2,7 @@
 # trial:   compiles usbreg without proving it, and acts on three request lines over a
 #          registry in memory.
 # test:    the gate: `rt ci`, which proves every crate and its tests, tries the must-fail edits, and runs the tests and
-#          each program, as two compilers make it; then the scripts that try the program over files.
+#          each program, built by two compilers; then the scripts that try the program over files.
 # mutants: tries the wrong bodies in mutants/, as many in one check as possible. A release runs it beside the gate.
 # install: puts the program that `make` built into PREFIX/bin, and its page into PREFIX/share/man/man1.
 # bench:   reads and writes lists and looks devices up beside plain readers, acts on requests and serves messages
