@@ -16,7 +16,7 @@ import shutil
 import subprocess
 import sys
 
-from serving import command, exchange, free_port, listens, serving
+from serving import command, exchange, free_port, listens
 from usbreg import TOP, content, copy, folder, found, program, rounds, tables, write
 
 PAGE = f"{TOP}/docs/operating.md"
