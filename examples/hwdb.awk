@@ -1,6 +1,9 @@
 # Turns a list of USB numbers in the syntax of usb.ids into a file of systemd's hardware database:
 #   awk -f hwdb.awk numbers.ids > /etc/udev/hwdb.d/30-usbreg.hwdb && systemd-hwdb update
-# udev's properties, and lsusb, then have the names.
+# udev's properties, and lsusb, then have the names. In such a file a # begins a comment anywhere, so that of a title is
+# written as its wide form.
+
+{ gsub(/#/, "＃") }
 
 /^[0-9a-f][0-9a-f][0-9a-f][0-9a-f]  / {
     vendor = toupper(substr($0, 1, 4))

@@ -106,7 +106,7 @@ class Host:
 
     def has(self, names):
         for key, name in names.items():
-            if self.name(key) != name:
+            if self.name(key) != name.replace("#", "\uff03"):
                 sys.exit(f"{key}: the hardware database has the name {self.name(key)!r}, where {name!r} is listed")
 
 
