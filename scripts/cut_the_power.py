@@ -252,8 +252,11 @@ class Cuts:
 
 def runs(usbreg, room):
     """Returns each run that is recorded."""
-    # the plain history knows addresses only in their canonical form
-    orders = [it | ({"site": "https://acme.example/"} if it.get("site") == "HTTPS://Acme.example" else {}) for it in requests_in(f"{EXAMPLES}/orders.jsonl")]
+    orders = requests_in(f"{EXAMPLES}/orders.jsonl")
+    for it in orders:
+        # the plain history knows addresses only in their canonical form
+        if it.get("site") == "HTTPS://Acme.example":
+            it["site"] = "https://acme.example/"
     listed = "1209  Vendor\n" + "".join(f"\t{pid:04x}  Device {pid}\n" for pid in range(1, 400))
     imported = request("cora", "i1", "import", org="acme", list=listed)
     older = [*requests_in(f"{EXAMPLES}/one_vendor.requests"), *rounds(1, 60, 6)]
