@@ -26,6 +26,7 @@ test:
 	@scripts/gate.sh
 
 mutants:
+	@scripts/mutants.py --self-test
 	@scripts/mutants.py
 
 install:
