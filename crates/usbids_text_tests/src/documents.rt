@@ -86,6 +86,10 @@ fn mid_of(alloc: Global, name: &str, leaf: &str) -> Result<Mid, RowFault> {
 }
 
 fn top_of(alloc: Global, name: &str, mid: Mid) -> Result<Top, RowFault> {
+    // A device of a vendor has four digits.
+    if mid.digits() != 4 {
+        return Err(RowFault::BadRow);
+    }
     let mut top = Top::new(alloc, Kind::Vendor, 0x1209, 4, name_of(alloc, name)?);
     top.push(mid)?;
     Ok(top)

@@ -50,10 +50,19 @@ fn is_cloned(set: &Spans) -> Result<bool, NoMemory> {
     Ok(set.clone()? == *set)
 }
 
+// The least number outside the set that is none of the others, which are none or two that ascend.
+fn least(set: &Spans, others: &[Pid]) -> Result<Option<Pid>, RowFault> {
+    match others {
+        [] => Ok(set.least_outside(&[])),
+        [first, second] if first.get() < second.get() => Ok(set.least_outside(&[*first, *second])),
+        _ => Err(RowFault::BadRow),
+    }
+}
+
 fn set_text(alloc: Global, set: &Spans, others: &[Pid]) -> Result<Vec<u8>, RowFault> {
     let same = is_cloned(set)?;
     let count = set.count();
-    let least = set.least_outside(others).map(|pid| pid.get());
+    let least = least(set, others)?.map(|pid| pid.get());
     let mut text = format!(in alloc; "{same} {count} {least:?}")?;
     for part in set.parts() {
         write!(&mut text, " {part}")?;
