@@ -229,7 +229,9 @@ class Cuts:
         """Returns what a second cut leaves, of a run that goes on after a first one."""
         steps = self.what.record_from(put(files, store), self.library, answered)
         cut, left = next(states(files, steps, random.Random(f"{self.seed} {number}"), lost))
-        return answered + self.what.answered(steps[:cut]), left
+        # an import or a founding that is run again ends again
+        most = len(self.what.replies) or 1
+        return min(answered + self.what.answered(steps[:cut]), most), left
 
     def fault(self, state, lost, number, place):
         """Returns what is wrong with a state, or None."""

@@ -114,7 +114,8 @@ def main():
                 sys.exit("the orders after the backup were not acted on anew")
             wrong = re.sub(r"^(mkdir|mv) .*\n", "", restore, flags=re.MULTILINE)
             wrong = re.sub(r"(cp -p \S+numbers\.db) \S+numbers\.db-wal", r"\1", wrong)
-            status, said = machine.runs(wrong)
+            # the server may refuse these files, and nothing is to be waited for
+            status, said = machine.runs(wrong.replace("--retry 60", "--retry 2"))
             if not status:
                 sys.exit("an old file beside a newer log was not noticed")
             find_a_sound_one(machine, block("A damaged store"))
