@@ -2,7 +2,7 @@
 
 use crate::images::{COPYING, Fate, Image, Stop, Stops, nothing};
 use crate::values::lines_of;
-use crate::visits::{Entry, Seen, Visit, Visited, visit};
+use crate::visits::{Entry, Seen, Visit, Visited, carry_out};
 use registry_rules::{Founding, Request};
 use std::alloc::Global;
 use std::test::Fail;
@@ -25,13 +25,13 @@ pub enum Start {
 fn founded(alloc: Global, founding: &Founding) -> Result<Image, Fail> {
     let mut founds = Visit::of(Entry::Found(founding), &[]);
     founds.closes = true;
-    Ok(visit(alloc, &nothing(alloc), Stop::NEVER, &founds)?.left)
+    Ok(carry_out(alloc, &nothing(alloc), Stop::NEVER, &founds)?.left)
 }
 
 fn made(alloc: Global, batches: &[&str]) -> Result<Image, Fail> {
     let mut makes = Visit::of(Entry::Make(batches), &[]);
     makes.closes = true;
-    Ok(visit(alloc, &nothing(alloc), Stop::NEVER, &makes)?.left)
+    Ok(carry_out(alloc, &nothing(alloc), Stop::NEVER, &makes)?.left)
 }
 
 fn after(
@@ -42,7 +42,7 @@ fn after(
 ) -> Result<Image, Fail> {
     let mut acts = Visit::of(Entry::Open, requests);
     acts.closes = closes;
-    Ok(visit(alloc, &founded(alloc, founding)?, Stop::NEVER, &acts)?.left)
+    Ok(carry_out(alloc, &founded(alloc, founding)?, Stop::NEVER, &acts)?.left)
 }
 
 fn with_part(alloc: Global, founding: &Founding, requests: &[Request]) -> Result<Image, Fail> {
@@ -59,7 +59,7 @@ fn with_part(alloc: Global, founding: &Founding, requests: &[Request]) -> Result
             calls: stop.calls.saturating_add(step),
             ..stop
         };
-        let visited = visit(alloc, &image, further, &acts)?;
+        let visited = carry_out(alloc, &image, further, &acts)?;
         if visited.seen.replies.len() < 2 {
             stop = further;
             left = visited.left;
@@ -105,7 +105,7 @@ pub fn go_on(
     looks.options = COPYING;
     looks.looks = true;
     looks.answered = answered;
-    visit(alloc, image, Stop::NEVER, &looks)
+    carry_out(alloc, image, Stop::NEVER, &looks)
 }
 
 /// Returns the results of a run over files with these contents, which do not stop.

@@ -7,7 +7,7 @@ use crate::listing::SPENT;
 use crate::starts::{Plain, Start, go_on, image_at, plain_over};
 use crate::steps::Step;
 use crate::values::{founding, lines_of, replies_to, requests_of};
-use crate::visits::{Entry, Seen, Visit, Visited, visit};
+use crate::visits::{Entry, Seen, Visit, Visited, carry_out};
 use registry_rules::{Founding, Request};
 use registry_store::Fault;
 use sqlite::Options;
@@ -89,7 +89,7 @@ fn seen_in(alloc: Global, round: &Round, image: &Image, answered: usize) -> Resu
     }
     let mut founds = Visit::of(Entry::Found(&round.founding), requests);
     founds.looks = true;
-    Ok(visit(alloc, image, Stop::NEVER, &founds)?.seen)
+    Ok(carry_out(alloc, image, Stop::NEVER, &founds)?.seen)
 }
 
 // The same, or what was seen before in files with the same contents.
@@ -193,7 +193,7 @@ fn stop_at(
         seen: first,
         left,
         is_whole,
-    } = visit(alloc, &round.image, stop_of(row, calls), &acts)?;
+    } = carry_out(alloc, &round.image, stop_of(row, calls), &acts)?;
     let count = first.replies.len();
     let left = left_after(alloc, round, progress.last.take(), left, count)?;
     let mut replies = lines_of(alloc, first.replies.as_slice())?;

@@ -329,7 +329,12 @@ pub struct Visited {
 }
 
 /// Visits files with these contents.
-pub fn visit(alloc: Global, image: &Image, stop: Stop, visit: &Visit<'_>) -> Result<Visited, Fail> {
+pub fn carry_out(
+    alloc: Global,
+    image: &Image,
+    stop: Stop,
+    visit: &Visit<'_>,
+) -> Result<Visited, Fail> {
     let mut seen = unseen(alloc);
     let files = visit_in(alloc, files_of(alloc, image, stop)?, visit, &mut seen);
     let (left, is_whole) = left_by(alloc, files, stop)?;

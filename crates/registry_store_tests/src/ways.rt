@@ -5,7 +5,7 @@ use crate::listing::write_listing;
 use crate::starts::{Plain, Start, image_at, plain_over};
 use crate::steps::{EACH_KIND, ENROL, TEN};
 use crate::values::{founding, lines_of, replies_to, requests_of};
-use crate::visits::{Entry, Seen, Visit, act_and_close, act_in, show_rows, unseen, visit};
+use crate::visits::{Entry, Seen, Visit, act_and_close, act_in, carry_out, show_rows, unseen};
 use registry_rules::{Founding, Reply, Request};
 use registry_store::{
     Closed, Registry, abandon, close_and_open, close_files, crash_and_open, crash_and_open_store,
@@ -214,7 +214,10 @@ fn log_stops(calls: u64) -> Stop {
 fn calls_to_open(alloc: Global, image: &Image) -> Result<u64, Fail> {
     for calls in 0..MANY {
         let opens = Visit::of(Entry::Open, &[]);
-        if visit(alloc, image, log_stops(calls), &opens)?.seen.is_open {
+        if carry_out(alloc, image, log_stops(calls), &opens)?
+            .seen
+            .is_open
+        {
             return Ok(calls);
         }
     }

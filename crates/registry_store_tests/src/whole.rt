@@ -6,7 +6,7 @@ use crate::older::{OF_FIRST, OF_SECOND, ONE_VENDOR, RESERVE};
 use crate::starts::{Start, go_on, image_at, plain_over};
 use crate::steps::{EACH_KIND, ENROL, Step};
 use crate::values::{founding, lines_of, replies_to, requests_of};
-use crate::visits::{Entry, Visit, visit};
+use crate::visits::{Entry, Visit, carry_out};
 use std::alloc::Global;
 use std::process::Abort;
 use std::test::Fail;
@@ -20,6 +20,16 @@ fn joined(alloc: Global, parts: [&str; 4]) -> Result<String, Fail> {
 }
 
 const OLDER_STORES: [(&[&str], &str); 2] = [(&OF_FIRST, "1|\n"), (&OF_SECOND, "2|\n")];
+
+fn four<'a>(
+    alloc: Global,
+    first: &'a str,
+    second: &'a str,
+    third: &'a str,
+    fourth: &'a str,
+) -> Result<String, Fail> {
+    joined(alloc, [first, second, third, fourth])
+}
 
 // It opens as a registry that is founded today and acts on the same requests, and each request has
 // its first reply again.
@@ -36,12 +46,14 @@ fn a_store_of_an_older_schema_opens_as_the_same_history(rt: HostRuntime) -> Resu
         let image = image_at(alloc, Start::Older(batches), &founding, &[])?;
         let seen = go_on(alloc, &image, requests.as_slice(), 0)?.seen;
         let replies = lines_of(alloc, seen.replies.as_slice())?;
-        let (answer, listed) = (seen.answer.as_str(), seen.lists.as_str());
-        let text = joined(
+        let text = four(
             alloc,
-            [answer, listed, replies.as_str(), seen.rows.as_str()],
+            seen.answer.as_str(),
+            seen.lists.as_str(),
+            replies.as_str(),
+            seen.rows.as_str(),
         )?;
-        let today = joined(alloc, [schema, lists, wanted.as_str(), rows])?;
+        let today = four(alloc, schema, lists, wanted.as_str(), rows)?;
         assert_eq!(rt; text.as_str(), today.as_str());
     }
     Ok(())
@@ -55,7 +67,7 @@ fn reserved_rows_open_as_spans(rt: HostRuntime) -> Result<(), Fail> {
     let mut looks = Visit::of(Entry::Open, requests.as_slice());
     looks.looks = true;
     looks.query = "SELECT count(*) FROM reserved";
-    let seen = visit(alloc, &image, Stop::NEVER, &looks)?.seen;
+    let seen = carry_out(alloc, &image, Stop::NEVER, &looks)?.seen;
     let replies = lines_of(alloc, seen.replies.as_slice())?;
     let rows = seen.rows.as_str();
     let (_, rows) = rows
@@ -138,7 +150,7 @@ fn goes_on_where_it_was_closed(rt: HostRuntime) -> Result<(), Fail> {
     for (steps, end) in VISITS {
         let requests = requests_of(alloc, steps)?;
         let acts = Visit::of(Entry::Found(&founding), requests.as_slice());
-        let visited = visit(alloc, &image, Stop::NEVER, &acts)?;
+        let visited = carry_out(alloc, &image, Stop::NEVER, &acts)?;
         let writes = !are_same(&image, &visited.left);
         let (was_there, licences) = (visited.seen.was_there, visited.seen.licences);
         let mut text = lines_of(alloc, visited.seen.replies.as_slice())?;
@@ -165,7 +177,7 @@ fn a_reply_that_is_refused_ends_a_run(rt: HostRuntime) -> Result<(), Fail> {
         acts.options = COPYING;
         acts.looks = true;
         acts.room = Some(room);
-        let seen = visit(alloc, &image, Stop::NEVER, &acts)?.seen;
+        let seen = carry_out(alloc, &image, Stop::NEVER, &acts)?.seen;
         let replies = lines_of(alloc, seen.replies.as_slice())?;
         let text = joined(
             alloc,
