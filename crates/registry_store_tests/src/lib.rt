@@ -3,28 +3,32 @@
 #![tactic(auto)]
 
 #[cfg(test)]
-mod images;
+mod disks;
+#[cfg(test)]
+mod foundings;
 #[cfg(test)]
 mod listing;
 #[cfg(test)]
 mod memory;
 #[cfg(test)]
+mod migrations;
+#[cfg(test)]
 mod older;
+#[cfg(test)]
+mod openings;
 #[cfg(test)]
 mod queries;
 #[cfg(test)]
-mod starts;
+mod reopening;
+#[cfg(test)]
+mod rounds;
+#[cfg(test)]
+mod runs;
 #[cfg(test)]
 mod steps;
 #[cfg(test)]
-mod stopped;
-#[cfg(test)]
-mod stops;
+mod through;
 #[cfg(test)]
 mod values;
 #[cfg(test)]
-mod visits;
-#[cfg(test)]
 mod ways;
-#[cfg(test)]
-mod whole;
