@@ -60,7 +60,7 @@ impl io::Write for Narrow {
 /// A writer with room for each response of the tests.
 pub const AMPLE: usize = 100_000;
 
-fn narrow(alloc: Global, most: usize) -> Outlet<Narrow> {
+fn narrowed(alloc: Global, most: usize) -> Outlet<Narrow> {
     Outlet::new(Narrow {
         bytes: Vec::new(alloc),
         most,
@@ -81,7 +81,7 @@ pub fn add_response<R: Source, S: Alter>(
     registry: &mut Registry<S>,
     text: &mut String,
 ) -> bool {
-    let mut sink = narrow(alloc, most);
+    let mut sink = narrowed(alloc, most);
     let told = match serve_one(alloc, source, &mut sink, registry) {
         Ok(_) => "",
         Err(PeerFault::Read) => "Read:",
@@ -109,8 +109,8 @@ pub fn add_run<R: Source, S: Alter>(
     registry: &mut Registry<S>,
     text: &mut String,
 ) -> bool {
-    let mut output = narrow(alloc, most);
-    let mut errors = narrow(alloc, AMPLE);
+    let mut output = narrowed(alloc, most);
+    let mut errors = narrowed(alloc, AMPLE);
     let status = apply_lines(alloc, source, answered, registry, &mut output, &mut errors);
     write!(text, "{status}: ").is_ok() && add_taken(output, text) && add_taken(errors, text)
 }
