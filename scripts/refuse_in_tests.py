@@ -37,9 +37,9 @@ LEFT_OUT = {"room", "short", "brim"}
 STORE = "registry_store_tests_tests"
 OF_STORE = "memory::"
 
-# How a test ends that was refused memory: by an error, also one of its own values (a sink that cannot gather its bytes is
-# broken), by an `expect` of memory, or by a comparison.
-ENDS = re.compile(r'^(error|memory): (NoMemory|AllocError|AllocFailed \{ \.\. \}|Broken|"memory")$', re.MULTILINE)
+# How a test or a program ends that was refused memory: by an error, also one of its own values (a sink that cannot gather its
+# bytes is broken), by an `expect` of memory, or by a comparison.
+ENDS = re.compile(r'^((error|memory): (NoMemory|AllocError|AllocFailed \{ \.\. \}|Broken|"memory")|Error: Kind\(OutOfMemory\))$', re.MULTILINE)
 SIDES = re.compile(r"^  left: (.*)\n right: (.*)$", re.MULTILINE)
 NOTHING = {"None", '""'}
 # A disk in memory fails when memory runs out.
