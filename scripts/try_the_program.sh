@@ -1,8 +1,9 @@
 #!/usr/bin/env bash
 # Runs the scripts that try what was built: cases over stores in files, a plain history beside it, the man page, the
-# examples in docstrings and those in the help, what SQLite sees of a store, new stores, damaged ones, stores of older schemas, Debian's list of
-# USB numbers, each allocation refused in turn, kills at random moments, power cuts, clients that talk HTTP to it, with
-# nginx in front and without, a backup and its restore, and the names on a host.
+# examples in docstrings and those in the help, the index of the definitions, what SQLite sees of a store, new stores,
+# damaged ones, stores of older schemas, Debian's list of USB numbers, each allocation refused in turn, kills at random
+# moments, power cuts, clients that talk HTTP to it, with nginx in front and without, a backup and its restore, and the
+# names on a host.
 # It shows the output of a script only if it fails or says that it was skipped. The last line counts the scripts.
 # Needs python3 and cc, and fails if one is missing; with SKIP=1 the scripts are skipped.
 cd "$(dirname "$0")" || exit 1
@@ -12,6 +13,7 @@ scripts=(
     show_in_files.py
     compare_man_page.py
     compare_doc_examples.py
+    index_definitions.py
     run_help_examples.py
     look_into_a_store.py
     make_new_stores.py
