@@ -1,11 +1,12 @@
 #!/usr/bin/env python3
-"""Runs the commands for a backup and for a restore in docs/operating.md as they are written, except for the paths, the
-day, the port, and `systemctl`, for which a script stands that starts and stops `usbreg serve`.
+"""Runs the commands for a backup and for a restore in docs/operating.md as they are written, except for the two folders,
+the day of the restore, the port, the delay between two tries of `curl`, and `systemctl`, for which a script stands that
+starts and stops `usbreg serve`.
 
 The registry that is restored has the list and the tables of the backup, and later orders are acted on anew. As a control,
-the restore is run without the line that moves the last store away, on a backup of the file alone: the command at its end
+the restore is run without the lines that move the last store away, on a backup of the file alone: the command at its end
 must notice. Then the newest of two backups is damaged by one bit, and the commands that look for a sound one must find the
-other.
+other, and leave no copy behind.
 
 Usage: scripts/restore_a_backup.py [PROGRAM], by default the one that `make` builds. If curl is not installed it says that
 it was skipped. The exit status is 0 if all of this holds."""
@@ -76,6 +77,7 @@ def find_a_sound_one(machine, commands):
     backups, before = f"{machine.room}/backups", "2001-02-03"
     (newest,) = (it for it in os.listdir(backups) if re.fullmatch(r"\d{4}-\d\d-\d\d", it))
     shutil.copytree(f"{backups}/{newest}", f"{backups}/{before}")
+    shutil.copyfile(f"{backups}/{newest}.ids", f"{backups}/{before}.ids")
     with open(f"{backups}/{newest}/numbers.db", "r+b") as file:
         there = bytearray(file.read())
         there[len(there) // 2] ^= 1
@@ -84,6 +86,8 @@ def find_a_sound_one(machine, commands):
     ended = machine.runs(commands)
     if ended != (0, f"fault: store\n{backups}/{before}\n".encode()):
         sys.exit(f"looking for a sound backup ended with {ended}")
+    if sorted(os.listdir(backups)) != sorted(it + ending for it in (newest, before) for ending in ("", ".ids")):
+        sys.exit(f"looking for a sound backup left {os.listdir(backups)}")
 
 
 def main():
@@ -112,7 +116,7 @@ def main():
             machine.send(rounds(41, 80))
             if machine.rows() != after:
                 sys.exit("the orders after the backup were not acted on anew")
-            wrong = re.sub(r"^(mkdir|mv) .*\n", "", restore, flags=re.MULTILINE)
+            wrong = re.sub(r"^ *(mkdir|mv) .*\n", "", restore, flags=re.MULTILINE)
             wrong = re.sub(r"(cp -p \S+numbers\.db) \S+numbers\.db-wal", r"\1", wrong)
             # the server may refuse these files, and nothing is to be waited for
             status, said = machine.runs(wrong.replace("--retry 60", "--retry 2"))
