@@ -3,10 +3,10 @@
 the day of the restore, the port, the delay between two tries of `curl`, and `systemctl`, for which a script stands that
 starts and stops `usbreg serve`.
 
-The registry that is restored has the list and the tables of the backup, and later orders are acted on anew. As a control,
-the restore is run without the lines that move the last store away, on a backup of the file alone: the command at its end
-must notice. Then the newest of two backups is damaged by one bit, and the commands that look for a sound one must find the
-other, and leave no copy behind.
+The registry that is restored has the list and the tables of the backup, and later orders are acted on anew. A second
+restore keeps what the first one replaced. As a control, the restore is run without the lines that move the last store
+away, on a backup of the file alone: the command at its end must notice. Then the newest of two backups is damaged by one
+bit, and the commands that look for a sound one must find the other, and leave no copy behind.
 
 Usage: scripts/restore_a_backup.py [PROGRAM], by default the one that `make` builds. If curl is not installed it says that
 it was skipped. The exit status is 0 if all of this holds."""
@@ -16,6 +16,7 @@ import re
 import shutil
 import subprocess
 import sys
+import time
 
 from serving import command, exchange, free_port, listens
 from usbreg import TOP, content, copy, folder, found, program, rounds, tables, write
@@ -110,12 +111,18 @@ def main():
             machine.must_run(backup)
             machine.send(rounds(41, 80))
             after = machine.rows()
-            machine.must_run(restore)
-            if machine.rows() != before:
-                sys.exit("the restored registry has other tables than the backup")
-            machine.send(rounds(41, 80))
-            if machine.rows() != after:
-                sys.exit("the orders after the backup were not acted on anew")
+            for _ in range(2):
+                machine.must_run(restore)
+                if machine.rows() != before:
+                    sys.exit("the restored registry has other tables than the backup")
+                machine.send(rounds(41, 80))
+                if machine.rows() != after:
+                    sys.exit("the orders after the backup were not acted on anew")
+                # The folder of the replaced files is named by the second.
+                time.sleep(1)
+            replaced = [os.listdir(f"{machine.lib}/{it}") for it in os.listdir(machine.lib) if it.startswith("replaced-")]
+            if [sorted(it) for it in replaced] != [["numbers.db", "numbers.db-wal"]] * 2:
+                sys.exit(f"two restores kept these files of the replaced stores: {replaced}")
             wrong = re.sub(r"^ *(mkdir|mv) .*\n", "", restore, flags=re.MULTILINE)
             wrong = re.sub(r"(cp -p \S+numbers\.db) \S+numbers\.db-wal", r"\1", wrong)
             # the server may refuse these files, and nothing is to be waited for
