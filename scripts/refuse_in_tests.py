@@ -21,8 +21,8 @@ import os
 import re
 import sys
 
-from refusing import asked_in, each, refusal, run_refused
-from usbreg import TOP, content, program, run, write
+from lib.refusing import asked_in, each, refusal, run_refused
+from lib.usbreg import TOP, content, program, run, write
 
 # The crates of tests that are programs over rows, and the others.
 ROWS = ["usbids_text_tests", "registry_rules_tests", "registry_reports_tests", "registry_wire_tests", "registry_http_tests"]

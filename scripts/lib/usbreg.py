@@ -10,13 +10,15 @@ import subprocess
 import sys
 import tempfile
 
-TOP = os.path.dirname(os.path.dirname(os.path.abspath(__file__)))
+TOP = os.path.dirname(os.path.dirname(os.path.dirname(os.path.abspath(__file__))))
 EXAMPLES = f"{TOP}/examples"
 FOUNDING = f"{EXAMPLES}/founding.toml"
 # A store is its file, its log while it is open, and the index that other programs make of the log.
 ENDINGS = ("", "-wal", "-shm")
 # The size of a page of a new store, and the bytes at its end that hold its sum.
 PAGE_SIZE, SUM_SIZE = 1024, 8
+# Asks SQLite for the texts that made what is in a store, in the order in which they did.
+TEXTS = "SELECT sql FROM sqlite_schema WHERE sql IS NOT NULL ORDER BY rowid"
 
 
 def folder():
@@ -65,7 +67,7 @@ def library(room, name):
     if not shutil.which("cc"):
         sys.exit("no C compiler: apt-get install gcc")
     path = f"{room}/{name}.so"
-    subprocess.run(["cc", "-O2", "-shared", "-fPIC", "-o", path, f"{TOP}/scripts/{name}.c", "-ldl"], check=True)
+    subprocess.run(["cc", "-O2", "-shared", "-fPIC", "-o", path, f"{TOP}/scripts/lib/{name}.c", "-ldl"], check=True)
     return path
 
 

@@ -11,7 +11,7 @@ import subprocess
 import sys
 import time
 
-from usbreg import TOP, content
+from lib.usbreg import TOP, content
 
 HOST = "127.0.0.1"
 # Ports below those that the system gives to clients, so that no connection takes one while nobody listens on it.

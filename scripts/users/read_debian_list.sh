@@ -7,7 +7,7 @@ if [ ! -e "$list" ]; then
     echo "the list $list is not here: apt-get install usb.ids"
     exit 0
 fi
-cd "$(dirname "$0")/../crates/usbids_bench"
+cd "$(dirname "$0")/../../crates/usbids_bench"
 rt run > /dev/null
 answer=$(out/usbids_bench "$list")
 echo "$answer"

@@ -5,7 +5,7 @@ import concurrent.futures
 import contextlib
 import os
 
-from usbreg import content, folder, library, run
+from lib.usbreg import content, folder, library, run
 
 
 @contextlib.contextmanager

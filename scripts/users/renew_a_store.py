@@ -4,14 +4,14 @@
 SQLite reads the tables of the old store, and writes them, in the same order, to an empty database that has the first page
 of a new store. Then each page gets its sum. At the end the list and the reports of both stores must be the same.
 
-Usage: scripts/renew_a_store.py OLD NEW [PROGRAM], by default with the program that `make` builds. NEW must not exist. The
+Usage: scripts/users/renew_a_store.py OLD NEW [PROGRAM], by default with the program that `make` builds. NEW must not exist. The
 exit status is 0 if the new store shows what the old one shows; otherwise remove it."""
 
 import os
 import sys
 
-from look_into_a_store import TEXTS
-from usbreg import blank_page, copy, done, folder, opened, program, seal, tables
+sys.path.insert(0, os.path.dirname(os.path.dirname(os.path.abspath(__file__))))
+from lib.usbreg import TEXTS, blank_page, copy, done, folder, opened, program, seal, tables
 
 
 def renewed(store, other):

@@ -7,7 +7,7 @@ what was not, each sector of 512 bytes, each new length and each new entry of th
 import struct
 from typing import NamedTuple
 
-from usbreg import content, run
+from lib.usbreg import content, run
 
 HEAD = struct.Struct("=iiqq")
 SECTOR = 512
