@@ -18,7 +18,7 @@ import time
 
 HERE = os.path.dirname(os.path.abspath(__file__))
 sys.path.insert(0, f"{HERE}/../scripts")
-from usbreg import copy, older_text, opened, program
+from lib.usbreg import copy, older_text, opened, program
 
 RUNS = int(os.environ.get("TIMES", "3"))
 ENTRIES, PETITIONS, ORGS = 65535, 1000000, 1000

@@ -20,9 +20,9 @@ import tempfile
 
 HERE = os.path.dirname(os.path.abspath(__file__))
 sys.path.insert(0, f"{HERE}/../scripts")
+from lib.serving import exchange, get, serving
+from lib.usbreg import PAGE_SIZE, SUM_SIZE, apply, blank_page, copy, found_in, older_text, opened, program, rounds, seal, write_requests
 from open_older import COUNTED, ENTRIES, NEWEST, PETITIONS, ROWS
-from serving import exchange, get, serving
-from usbreg import PAGE_SIZE, SUM_SIZE, apply, blank_page, copy, found_in, older_text, opened, program, rounds, seal, write_requests
 
 RUNS = int(os.environ.get("TIMES", "3"))
 NEW, OLD = (PAGE_SIZE, SUM_SIZE), (4096, 0)

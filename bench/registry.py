@@ -18,7 +18,7 @@ import time
 
 HERE = os.path.dirname(os.path.abspath(__file__))
 sys.path.insert(0, f"{HERE}/../scripts")
-from usbreg import PAGE_SIZE, content, copy, declined, found, program, remove, rounds, write_requests
+from lib.usbreg import PAGE_SIZE, content, copy, declined, found, program, remove, rounds, write_requests
 
 RUNS = int(os.environ.get("TIMES", "5"))
 

@@ -19,8 +19,8 @@ import tempfile
 
 HERE = os.path.dirname(os.path.abspath(__file__))
 sys.path.insert(0, f"{HERE}/../scripts")
-from serving import Serving, command, exchange, free_port, get, post
-from usbreg import PAGE_SIZE, apply, content, declined, done, found, program, remove, rounds, write_requests
+from lib.serving import Serving, command, exchange, free_port, get, post
+from lib.usbreg import PAGE_SIZE, apply, content, declined, done, found, program, remove, rounds, write_requests
 
 RUNS = int(os.environ.get("TIMES", "5"))
 # The number of connections that the client has open at a time.

@@ -9,7 +9,7 @@ import os
 import subprocess
 import sys
 
-from usbreg import EXAMPLES, FOUNDING, content, folder, opened, program, run, seal, tables, write
+from lib.usbreg import EXAMPLES, FOUNDING, content, folder, opened, program, run, seal, tables, write
 
 TEN = f"{EXAMPLES}/ten.jsonl"
 REPLIES = [f'{{"done":"enrolled o{number}"}}\n' for number in range(1, 11)]

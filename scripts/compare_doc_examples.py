@@ -11,7 +11,7 @@ import re
 import sys
 import textwrap
 
-from usbreg import TOP, content
+from lib.usbreg import TOP, content
 
 LEAST = 4
 FENCE = "```"

@@ -11,7 +11,7 @@ The exit status is 0 if they agree.
 import re
 import sys
 
-from usbreg import TOP, content, done, program
+from lib.usbreg import TOP, content, done, program
 
 # What each command's help has, and the page has once.
 COMMON = {"-h, --help", "-V, --version"}

@@ -16,10 +16,10 @@ import random
 import sys
 from itertools import groupby
 
-import plain_history
-from plain_history import REFUSALS, History
+from lib import plain_history
+from lib.plain_history import REFUSALS, History
+from lib.usbreg import TOP, content, folder, found, opened, program, run, write, write_requests
 from show_in_files import devices
-from usbreg import TOP, content, folder, found, opened, program, run, write, write_requests
 
 LINK = "http://a.example/"
 ORDERS_IN_CHANCE = 3000

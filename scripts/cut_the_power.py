@@ -26,12 +26,12 @@ import sqlite3
 import sys
 
 from compare_with_plain_history import ask, enrol, request, requests_in
+from lib.plain_history import History, line
+from lib.recording import FOLDER, Step, recorded, recording, states, steps_in, told
+from lib.refusing import each
+from lib.serving import command, exchange, serving
+from lib.usbreg import EXAMPLES, FOUNDING, apply, content, copy, done, folder, found, library, program, remove, rounds, run, write, write_requests
 from open_older_stores import in_order, make, rows_of
-from plain_history import History, line
-from recording import FOLDER, Step, recorded, recording, states, steps_in, told
-from refusing import each
-from serving import command, exchange, serving
-from usbreg import EXAMPLES, FOUNDING, apply, content, copy, done, folder, found, library, program, remove, rounds, run, write, write_requests
 
 STORE = "store.db"
 LOG = f"{STORE}-wal"

@@ -18,8 +18,8 @@ import random
 import sys
 import time
 
-from refusing import each
-from usbreg import EXAMPLES, apply, content, folder, form, found, found_without_sums, program, rounds, run, write_requests
+from lib.refusing import each
+from lib.usbreg import EXAMPLES, apply, content, folder, form, found, found_without_sums, program, rounds, run, write_requests
 
 ROUNDS = 150
 

@@ -9,7 +9,7 @@ import glob
 import re
 import sys
 
-from usbreg import TOP, content, write
+from lib.usbreg import TOP, content, write
 
 PAGE = f"{TOP}/docs/index.md"
 DEFINITION = re.compile(r" *(?:(?:abbrev|unfoldable) pub|pub record) (\S+)|pub (?!mod )(\S+)")

@@ -18,9 +18,8 @@ import difflib
 import re
 import sys
 
-from usbreg import EXAMPLES, TOP, apply, content, copy, done, folder, found, opened, program, run, seal, tables, write
+from lib.usbreg import EXAMPLES, TEXTS, TOP, apply, content, copy, done, folder, found, opened, program, run, seal, tables, write
 
-TEXTS = "SELECT sql FROM sqlite_schema WHERE sql IS NOT NULL ORDER BY rowid"
 TABLES = "SELECT name FROM sqlite_schema WHERE type = 'table' ORDER BY name"
 OTHERS = "SELECT type, name FROM sqlite_schema WHERE type NOT IN ('table', 'index') ORDER BY name"
 

@@ -15,7 +15,7 @@ import os
 import subprocess
 import sys
 
-from usbreg import (
+from lib.usbreg import (
     EXAMPLES, FOUNDING, PAGE_SIZE, SUM_SIZE, TOP, apply, blank_page, content, copy, done, folder, form, found, found_without_sums, opened, program,
     remove, run, sum_of, tables, write,
 )
@@ -106,7 +106,7 @@ def other_stores(cases):
     apply(cases.program, plain, f"{EXAMPLES}/orders.jsonl")
     cases.holds("a database of another form", form(plain), (4096, 0))
     before = content(plain)
-    done([sys.executable, f"{TOP}/scripts/renew_a_store.py", plain, renewed, cases.program])
+    done([sys.executable, f"{TOP}/scripts/users/renew_a_store.py", plain, renewed, cases.program])
     cases.holds("a store that is renewed", content(plain), before)
     cases.sums("a renewed store", renewed)
     cases.holds("a renewed store", tables(copy(renewed, f"{cases.room}/looked.db")), tables(copy(plain, f"{cases.room}/looked2.db")))

@@ -14,8 +14,8 @@ import re
 import shutil
 import sys
 
-from serving import command, exchange, free_port, get, serving
-from usbreg import EXAMPLES, content, done, folder, found, program, run, write
+from lib.serving import command, exchange, free_port, get, serving
+from lib.usbreg import EXAMPLES, content, done, folder, found, program, run, write
 
 LINK = "https://acme.example/"
 VENDOR, SECOND = "1209", "cafe"

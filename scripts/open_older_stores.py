@@ -25,12 +25,12 @@ import sys
 import time
 
 from compare_with_plain_history import Chance, Registry, Room, all_cases, request, requests_in
-from look_into_a_store import TEXTS, asked, documented_texts, same
-from plain_history import History
-from usbreg import (
-    EXAMPLES, FOUNDING, apply, content, copy, declined, done, folder, found, found_without_sums, older, older_text,
+from lib.plain_history import History
+from lib.usbreg import (
+    EXAMPLES, FOUNDING, TEXTS, apply, content, copy, declined, done, folder, found, found_without_sums, older, older_text,
     opened, program, remove, rounds, run, seal, write, write_requests,
 )
+from look_into_a_store import asked, documented_texts, same
 
 REPORTS = ("census", "holders", "petitions")
 LINK = "https://acme.example/"

@@ -25,9 +25,9 @@ import functools
 import os
 import sys
 
-from refusing import asked_in, each, refusal, refusing, run_refused
-from serving import command, exchange, free_port, get, post, refused, serving
-from usbreg import EXAMPLES, FOUNDING, apply, content, copy, done, found, older, program, remove, run, tables, write
+from lib.refusing import asked_in, each, refusal, refusing, run_refused
+from lib.serving import command, exchange, free_port, get, post, refused, serving
+from lib.usbreg import EXAMPLES, FOUNDING, apply, content, copy, done, found, older, program, remove, run, tables, write
 
 FAULTS = {b"fault: memory\n", b"fault: store\n"}
 REPORTS = ("census", "holders", "petitions")

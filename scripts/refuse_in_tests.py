@@ -1,8 +1,8 @@
 #!/usr/bin/env python3
 """Runs tests of the crates again and again, each time with another allocation refused, and checks what they print.
 
-The tests of the two lowest crates are a program that reads rows and shows a result for each. It runs here on the rows of one
-kind at a time. A row that is refused memory shows what it always shows, because it did without, or it says that memory ran out.
+The tests of the lower crates are programs that read rows and show a result for each. They run here on the rows of one kind
+at a time. A row that is refused memory shows what it always shows, because it did without, or it says that memory ran out.
 
 A test of the other crates that is refused memory passes, because it did without, or it fails and says so: by an out-of-memory
 error, or because a call returned nothing where a result was expected. A test that compares another result than the right one
@@ -21,12 +21,12 @@ import os
 import re
 import sys
 
-from refusing import asked_in, each, refusal, run_refused
-from usbreg import TOP, content, program, run, write
+from lib.refusing import asked_in, each, refusal, run_refused
+from lib.usbreg import TOP, content, program, run, write
 
 # The crates of tests that are programs over rows, and the others.
-ROWS = ["usbids_text_tests"]
-CRATES = ["registry_rules_tests", "registry_wire_tests", "example_tests", "registry_tables_tests", "registry_store_tests"]
+ROWS = ["usbids_text_tests", "registry_rules_tests", "registry_reports_tests", "registry_wire_tests", "registry_http_tests"]
+CRATES = ["example_tests", "registry_tables_tests", "registry_store_tests"]
 MOST = 650
 WHOLE = {"lists::a_store_has_what_was_put_in", "lookups::a_request_finds_what_it_needs"}
 

@@ -18,8 +18,8 @@ import subprocess
 import sys
 import time
 
-from serving import command, exchange, free_port, listens
-from usbreg import TOP, content, copy, folder, found, program, rounds, tables, write
+from lib.serving import command, exchange, free_port, listens
+from lib.usbreg import TOP, content, copy, folder, found, program, rounds, tables, write
 
 PAGE = f"{TOP}/docs/operating.md"
 SYSTEMCTL = """#!/bin/sh

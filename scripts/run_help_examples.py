@@ -10,7 +10,7 @@ import os
 import sys
 
 from compare_man_page import section
-from usbreg import EXAMPLES, done, folder, program, run
+from lib.usbreg import EXAMPLES, done, folder, program, run
 
 ENDLESS = "usbreg serve "
 

@@ -9,8 +9,8 @@ import re
 import shutil
 import sys
 
-from serving import serving
-from usbreg import EXAMPLES, TOP, content, folder, program, run
+from lib.serving import serving
+from lib.usbreg import EXAMPLES, TOP, content, folder, program, run
 
 PAGE = f"{TOP}/docs/http.md"
 

@@ -23,9 +23,9 @@ import subprocess
 import sys
 import time
 
-from serving import HOST, PATIENCE, command, free_port, get, listens, message, post, read_to_end, refused, serving
+from lib.serving import HOST, PATIENCE, command, free_port, get, listens, message, post, read_to_end, refused, serving
+from lib.usbreg import EXAMPLES, content, folder, found, program, write
 from talk_to_the_desk import ENROL, LIST, ORDER, ask, asked, same
-from usbreg import EXAMPLES, content, folder, found, program, write
 
 CURATOR = "curator-1"
 NAMES = ("ann", "bob", "mallory", CURATOR)

@@ -9,7 +9,7 @@ import re
 import sys
 
 from apply_in_files import Room
-from usbreg import EXAMPLES, content, folder, program, run, tables
+from lib.usbreg import EXAMPLES, content, folder, program, run, tables
 
 HEADER = "# List of USB numbers in the syntax of usb.ids\n"
 STAMP = "# Version: 2024.01.30\n# Date:    2024-01-30 20:34:02\n"

@@ -14,8 +14,8 @@ import os
 import shutil
 import sys
 
-from refusing import each
-from usbreg import FOUNDING, PAGE_SIZE, SUM_SIZE, content, copy, folder, form, found, library, opened, program, run, tables
+from lib.refusing import each
+from lib.usbreg import FOUNDING, PAGE_SIZE, SUM_SIZE, content, copy, folder, form, found, library, opened, program, run, tables
 
 
 def missing(_store):

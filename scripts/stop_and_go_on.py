@@ -16,7 +16,7 @@ import sys
 import tempfile
 import time
 
-from usbreg import copy, folder, found, opened, program, rounds, tables, write_requests
+from lib.usbreg import copy, folder, found, opened, program, rounds, tables, write_requests
 
 ENROLMENTS = 1500
 

@@ -24,9 +24,9 @@ import sys
 import threading
 import time
 
-from serving import PATIENCE, TEXT, command, connected, done, exchange, free_port, get, message, post, read_to_end, refusals, refused, response, serving
+from lib.serving import PATIENCE, TEXT, command, connected, done, exchange, free_port, get, message, post, read_to_end, refusals, refused, response, serving
+from lib.usbreg import apply, done as printed, folder, found, program, rounds, run, tables, write, write_requests
 from stop_and_go_on import kept, look
-from usbreg import apply, done as printed, folder, found, program, rounds, run, tables, write, write_requests
 
 LINK = "https://acme.example/"
 ENROL = {"caller": "ann", "key": "k1", "order": "enrol", "org": "acme", "title": "Acme Tools", "site": LINK}

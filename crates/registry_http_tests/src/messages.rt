@@ -1,108 +1,79 @@
-//! Messages without a fault, and the query or request of each.
+//! Messages, also from a source that fails.
 
-use crate::ends::{Drip, read};
-use byte_streams::Inlet;
+use crate::ends::Drip;
+use crate::responses::response_text;
+use byte_streams::{Inlet, Source};
+use registry_http::{
+    HttpRefusal, InputFault, Message, Query, Report, read_message, refusal_response,
+};
+use row_records::canonical;
+use row_texts::{RowFault, text_of};
 use std::alloc::Global;
-use std::process::Abort;
-use std::test::Fail;
-use usbnum_core::NoMemory;
+use usbnum_core::{Pid, Vid};
 
-const GOOD: [(&str, &str); 19] = [
-    ("GET /list HTTP/1.1\r\n\r\n", "list"),
-    ("GET /list?x=/orgs/acme HTTP/1.0\r\n\r\n", "list"),
-    ("\r\n\nGET /list HTTP/1.1\n\n", "list"),
-    (
-        "GET /list HTTP/1.1\r\ncontent-length: x\r\nregistry-caller: Ann\r\n\r\n",
-        "list",
-    ),
-    ("GET /numbers/00fF HTTP/1.1\r\n\r\n", "number 00ff"),
-    (
-        "GET /numbers/1209/0001 HTTP/1.1\r\n\r\n",
-        "number 1209:0001",
-    ),
-    ("GET /orgs/acme HTTP/1.1\r\n\r\n", "organisation acme"),
-    ("GET /petitions/1 HTTP/1.1\r\n\r\n", "petition 1"),
-    (
-        "GET /petitions/4294967295 HTTP/1.1\r\n\r\n",
-        "petition 4294967295",
-    ),
-    ("GET /reports/census HTTP/1.1\r\n\r\n", "census"),
-    ("GET /reports/holders HTTP/1.1\r\n\r\n", "holders"),
-    ("GET /reports/petitions HTTP/1.1\r\n\r\n", "petitions"),
-    (
-        "POST /commands HTTP/1.1\r\nregistry-caller: ann\r\nregistry-key: k1\r\ncontent-length: 82\r\n\r\n{\"order\":\"enrol\",\"org\":\"acme\",\"title\":\"Acme Tools\",\"site\":\"https://acme.example/\"}",
-        "ann\tk1\tenrol\tacme\tAcme Tools\thttps://acme.example/",
-    ),
-    (
-        "POST /imports/acme HTTP/1.1\r\nregistry-caller: cora\r\nregistry-key: k1\r\ncontent-length: 40\r\n\r\ncafe  Other\n1209  Shared\n\t0011  Blinker\n\n",
-        "cora\tk1\timport\tacme\t0011=Blinker",
-    ),
-    (
-        "POST /imports/acme/cafe HTTP/1.1\r\nregistry-caller: cora\r\nregistry-key: k1\r\ncontent-length: 26\r\n\r\ncafe  Other\n\t0011  Blinker",
-        "cora\tk1\timport\tacme\tcafe\t0011=Blinker",
-    ),
-    (
-        "POST /imports/acme HTTP/1.1\r\nregistry-caller: cora\r\nregistry-key: k1\r\ncontent-length: 0\r\n\r\n",
-        "cora\tk1\timport\tacme",
-    ),
-    (
-        "GET /numbers/1209/0001?\u{e4} HTTP/1.1\r\n\r\n",
-        "number 1209:0001",
-    ),
-    (
-        "GET /petitions/9 HTTP/1.1\r\ntransfer-encoding: chunked\r\n\r\n",
-        "petition 9",
-    ),
-    (
-        "GET /orgs/0 HTTP/1.1\r\nregistry-key: a\r\nregistry-key: a\r\n\r\n",
-        "organisation 0",
-    ),
-];
-
-// Messages with more bytes after them.
-const FOLLOWED: [(&str, &str); 2] = [
-    (
-        "POST /commands HTTP/1.1\r\nREGISTRY-CALLER:\t ann \r\nRegistry-Key:k1\r\nContent-Length: 0000000033\r\nexpect: 100-continue\r\n\r\n{\"order\":\"decline\",\"petition\":12}and more",
-        "ann\tk1\tdecline\t12",
-    ),
-    (
-        "GET /orgs/a HTTP/1.1\r\n\r\nGET /list HTTP/1.1\r\n\r\n",
-        "organisation a",
-    ),
-];
-
-fn expect_rows(rt: &impl Abort, alloc: Global, rows: &[(&str, &str)]) -> Result<(), NoMemory> {
-    for (message, wanted) in rows {
-        let mut source = Inlet::new(message.as_bytes());
-        assert_eq!(rt; read(alloc, &mut source)?.as_str(), *wanted);
+fn number_text(alloc: Global, vendor: Option<Vid>, pid: Pid) -> Result<Vec<u8>, RowFault> {
+    match vendor {
+        Some(vid) => Ok(format!(in alloc; "number {vid}:{pid}")?.into_bytes()),
+        None => Ok(format!(in alloc; "number {pid}")?.into_bytes()),
     }
-    Ok(())
 }
 
-#[test]
-fn says_what_its_bytes_say(rt: HostRuntime) -> Result<(), Fail> {
-    expect_rows(&rt, rt.alloc(), &GOOD)?;
-    expect_rows(&rt, rt.alloc(), &FOLLOWED)?;
-    Ok(())
-}
-
-// Reads messages byte by byte, and checks that nothing after them is read: the next read would
-// fail.
-fn expect_no_read_past(rt: &impl Abort, alloc: Global) -> Result<(), NoMemory> {
-    for (message, wanted) in GOOD {
-        let mut source = Drip {
-            bytes: message.as_bytes(),
-            given: 0,
-            failures: 0,
-        };
-        assert_eq!(rt; read(alloc, &mut source)?.as_str(), wanted);
-        assert_eq!(rt; source.failures, 0);
+fn report_text(alloc: Global, report: Report) -> Result<Vec<u8>, RowFault> {
+    match report {
+        Report::Census => text_of(alloc, "census"),
+        Report::Holders => text_of(alloc, "holders"),
+        Report::Petitions => text_of(alloc, "petitions"),
     }
-    Ok(())
 }
 
-#[test]
-fn reads_no_byte_past_a_message(rt: HostRuntime) -> Result<(), Fail> {
-    expect_no_read_past(&rt, rt.alloc())?;
-    Ok(())
+fn query_text(alloc: Global, query: &Query) -> Result<Vec<u8>, RowFault> {
+    match query {
+        Query::List => text_of(alloc, "list"),
+        Query::Number { vendor, pid } => number_text(alloc, *vendor, *pid),
+        Query::Org(org) => Ok(format!(in alloc; "organisation {org}")?.into_bytes()),
+        Query::Petition(id) => Ok(format!(in alloc; "petition {id}")?.into_bytes()),
+        Query::Report(report) => report_text(alloc, *report),
+    }
+}
+
+fn said_text(alloc: Global, message: &Message) -> Result<Vec<u8>, RowFault> {
+    match message {
+        Message::Query(query) => query_text(alloc, query),
+        Message::Request(request) => canonical(alloc, request),
+    }
+}
+
+fn refusal_text(alloc: Global, refusal: HttpRefusal) -> Result<Vec<u8>, RowFault> {
+    response_text(alloc, &refusal_response(alloc, refusal)?)
+}
+
+// Reads a message, and returns the query, the request, or the response to the first fault.
+fn read<R: Source>(alloc: Global, source: &mut R, founding: Vid) -> Result<Vec<u8>, RowFault> {
+    match read_message(alloc, source, founding) {
+        Ok(Ok(message)) => said_text(alloc, &message),
+        Ok(Err(refusal)) => refusal_text(alloc, refusal),
+        Err(InputFault::Broken) => text_of(alloc, "broken"),
+        Err(InputFault::NoMemory) => Err(RowFault::OutOfMemory),
+    }
+}
+
+/// Shows what a message says, or the response to its first fault.
+pub(crate) fn message(alloc: Global, bytes: &[u8]) -> Result<Vec<u8>, RowFault> {
+    read(alloc, &mut Inlet::new(bytes), row_records::vid("1209")?)
+}
+
+/// Shows the same of a message that comes byte by byte from a source that then fails, after the
+/// count of failures.
+pub(crate) fn dripped(alloc: Global, bytes: &[u8]) -> Result<Vec<u8>, RowFault> {
+    let founding = row_records::vid("1209")?;
+    let mut source = Drip {
+        bytes,
+        given: 0,
+        failures: 0,
+    };
+    let found = read(alloc, &mut source, founding)?;
+    let count = source.failures;
+    let mut text = format!(in alloc; "{count} ")?.into_bytes();
+    text.extend_from_slice(&found)?;
+    Ok(text)
 }

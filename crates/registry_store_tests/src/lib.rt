@@ -3,32 +3,28 @@
 #![tactic(auto)]
 
 #[cfg(test)]
-mod disks;
-#[cfg(test)]
-mod foundings;
+mod images;
 #[cfg(test)]
 mod listing;
 #[cfg(test)]
 mod memory;
 #[cfg(test)]
-mod migrations;
-#[cfg(test)]
 mod older;
-#[cfg(test)]
-mod openings;
 #[cfg(test)]
 mod queries;
 #[cfg(test)]
-mod reopening;
-#[cfg(test)]
-mod rounds;
-#[cfg(test)]
-mod runs;
+mod starts;
 #[cfg(test)]
 mod steps;
 #[cfg(test)]
-mod through;
+mod stopped;
+#[cfg(test)]
+mod stops;
 #[cfg(test)]
 mod values;
 #[cfg(test)]
+mod visits;
+#[cfg(test)]
 mod ways;
+#[cfg(test)]
+mod whole;

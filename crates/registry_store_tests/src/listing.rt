@@ -1,18 +1,17 @@
 //! The founding, lists and rows of a registry as texts.
 
-use registry_rules::Vendor;
-use registry_store::Registry;
+use registry_rules::{Request, Vendor};
+use registry_store::{Registry, RunEnd};
 use sqlite::types::ValueRef;
 use sqlite::{Alter, Connection, Row};
-use std::alloc::Global;
 
 fn write_founding<S: Alter>(registry: &Registry<S>, text: &mut String) -> bool {
     let founding = registry.founding();
     writeln!(text, "{founding:?}").is_ok()
 }
 
-/// Adds each list of a registry as a line.
-pub fn write_lists<S: Alter>(registry: &mut Registry<S>, text: &mut String) -> bool {
+// Adds each list of a registry as a line.
+fn write_lists<S: Alter>(registry: &mut Registry<S>, text: &mut String) -> bool {
     let vendors = registry.vendors();
     let orgs = registry.orgs();
     let numbers = registry.numbers();
@@ -38,17 +37,9 @@ fn write_reserved<S: Alter>(registry: &mut Registry<S>, text: &mut String) -> bo
     }
 }
 
-/// Returns the founding of a registry, all its lists, and the reserved numbers of each vendor.
-pub fn listing<S: Alter>(alloc: Global, registry: &mut Registry<S>) -> Option<String> {
-    let mut text = String::new(alloc);
-    if write_founding(registry, &mut text)
-        && write_lists(registry, &mut text)
-        && write_reserved(registry, &mut text)
-    {
-        Some(text)
-    } else {
-        None
-    }
+/// Adds the founding of a registry, all its lists, and the reserved numbers of each vendor.
+pub fn write_listing<S: Alter>(registry: &mut Registry<S>, text: &mut String) -> bool {
+    write_founding(registry, text) && write_lists(registry, text) && write_reserved(registry, text)
 }
 
 // All tables, each in the order of its key.
@@ -106,13 +97,34 @@ pub fn add_answer<S: Alter>(conn: &mut Connection<S>, query: &str, text: &mut St
     }
 }
 
-/// Returns the rows of all tables, each as a line, with a line before each table.
-pub fn rows_of<S: Alter>(alloc: Global, conn: &mut Connection<S>) -> Option<String> {
-    let mut text = String::new(alloc);
+/// Adds the rows of all tables, each as a line, with a line before each table.
+pub fn write_rows<S: Alter>(conn: &mut Connection<S>, text: &mut String) -> bool {
     for query in QUERIES {
-        if writeln!(&mut text, "{query}").is_err() || !add_answer(conn, query, &mut text) {
-            return None;
+        if writeln!(text, "{query}").is_err() || !add_answer(conn, query, text) {
+            return false;
         }
     }
-    Some(text)
+    true
+}
+
+/// The results of a poisoned registry for a request, a run and each list.
+pub const SPENT: &str =
+    "Some(Poisoned)\nSome(Poisoned), 0 replies\nErr(Poisoned)\nErr(Poisoned)\nErr(Poisoned)\nErr(Poisoned)\n";
+
+/// Adds the results of a registry for a request, a run and each list.
+pub fn write_answers<S: Alter>(
+    registry: &mut Registry<S>,
+    requests: &[Request],
+    text: &mut String,
+) -> bool {
+    let fault = match requests.first() {
+        Some(request) => registry.act(request).err(),
+        None => None,
+    };
+    let RunEnd {
+        replies,
+        fault: of_run,
+    } = registry.run_from(requests, 0);
+    let count = replies.len();
+    writeln!(text, "{fault:?}\n{of_run:?}, {count} replies").is_ok() && write_lists(registry, text)
 }

@@ -1,13 +1,13 @@
 //! A registry that runs out of memory while it acts is poisoned, and sound again once it is opened.
 //! This tests something only when an allocation is refused (`rt try --test --fail-alloc N`).
 
-use crate::disks::{PLAIN, connected};
+use crate::images::PLAIN;
 use crate::steps::ENROL;
 use crate::values::{founding, request};
 use registry_rules::{Founding, Reply, Request};
-use registry_store::{Fault, Registry, crash_and_open};
-use sqlite::{Alter, FileStore, Files};
-use sqlite_disk::{Crash, Memory};
+use registry_store::{Fault, Registry, crash_until_open, leave, leave_store};
+use sqlite::{Alter, Connection, FileStore, Files};
+use sqlite_disk::{Crash, Disk, Memory};
 use std::alloc::Global;
 use std::process::Abort;
 use std::test::Fail;
@@ -58,29 +58,62 @@ fn act_twice<S: Alter>(registry: &mut Registry<S>, request: &Request) -> Outcome
     Outcome { first, again, orgs }
 }
 
-fn close_after<S: Alter + Drop>(mut registry: Registry<S>, request: &Request) -> Outcome {
+fn act_again<D: Disk + Drop>(mut registry: Registry<FileStore<D>>, request: &Request) -> Outcome {
     let outcome = act_twice(&mut registry, request);
-    let _conn = registry.close();
+    drop(leave(registry));
     outcome
 }
 
+// An opening that runs out of memory comes after another crash.
 fn act_around_a_crash<D: Crash + Drop>(
     alloc: Global,
     mut registry: Registry<FileStore<D>>,
     request: &Request,
 ) -> Option<(Outcome, Outcome)> {
     let before = act_twice(&mut registry, request);
-    let registry = crash_and_open(alloc, registry, PLAIN)?;
-    Some((before, close_after(registry, request)))
+    match crash_until_open(alloc, registry, PLAIN, 2) {
+        Some(registry) => Some((before, act_again(registry, request))),
+        None => None,
+    }
+}
+
+fn found_and_act<D: Crash + Drop>(
+    alloc: Global,
+    conn: Connection<FileStore<D>>,
+    founding: &Founding,
+    request: &Request,
+) -> Option<(Outcome, Outcome)> {
+    match Registry::found(alloc, conn, founding) {
+        Ok(registry) => act_around_a_crash(alloc, registry, request),
+        Err((_, conn)) => {
+            drop(leave_store(conn));
+            None
+        }
+    }
+}
+
+fn act_in<D: Crash + Drop>(
+    alloc: Global,
+    files: Files<D>,
+    founding: &Founding,
+    request: &Request,
+) -> Option<(Outcome, Outcome)> {
+    if !files.may_be_used() {
+        return None;
+    }
+    match Connection::open_files(alloc, files, PLAIN) {
+        Ok(conn) => found_and_act(alloc, conn, founding, request),
+        Err(_) => None,
+    }
 }
 
 // Acts over a new registry in files in memory.
 fn outcomes(alloc: Global, founding: &Founding, request: &Request) -> Option<(Outcome, Outcome)> {
-    let log = Memory::new(alloc);
-    let db = Memory::new(alloc);
-    let conn = connected(alloc, Files { log, db }, PLAIN).ok()?;
-    let registry = Registry::found(alloc, conn, founding).ok()?;
-    act_around_a_crash(alloc, registry, request)
+    let files = Files {
+        log: Memory::new(alloc),
+        db: Memory::new(alloc),
+    };
+    act_in(alloc, files, founding, request)
 }
 
 // A disk in memory fails if out of memory.

@@ -1,13 +1,9 @@
 //! Stores of schemas 1 and 2, made by statements, and the requests that led to them: each kind of
 //! order that these schemas know.
 
-use crate::disks::{Image, PLAIN, closed, connected, nothing, whole};
 use crate::steps::Step;
 use sqlite::types::ValueRef;
-use sqlite::{Alter, Connection, Files};
-use sqlite_disk::Disk;
-use std::alloc::Global;
-use std::test::Fail;
+use sqlite::{Alter, Connection};
 
 /// The requests that the stores represent.
 pub const ONE_VENDOR: [Step; 19] = [
@@ -244,24 +240,11 @@ fn run_all<S: Alter>(conn: &mut Connection<S>, batches: &[&str]) -> bool {
         .all(|batch| conn.execute_batch(batch).is_ok())
 }
 
-// Runs the statements in one transaction, which is faster than one for each.
-fn make<S: Alter>(conn: &mut Connection<S>, batches: &[&str]) -> bool {
+/// Makes a store by these statements, with the kept replies. Runs them in one transaction, which is
+/// faster than one for each.
+pub fn make<S: Alter>(conn: &mut Connection<S>, batches: &[&str]) -> bool {
     run_all(conn, &["BEGIN"])
         && run_all(conn, batches)
         && KEPT.iter().all(|row| keep(conn, *row))
         && run_all(conn, &["COMMIT"])
-}
-
-fn make_in<D: Disk + Drop>(alloc: Global, files: Files<D>, batches: &[&str]) -> Option<Files<D>> {
-    let mut conn = connected(alloc, files, PLAIN).ok()?;
-    let made = make(&mut conn, batches);
-    let files = conn.into_store().close();
-    if made { Some(files) } else { None }
-}
-
-/// Returns the files of a store that these statements make, with the kept replies.
-pub fn older(alloc: Global, batches: &[&str]) -> Result<Image, Fail> {
-    let files = whole(alloc, &nothing(alloc))?;
-    let files = make_in(alloc, files, batches).ok_or("not made")?;
-    closed(alloc, files)
 }

@@ -2,14 +2,13 @@
 
 use crate::steps::{ENROL, Step};
 use crate::values::{founding, lines_of, replies_to, request, requests_of, slug};
-use registry_rules::{Entry, Founding, Org, Petition, PetitionState, Reply, Request, Vendor};
-use registry_store::{Fault, Registry, RunEnd};
+use registry_rules::{Entry, Founding, Petition, PetitionState, Reply, Request};
+use registry_store::{Registry, RunEnd};
 use sqlite::{Alter, Connection};
 use std::alloc::Global;
-use std::fmt::Write;
 use std::process::Abort;
 use std::test::Fail;
-use usbnum_core::{Number, Pid, Slug, Spans, Vid};
+use usbnum_core::{Number, Pid, Slug, Vid};
 
 // Two organisations, a further vendor and a reserved span; of the numbers, one of each vendor is
 // granted, one is imported and one is returned.
@@ -58,46 +57,32 @@ const NUMBERS: &str =
 
 const PETITIONS: &str = "1 1209 acme Blinker, granted 17\n2 1000 acme Lamp, granted 1\n";
 
-// The results of a run and of the queries.
-#[derive(Drop)]
-struct Answers {
-    end: RunEnd,
-    numbers: Result<Vec<(Number, Entry)>, Fault>,
-    petitions: Result<Vec<(u32, Petition)>, Fault>,
-    orgs: Result<Vec<Org>, Fault>,
-    vendors: Result<Vec<Vendor>, Fault>,
-    reserved: Result<Spans, Fault>,
-}
+const ORGS: &str = "acme ann\nbolt bob\n";
 
-// Acts on the requests, and queries each list.
-fn ask<S: Alter + Drop>(mut registry: Registry<S>, requests: &[Request], vid: Vid) -> Answers {
-    let end = registry.run_from(requests, 0);
-    let numbers = registry.numbers();
-    let petitions = registry.petitions();
-    let orgs = registry.orgs();
-    let vendors = registry.vendors();
-    let reserved = registry.reserved(vid);
-    let _conn = registry.close();
-    Answers {
-        end,
-        numbers,
-        petitions,
-        orgs,
-        vendors,
-        reserved,
-    }
-}
+const VENDORS: &str = "1000 Further\n1209 Shared products\n";
 
-// The same for a new registry in memory.
-fn answers_after(alloc: Global, founding: &Founding, requests: &[Request]) -> Option<Answers> {
-    let conn = Connection::open_in_memory(alloc).ok()?;
-    let registry = Registry::found(alloc, conn, founding).ok()?;
-    Some(ask(registry, requests, founding.vendor))
-}
+// The fixed numbers, and the span.
+const RESERVED: usize = 16 + 256;
 
-fn numbers_text(alloc: Global, numbers: &[(Number, Entry)]) -> Result<String, Fail> {
-    let mut text = String::new(alloc);
-    for (number, entry) in numbers {
+const FOUND: &str = "1209:0010 true true
+1209:0011 true false acme true Blinker
+1209:0012 true false acme true New board
+1209:20ff true true
+1209:2100 true false
+1000:0001 true false acme false Lamp
+1000:0002 true false
+cafe:0001 false false
+1 1209 acme Blinker
+2 1000 acme Lamp
+3
+4294967295
+acme Acme Tools, ann
+bolt Bolt, bob
+clock
+";
+
+fn add_numbers(numbers: &[(Number, Entry)], text: &mut String) -> bool {
+    numbers.iter().all(|(number, entry)| {
         let (vid, pid, org, title) = (number.vid, number.pid, &entry.org, &entry.card.title);
         let terms = if entry.card.terms.is_some() {
             "terms"
@@ -105,78 +90,63 @@ fn numbers_text(alloc: Global, numbers: &[(Number, Entry)]) -> Result<String, Fa
             "no terms"
         };
         let held = if entry.held { "held" } else { "returned" };
-        write!(&mut text, "{vid}:{pid} {org} {title}, {terms}, {held}\n")?;
-    }
-    Ok(text)
+        writeln!(text, "{vid}:{pid} {org} {title}, {terms}, {held}").is_ok()
+    })
 }
 
-fn petitions_text(alloc: Global, petitions: &[(u32, Petition)]) -> Result<String, Fail> {
-    let mut text = String::new(alloc);
-    for (id, petition) in petitions {
+fn add_petitions(petitions: &[(u32, Petition)], text: &mut String) -> bool {
+    petitions.iter().all(|(id, petition)| {
         let (vid, org, title) = (petition.vid, &petition.org, &petition.title);
         let granted = match petition.state {
             PetitionState::Granted(pid) => pid.get(),
             _ => 0,
         };
-        write!(&mut text, "{id} {vid} {org} {title}, granted {granted}\n")?;
+        writeln!(text, "{id} {vid} {org} {title}, granted {granted}").is_ok()
+    })
+}
+
+fn list_numbers<S: Alter>(registry: &mut Registry<S>, text: &mut String) -> bool {
+    match registry.numbers() {
+        Ok(numbers) => add_numbers(numbers.as_slice(), text),
+        Err(_) => false,
     }
-    Ok(text)
 }
 
-fn orgs_text(alloc: Global, orgs: &[Org]) -> Result<String, Fail> {
-    let mut text = String::new(alloc);
-    for org in orgs {
-        let (slug, keeper) = (&org.slug, &org.keeper);
-        write!(&mut text, "{slug} {keeper}\n")?;
+fn list_petitions<S: Alter>(registry: &mut Registry<S>, text: &mut String) -> bool {
+    match registry.petitions() {
+        Ok(petitions) => add_petitions(petitions.as_slice(), text),
+        Err(_) => false,
     }
-    Ok(text)
 }
 
-fn vendors_text(alloc: Global, vendors: &[Vendor]) -> Result<String, Fail> {
-    let mut text = String::new(alloc);
-    for vendor in vendors {
-        let (vid, name) = (vendor.vid, &vendor.name);
-        write!(&mut text, "{vid} {name}\n")?;
+fn list_orgs<S: Alter>(registry: &mut Registry<S>, text: &mut String) -> bool {
+    match registry.orgs() {
+        Ok(orgs) => orgs.iter().all(|org| {
+            let (slug, keeper) = (&org.slug, &org.keeper);
+            writeln!(text, "{slug} {keeper}").is_ok()
+        }),
+        Err(_) => false,
     }
-    Ok(text)
 }
 
-#[test]
-fn answers_what_it_was_asked_to_do(rt: HostRuntime) -> Result<(), Fail> {
-    let alloc = rt.alloc();
-    let founding = founding(alloc)?;
-    let requests = requests_of(alloc, STEPS)?;
-    let wanted = replies_to(alloc, STEPS)?;
-    let answers = answers_after(alloc, &founding, requests.as_slice()).ok_or("no answers")?;
-    let replies = lines_of(alloc, answers.end.replies.as_slice())?;
-    assert_eq!(rt; replies.as_str(), wanted.as_str());
-    let numbers = numbers_text(alloc, answers.numbers?.as_slice())?;
-    assert_eq!(rt; numbers.as_str(), NUMBERS);
-    let petitions = petitions_text(alloc, answers.petitions?.as_slice())?;
-    assert_eq!(rt; petitions.as_str(), PETITIONS);
-    let orgs = orgs_text(alloc, answers.orgs?.as_slice())?;
-    assert_eq!(rt; orgs.as_str(), "acme ann\nbolt bob\n");
-    let vendors = vendors_text(alloc, answers.vendors?.as_slice())?;
-    assert_eq!(rt; vendors.as_str(), "1000 Further\n1209 Shared products\n");
-    assert_eq!(rt; answers.reserved?.count(), 16 + 256);
-    Ok(())
+fn list_vendors<S: Alter>(registry: &mut Registry<S>, text: &mut String) -> bool {
+    match registry.vendors() {
+        Ok(vendors) => vendors.iter().all(|vendor| {
+            let (vid, name) = (vendor.vid, &vendor.name);
+            writeln!(text, "{vid} {name}").is_ok()
+        }),
+        Err(_) => false,
+    }
 }
 
-#[test]
-fn acts_on_one_request(rt: HostRuntime) -> Result<(), Fail> {
-    let alloc = rt.alloc();
-    let founding = founding(alloc)?;
-    let (enrol, _) = ENROL;
-    let request = request(alloc, enrol)?;
-    let conn = Connection::open_in_memory(alloc).expect(&rt, "memory");
-    let found = Registry::found(alloc, conn, &founding);
-    let mut registry = found.ok().expect(&rt, "a registry");
-    let reply = registry.act(&request).expect(&rt, "a reply");
-    let orgs = registry.orgs().expect(&rt, "organisations");
-    let _conn = registry.close();
-    assert!(rt; matches!(&reply, Reply::Done(text) if text.as_str() == "enrolled acme"));
-    assert_eq!(rt; orgs.len(), 1);
-    Ok(())
+fn count_reserved<S: Alter>(registry: &Registry<S>, vid: Vid, text: &mut String) -> bool {
+    match registry.reserved(vid) {
+        Ok(reserved) => {
+            let count = reserved.count();
+            writeln!(text, "{count}").is_ok()
+        }
+        Err(_) => false,
+    }
 }
 
 // Keys to look up, some of which exist.
@@ -274,44 +244,107 @@ fn look_up<S: Alter>(registry: &mut Registry<S>, keys: &Keys, text: &mut String)
     true
 }
 
-fn found_after(
+fn run<S: Alter>(registry: &mut Registry<S>, requests: &[Request]) -> Vec<Reply> {
+    let RunEnd { replies, .. } = registry.run_from(requests, 0);
+    replies
+}
+
+// Acts on the requests, lists everything, and looks each key up.
+fn ask<S: Alter>(
+    registry: &mut Registry<S>,
+    requests: &[Request],
+    vid: Vid,
+    keys: &Keys,
+    text: &mut String,
+) -> Option<Vec<Reply>> {
+    let replies = run(registry, requests);
+    if list_numbers(registry, text)
+        && list_petitions(registry, text)
+        && list_orgs(registry, text)
+        && list_vendors(registry, text)
+        && count_reserved(registry, vid, text)
+        && look_up(registry, keys, text)
+    {
+        Some(replies)
+    } else {
+        None
+    }
+}
+
+fn ask_and_close<S: Alter + Drop>(
+    mut registry: Registry<S>,
+    requests: &[Request],
+    vid: Vid,
+    keys: &Keys,
+    text: &mut String,
+) -> Option<Vec<Reply>> {
+    let replies = ask(&mut registry, requests, vid, keys, text);
+    let _conn = registry.close();
+    replies
+}
+
+fn found_and_ask<S: Alter + Drop>(
+    alloc: Global,
+    conn: Connection<S>,
+    founding: &Founding,
+    requests: &[Request],
+    keys: &Keys,
+    text: &mut String,
+) -> Option<Vec<Reply>> {
+    match Registry::found(alloc, conn, founding) {
+        Ok(registry) => ask_and_close(registry, requests, founding.vendor, keys, text),
+        Err((_, _conn)) => None,
+    }
+}
+
+// The same for a new registry in memory.
+fn answers_after(
     alloc: Global,
     founding: &Founding,
     requests: &[Request],
     keys: &Keys,
-) -> Option<String> {
-    let conn = Connection::open_in_memory(alloc).ok()?;
-    let mut registry = Registry::found(alloc, conn, founding).ok()?;
-    let mut text = String::new(alloc);
-    let end = registry.run_from(requests, 0);
-    let all = end.fault.is_none() && look_up(&mut registry, keys, &mut text);
-    let _conn = registry.close();
-    if all { Some(text) } else { None }
+    text: &mut String,
+) -> Option<Vec<Reply>> {
+    match Connection::open_in_memory(alloc) {
+        Ok(conn) => found_and_ask(alloc, conn, founding, requests, keys, text),
+        Err(_) => None,
+    }
 }
 
-const FOUND: &str = "1209:0010 true true
-1209:0011 true false acme true Blinker
-1209:0012 true false acme true New board
-1209:20ff true true
-1209:2100 true false
-1000:0001 true false acme false Lamp
-1000:0002 true false
-cafe:0001 false false
-1 1209 acme Blinker
-2 1000 acme Lamp
-3
-4294967295
-acme Acme Tools, ann
-bolt Bolt, bob
-clock
-";
-
 #[test]
-fn looks_up_one_thing_by_its_key(rt: HostRuntime) -> Result<(), Fail> {
+fn answers_what_it_was_asked_to_do(rt: HostRuntime) -> Result<(), Fail> {
     let alloc = rt.alloc();
+    let founding = founding(alloc)?;
     let requests = requests_of(alloc, STEPS)?;
     let keys = some_keys(alloc)?;
-    let text = found_after(alloc, &founding(alloc)?, requests.as_slice(), &keys).ok_or("no text")?;
-    assert_eq!(rt; text.as_str(), FOUND);
+    let mut text = String::new(alloc);
+    let replies = answers_after(alloc, &founding, requests.as_slice(), &keys, &mut text).ok_or(
+        "no answers",
+    )?;
+    text.push_str(lines_of(alloc, replies.as_slice())?.as_str())?;
+    let replies = replies_to(alloc, STEPS)?;
+    let mut wanted = String::new(alloc);
+    write!(
+        &mut wanted,
+        "{NUMBERS}{PETITIONS}{ORGS}{VENDORS}{RESERVED}\n{FOUND}{replies}"
+    )?;
+    assert_eq!(rt; text.as_str(), wanted.as_str());
+    Ok(())
+}
+
+#[test]
+fn acts_on_one_request(rt: HostRuntime) -> Result<(), Fail> {
+    let alloc = rt.alloc();
+    let founding = founding(alloc)?;
+    let (enrol, _) = ENROL;
+    let request = request(alloc, enrol)?;
+    let conn = Connection::open_in_memory(alloc).expect(&rt, "memory");
+    let found = Registry::found(alloc, conn, &founding);
+    let mut registry = found.ok().expect(&rt, "a registry");
+    let reply = registry.act(&request).expect(&rt, "a reply");
+    let orgs = registry.orgs().expect(&rt, "organisations");
+    let _conn = registry.close();
+    assert!(rt; matches!(&reply, Reply::Done(text) if text.as_str() == "enrolled acme"));
+    assert_eq!(rt; orgs.len(), 1);
     Ok(())
 }

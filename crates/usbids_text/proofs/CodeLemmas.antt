@@ -23,11 +23,11 @@ pub not-true : (b : Bool) → not b ≡ true → b ≡ false
 not-true true e = absurd cc
 not-true false e = refl
 
-count_le : (test : ℕ → Bool) (xs : List ℕ) → position_or_len test xs ≤ length xs
+pub count_le : (test : ℕ → Bool) (xs : List ℕ) → position_or_len test xs ≤ length xs
 count_le test [] = omega arith
 count_le test (b ∷ xs) = let rest = count_le test xs in elim (cases_Bool (test b)) [ inl e ↦ rw e (omega arith) | inr e ↦ rw e (omega arith) ]
 
-before_count : (test : ℕ → Bool) (xs : List ℕ) → before test xs ≡ position_or_len test xs
+pub before_count : (test : ℕ → Bool) (xs : List ℕ) → before test xs ≡ position_or_len test xs
 unfolding before
 before_count test xs = elim (cases_Bool (nat_lt (position_or_len test xs) (length xs))) [
   | inl less ↦ rw less refl

@@ -16,5 +16,7 @@ pub mod LineLemmas
 pub mod WrittenLemmas
 pub mod TextLemmas
 pub mod TagLemmas
+pub mod FourLemmas
+pub mod PlaceLemmas
 pub mod ScanLemmas
 pub mod IntakeLemmas

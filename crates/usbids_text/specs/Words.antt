@@ -1,5 +1,5 @@
 -- The parts of a line: its words, codes, tags and names, as bytes.
-use Rattle.std.specs.Prelude.{ℕ, ◌+◌, ◌*◌, ◌^◌, ◌&&◌, ◌||◌, ◌==◌, nat_le, nat_lt, not, List, [], ◌∷◌, length, take, drop, position, Bool, true, Option, Some, None, option_and_then, is_some, unwrap_or, if◌then◌else◌}
+use Rattle.std.specs.Prelude.{◌≡◌, ◌≤◌, ℕ, ◌+◌, ◌*◌, ◌^◌, ◌&&◌, ◌||◌, ◌==◌, nat_le, nat_lt, not, List, [], ◌∷◌, length, take, drop, position, Bool, true, Option, Some, None, option_and_then, is_some, unwrap_or, if◌then◌else◌}
 use Rattle.std.specs.List.{list_all}
 use Rattle.usbnum_core.specs.Number.{hex_value}
 
@@ -48,6 +48,18 @@ code_in bytes = if nat_le 1 (length bytes) && nat_le (length bytes) 4 then numbe
 -- four hexadecimal digits
 unfoldable pub is_four : List ℕ → Bool
 is_four bytes = length bytes == 4 && is_some (code_in bytes)
+
+-- a word ends before these bytes
+abbrev pub ends_word : List ℕ → Bool
+ends_word [] = true
+ends_word (b ∷ bytes) = is_separator b
+
+-- the first word is four digits of this value, and separators may follow them
+pub record HasFour (bytes : List ℕ) (code : ℕ) : Type 0 where
+  pub long : 4 ≤ length bytes
+  pub digits : length (word bytes) ≡ 4
+  pub value : code_in (word bytes) ≡ Some code
+  pub after : after_word bytes ≡ past_separators (drop 4 bytes)
 
 -- A to Z
 abbrev pub is_upper : ℕ → Bool

@@ -42,21 +42,19 @@ impl Builder {
         }
     }
 
-    // Takes the open top, with the open mid in it.
-    fn close_mid(&mut self) -> Result<Option<Top>, NoMemory>
-        ensures given { IfOk result (λ top. top ≡ whole_top self.old.top self.old.mid) }
-        ensures left { IfOk result (λ _. open_of self.new ≡ none_open self.old.tops) }
+    // Puts the open mid into the open top, in its place: a top has many mids, and is not moved for
+    // each.
+    fn close_mid(&mut self) -> Result<(), NoMemory>
+        ensures { OnOk result (open_of self.new ≡ record { tops = self.old.tops; top = whole_top self.old.top self.old.mid; mid = None }) }
     {
-        let top = self.top.take();
         let mid = self.mid.take();
-        match top {
-            None => Ok(None),
-            Some(mut top) => match mid {
-                None => Ok(Some(top)),
+        match &mut self.top {
+            None => Ok(()),
+            Some(top) => match mid {
+                None => Ok(()),
                 Some(mut mid) => {
                     mid.shrink();
-                    top.push(mid)?;
-                    Ok(Some(top))
+                    top.push(mid)
                 }
             },
         }
@@ -65,7 +63,8 @@ impl Builder {
     fn close_top(&mut self) -> Result<(), NoMemory>
         ensures { OnOk result (open_of self.new ≡ none_open (whole (open_of self.old))) }
     {
-        match self.close_mid()? {
+        self.close_mid()?;
+        match self.top.take() {
             Some(mut top) => {
                 top.shrink();
                 self.tops.push(top)
@@ -89,7 +88,7 @@ impl Builder {
         requires room { IsTrue (has_room_in self.old.top digits) }
         ensures { OnOk result (open_of self.new ≡ put_mid (open_of self.old) code digits name) }
     {
-        self.top = self.close_mid()?;
+        self.close_mid()?;
         self.mid = Some(Mid::new(self.alloc, code, digits, name));
         Ok(())
     }

@@ -1,11 +1,12 @@
 //! The class of a line: an entry, no entry, or a fault.
 ghost use Rattle.std.specs.Prelude.{◌≡◌, ◌≤◌, ℕ, MatchResult, Ok, Err, Option, Some, length};
 ghost use Rattle.usbids_text.specs.Faults.{why_number, why_text};
+ghost use Rattle.usbids_text.specs.Words.{HasFour};
 ghost use Rattle.usbids_text.specs.Lines.{entry_lines, short_enough, below, tagged, top, after_tab, by_tabs, is_comment, class_of, line_of};
 
 use crate::kind::{Depth, Kind};
 use crate::tag::Tag;
-use crate::words::{after_word, code_in, is_four, past_separators, trimmed, word};
+use crate::words::{after_word, code_in, four_at, past_four, past_separators, trimmed, word};
 use std::fmt;
 
 /// The fault of a line.
@@ -67,8 +68,24 @@ fn short_enough(entry: Entry<'_>) -> Result<Option<Entry<'_>>, Why>
     Ok(Some(entry))
 }
 
+// The class of a line whose code has four digits, as most codes have. Inlined, since a call passes
+// the entry through memory.
+#[inline(always)]
+fn with_four(depth: Depth, code: u16, bytes: &[u8]) -> Result<Option<Entry<'_>>, Why>
+    requires { HasFour bytes.now code }
+    ensures { MatchResult result (λ o. below depth bytes.now ≡ Ok (entry_lines o)) (λ e. below depth bytes.now ≡ Err e) }
+{
+    short_enough(Entry {
+        depth,
+        code,
+        digits: 4,
+        name: past_separators(past_four(bytes)),
+    })
+}
+
+#[inline(never)]
 #[tactic(auto, unfolding(crate::specs::Lines::below))]
-fn below(depth: Depth, bytes: &[u8]) -> Result<Option<Entry<'_>>, Why>
+fn with_word(depth: Depth, bytes: &[u8]) -> Result<Option<Entry<'_>>, Why>
     ensures { MatchResult result (λ o. below depth bytes.now ≡ Ok (entry_lines o)) (λ e. below depth bytes.now ≡ Err e) }
 {
     let digits = word(bytes);
@@ -80,6 +97,16 @@ fn below(depth: Depth, bytes: &[u8]) -> Result<Option<Entry<'_>>, Why>
             name: after_word(bytes),
         }),
         None => Err(Why::BadCode),
+    }
+}
+
+#[inline(always)]
+fn below(depth: Depth, bytes: &[u8]) -> Result<Option<Entry<'_>>, Why>
+    ensures { MatchResult result (λ o. below depth bytes.now ≡ Ok (entry_lines o)) (λ e. below depth bytes.now ≡ Err e) }
+{
+    match four_at(bytes) {
+        Some(code) => with_four(depth, code, bytes),
+        None => with_word(depth, bytes),
     }
 }
 
@@ -97,10 +124,9 @@ fn tagged(bytes: &[u8]) -> Result<Option<Entry<'_>>, Why>
 fn top(bytes: &[u8]) -> Result<Option<Entry<'_>>, Why>
     ensures { MatchResult result (λ o. top bytes.now ≡ Ok (entry_lines o)) (λ e. top bytes.now ≡ Err e) }
 {
-    if is_four(word(bytes)) {
-        below(Depth::Zero(Kind::Vendor), bytes)
-    } else {
-        tagged(bytes)
+    match four_at(bytes) {
+        Some(code) => with_four(Depth::Zero(Kind::Vendor), code, bytes),
+        None => tagged(bytes),
     }
 }
 

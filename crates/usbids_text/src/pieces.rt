@@ -3,11 +3,13 @@ ghost use Rattle.std.specs.Prelude.{◌≡◌, ◌+◌, ◌<◌, ◌==◌, lengt
 ghost use Rattle.std.specs.List.{list_all};
 ghost use Rattle.usbids_text.specs.Words.{is_inner};
 
+use memchr::memchr;
+
 fn first_feed(bytes: &[u8]) -> Option<usize>
     ensures value { result ≡ position (λ b. b == 10) bytes.now }
     ensures within { IfSome result (λ i. i < length bytes.now) }
 {
-    bytes.iter().position(|b| *b == b'\n')
+    memchr(b'\n', bytes)
 }
 
 /// Returns the position of the first line feed.

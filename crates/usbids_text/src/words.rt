@@ -1,7 +1,7 @@
 //! The parts of a line.
-ghost use Rattle.std.specs.Prelude.{◌≡◌, ◌≤◌, ◌<◌, IfSome, length, not, position};
+ghost use Rattle.std.specs.Prelude.{◌≡◌, ◌≤◌, ◌<◌, IfSome, is_some, length, drop, not, position};
 ghost use Rattle.usbnum_core.specs.Number.{hex_value};
-ghost use Rattle.usbids_text.specs.Words.{is_separator, is_tail, before, trimmed, word, after_word, past_separators, number_from, code_in, is_four};
+ghost use Rattle.usbids_text.specs.Words.{is_separator, is_tail, before, trimmed, word, after_word, past_separators, number_from, code_in, is_four, ends_word, HasFour};
 
 /// Returns whether the byte is a space or a tab.
 pub fn is_separator(b: u8) -> bool
@@ -135,4 +135,37 @@ pub fn is_four(bytes: &[u8]) -> bool
     ensures { result ≡ is_four bytes.now }
 {
     bytes.len() == 4 && code_in(bytes).is_some()
+}
+
+fn ends_word(bytes: &[u8]) -> bool
+    ensures { result ≡ ends_word bytes.now }
+{
+    match bytes {
+        [] => true,
+        [b, ..] => is_separator(*b),
+    }
+}
+
+/// Returns the bytes after the first four.
+pub fn past_four(bytes: &[u8]) -> &[u8]
+    requires { 4 ≤ length bytes.now }
+    ensures { result.now ≡ drop 4 bytes.now }
+{
+    &bytes[4..]
+}
+
+/// Returns the value of the first word if it is four hexadecimal digits. It looks at no byte after
+/// the fifth.
+#[inline(always)]
+pub fn four_at(bytes: &[u8]) -> Option<u16>
+    ensures is { is_some result ≡ is_four (word bytes.now) }
+    ensures found { IfSome result (HasFour bytes.now) }
+{
+    if bytes.len() < 4 {
+        return None;
+    }
+    if !ends_word(past_four(bytes)) {
+        return None;
+    }
+    number_of(&bytes[..4])
 }

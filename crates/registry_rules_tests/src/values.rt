@@ -1,0 +1,48 @@
+//! Texts and holdings of the rules, and the calls of the laws.
+
+use registry_rules::laws::{
+    has_entry_if_owned, has_four_states, has_one_organisation, has_one_state,
+    has_own_canonical_form, is_kept_for_good, is_legal_from_start, may_be_repeated, stays_legal,
+};
+use registry_rules::{CanonicalForm, Founding, Holdings, ReplyText};
+use row_records::founding_of;
+use row_texts::{RowFault, text_of};
+use std::alloc::Global;
+
+/// Shows the bytes of the copy of a canonical form.
+pub(crate) fn form(alloc: Global, bytes: &[u8]) -> Result<Vec<u8>, RowFault> {
+    let form = CanonicalForm::new(bytes.to_vec(alloc)?);
+    let copy = form.clone()?;
+    Ok(copy.as_bytes().to_vec(alloc)?)
+}
+
+/// Shows the text of the copy of a reply.
+pub(crate) fn reply(alloc: Global, text: &str) -> Result<Vec<u8>, RowFault> {
+    let text = ReplyText::new(String::from_str(alloc, text)?);
+    let copy = text.clone()?;
+    text_of(alloc, copy.as_str())
+}
+
+/// Shows how many holdings an empty list has.
+pub(crate) fn holdings(alloc: Global) -> Result<Vec<u8>, RowFault> {
+    let count = Holdings::new(Vec::new(alloc)).as_slice().len();
+    Ok(format!(in alloc; "{count}")?.into_bytes())
+}
+
+fn cite(founding: &Founding) {
+    is_legal_from_start(founding);
+    stays_legal();
+    may_be_repeated();
+    is_kept_for_good();
+    has_one_organisation();
+    has_one_state();
+    has_four_states();
+    has_own_canonical_form();
+    has_entry_if_owned();
+}
+
+/// Cites each law for a founding file.
+pub(crate) fn laws(alloc: Global, bytes: &[u8]) -> Result<Vec<u8>, RowFault> {
+    cite(&founding_of(alloc, bytes)?);
+    text_of(alloc, "cited")
+}
