@@ -44,8 +44,9 @@ SIDES = re.compile(r"^  left: (.*)\n right: (.*)$", re.MULTILINE)
 NOTHING = {"None", '""'}
 # A disk in memory fails when memory runs out.
 SHORT = re.compile(r"NoMemory|Err\(Store\)")
-# What a row shows that ran out of memory; for a response it may be the response that needs none.
-ROW_ENDS = re.compile(r'out of memory|HTTP/1\.1 503 Service Unavailable.*"name":"NoMemory","refused":31.*')
+# What a row shows that ran out of memory. For a response it may be the response that needs none, behind the failures of its
+# source so far.
+ROW_ENDS = re.compile(r'out of memory|(\d+ )?HTTP/1\.1 503 Service Unavailable.*"name":"NoMemory","refused":31.*')
 
 
 def says_so(errors):
