@@ -39,5 +39,5 @@ bench:
 	bench/look_up.py
 	bench/registry.py
 	bench/serve.py
-	bench/page_sizes.py
 	bench/open_older.py
+	bench/page_sizes.py

@@ -7,7 +7,7 @@ asked, which SQLite makes: the size of the file, and the processor seconds and t
 census`), of `export`, and of `GET /list` on a server, best of three runs. All files are on tmpfs (/dev/shm).
 
 Usage: bench/page_sizes.py [PETITIONS], by default 1,000,000. Needs cc and the program that `make` builds, or the one whose
-path is in USBREG. The exit status is 0 if 1,500 requests on a store as `usbreg found` makes it take at most 0.75 of the
+path is in USBREG. The exit status is 0 if 1,500 requests on a store as `usbreg found` makes it take at most 0.65 of the
 instructions on one with pages of 4,096 bytes and without sums."""
 
 import os
@@ -27,7 +27,7 @@ from open_older import COUNTED, ENTRIES, NEWEST, PETITIONS, ROWS
 RUNS = int(os.environ.get("TIMES", "3"))
 NEW, OLD = (PAGE_SIZE, SUM_SIZE), (4096, 0)
 FORMS = ((512, SUM_SIZE), NEW, (2048, SUM_SIZE), (4096, SUM_SIZE), OLD)
-MOST = 0.75
+MOST = 0.65
 
 
 def instructions(words):
