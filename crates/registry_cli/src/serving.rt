@@ -8,9 +8,11 @@ use crate::files::open_registry;
 use byte_streams::{Broken, Inlet, Outlet, Sink};
 use registry_commands::{close_store, fail, failure_of};
 use registry_desk::{Connections, ServerStop, serve_all};
+use std::alloc::Global;
 use std::io;
-use std::io::{ErrorKind, IsTerminal, Read};
+use std::io::{ErrorKind, IsTerminal, Read, Write};
 use std::net::{Ipv4Addr, Shutdown, TcpListener, TcpStream};
+use std::rc::Rc;
 use std::time::{Duration, Instant};
 
 /// The seconds that a peer may take for each read of its message, and each write of its response.
@@ -29,15 +31,36 @@ struct Accepted<'a> {
     listener: &'a TcpListener,
 }
 
-/// Returns a reader and a writer of a stream, with time limits, and without a delay of small
-/// writes.
-fn ends_of(stream: TcpStream) -> io::Result<(Inlet<TcpStream>, Outlet<TcpStream>)> {
+/// One of the two ends of a stream.
+#[derive(Drop)]
+struct End(Rc<TcpStream>);
+
+impl Read for End {
+    fn read(&mut self, buf: &mut [u8]) -> io::Result<usize> {
+        let mut stream = self.0.as_ref();
+        stream.read(buf)
+    }
+}
+
+impl Write for End {
+    fn write(&mut self, buf: &[u8]) -> io::Result<usize> {
+        let mut stream = self.0.as_ref();
+        stream.write(buf)
+    }
+
+    fn flush(&mut self) -> io::Result<()> {
+        Ok(())
+    }
+}
+
+/// Returns a reader and a writer of a stream, with time limits.
+fn ends_of(alloc: Global, stream: TcpStream) -> io::Result<(Inlet<End>, Outlet<End>)> {
     let time = Some(Duration::from_secs(PEER_SECONDS));
     stream.set_read_timeout(time)?;
     stream.set_write_timeout(time)?;
-    stream.set_nodelay(true)?;
-    let writer = stream.try_clone()?;
-    Ok((Inlet::new(stream), Outlet::new(writer)))
+    let stream = Rc::new(alloc, stream)?;
+    let other = stream.clone()?;
+    Ok((Inlet::new(End(stream)), Outlet::new(End(other))))
 }
 
 /// Returns whether the peer gave up a connection before it was accepted.
@@ -83,9 +106,9 @@ fn read_rest(rt: &HostRuntime, mut stream: &TcpStream) -> io::Result<()> {
 }
 
 impl Connections for Accepted<'_> {
-    type Reader = Inlet<TcpStream>;
+    type Reader = Inlet<End>;
 
-    type Writer = Outlet<TcpStream>;
+    type Writer = Outlet<End>;
 
     ghost opens = { λ _ _ _ _. ⊤ };
 
@@ -93,11 +116,11 @@ impl Connections for Accepted<'_> {
 
     ghost fails = { λ _ _. ⊤ };
 
-    fn open(&mut self) -> Result<(Inlet<TcpStream>, Outlet<TcpStream>), Broken> {
+    fn open(&mut self) -> Result<(Inlet<End>, Outlet<End>), Broken> {
         for accepted in self.listener.incoming() {
             match accepted {
                 Ok(stream) => {
-                    if let Ok(ends) = ends_of(stream) {
+                    if let Ok(ends) = ends_of(self.rt.alloc(), stream) {
                         return Ok(ends);
                     }
                 }
@@ -111,12 +134,13 @@ impl Connections for Accepted<'_> {
         Err(Broken)
     }
 
-    fn close(&mut self, reader: Inlet<TcpStream>, _writer: Outlet<TcpStream>, status: Option<u16>) {
-        let stream = reader.into_inner();
+    fn close(&mut self, reader: Inlet<End>, _writer: Outlet<End>, status: Option<u16>) {
+        let End(stream) = reader.into_inner();
+        let stream = stream.as_ref();
         if let Some(status) = status {
             // A message with status 200 was read to its end, so its peer has no more to send.
-            if status != 200 || has_more(&stream) {
-                let _ = read_rest(self.rt, &stream);
+            if status != 200 || has_more(stream) {
+                let _ = read_rest(self.rt, stream);
             }
         }
     }

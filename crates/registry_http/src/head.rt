@@ -15,6 +15,9 @@ use httparse::spans::{HeaderSpan, RequestSpans, parse_request};
 use std::error::Error;
 use std::fmt;
 
+/// The limit in bytes of a head.
+const MOST_HEAD: usize = 8_192;
+
 /// The result of reading a head.
 #[derive(Clone, Copy, Debug)]
 pub(crate) enum HeadEnd {
@@ -89,8 +92,8 @@ pub(crate) fn read_head<R: Source>(
     ensures short { result ≡ Err InputFault.NoMemory → R.failures source.new ≡ R.failures source.old }
     ensures broken { result ≡ Err InputFault.Broken → HasFailed (R.failures source.old) (R.failures source.new) }
 {
-    while buffer.len() < 8192 {
-        let count = take_more(source, buffer, 8192 - buffer.len())?;
+    while buffer.len() < MOST_HEAD {
+        let count = take_more(source, buffer, MOST_HEAD - buffer.len())?;
         if count == 0 {
             return Ok(HeadEnd::Missing);
         }

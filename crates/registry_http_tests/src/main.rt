@@ -7,7 +7,7 @@ mod messages;
 mod resources;
 mod responses;
 
-use row_texts::{RowFault, bytes_of, shown};
+use row_texts::{Kinds, RowFault, bytes_of, show_rows};
 use std::alloc::Global;
 use std::io;
 
@@ -17,16 +17,6 @@ fn of_bytes(alloc: Global, kind: &str, bytes: &[u8]) -> Result<Vec<u8>, RowFault
         "drip" => messages::dripped(alloc, bytes),
         "sent" => responses::sent(alloc, bytes),
         _ => Err(RowFault::BadRow),
-    }
-}
-
-fn of_text(alloc: Global, kind: &str, text: &str) -> Result<Vec<u8>, RowFault> {
-    match kind {
-        "brim" => responses::brimmed(alloc),
-        "did" => responses::did(alloc, text),
-        "refuses" => responses::refuses(alloc, text),
-        "unavailable" => responses::unavailable(alloc, text),
-        _ => of_resources(alloc, kind, text),
     }
 }
 
@@ -44,25 +34,20 @@ fn of_resources(alloc: Global, kind: &str, text: &str) -> Result<Vec<u8>, RowFau
     }
 }
 
-// Returns what is shown for a line. One that begins with a number sign is shown as it is.
-fn row(alloc: Global, line: &str) -> Result<String, RowFault> {
-    let Some((kind, text)) = line.split_once(' ') else {
-        return Err(RowFault::BadRow);
-    };
-    if kind == "#" {
-        return Ok(String::from_str(alloc, line)?);
+struct Rows;
+
+impl Kinds for Rows {
+    fn result_of(alloc: Global, kind: &str, text: &str) -> Result<Vec<u8>, RowFault> {
+        match kind {
+            "brim" => responses::brimmed(alloc),
+            "did" => responses::did(alloc, text),
+            "refuses" => responses::refuses(alloc, text),
+            "unavailable" => responses::unavailable(alloc, text),
+            _ => of_resources(alloc, kind, text),
+        }
     }
-    let found = of_text(alloc, kind, text)?;
-    Ok(shown(alloc, &found)?)
 }
 
 fn main(rt: HostRuntime) -> io::Result<()> {
-    for line in rt.lines(rt.alloc()) {
-        let line = line?;
-        match row(rt.alloc(), &line) {
-            Ok(text) => println!(rt; "{text}")?,
-            Err(fault) => println!(rt; "{}", fault.name())?,
-        }
-    }
-    Ok(())
+    show_rows::<Rows>(&rt)
 }

@@ -4,39 +4,24 @@
 
 mod reports;
 
-use row_texts::{RowFault, shown};
+use row_texts::{Kinds, RowFault, show_rows};
 use std::alloc::Global;
 use std::io;
 
-fn of_text(alloc: Global, kind: &str, text: &str) -> Result<Vec<u8>, RowFault> {
-    match kind {
-        "list" => reports::list(alloc, text),
-        "census" => reports::numbers(alloc, text),
-        "holders" => reports::owners(alloc, text),
-        "petitions" => reports::petitions(alloc, text),
-        _ => Err(RowFault::BadRow),
-    }
-}
+struct Rows;
 
-// Returns what is shown for a line. One that begins with a number sign is shown as it is.
-fn row(alloc: Global, line: &str) -> Result<String, RowFault> {
-    let Some((kind, text)) = line.split_once(' ') else {
-        return Err(RowFault::BadRow);
-    };
-    if kind == "#" {
-        return Ok(String::from_str(alloc, line)?);
+impl Kinds for Rows {
+    fn result_of(alloc: Global, kind: &str, text: &str) -> Result<Vec<u8>, RowFault> {
+        match kind {
+            "list" => reports::list(alloc, text),
+            "census" => reports::numbers(alloc, text),
+            "holders" => reports::owners(alloc, text),
+            "petitions" => reports::petitions(alloc, text),
+            _ => Err(RowFault::BadRow),
+        }
     }
-    let found = of_text(alloc, kind, text)?;
-    Ok(shown(alloc, &found)?)
 }
 
 fn main(rt: HostRuntime) -> io::Result<()> {
-    for line in rt.lines(rt.alloc()) {
-        let line = line?;
-        match row(rt.alloc(), &line) {
-            Ok(text) => println!(rt; "{text}")?,
-            Err(fault) => println!(rt; "{}", fault.name())?,
-        }
-    }
-    Ok(())
+    show_rows::<Rows>(&rt)
 }

@@ -5,7 +5,7 @@
 mod files;
 mod refusals;
 
-use row_texts::{RowFault, bytes_of, shown};
+use row_texts::{Kinds, RowFault, bytes_of, show_rows};
 use std::alloc::Global;
 use std::io;
 
@@ -18,41 +18,26 @@ fn of_bytes(alloc: Global, kind: &str, bytes: &[u8]) -> Result<Vec<u8>, RowFault
     }
 }
 
-fn of_text(alloc: Global, kind: &str, text: &str) -> Result<Vec<u8>, RowFault> {
-    match kind {
-        "import" => files::import(alloc, text),
-        "done" => refusals::done(alloc, text),
-        "refused" => refusals::refused(alloc, text),
-        "owned" => refusals::owned(alloc, text),
-        "near" => refusals::range_owned(alloc, text, false),
-        "far" => refusals::range_owned(alloc, text, true),
-        "wire" => refusals::by_the_wire(alloc, text),
-        _ => {
-            let bytes = bytes_of(alloc, text)?;
-            of_bytes(alloc, kind, &bytes)
+struct Rows;
+
+impl Kinds for Rows {
+    fn result_of(alloc: Global, kind: &str, text: &str) -> Result<Vec<u8>, RowFault> {
+        match kind {
+            "import" => files::import(alloc, text),
+            "done" => refusals::done(alloc, text),
+            "refused" => refusals::refused(alloc, text),
+            "owned" => refusals::owned(alloc, text),
+            "near" => refusals::range_owned(alloc, text, false),
+            "far" => refusals::range_owned(alloc, text, true),
+            "wire" => refusals::by_the_wire(alloc, text),
+            _ => {
+                let bytes = bytes_of(alloc, text)?;
+                of_bytes(alloc, kind, &bytes)
+            }
         }
     }
-}
-
-// Returns what is shown for a line. One that begins with a number sign is shown as it is.
-fn row(alloc: Global, line: &str) -> Result<String, RowFault> {
-    let Some((kind, text)) = line.split_once(' ') else {
-        return Err(RowFault::BadRow);
-    };
-    if kind == "#" {
-        return Ok(String::from_str(alloc, line)?);
-    }
-    let found = of_text(alloc, kind, text)?;
-    Ok(shown(alloc, &found)?)
 }
 
 fn main(rt: HostRuntime) -> io::Result<()> {
-    for line in rt.lines(rt.alloc()) {
-        let line = line?;
-        match row(rt.alloc(), &line) {
-            Ok(text) => println!(rt; "{text}")?,
-            Err(fault) => println!(rt; "{}", fault.name())?,
-        }
-    }
-    Ok(())
+    show_rows::<Rows>(&rt)
 }

@@ -3,8 +3,10 @@
 
 mod fault;
 mod reading;
+mod rows;
 mod showing;
 
 pub use fault::RowFault;
 pub use reading::{bytes_of, cut, number_of};
+pub use rows::{Kinds, show_rows};
 pub use showing::{shown, text_of};

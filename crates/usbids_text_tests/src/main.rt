@@ -9,7 +9,7 @@ mod sets;
 mod streams;
 mod writing;
 
-use row_texts::{RowFault, bytes_of, shown};
+use row_texts::{Kinds, RowFault, bytes_of, show_rows};
 use std::alloc::Global;
 use std::io;
 
@@ -43,22 +43,6 @@ fn of_bytes(alloc: Global, kind: &str, text: &str) -> Result<Vec<u8>, RowFault> 
     of_numbers(alloc, kind, &bytes)
 }
 
-fn of_fields(alloc: Global, kind: &str, text: &str) -> Result<Vec<u8>, RowFault> {
-    match kind {
-        "number" => numbers::number(alloc, text),
-        "span" => numbers::span(alloc, text),
-        "order" => numbers::order(alloc, text),
-        "slugs" => numbers::slugs(alloc, text),
-        "set" => sets::set(alloc, text),
-        "flags" => sets::flags(alloc, text),
-        "find" => lists::found(alloc, text),
-        "scan" => lists::scanned(alloc, text),
-        "feed" => lists::fed(alloc, text),
-        "build" => documents::built(alloc, text),
-        _ => of_more_fields(alloc, kind, text),
-    }
-}
-
 fn of_more_fields(alloc: Global, kind: &str, text: &str) -> Result<Vec<u8>, RowFault> {
     match kind {
         "stamp" => writing::stamp(alloc, text),
@@ -69,25 +53,26 @@ fn of_more_fields(alloc: Global, kind: &str, text: &str) -> Result<Vec<u8>, RowF
     }
 }
 
-// Returns what is shown for a line. One that begins with a number sign is shown as it is.
-fn row(alloc: Global, line: &str) -> Result<String, RowFault> {
-    let Some((kind, text)) = line.split_once(' ') else {
-        return Err(RowFault::BadRow);
-    };
-    if kind == "#" {
-        return Ok(String::from_str(alloc, line)?);
+struct Rows;
+
+impl Kinds for Rows {
+    fn result_of(alloc: Global, kind: &str, text: &str) -> Result<Vec<u8>, RowFault> {
+        match kind {
+            "number" => numbers::number(alloc, text),
+            "span" => numbers::span(alloc, text),
+            "order" => numbers::order(alloc, text),
+            "slugs" => numbers::slugs(alloc, text),
+            "set" => sets::set(alloc, text),
+            "flags" => sets::flags(alloc, text),
+            "find" => lists::found(alloc, text),
+            "scan" => lists::scanned(alloc, text),
+            "feed" => lists::fed(alloc, text),
+            "build" => documents::built(alloc, text),
+            _ => of_more_fields(alloc, kind, text),
+        }
     }
-    let found = of_fields(alloc, kind, text)?;
-    Ok(shown(alloc, &found)?)
 }
 
 fn main(rt: HostRuntime) -> io::Result<()> {
-    for line in rt.lines(rt.alloc()) {
-        let line = line?;
-        match row(rt.alloc(), &line) {
-            Ok(text) => println!(rt; "{text}")?,
-            Err(fault) => println!(rt; "{}", fault.name())?,
-        }
-    }
-    Ok(())
+    show_rows::<Rows>(&rt)
 }
