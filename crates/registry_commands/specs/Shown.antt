@@ -1,7 +1,7 @@
 -- What a command shows of a registry without changing it.
 use Rattle.std.specs.Prelude.{◌≡◌, ◌⊎◌, ⊤, ℕ, true, List, Option}
 use Rattle.sqlite.specs.Store.{Ghosts}
-use Rattle.sqlite.specs.State.{HasCleanDisk, Survives}
+use Rattle.sqlite.specs.State.{HasCleanDisk}
 use Rattle.usbids_text.specs.Documents.{IsTextOf}
 use Rattle.usbids_text.specs.Entries.{TopEntry}
 use Rattle.usbids_text.specs.Moments.{Moment}
@@ -10,18 +10,13 @@ use Rattle.registry_rules.specs.History.{History}
 use Rattle.registry_reports.specs.History.{IsListing}
 use Rattle.registry_store.specs.declared.registry.Registry.{Registry}
 use Rattle.registry_store.specs.Promise.{Represents, is_poisoned, state_of}
+pub use Rattle.registry_store.specs.Queries.{IsLeft}
 use Rattle.registry_commands.specs.declared.messages.Failure.{Failure}
 use Rattle.registry_commands.specs.declared.messages.Failure.TheVariants.{Store, Memory, Foreign, Taken, Poisoned, File}
 use Rattle.registry_commands.specs.Failures.{PrintsFailure, ErrorOutput}
 use Rattle.registry_commands.specs.Printed.{IsPrinted, IsUnprinted}
 
 module _ {S : Type 0} {g : Ghosts S} where
-  -- the registry still represents each history that it represented, and nothing was committed
-  pub record IsLeft (it new : Registry S g) : Type 0 where
-    pub stays : (h : History) → Represents it h → Represents new h
-    pub poisons_nothing : is_poisoned new ≡ is_poisoned it
-    pub survives : Survives (state_of it) (state_of new) (λ _. ⊥)
-
   -- The failures of reading a registry. Poisoned: it was poisoned before. Foreign: it represented no history, or the disk is
   -- not clean. Never Taken, and never File, since nothing is written yet.
   abbrev pub IsOfReading : Registry S g → Registry S g → Failure → Type 0

@@ -6,7 +6,7 @@ ghost use Rattle.sqlite.specs.Held.{state};
 ghost use Rattle.table_laws.specs.Inside.{CommitsNothing, GoesOn};
 ghost use Rattle.registry_rows.specs.Tables.{Tables};
 ghost use Rattle.registry_old_rows.specs.Between.{HoldsBoth};
-ghost use Rattle.registry_old_rows.specs.Steps.{Moves};
+ghost use Rattle.registry_old_rows.specs.Steps.{Moves, Writes};
 
 use registry_schema::TableFault;
 use sqlite::{Alter, Transaction, params};
@@ -14,11 +14,7 @@ use usbnum_core::Vid;
 
 /// Copies the spans of the second schema's table into that of the third, with this vendor.
 pub fn copy_spans<S: Alter>(tx: &mut Transaction<'_, S>, vid: Vid) -> Result<(), TableFault>
-    ensures same_reference { tx.new.conn.ghost_name ≡ tx.old.conn.ghost_name }
-    ensures copied { HasCleanDisk (state S.Store tx.new.conn.now) → IsTrue (state S.Store tx.old.conn.now).in_transaction
-        → OnOk result (Moves vid (λ o t. o) (λ o t. record t { spans = t.spans ++ o.spans }) (state S.Store tx.old.conn.now) (state S.Store tx.new.conn.now)) }
-    ensures fault { result ≢ Err TableFault.Foreign }
-    ensures survives { CommitsNothing (state S.Store tx.old.conn.now) (state S.Store tx.new.conn.now) }
+    ensures writes { Writes S.Store tx.old.conn tx.new.conn result (Moves vid (λ o t. o) (λ o t. record t { spans = t.spans ++ o.spans })) }
 {
     tx.execute(
         "INSERT INTO spans3 (vid, lo, hi) SELECT ?1, lo, hi FROM spans ORDER BY lo",
@@ -29,11 +25,7 @@ pub fn copy_spans<S: Alter>(tx: &mut Transaction<'_, S>, vid: Vid) -> Result<(),
 
 /// Copies the entries of the second schema's table into that of the third, with this vendor.
 pub fn copy_entries<S: Alter>(tx: &mut Transaction<'_, S>, vid: Vid) -> Result<(), TableFault>
-    ensures same_reference { tx.new.conn.ghost_name ≡ tx.old.conn.ghost_name }
-    ensures copied { HasCleanDisk (state S.Store tx.new.conn.now) → IsTrue (state S.Store tx.old.conn.now).in_transaction
-        → OnOk result (Moves vid (λ o t. o) (λ o t. record t { entries = t.entries ++ o.entries }) (state S.Store tx.old.conn.now) (state S.Store tx.new.conn.now)) }
-    ensures fault { result ≢ Err TableFault.Foreign }
-    ensures survives { CommitsNothing (state S.Store tx.old.conn.now) (state S.Store tx.new.conn.now) }
+    ensures writes { Writes S.Store tx.old.conn tx.new.conn result (Moves vid (λ o t. o) (λ o t. record t { entries = t.entries ++ o.entries })) }
 {
     tx.execute(
         "INSERT INTO entries3 (vid, pid, org, held, title, licence, site, source) SELECT ?1, pid, org, held, title, licence, site, source FROM entries ORDER BY pid",
@@ -44,11 +36,7 @@ pub fn copy_entries<S: Alter>(tx: &mut Transaction<'_, S>, vid: Vid) -> Result<(
 
 /// Copies the petitions of the second schema's table into that of the third, with this vendor.
 pub fn copy_petitions<S: Alter>(tx: &mut Transaction<'_, S>, vid: Vid) -> Result<(), TableFault>
-    ensures same_reference { tx.new.conn.ghost_name ≡ tx.old.conn.ghost_name }
-    ensures copied { HasCleanDisk (state S.Store tx.new.conn.now) → IsTrue (state S.Store tx.old.conn.now).in_transaction → OnOk result (GoesOn (state S.Store tx.old.conn.now) (state S.Store tx.new.conn.now)
-        × ((o t : Tables) → HoldsBoth vid (state S.Store tx.old.conn.now).now o t → t.petitions ≡ [] → HoldsBoth vid (state S.Store tx.new.conn.now).now o (record t { petitions = o.petitions }))) }
-    ensures fault { result ≢ Err TableFault.Foreign }
-    ensures survives { CommitsNothing (state S.Store tx.old.conn.now) (state S.Store tx.new.conn.now) }
+    ensures writes { Writes S.Store tx.old.conn tx.new.conn result (λ old new. GoesOn old new × ((o t : Tables) → HoldsBoth vid old.now o t → t.petitions ≡ [] → HoldsBoth vid new.now o (record t { petitions = o.petitions }))) }
 {
     tx.execute(
         "INSERT INTO petitions3 (id, vid, org, want, title, licence, site, source, state, pid) SELECT id, ?1, org, want, title, licence, site, source, state, pid FROM petitions ORDER BY id",
@@ -59,11 +47,7 @@ pub fn copy_petitions<S: Alter>(tx: &mut Transaction<'_, S>, vid: Vid) -> Result
 
 /// Empties the second schema's table of spans.
 pub fn empty_spans<S: Alter>(tx: &mut Transaction<'_, S>) -> Result<(), TableFault>
-    ensures same_reference { tx.new.conn.ghost_name ≡ tx.old.conn.ghost_name }
-    ensures emptied { (vid : ℕ) → HasCleanDisk (state S.Store tx.new.conn.now) → IsTrue (state S.Store tx.old.conn.now).in_transaction
-        → OnOk result (Moves vid (λ o t. record o { spans = [] }) (λ o t. t) (state S.Store tx.old.conn.now) (state S.Store tx.new.conn.now)) }
-    ensures fault { result ≢ Err TableFault.Foreign }
-    ensures survives { CommitsNothing (state S.Store tx.old.conn.now) (state S.Store tx.new.conn.now) }
+    ensures writes { Writes S.Store tx.old.conn tx.new.conn result (λ old new. (vid : ℕ) → Moves vid (λ o t. record o { spans = [] }) (λ o t. t) old new) }
 {
     tx.execute("DELETE FROM spans", &[])?;
     Ok(())
@@ -71,11 +55,7 @@ pub fn empty_spans<S: Alter>(tx: &mut Transaction<'_, S>) -> Result<(), TableFau
 
 /// Empties the second schema's table of entries.
 pub fn empty_entries<S: Alter>(tx: &mut Transaction<'_, S>) -> Result<(), TableFault>
-    ensures same_reference { tx.new.conn.ghost_name ≡ tx.old.conn.ghost_name }
-    ensures emptied { (vid : ℕ) → HasCleanDisk (state S.Store tx.new.conn.now) → IsTrue (state S.Store tx.old.conn.now).in_transaction
-        → OnOk result (Moves vid (λ o t. record o { entries = [] }) (λ o t. t) (state S.Store tx.old.conn.now) (state S.Store tx.new.conn.now)) }
-    ensures fault { result ≢ Err TableFault.Foreign }
-    ensures survives { CommitsNothing (state S.Store tx.old.conn.now) (state S.Store tx.new.conn.now) }
+    ensures writes { Writes S.Store tx.old.conn tx.new.conn result (λ old new. (vid : ℕ) → Moves vid (λ o t. record o { entries = [] }) (λ o t. t) old new) }
 {
     tx.execute("DELETE FROM entries", &[])?;
     Ok(())
@@ -83,11 +63,7 @@ pub fn empty_entries<S: Alter>(tx: &mut Transaction<'_, S>) -> Result<(), TableF
 
 /// Empties the second schema's table of petitions.
 pub fn empty_petitions<S: Alter>(tx: &mut Transaction<'_, S>) -> Result<(), TableFault>
-    ensures same_reference { tx.new.conn.ghost_name ≡ tx.old.conn.ghost_name }
-    ensures emptied { (vid : ℕ) → HasCleanDisk (state S.Store tx.new.conn.now) → IsTrue (state S.Store tx.old.conn.now).in_transaction
-        → OnOk result (Moves vid (λ o t. record o { petitions = [] }) (λ o t. t) (state S.Store tx.old.conn.now) (state S.Store tx.new.conn.now)) }
-    ensures fault { result ≢ Err TableFault.Foreign }
-    ensures survives { CommitsNothing (state S.Store tx.old.conn.now) (state S.Store tx.new.conn.now) }
+    ensures writes { Writes S.Store tx.old.conn tx.new.conn result (λ old new. (vid : ℕ) → Moves vid (λ o t. record o { petitions = [] }) (λ o t. t) old new) }
 {
     tx.execute("DELETE FROM petitions", &[])?;
     Ok(())

@@ -11,7 +11,7 @@ ghost use Rattle.registry_rows.specs.Rows.{meta_key, meta_shown};
 ghost use Rattle.registry_rows.specs.Tables.{Tables};
 ghost use Rattle.registry_old_rows.specs.Old.{number_shown, old_span_key};
 ghost use Rattle.registry_old_rows.specs.Between.{HoldsSecond};
-ghost use Rattle.registry_old_rows.specs.Steps.{Turns, IsHeld};
+ghost use Rattle.registry_old_rows.specs.Steps.{Rewrites, IsHeld, Writes, Reads};
 ghost use Rattle.registry_rows.specs.Steps.{AnswersOf};
 
 use registry_rows::{FromRow, Meta, all_from, pid_at};
@@ -21,11 +21,8 @@ use std::alloc::Global;
 use usbnum_core::{Pid, Span, Title, Vid};
 
 fn meta_rows<S: Alter>(tx: &mut Transaction<'_, S>) -> Result<Vec<Row>, TableFault>
-    ensures same_reference { tx.new.conn.ghost_name ≡ tx.old.conn.ghost_name }
-    ensures rows { HasCleanDisk (state S.Store tx.new.conn.now) → IsTrue (state S.Store tx.old.conn.now).in_transaction
-        → AnswersOf (state S.Store tx.old.conn.now) (state S.Store tx.new.conn.now) (IsHeld (state S.Store tx.old.conn.now).now) result (λ x rows. rows.items ≡ map meta_shown x.tables.metas) }
+    ensures reads { Reads S.Store tx.old.conn tx.new.conn result IsHeld (λ x rows. rows.items ≡ map meta_shown x.tables.metas) }
     ensures fault { result ≢ Err TableFault.Foreign }
-    ensures survives { CommitsNothing (state S.Store tx.old.conn.now) (state S.Store tx.new.conn.now) }
 {
     Ok(tx.query_all("SELECT version, vendor, name FROM meta ORDER BY id", &[])?)
 }
@@ -35,10 +32,7 @@ pub fn list_old_metas<S: Alter>(
     alloc: Global,
     tx: &mut Transaction<'_, S>,
 ) -> Result<Vec<Meta>, TableFault>
-    ensures same_reference { tx.new.conn.ghost_name ≡ tx.old.conn.ghost_name }
-    ensures listed { HasCleanDisk (state S.Store tx.new.conn.now) → IsTrue (state S.Store tx.old.conn.now).in_transaction
-        → AnswersOf (state S.Store tx.old.conn.now) (state S.Store tx.new.conn.now) (IsHeld (state S.Store tx.old.conn.now).now) result (λ x all. all.items ≡ x.tables.metas) }
-    ensures survives { CommitsNothing (state S.Store tx.old.conn.now) (state S.Store tx.new.conn.now) }
+    ensures reads { Reads S.Store tx.old.conn tx.new.conn result IsHeld (λ x all. all.items ≡ x.tables.metas) }
 {
     let rows = meta_rows(tx)?;
     all_from(alloc, &rows)
@@ -51,11 +45,7 @@ pub fn put_old_meta<S: Alter>(
     vendor: Vid,
     name: &Title,
 ) -> Result<(), TableFault>
-    ensures same_reference { tx.new.conn.ghost_name ≡ tx.old.conn.ghost_name }
-    ensures put { (vid : ℕ) → HasCleanDisk (state S.Store tx.new.conn.now) → IsTrue (state S.Store tx.old.conn.now).in_transaction
-        → OnOk result (Turns vid (λ t. record t { metas = insert_by meta_key t.metas (record { version = version; vendor = vendor; name = name.now }) }) (λ numbers. numbers) (state S.Store tx.old.conn.now) (state S.Store tx.new.conn.now)) }
-    ensures fault { result ≢ Err TableFault.Foreign }
-    ensures survives { CommitsNothing (state S.Store tx.old.conn.now) (state S.Store tx.new.conn.now) }
+    ensures writes { Writes S.Store tx.old.conn tx.new.conn result (λ old new. (vid : ℕ) → Rewrites vid (λ t. record t { metas = insert_by meta_key t.metas (record { version = version; vendor = vendor; name = name.now }) }) (λ numbers. numbers) old new) }
 {
     tx.execute(
         "INSERT OR REPLACE INTO meta (id, version, vendor, name) VALUES (1, ?1, ?2, ?3)",
@@ -87,11 +77,8 @@ impl FromRow for Reserved {
 }
 
 fn reserved_rows<S: Alter>(tx: &mut Transaction<'_, S>) -> Result<Vec<Row>, TableFault>
-    ensures same_reference { tx.new.conn.ghost_name ≡ tx.old.conn.ghost_name }
-    ensures rows { HasCleanDisk (state S.Store tx.new.conn.now) → IsTrue (state S.Store tx.old.conn.now).in_transaction
-        → AnswersOf (state S.Store tx.old.conn.now) (state S.Store tx.new.conn.now) (IsHeld (state S.Store tx.old.conn.now).now) result (λ x rows. rows.items ≡ map number_shown x.numbers) }
+    ensures reads { Reads S.Store tx.old.conn tx.new.conn result IsHeld (λ x rows. rows.items ≡ map number_shown x.numbers) }
     ensures fault { result ≢ Err TableFault.Foreign }
-    ensures survives { CommitsNothing (state S.Store tx.old.conn.now) (state S.Store tx.new.conn.now) }
 {
     Ok(tx.query_all("SELECT pid FROM reserved ORDER BY pid", &[])?)
 }
@@ -101,10 +88,7 @@ pub fn list_reserved<S: Alter>(
     alloc: Global,
     tx: &mut Transaction<'_, S>,
 ) -> Result<Vec<Reserved>, TableFault>
-    ensures same_reference { tx.new.conn.ghost_name ≡ tx.old.conn.ghost_name }
-    ensures listed { HasCleanDisk (state S.Store tx.new.conn.now) → IsTrue (state S.Store tx.old.conn.now).in_transaction
-        → AnswersOf (state S.Store tx.old.conn.now) (state S.Store tx.new.conn.now) (IsHeld (state S.Store tx.old.conn.now).now) result (λ x all. map (λ one. one.pid) all.items ≡ x.numbers) }
-    ensures survives { CommitsNothing (state S.Store tx.old.conn.now) (state S.Store tx.new.conn.now) }
+    ensures reads { Reads S.Store tx.old.conn tx.new.conn result IsHeld (λ x all. map (λ one. one.pid) all.items ≡ x.numbers) }
 {
     let rows = reserved_rows(tx)?;
     all_from(alloc, &rows)
@@ -112,10 +96,7 @@ pub fn list_reserved<S: Alter>(
 
 /// Empties the table `reserved`.
 pub fn empty_reserved<S: Alter>(tx: &mut Transaction<'_, S>) -> Result<(), TableFault>
-    ensures same_reference { tx.new.conn.ghost_name ≡ tx.old.conn.ghost_name }
-    ensures emptied { (vid : ℕ) → HasCleanDisk (state S.Store tx.new.conn.now) → IsTrue (state S.Store tx.old.conn.now).in_transaction → OnOk result (Turns vid (λ t. t) (λ numbers. []) (state S.Store tx.old.conn.now) (state S.Store tx.new.conn.now)) }
-    ensures fault { result ≢ Err TableFault.Foreign }
-    ensures survives { CommitsNothing (state S.Store tx.old.conn.now) (state S.Store tx.new.conn.now) }
+    ensures writes { Writes S.Store tx.old.conn tx.new.conn result (λ old new. (vid : ℕ) → Rewrites vid (λ t. t) (λ numbers. []) old new) }
 {
     tx.execute("DELETE FROM reserved", &[])?;
     Ok(())
@@ -123,11 +104,7 @@ pub fn empty_reserved<S: Alter>(tx: &mut Transaction<'_, S>) -> Result<(), Table
 
 /// Inserts a span of reserved numbers.
 pub fn put_old_span<S: Alter>(tx: &mut Transaction<'_, S>, span: Span) -> Result<(), TableFault>
-    ensures same_reference { tx.new.conn.ghost_name ≡ tx.old.conn.ghost_name }
-    ensures put { (vid : ℕ) → IsId vid → HasCleanDisk (state S.Store tx.new.conn.now) → IsTrue (state S.Store tx.old.conn.now).in_transaction
-        → OnOk result (Turns vid (λ t. record t { spans = insert_by old_span_key t.spans (vid, span) }) (λ numbers. numbers) (state S.Store tx.old.conn.now) (state S.Store tx.new.conn.now)) }
-    ensures fault { result ≢ Err TableFault.Foreign }
-    ensures survives { CommitsNothing (state S.Store tx.old.conn.now) (state S.Store tx.new.conn.now) }
+    ensures writes { Writes S.Store tx.old.conn tx.new.conn result (λ old new. (vid : ℕ) → IsId vid → Rewrites vid (λ t. record t { spans = insert_by old_span_key t.spans (vid, span) }) (λ numbers. numbers) old new) }
 {
     tx.execute(
         "INSERT OR REPLACE INTO spans (lo, hi) VALUES (?1, ?2)",

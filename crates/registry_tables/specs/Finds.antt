@@ -1,9 +1,9 @@
 -- What a lookup within a transaction returns.
 use Rattle.std.specs.Prelude.{◌≡◌, List, true, IsTrue, Result, Ok, Err}
-use Rattle.sqlite.specs.State.{State, IsUnchanged, KeepsCommit}
+use Rattle.sqlite.specs.State.{State, HasCleanDisk, IsUnchanged, KeepsCommit}
 use Rattle.usbnum_core.specs.Spans.{span_has}
 use Rattle.usbnum_core.specs.declared.number.Number.{Number}
-use Rattle.table_laws.specs.Inside.{GoesOn}
+use Rattle.table_laws.specs.Inside.{GoesOn, CommitsNothing}
 use Rattle.registry_schema.specs.declared.fault.TableFault.{TableFault}
 use Rattle.registry_schema.specs.declared.fault.TableFault.TheVariants.{Foreign}
 use Rattle.registry_rules.specs.FactsOf.{holding_in, holding_of}
@@ -20,6 +20,16 @@ module _ (old new : State) where
   abbrev pub Finds : {A : Type 0} → Result A TableFault → (History → A → Type 0) → Type 0
   Finds (Ok a) Is = GoesOn old new × ((h : History) → Legal h → HoldsRows newest old.now h → IsUnchanged old new × Is h a)
   Finds (Err e) Is = (e ≡ Foreign → IsTrue old.is_open × ((h : History) → Legal h → ¬ HoldsRows newest old.now h)) × KeepsCommit old new
+
+-- a look-up within a transaction: over a clean disk it finds what the history says, and it commits nothing
+pub record Reads {A : Type 0} (old new : State) (result : Result A TableFault) (Is : History → A → Type 0) : Type 0 where
+  pub found : HasCleanDisk new → IsTrue old.in_transaction → Finds old new result Is
+  pub survives : CommitsNothing old new
+
+-- the same of a connection that is known to be open: it may need no read
+pub record ReadsOpen {A : Type 0} (old new : State) (result : Result A TableFault) (Is : History → A → Type 0) : Type 0 where
+  pub found : HasCleanDisk new → IsTrue old.in_transaction → IsTrue old.is_open → Finds old new result Is
+  pub survives : CommitsNothing old new
 
 -- the owner of a number that has an entry, and whether the number is held
 abbrev pub holding_at : Number × Entry → Holding

@@ -10,7 +10,7 @@ ghost use Rattle.usbnum_core.specs.Number.{IsId};
 ghost use Rattle.usbnum_core.specs.Spans.{spans_have};
 ghost use Rattle.registry_rules.specs.History.{History};
 ghost use Rattle.registry_old_rows.specs.Old.{old_span_key};
-ghost use Rattle.registry_old_rows.specs.Steps.{Turns};
+ghost use Rattle.registry_old_rows.specs.Steps.{Rewrites};
 ghost use Rattle.registry_tables.specs.Rows.{Rows};
 ghost use Rattle.registry_tables.specs.Raising.{Raises, CommitsStep, IsMadeBy};
 
@@ -43,7 +43,7 @@ fn spans_of(alloc: Global, numbers: &[Reserved]) -> Result<Spans, TableFault>
 fn put_spans<S: Alter>(tx: &mut Transaction<'_, S>, parts: &[Span]) -> Result<(), TableFault>
     ensures same_reference { tx.new.conn.ghost_name ≡ tx.old.conn.ghost_name }
     ensures put { (vid : ℕ) → IsId vid → HasCleanDisk (state S.Store tx.new.conn.now) → IsTrue (state S.Store tx.old.conn.now).in_transaction → IsTrue (state S.Store tx.old.conn.now).is_open
-        → OnOk result (Turns vid (λ t. record t { spans = fold (insert_by old_span_key) t.spans (map (λ part. (vid, part)) parts.now) }) (λ numbers. numbers) (state S.Store tx.old.conn.now) (state S.Store tx.new.conn.now)) }
+        → OnOk result (Rewrites vid (λ t. record t { spans = fold (insert_by old_span_key) t.spans (map (λ part. (vid, part)) parts.now) }) (λ numbers. numbers) (state S.Store tx.old.conn.now) (state S.Store tx.new.conn.now)) }
     ensures kind { result ≢ Err TableFault.Foreign }
     ensures survives { CommitsNothing (state S.Store tx.old.conn.now) (state S.Store tx.new.conn.now) }
 {

@@ -4,13 +4,7 @@ use Rattle.std.proofs.lemmas.Result.{err_from_is_err_and}
 use Rattle.registry_commands.proofs.ShownLemmas.{of_list}
 use Rattle.registry_commands.proofs.reading.petitions_of.Goals as goal
 
-pub returns-clause-left : goal.returns-clause-left
-returns-clause-left g c = record { stays = c.in_ok-petitions.ensures.stays; poisons_nothing = c.in_ok-petitions.ensures.poisons_nothing; survives = c.in_ok-petitions.ensures.survives }
-
-pub returns-in_err-petitions-clause-left : goal.returns-in_err-petitions-clause-left
-returns-in_err-petitions-clause-left g c = record { stays = c.in_err-petitions.ensures.stays; poisons_nothing = c.in_err-petitions.ensures.poisons_nothing; survives = c.in_err-petitions.ensures.survives }
-
 pub returns-in_err-petitions-clause-failure : goal.returns-in_err-petitions-clause-failure
 returns-in_err-petitions-clause-failure g c =
     let failed = err_from_is_err_and c.from_residual.result c.from_residual.ensures.1 in
-    rw (failed.1, failed.2) (of_list c.args.registry.now c.petitions.new.self c.in_err-petitions.field-0.0 (λ e. c.in_err-petitions.ensures.only_poisoned (ap Err e)) (λ e. c.in_err-petitions.ensures.never_taken (ap Err e)) c.in_err-petitions.ensures.kind)
+    rw (failed.1, failed.2) (of_list c.args.registry.now c.petitions.new.self c.in_err-petitions.field-0.0 (λ e. c.in_err-petitions.ensures.query.only_poisoned (ap Err e)) (λ e. c.in_err-petitions.ensures.query.never_taken (ap Err e)) c.in_err-petitions.ensures.query.kind)

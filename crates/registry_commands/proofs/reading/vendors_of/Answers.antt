@@ -4,13 +4,7 @@ use Rattle.std.proofs.lemmas.Result.{err_from_is_err_and}
 use Rattle.registry_commands.proofs.ShownLemmas.{of_list}
 use Rattle.registry_commands.proofs.reading.vendors_of.Goals as goal
 
-pub returns-clause-left : goal.returns-clause-left
-returns-clause-left g c = record { stays = c.in_ok-vendors.ensures.stays; poisons_nothing = c.in_ok-vendors.ensures.poisons_nothing; survives = c.in_ok-vendors.ensures.survives }
-
-pub returns-in_err-vendors-clause-left : goal.returns-in_err-vendors-clause-left
-returns-in_err-vendors-clause-left g c = record { stays = c.in_err-vendors.ensures.stays; poisons_nothing = c.in_err-vendors.ensures.poisons_nothing; survives = c.in_err-vendors.ensures.survives }
-
 pub returns-in_err-vendors-clause-failure : goal.returns-in_err-vendors-clause-failure
 returns-in_err-vendors-clause-failure g c =
     let failed = err_from_is_err_and c.from_residual.result c.from_residual.ensures.1 in
-    rw (failed.1, failed.2) (of_list c.args.registry.now c.vendors.new.self c.in_err-vendors.field-0.0 (λ e. c.in_err-vendors.ensures.only_poisoned (ap Err e)) (λ e. c.in_err-vendors.ensures.never_taken (ap Err e)) c.in_err-vendors.ensures.kind)
+    rw (failed.1, failed.2) (of_list c.args.registry.now c.vendors.new.self c.in_err-vendors.field-0.0 (λ e. c.in_err-vendors.ensures.query.only_poisoned (ap Err e)) (λ e. c.in_err-vendors.ensures.query.never_taken (ap Err e)) c.in_err-vendors.ensures.query.kind)

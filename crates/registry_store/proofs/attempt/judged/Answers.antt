@@ -13,9 +13,9 @@ pub returns-in-Ok-clause-found : goal.returns-in-Ok-clause-found
 returns-in-Ok-clause-found g c clean inside =
     let r = c.args.request.now in
     finds_ok (state g.S.Store c.args.tx.now.conn.now) (state g.S.Store c.facts_for.new.tx.conn.now) (λ h facts. AreTotalsOf h c.args.totals.now → AreFactsOf h r facts) (λ h found. AreTotalsOf h c.args.totals.now → found ≡ verdict h r)
-    c.in_ok-facts.facts c.in-Ok.verdict (λ h legal known are. c.in-Ok.ensures h (known are)) (c.in_ok-facts.ensures.found clean inside)
+    c.in_ok-facts.facts c.in-Ok.verdict (λ h legal known are. c.in-Ok.ensures h (known are)) (c.in_ok-facts.ensures.reads.found clean inside)
 
 pub returns-clause-found : goal.returns-clause-found
 returns-clause-found g c clean inside =
     short (state g.S.Store c.args.tx.now.conn.now) (state g.S.Store c.facts_for.new.tx.conn.now) (λ (h : History) (found : Verdict). AreTotalsOf h c.args.totals.now → found ≡ verdict h c.args.request.now) NoMemory
-    (λ never. absurd cc) (c.in_ok-facts.ensures.found clean inside).0
+    (λ never. absurd cc) (c.in_ok-facts.ensures.reads.found clean inside).0

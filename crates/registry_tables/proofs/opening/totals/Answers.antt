@@ -16,7 +16,7 @@ returns-clause-looked_up g c =
     let end = c.rollback.new.self.0 in
     let same : end ≡ c.conn-1.given.0 = search rules in
     subst (λ e. IsLookUp (state g.S.Store old) (state g.S.Store e) c.totals_in-totals.result AreTotalsOf) same
-    (look_up g.S.Store old begun mid end c.transaction-tx.ensures.begun c.schema-schema.ensures.live AreTotalsOf c.totals_in-totals.result c.totals_in-totals.ensures.told c.rollback.ensures.survives c.rollback.ensures.undone c.totals_in-totals.ensures.survives)
+    (look_up g.S.Store old begun mid end c.transaction-tx.ensures.begun c.schema-schema.ensures.live AreTotalsOf c.totals_in-totals.result c.totals_in-totals.ensures.reads.found c.rollback.ensures.survives c.rollback.ensures.undone c.totals_in-totals.ensures.reads.survives)
 
 pub returns-clause-newest : goal.returns-clause-newest
 returns-clause-newest g c =

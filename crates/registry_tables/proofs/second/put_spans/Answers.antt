@@ -20,14 +20,14 @@ loop-part-preserved g c =
     let i = c.loop-part.part-index in
     let one : Span = c.part-item.result in
     let before = c.loop-part.invariant in
-    let early : HasCleanDisk d → HasCleanDisk b = λ clean. omega (arith, c.put_old_span.ensures.survives.clean) in
+    let early : HasCleanDisk d → HasCleanDisk b = λ clean. omega (arith, c.put_old_span.ensures.writes.survives.clean) in
     let more : take (i + 1) all ≡ take i all ++ one ∷ [] = take_more all i one c.loop-part-test.true ∙ ap (λ (x : Span). take i all ++ x ∷ []) (sym c.part-item.is) in
     record {
-      same = c.put_old_span.ensures.same_reference ∙ before.same;
-      survives = survives_then a b d _ _ (λ _. ⊥) (λ _ db none. none) (λ _ db none. none) before.survives c.put_old_span.ensures.survives;
+      same = c.put_old_span.ensures.writes.same_reference ∙ before.same;
+      survives = survives_then a b d _ _ (λ _. ⊥) (λ _ db none. none) (λ _ db none. none) before.survives c.put_old_span.ensures.writes.survives;
       put = λ vid own clean inside is_open.
           let first = before.put vid own (early clean) inside is_open in
-          let later = c.in-Ok.ensures.put vid own clean first.0.mode in (
+          let later = c.in-Ok.ensures.writes.done clean first.0.mode vid own in (
             goes_then a b d first.0 later.0,
             λ t numbers had. subst (λ l. HoldsSecond vid d.now (record t { spans = l }) numbers)
                 (sym (ap (λ (l : _). fold (insert_by old_span_key) t.spans (map (λ (part : Span). (vid, part)) l)) more ∙ put_more vid (take i all) one t.spans)) (later.1 _ _ (first.1 t numbers had)),
