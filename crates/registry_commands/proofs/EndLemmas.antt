@@ -1,6 +1,9 @@
--- How a founding and a trial end.
-use Rattle.std.proofs.Common.{◌≡◌, ◌⊎◌, inl, inr, ℕ, List, Option, refl, arith}
+-- How a founding, a trial and the use of a store end.
+use Rattle.std.proofs.Common.{◌≡◌, ◌⊎◌, inl, inr, ℕ, IsTrue, List, Option, refl, sym, subst, arith}
 use Rattle.std.specs.Prelude.{◌≢◌, Result, Ok, Err}
+use Rattle.sqlite.specs.declared.error.Error.{Error}
+use Rattle.sqlite.specs.declared.error.Error.TheVariants.{SqliteFailure}
+use Rattle.sqlite.specs.declared.error.ErrorCode.TheVariants.{OutOfMemory}
 use Rattle.sqlite.specs.Store.{Ghosts}
 use Rattle.sqlite.specs.State.{HasCleanDisk}
 use Rattle.sqlite.specs.Held.{Held, state}
@@ -21,7 +24,7 @@ use Rattle.registry_wire.specs.Founding.{Listed}
 use Rattle.registry_commands.specs.declared.lines.BadLine.{BadLine}
 use Rattle.registry_commands.specs.declared.messages.Failure.{Failure}
 use Rattle.registry_commands.specs.declared.messages.Failure.TheVariants.{Store, Memory}
-use Rattle.registry_commands.specs.Failures.{IsOfInput, IsOfSoundRun, PrintsFailure, ErrorOutput}
+use Rattle.registry_commands.specs.Failures.{IsOfClosing, IsOfInput, IsOfSoundRun, PrintsFailure, ErrorOutput}
 use Rattle.registry_commands.specs.Messages.{failure_of}
 use Rattle.registry_commands.specs.Apply.{IsApplied, IsOfRun}
 use Rattle.registry_commands.specs.Found.{IsFoundedBy, IsOfFounding}
@@ -46,13 +49,21 @@ found_more OfMemory OfInput more g conn new (Ok listed) errors status is =
 
 -- the fault of a founding is one of its failures
 pub of_founding : {S : Type 0} (g : Ghosts S) (conn new : Held S) (fault : Fault)
+    → (fault ≢ faults.Taken → HasNoMeta (state g conn).now ⊎ IsTrue conn.in_transaction)
     → (fault ≡ faults.Taken → (new ≡ conn) × ¬ HasNoMeta (state g conn).now) → (fault ≢ faults.Poisoned) × (fault ≢ faults.Foreign)
     → IsOfFounding g conn new (failure_of fault)
-of_founding g conn new faults.Store taken kind = tt
-of_founding g conn new faults.NoMemory taken kind = tt
-of_founding g conn new faults.Taken taken kind = taken refl
-of_founding g conn new faults.Poisoned taken kind = absurd (kind.0 refl)
-of_founding g conn new faults.Foreign taken kind = absurd (kind.1 refl)
+of_founding g conn new faults.Store untaken taken kind = untaken (λ e. absurd cc)
+of_founding g conn new faults.NoMemory untaken taken kind = untaken (λ e. absurd cc)
+of_founding g conn new faults.Taken untaken taken kind = taken refl
+of_founding g conn new faults.Poisoned untaken taken kind = absurd (kind.0 refl)
+of_founding g conn new faults.Foreign untaken taken kind = absurd (kind.1 refl)
+
+-- an error of closing is one of its failures
+pub of_closing : (Left : Error → Type 0) (error : Error) (failure : Failure)
+    → ((failure ≡ Memory) × (error ≡ SqliteFailure OutOfMemory)) ⊎ ((failure ≡ Store) × (error ≢ SqliteFailure OutOfMemory))
+    → Left error → IsOfClosing Left failure
+of_closing Left error failure (inl memory) why = subst (λ (f : Failure). IsOfClosing Left f) (sym memory.0) (subst Left memory.1 why)
+of_closing Left error failure (inr store) why = subst (λ (f : Failure). IsOfClosing Left f) (sym store.0) (error, store.1, why)
 
 -- a failure before any line is acted on
 pub trial_fails : (OfInput OfOutput : Failure → Type 0) (read : Result (List Request) BadLine) (out : Option (List ℕ)) (errors : ErrorOutput) (status : ℕ)

@@ -1,16 +1,17 @@
 -- Which failure is printed, from the step that failed up to the whole command.
 use Rattle.std.proofs.Common.{◌≡◌, ◌⊎◌, inl, inr, ℕ, ◌≤◌, List, length, refl, sym, subst, arith}
-use Rattle.std.specs.Prelude.{Result, Ok, Err, IfErr, true, false}
+use Rattle.std.specs.Prelude.{◌≢◌, Bool, Some, Result, Ok, Err, IfErr, true, false}
+use Rattle.sqlite.specs.declared.error.Error.{Error}
 use Rattle.sqlite.specs.Store.{Ghosts}
 use Rattle.sqlite.specs.State.{HasCleanDisk}
 use Rattle.registry_rules.specs.History.{History}
 use Rattle.registry_store.specs.declared.fault.Fault.{Fault}
 use Rattle.registry_store.specs.declared.fault.Fault.TheVariants as faults
 use Rattle.registry_store.specs.declared.registry.Registry.{Registry}
-use Rattle.registry_store.specs.Promise.{is_poisoned, state_of}
+use Rattle.registry_store.specs.Promise.{is_poisoned, poisoned_by, state_of}
 use Rattle.registry_commands.specs.declared.messages.Failure.{Failure}
 use Rattle.registry_commands.specs.declared.messages.Failure.TheVariants.{Store, Memory, Foreign, Taken, Poisoned, File}
-use Rattle.registry_commands.specs.Failures.{IsOfInput, IsOfMemory, IsOfOutput, IsOfSoundRun, IsTooLong, PrintsFailure, ErrorOutput}
+use Rattle.registry_commands.specs.Failures.{IsOfClosing, IsOfInput, IsOfMemory, IsOfOutput, IsOfSoundRun, IsOfStore, IsTooLong, PrintsFailure, ErrorOutput}
 use Rattle.registry_commands.specs.Messages.{failure_of}
 use Rattle.registry_commands.specs.Apply.{IsOfRun}
 
@@ -23,6 +24,15 @@ pub tells_more : (Narrow Wide : Failure → Type 0) (errors : ErrorOutput) → (
     → PrintsFailure Narrow errors → PrintsFailure Wide errors
 tells_more Narrow Wide errors more told = (told.0, more told.0 told.1, told.2)
 
+-- the failures of closing are of the store or of memory
+pub of_store : (May : Error → Type 0) (failure : Failure) → IsOfClosing May failure → IsOfStore failure
+of_store May Store why = inl refl
+of_store May Memory why = inr refl
+of_store May Foreign never = absurd never
+of_store May Taken never = absurd never
+of_store May Poisoned never = absurd never
+of_store May File never = absurd never
+
 -- what was read is not too long
 pub within : (bytes : List ℕ) → length bytes ≤ 4294967295 → ¬ IsTooLong bytes
 within bytes most long = omega (arith, most, long)
@@ -31,28 +41,45 @@ within bytes most long = omega (arith, most, long)
 pub memory_of_input : (old new : ℕ) (bytes : List ℕ) → new ≡ old → (failure : Failure) → IsOfMemory failure → IsOfInput old new bytes failure
 memory_of_input old new bytes same failure is = subst (λ (f : Failure). IsOfInput old new bytes f) (sym is) same
 
-module _ {S : Type 0} {g : Ghosts S} where
-  -- a reply that is not written stops a run, over any registry
-  pub of_reply : (it new : Registry S g) (These : History → Type 0) (failure : Failure) → (failure ≡ Memory) ⊎ (failure ≡ File) → IsOfRun it new These failure
-  of_reply it new These failure (inl is) = subst (λ (f : Failure). IsOfRun it new These f) (sym is) tt
-  of_reply it new These failure (inr is) = subst (λ (f : Failure). IsOfRun it new These f) (sym is) tt
+-- a fault of the registry is not a failure of the output
+pub not_of_output : (old new : ℕ) → new ≡ old → (fault : Fault) → IsOfOutput old new (failure_of fault)
+not_of_output old new same faults.Store = same
+not_of_output old new same faults.NoMemory = same
+not_of_output old new same faults.Foreign = same
+not_of_output old new same faults.Taken = same
+not_of_output old new same faults.Poisoned = same
 
-  -- a run that ends by a fault, and the output did not fail
-  pub of_fault : (it new : Registry S g) (These : History → Type 0) (old_count new_count : ℕ) → new_count ≡ old_count → (fault : Fault) → (fault ≡ faults.Poisoned → is_poisoned it ≡ true)
-      → (fault ≡ faults.Taken → ⊥) → is_poisoned new ≡ true
-      → ((h : History) → These h → HasCleanDisk (state_of new) → (fault ≡ faults.Store) ⊎ (fault ≡ faults.NoMemory))
-      → IsOfRun it new These (failure_of fault) × IsOfOutput old_count new_count (failure_of fault)
-  of_fault it new These old_count new_count same faults.Store poisoned never spent kind = (spent, same)
-  of_fault it new These old_count new_count same faults.NoMemory poisoned never spent kind = (tt, same)
-  of_fault it new These old_count new_count same faults.Foreign poisoned never spent kind = (λ at. elim (kind at.0 at.1 at.2) [ inl e ↦ absurd cc | inr e ↦ absurd cc ], same)
-  of_fault it new These old_count new_count same faults.Taken poisoned never spent kind = (never refl, same)
-  of_fault it new These old_count new_count same faults.Poisoned poisoned never spent kind = (poisoned refl, same)
+module _ {S : Type 0} {g : Ghosts S} where
+  -- a reply that is not written stops a run, over a registry that is not poisoned
+  pub of_reply : (it new : Registry S g) (These : History → Type 0) (failure : Failure) → is_poisoned new ≡ false → (failure ≡ Memory) ⊎ (failure ≡ File) → IsOfRun it new These failure
+  of_reply it new These failure on (inl is) = subst (λ (f : Failure). IsOfRun it new These f) (sym is) (inr on)
+  of_reply it new These failure on (inr is) = subst (λ (f : Failure). IsOfRun it new These f) (sym is) on
+
+  -- the registry keeps a fault that is its first
+  kept : (it new : Registry S g) (fault : Fault) → (is_poisoned it ≡ true → fault ≡ faults.Poisoned) → (is_poisoned it ≡ false → poisoned_by new ≡ Some fault) → fault ≢ faults.Poisoned
+      → poisoned_by new ≡ Some fault
+  kept it new fault spent keeps first = go (is_poisoned it) refl
+    where
+      go : (b : Bool) → is_poisoned it ≡ b → poisoned_by new ≡ Some fault
+      go true is = absurd (first (spent is))
+      go false is = keeps is
+
+  -- a fault of the registry stops a run
+  pub of_fault : (it new : Registry S g) (These : History → Type 0) (fault : Fault) → (fault ≡ faults.Poisoned → is_poisoned it ≡ true) → (is_poisoned it ≡ true → fault ≡ faults.Poisoned)
+      → (is_poisoned it ≡ false → poisoned_by new ≡ Some fault) → (fault ≡ faults.Taken → ⊥)
+      → ((h : History) → These h → HasCleanDisk (state_of new) → (fault ≡ faults.Store) ⊎ (fault ≡ faults.NoMemory)) → IsOfRun it new These (failure_of fault)
+  of_fault it new These faults.Store poisoned spent keeps never kind = kept it new faults.Store spent keeps (λ e. absurd cc)
+  of_fault it new These faults.NoMemory poisoned spent keeps never kind = inl (kept it new faults.NoMemory spent keeps (λ e. absurd cc))
+  of_fault it new These faults.Foreign poisoned spent keeps never kind =
+      (kept it new faults.Foreign spent keeps (λ e. absurd cc), λ at. elim (kind at.0 at.1 at.2) [ inl e ↦ absurd cc | inr e ↦ absurd cc ])
+  of_fault it new These faults.Taken poisoned spent keeps never kind = never refl
+  of_fault it new These faults.Poisoned poisoned spent keeps never kind = poisoned refl
 
   -- a sound registry over a clean disk
   pub of_sound_run : (it new : Registry S g) (These : History → Type 0) (h : History) → These h → is_poisoned it ≡ false → HasCleanDisk (state_of new)
       → (failure : Failure) → IsOfRun it new These failure → IsOfSoundRun failure
   of_sound_run it new These h here not_poisoned clean Poisoned poisoned = absurd cc
-  of_sound_run it new These h here not_poisoned clean Foreign none = absurd (none (h, here, clean))
+  of_sound_run it new These h here not_poisoned clean Foreign none = absurd (none.1 (h, here, clean))
   of_sound_run it new These h here not_poisoned clean Taken never = absurd never
   of_sound_run it new These h here not_poisoned clean Store is = tt
   of_sound_run it new These h here not_poisoned clean Memory is = tt

@@ -1,6 +1,6 @@
 -- Acting on one request, and its reply.
 use Rattle.std.proofs.Common.{◌≡◌, ◌⊎◌, inl, inr, ℕ, List, [], Option, refl, subst, sym}
-use Rattle.std.specs.Prelude.{true}
+use Rattle.std.specs.Prelude.{false}
 use Rattle.sqlite.specs.Store.{Ghosts}
 use Rattle.sqlite.specs.State.{HasCleanDisk}
 use Rattle.byte_streams.specs.Streams.{AppendsPrefix}
@@ -17,40 +17,17 @@ use Rattle.registry_store.specs.Promise.{Leaves, Represents, is_poisoned, state_
 use Rattle.registry_store.specs.RunTo.{MayHaveBeenActedOn}
 use Rattle.registry_store.proofs.RunLemmas.{leaves_weaker}
 use Rattle.registry_commands.specs.declared.messages.Failure.{Failure}
-use Rattle.registry_commands.specs.declared.messages.Failure.TheVariants.{Store, Memory, Foreign, Taken, Poisoned, File}
-use Rattle.registry_commands.specs.Apply.{IsOfRun}
-use Rattle.registry_commands.specs.Failures.{IsOfOutput, ErrorOutput}
+use Rattle.registry_commands.specs.declared.messages.Failure.TheVariants.{Memory, File}
+use Rattle.registry_commands.specs.Failures.{ErrorOutput}
 use Rattle.registry_commands.specs.Imports.{GivesReply, IsCut, IsFailed, IsReplied}
-use Rattle.registry_commands.specs.Messages.{failure_of, reply_line}
+use Rattle.registry_commands.specs.Messages.{reply_line}
+use Rattle.registry_commands.proofs.FailureLemmas.{of_reply}
 
 -- the empty text is a prefix of any text
 pub nothing_of : (o : Option (List ℕ)) (bytes : List ℕ) → AppendsPrefix o o bytes
 nothing_of o bytes = record { front = []; rest = bytes; whole = refl; appended = appends_nil o }
 
--- a fault of the registry is not a failure of the output
-pub not_of_output : (n : ℕ) (fault : Fault) → IsOfOutput n n (failure_of fault)
-not_of_output n faults.Store = refl
-not_of_output n faults.NoMemory = refl
-not_of_output n faults.Foreign = refl
-not_of_output n faults.Taken = refl
-not_of_output n faults.Poisoned = refl
-
 module _ {S : Type 0} {g : Ghosts S} where
-  -- the failures of a request
-  pub of_act : (it new : Registry S g) (These : History → Type 0) (fault : Fault) → (fault ≡ faults.Poisoned → is_poisoned it ≡ true)
-      → (fault ≡ faults.Taken → ⊥) → is_poisoned new ≡ true
-      → ((h : History) → These h → HasCleanDisk (state_of new) → (fault ≡ faults.Store) ⊎ (fault ≡ faults.NoMemory)) → IsOfRun it new These (failure_of fault)
-  of_act it new These faults.Store poisoned never spent kind = spent
-  of_act it new These faults.NoMemory poisoned never spent kind = tt
-  of_act it new These faults.Foreign poisoned never spent kind = λ at. elim (kind at.0 at.1 at.2) [ inl e ↦ absurd cc | inr e ↦ absurd cc ]
-  of_act it new These faults.Taken poisoned never spent kind = never refl
-  of_act it new These faults.Poisoned poisoned never spent kind = poisoned refl
-
-  -- the failures of writing a reply
-  of_end : (it new : Registry S g) (These : History → Type 0) (failure : Failure) → (failure ≡ Memory) ⊎ (failure ≡ File) → IsOfRun it new These failure
-  of_end it new These failure (inl is) = subst (λ (f : Failure). IsOfRun it new These f) (sym is) tt
-  of_end it new These failure (inr is) = subst (λ (f : Failure). IsOfRun it new These f) (sym is) tt
-
   -- a request that was acted on before has the same kinds of fault as the first time
   pub kind_of : (it new : Registry S g) (h : History) (r : Request) (fault : Fault)
       → ((x : History) → Represents it x → HasCleanDisk (state_of new) → (fault ≡ faults.Store) ⊎ (fault ≡ faults.NoMemory))
@@ -69,13 +46,13 @@ module _ {S : Type 0} {g : Ghosts S} where
 
   -- a request gets its reply, whose line is written whole or in part
   pub replied : (OfOutput : Failure → Type 0) (it new : Registry S g) (r : Request) (out out_new : Option (List ℕ)) (errors : ErrorOutput) (status : ℕ) (reply : Reply)
-      → ((h : History) → MayHaveBeenActedOn it h r → HasCleanDisk (state_of new) → (reply ≡ reply_to h r) × Represents new (after_one h r))
+      → is_poisoned new ≡ false → ((h : History) → MayHaveBeenActedOn it h r → HasCleanDisk (state_of new) → (reply ≡ reply_to h r) × Represents new (after_one h r))
       → IsReplied (λ failure. ((failure ≡ Memory) ⊎ (failure ≡ File)) × OfOutput failure) reply out out_new errors status
       → GivesReply it new r out out_new errors status ⊎ IsFailed OfOutput it new r out out_new errors status
-  replied OfOutput it new r out out_new errors status reply acted (inl done) =
+  replied OfOutput it new r out out_new errors status reply on acted (inl done) =
       inl (record { reply = reply; status_is = done.0; gained = done.1; quiet = done.2; answered = acted })
-  replied OfOutput it new r out out_new errors status reply acted (inr failed) = inr (record {
+  replied OfOutput it new r out out_new errors status reply on acted (inr failed) = inr (record {
     status_is = failed.0;
     cut = λ h may clean. cut_at new h r out out_new reply (acted h may clean) clean failed.1;
-    told = let t = failed.2 in (t.0, (of_end it new (λ h. MayHaveBeenActedOn it h r) t.0 t.1.0, t.1.1), t.2);
+    told = let t = failed.2 in (t.0, (of_reply it new (λ h. MayHaveBeenActedOn it h r) t.0 on t.1.0.0, t.1.0.1), t.2);
   })

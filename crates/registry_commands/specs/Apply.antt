@@ -1,5 +1,5 @@
 -- What is written, and what the registry represents, after request lines were acted on.
-use Rattle.std.specs.Prelude.{◌≡◌, ◌⊎◌, ◌<◌, ◌≤◌, ◌+◌, ⊤, ℕ, true, List, length, take, drop, Option, Result, Ok, Err}
+use Rattle.std.specs.Prelude.{◌≡◌, ◌⊎◌, ◌<◌, ◌≤◌, ◌+◌, ℕ, true, false, List, length, take, drop, Option, Some, Result, Ok, Err}
 use Rattle.std.specs.Io.KnownBytes.{Appends, Keeps}
 use Rattle.sqlite.specs.Store.{Ghosts}
 use Rattle.sqlite.specs.State.{HasCleanDisk}
@@ -8,12 +8,13 @@ use Rattle.registry_rules.specs.declared.order.Request.{Request}
 use Rattle.registry_rules.specs.History.{History}
 use Rattle.registry_rules.specs.Run.{after, replies_to}
 use Rattle.registry_tables.specs.Rows.{newest}
+use Rattle.registry_store.specs.declared.fault.Fault.TheVariants as faults
 use Rattle.registry_store.specs.declared.registry.Registry.{Registry}
-use Rattle.registry_store.specs.Promise.{Leaves, Represents, is_poisoned, state_of}
+use Rattle.registry_store.specs.Promise.{Leaves, Represents, is_poisoned, poisoned_by, state_of}
 use Rattle.registry_store.specs.Run.{HasAnswered, IsAfterOrNext}
 use Rattle.registry_commands.specs.declared.lines.BadLine.{BadLine}
 use Rattle.registry_commands.specs.declared.messages.Failure.{Failure}
-use Rattle.registry_commands.specs.declared.messages.Failure.TheVariants.{Foreign, Poisoned, Store, Taken}
+use Rattle.registry_commands.specs.declared.messages.Failure.TheVariants.{File, Foreign, Memory, Poisoned, Store, Taken}
 use Rattle.registry_commands.specs.Failures.{Prints, PrintsFailure, PrintsNothing, ErrorOutput}
 use Rattle.registry_commands.specs.Messages.{bad_line_text, exceeds_text, reply_lines}
 
@@ -22,15 +23,16 @@ abbrev pub lines_between : History → List Request → ℕ → ℕ → List ℕ
 lines_between h rs a n = reply_lines (drop a (replies_to h (take n rs)))
 
 module _ {S : Type 0} {g : Ghosts S} where
-  -- The failures of a run over this registry. Store: the registry had a fault, so it is poisoned. Poisoned: it was poisoned
-  -- before. Foreign: it represented none of these histories, or the disk is not clean. Never Taken. Memory may run out in the
-  -- registry or for a reply line, and a file fails only if the output did.
+  -- The failures of a run over this registry. Store, Memory and Foreign: the registry had this fault, and is poisoned by it.
+  -- Memory also: memory ran out for a reply line, and the registry is not poisoned. Foreign: it represented none of these
+  -- histories, or the disk is not clean. Poisoned: it was poisoned before. Never Taken. A file fails only if the output did.
   abbrev pub IsOfRun : Registry S g → Registry S g → (History → Type 0) → Failure → Type 0
-  IsOfRun it new These Store = is_poisoned new ≡ true
+  IsOfRun it new These Store = poisoned_by new ≡ Some faults.Store
+  IsOfRun it new These Memory = (poisoned_by new ≡ Some faults.NoMemory) ⊎ (is_poisoned new ≡ false)
+  IsOfRun it new These Foreign = (poisoned_by new ≡ Some faults.Foreign) × ¬ ((h : History) × These h × HasCleanDisk (state_of new))
   IsOfRun it new These Poisoned = is_poisoned it ≡ true
-  IsOfRun it new These Foreign = ¬ ((h : History) × These h × HasCleanDisk (state_of new))
   IsOfRun it new These Taken = ⊥
-  IsOfRun it new These _ = ⊤
+  IsOfRun it new These File = is_poisoned new ≡ false
 
   -- All requests after the first a are answered: their reply lines are written, and the registry represents the history
   -- after all requests.

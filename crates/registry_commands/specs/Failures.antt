@@ -1,6 +1,9 @@
 -- Which failures a command may print, and when.
-use Rattle.std.specs.Prelude.{◌≡◌, ◌⊎◌, ◌<◌, ℕ, List, length, Option, ⊤}
+use Rattle.std.specs.Prelude.{◌≡◌, ◌≢◌, ◌⊎◌, ◌<◌, ℕ, List, length, Option, ⊤}
 use Rattle.std.specs.Io.KnownBytes.{Appends, Keeps}
+use Rattle.sqlite.specs.declared.error.Error.{Error}
+use Rattle.sqlite.specs.declared.error.Error.TheVariants.{SqliteFailure}
+use Rattle.sqlite.specs.declared.error.ErrorCode.TheVariants.{OutOfMemory}
 use Rattle.byte_streams.specs.Streams.{AppendsPrefix, HasFailed}
 use Rattle.registry_commands.specs.declared.messages.Failure.{Failure}
 use Rattle.registry_commands.specs.declared.messages.Failure.TheVariants.{Store, Memory, File}
@@ -41,6 +44,12 @@ IsTooLong bytes = 4294967295 < length bytes
 -- the store failed or was out of memory
 abbrev pub IsOfStore : Failure → Type 0
 IsOfStore failure = (failure ≡ Store) ⊎ (failure ≡ Memory)
+
+-- The failures of closing a store, by the errors that may stop it. Memory: the store was out of memory. Store: another error.
+abbrev pub IsOfClosing : (Error → Type 0) → Failure → Type 0
+IsOfClosing May Store = (error : Error) × (error ≢ SqliteFailure OutOfMemory) × May error
+IsOfClosing May Memory = May (SqliteFailure OutOfMemory)
+IsOfClosing May _ = ⊥
 
 -- out of memory
 abbrev pub IsOfMemory : Failure → Type 0

@@ -1,5 +1,5 @@
 -- What a founding does to its connection.
-use Rattle.std.specs.Prelude.{◌≡◌, ◌⊎◌, ⊤, ℕ, Result, Ok, Err}
+use Rattle.std.specs.Prelude.{◌≡◌, ◌⊎◌, ℕ, IsTrue, Result, Ok, Err}
 use Rattle.sqlite.specs.Store.{Ghosts}
 use Rattle.sqlite.specs.State.{HasCleanDisk, Survives}
 use Rattle.sqlite.specs.Held.{Held, state}
@@ -21,11 +21,11 @@ module _ {S : Type 0} (g : Ghosts S) where
     pub none_before : HasNoMeta (state g old).now
     pub rows : HasCleanDisk (state g new) → IsAt newest (state g new) (founded founding)
 
-  -- The failures of a founding: Taken only if the database had a table meta, and then nothing is changed; never Foreign,
-  -- Poisoned or File.
+  -- The failures of a founding: Taken if the database had a table meta, and then nothing is changed; Store and Memory only if
+  -- it had none, or a transaction was open; never Foreign, Poisoned or File.
   abbrev pub IsOfFounding : Held S → Held S → Failure → Type 0
-  IsOfFounding old new Store = ⊤
-  IsOfFounding old new Memory = ⊤
+  IsOfFounding old new Store = HasNoMeta (state g old).now ⊎ IsTrue old.in_transaction
+  IsOfFounding old new Memory = HasNoMeta (state g old).now ⊎ IsTrue old.in_transaction
   IsOfFounding old new Taken = (new ≡ old) × ¬ HasNoMeta (state g old).now
   IsOfFounding old new _ = ⊥
 

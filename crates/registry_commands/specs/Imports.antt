@@ -21,7 +21,7 @@ use Rattle.registry_store.specs.RunTo.{MayHaveBeenActedOn}
 use Rattle.registry_wire.specs.Import.{import_of}
 use Rattle.registry_commands.specs.declared.importing.Import.{Import}
 use Rattle.registry_commands.specs.declared.messages.Failure.{Failure}
-use Rattle.registry_commands.specs.declared.messages.Failure.TheVariants.{Poisoned}
+use Rattle.registry_commands.specs.declared.messages.Failure.TheVariants.{Memory, Poisoned}
 use Rattle.registry_commands.specs.declared.arguments.BadArgument.{BadArgument}
 use Rattle.registry_commands.specs.declared.arguments.BadArgument.TheVariants.{Caller, Key, Org, Vendor}
 use Rattle.registry_commands.specs.Apply.{IsOfRun}
@@ -63,11 +63,12 @@ abbrev pub status_of : Reply → ℕ
 status_of (Done text) = 0
 status_of (Refused refusal) = 2
 
--- the reply's line is written and the status says whether it is a refusal; or a prefix is written, after a failure
+-- the reply's line is written and the status says whether it is a refusal; or a prefix is written, after a failure, and nothing
+-- if memory ran out
 abbrev pub IsReplied : (Failure → Type 0) → Reply → Option (List ℕ) → Option (List ℕ) → ErrorOutput → ℕ → Type 0
 IsReplied May reply out out_new errors status =
     ((status ≡ status_of reply) × Appends out out_new (reply_line reply) × PrintsNothing errors)
-    ⊎ ((status ≡ 1) × AppendsPrefix out out_new (reply_line reply) × PrintsFailure May errors)
+    ⊎ ((status ≡ 1) × AppendsPrefix out out_new (reply_line reply) × PrintsFailure (λ failure. May failure × (failure ≡ Memory → out_new ≡ out)) errors)
 
 -- the request of an import, with this founding vendor and this list
 abbrev pub request_of : Import → ℕ → List TopEntry → Request

@@ -11,9 +11,21 @@ use Rattle.registry_store.specs.declared.registry.Registry.{Registry}
 use Rattle.registry_store.specs.Promise.{Represents, state_of}
 use Rattle.registry_store.specs.Run.{HasAnswered}
 use Rattle.registry_commands.specs.declared.lines.BadLine.{BadLine}
-use Rattle.registry_commands.specs.Apply.{lines_between}
+use Rattle.registry_commands.specs.declared.messages.Failure.{Failure}
+use Rattle.registry_commands.specs.Failures.{IsOfStore, PrintsFailure, ErrorOutput, error_output}
+use Rattle.registry_commands.specs.Apply.{IsApplied, lines_between}
+
+-- Closing a store leaves the status and the error output as they were; or, at status 0, it fails, and the error output says
+-- why.
+abbrev pub EndsClosing : {E : Type 0} → (E → Option (List ℕ)) → (E → ℕ) → ℕ → E → E → ℕ → Type 0
+EndsClosing contents failures acted errors errors_new status =
+    ((status ≡ acted) × (errors_new ≡ errors)) ⊎ ((acted ≡ 0) × (status ≡ 1) × PrintsFailure IsOfStore (error_output contents failures errors errors_new))
 
 module _ {S : Type 0} {g : Ghosts S} where
+  -- The requests were acted on over the first registry as `IsApplied` says, which left some registry, with this exit status.
+  abbrev pub IsAppliedOver : (Failure → Type 0) → (Failure → Type 0) → Registry S g → Result (List Request) BadLine → ℕ → Option (List ℕ) → Option (List ℕ) → ErrorOutput → ℕ → Type 0
+  IsAppliedOver OfInput OfOutput first read a out out_new errors status = (last : Registry S g) × IsApplied OfInput OfOutput first last read a out out_new errors status
+
   -- Nothing was acted on and no reply was written: the opened registry represents the history that the first one did.
   abbrev pub IsReopenedAsBefore : Registry S g → Registry S g → Option (List ℕ) → Option (List ℕ) → Type 0
   IsReopenedAsBefore first it out out_new = Keeps out out_new × ((h : History) → Represents first h → HasCleanDisk (state_of it) → ∥ Represents it h ∥₁)

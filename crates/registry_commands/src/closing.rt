@@ -7,8 +7,8 @@ ghost use Rattle.sqlite.specs.State.{HasCleanDisk};
 ghost use Rattle.sqlite.specs.WalReads.{AreClean};
 ghost use Rattle.registry_rules.specs.History.{History};
 ghost use Rattle.registry_store.specs.Promise.{LeavesFrom};
-ghost use Rattle.registry_store.specs.Reopen.{AreClosed, HoldEither, IsEither};
-ghost use Rattle.registry_commands.specs.Failures.{IsOfStore, PrintsFailure, error_output};
+ghost use Rattle.registry_store.specs.Reopen.{AreClosed, HoldEither, IsEither, IsUncopied};
+ghost use Rattle.registry_commands.specs.Failures.{IsOfClosing, PrintsFailure, error_output};
 
 use crate::messages::{fail, store_failure};
 use byte_streams::Sink;
@@ -30,7 +30,7 @@ pub fn close_store<D: Disk + Drop, E: Sink>(
 ) -> (u8, Files<D>)
     ensures kept { status ≢ 0 → (result.0 ≡ status) × (errors.new ≡ errors.old) }
     ensures well { status ≡ 0 → ((result.0 ≡ 0) × (errors.new ≡ errors.old))
-        ⊎ ((result.0 ≡ 1) × PrintsFailure IsOfStore (error_output E.contents E.failures errors.old errors.new)) }
+        ⊎ ((result.0 ≡ 1) × PrintsFailure (IsOfClosing (IsUncopied conn result.1)) (error_output E.contents E.failures errors.old errors.new)) }
     ensures closed { AreClosed conn result.1 }
     ensures copied { status ≡ 0 → result.0 ≡ 0 → AreClean D.Disk result.1.log result.1.db → IsCopied conn result.1 }
     ensures holds { result.0 ≡ status → (from : ℕ) (h next : History) → (HasCleanDisk (file_state conn) → LeavesFrom from (file_state conn) (IsEither h next))

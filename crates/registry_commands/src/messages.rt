@@ -1,6 +1,6 @@
 //! What the program prints: replies, and why it rejects an input or fails.
 
-ghost use Rattle.std.specs.Prelude.{◌≡◌, ◌≢◌, ◌⊎◌, ℕ, IfErr, IfOk, OnOk, OnErr};
+ghost use Rattle.std.specs.Prelude.{◌≡◌, ◌≢◌, ◌⊎◌, ℕ, IfErr, IfOk, OnOk, OnErr, Err};
 ghost use Rattle.std.specs.String.{string_bytes};
 ghost use Rattle.std.specs.Io.KnownBytes.{Appends};
 ghost use Rattle.byte_streams.specs.Streams.{AppendsPrefix};
@@ -161,8 +161,8 @@ pub fn fail<E: Sink>(errors: &mut E, failure: Failure) -> u8
 
 /// Writes a reply as a line.
 ///
-/// Returns `File` if the output failed, else `Memory`. Either way a prefix of the line, perhaps
-/// an empty one, was written.
+/// Returns `File` if the output failed: a prefix of the line, perhaps an empty one, was written.
+/// Returns `Memory` if out of memory for the line: nothing was written.
 pub(crate) fn put_reply<W: Sink>(
     alloc: Global,
     output: &mut W,
@@ -171,6 +171,7 @@ pub(crate) fn put_reply<W: Sink>(
     ensures ok { OnOk result (Appends (W.contents output.old) (W.contents output.new) (reply_line reply.now)) }
     ensures err { OnErr result (AppendsPrefix (W.contents output.old) (W.contents output.new) (reply_line reply.now)) }
     ensures kept { OnOk result (W.failures output.new ≡ W.failures output.old) }
+    ensures short { result ≡ Err Failure.Memory → output.new ≡ output.old }
     ensures failure { IfErr result (λ failure. ((failure ≡ Failure.Memory) ⊎ (failure ≡ Failure.File)) × IsOfOutput (W.failures output.old) (W.failures output.new) failure) }
 {
     let Ok(line) = reply_line(alloc, reply) else {

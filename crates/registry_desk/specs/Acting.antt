@@ -1,5 +1,5 @@
 -- The response to a message over a history, and the history after it.
-use Rattle.std.specs.Prelude.{◌≡◌, ◌⊎◌, ⊤, true, Some, None, Result, Ok, Err, ℕ, List, if◌then◌else◌}
+use Rattle.std.specs.Prelude.{◌≡◌, ◌⊎◌, ⊤, Some, None, Result, Ok, Err, ℕ, List, if◌then◌else◌}
 use Rattle.sqlite.specs.Store.{Ghosts}
 use Rattle.usbids_text.specs.Entries.{TopEntry}
 use Rattle.usbids_text.specs.Writing.{written}
@@ -14,7 +14,7 @@ use Rattle.registry_reports.specs.History.{IsListing}
 use Rattle.registry_tables.specs.Rows.{newest}
 use Rattle.registry_store.specs.declared.fault.Fault.TheVariants as faults
 use Rattle.registry_store.specs.declared.registry.Registry.{Registry as TheRegistry}
-use Rattle.registry_store.specs.Promise.{Leaves, Represents, is_poisoned, state_of}
+use Rattle.registry_store.specs.Promise.{Leaves, Represents, poisoned_by, state_of}
 use Rattle.registry_commands.specs.Reports.{IsReport}
 use Rattle.registry_commands.specs.declared.reporting.ReportKind.{ReportKind}
 use Rattle.registry_commands.specs.declared.reporting.ReportKind.TheVariants as kinds
@@ -84,11 +84,11 @@ abbrev pub IsEither : History → History → History → Type 0
 IsEither h next x = (x ≡ h) ⊎ (x ≡ next)
 
 module _ {S : Type 0} {g : Ghosts S} where
-  -- after a fault of the registry it is poisoned or represents one of the two histories; memory that runs out elsewhere does
-  -- not poison it
+  -- after a fault of the registry it is poisoned by this fault or represents one of the two histories; memory that runs out
+  -- elsewhere does not poison it
   abbrev pub EndsAt : DeskFault → TheRegistry S g → History → History → Type 0
   EndsAt NoMemory it h next = Represents it h ⊎ Represents it next
-  EndsAt (Registry fault) it h next = (is_poisoned it ≡ true) ⊎ (Represents it h ⊎ Represents it next)
+  EndsAt (Registry fault) it h next = (poisoned_by it ≡ Some fault) ⊎ (Represents it h ⊎ Represents it next)
 
   -- A message got refusal 30 or 31. A crash leaves one history or the other, and a registry that is not poisoned represents
   -- one of them.

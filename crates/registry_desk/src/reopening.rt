@@ -1,8 +1,8 @@
 //! Serves connections and opens the store again, as two runs of the program do.
 
 ghost use Rattle.std.specs.Prelude.{◌≡◌, ◌≤◌, List, length, IfSome, OnOk};
-ghost use Rattle.registry_desk.specs.Server.{Visit, HaveVisited, EndsAt};
-ghost use Rattle.registry_desk.specs.Reopened.{IsReopened};
+ghost use Rattle.registry_desk.specs.Server.{Visit, HaveVisited, EndsAt, fault_in};
+ghost use Rattle.registry_desk.specs.Reopened.{AreServedOver, IsReopened};
 
 use crate::server::{Connections, ServerStop, serve_all};
 use registry_store::{Registry, close_and_open, crash_and_open, leave_and_open};
@@ -27,6 +27,7 @@ pub fn serve_and_crash<C: Connections, D: Crash + Drop>(
         × HaveVisited C.opens C.closes C.Reader.remaining C.Reader.failures C.Writer.contents C.Writer.failures connections.old middle visits
         × EndsAt C.fails middle connections.new result.0
         × (length visits ≤ count) × OnOk result.0 (length visits ≡ count)
+        × AreServedOver first visits (fault_in result.0)
         × IfSome result.1 (IsReopened first visits) }
 {
     let mut registry = first;
@@ -47,6 +48,7 @@ pub fn serve_and_open<C: Connections, D: Disk + Drop>(
         × HaveVisited C.opens C.closes C.Reader.remaining C.Reader.failures C.Writer.contents C.Writer.failures connections.old middle visits
         × EndsAt C.fails middle connections.new result.0
         × (length visits ≤ count) × OnOk result.0 (length visits ≡ count)
+        × AreServedOver first visits (fault_in result.0)
         × IfSome result.1 (IsReopened first visits) }
 {
     let mut registry = first;

@@ -1,5 +1,5 @@
 -- What a registry promises about its store.
-use Rattle.std.specs.Prelude.{◌≡◌, ◌≤◌, ◌⊎◌, ℕ, Bool, false, IsTrue}
+use Rattle.std.specs.Prelude.{◌≡◌, ◌≤◌, ◌⊎◌, ℕ, Bool, false, IsTrue, Option, is_some}
 use Rattle.sqlite.specs.Tree.{Trees}
 use Rattle.sqlite.specs.View.{doubt}
 use Rattle.sqlite.specs.Disk.{MoreFaults}
@@ -11,6 +11,7 @@ use Rattle.registry_rules.specs.History.{History}
 use Rattle.registry_rules.specs.Run.{Legal}
 use Rattle.registry_rules.specs.TotalsOf.{AreTotalsOf}
 use Rattle.registry_tables.specs.Rows.{Rows, newest}
+use Rattle.registry_store.specs.declared.fault.Fault.{Fault}
 use Rattle.registry_store.specs.declared.registry.Registry.{Registry}
 
 -- each database that a crash may now leave holds the rows of one of these histories, in this schema
@@ -55,9 +56,13 @@ module _ {S : Type 0} {g : Ghosts S} where
   abbrev pub state_of : Registry S g → State
   state_of it = state g it.conn
 
+  -- the fault of an earlier `act`, if one had a fault
+  abbrev pub poisoned_by : Registry S g → Option Fault
+  poisoned_by it = it.fault
+
   -- an earlier `act` had a fault
   abbrev pub is_poisoned : Registry S g → Bool
-  is_poisoned it = it.poisoned
+  is_poisoned it = is_some (poisoned_by it)
 
   -- a registry represents a legal history: it is not poisoned, its totals are those of the history, and over a clean disk so
   -- are its tables and what a crash may leave

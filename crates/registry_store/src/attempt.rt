@@ -43,8 +43,8 @@ fn judged<S: Alter>(
     }
 }
 
-/// Writes the rows of a deed and its reply in the transaction, and updates the totals. Allocates
-/// its own memory before the first write.
+/// Updates the totals, and then writes the rows of a deed and its reply in the transaction. After a
+/// fault the totals may be those after the deed.
 fn write<S: Alter>(
     alloc: Global,
     tx: &mut Transaction<'_, S>,

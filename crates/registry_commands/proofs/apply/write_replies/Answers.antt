@@ -1,15 +1,15 @@
 use Rattle.std.proofs.Common.{◌≡◌, ◌⊎◌, inl, inr, ℕ, ap, subst, ◌∙◌}
-use Rattle.std.specs.Prelude.{Err}
+use Rattle.std.specs.Prelude.{Err, Some, true, false}
 use Rattle.sqlite.specs.State.{HasCleanDisk}
 use Rattle.registry_rules.specs.History.{History}
-use Rattle.registry_store.specs.Promise.{state_of}
+use Rattle.registry_store.specs.Promise.{is_poisoned, poisoned_by, state_of}
 use Rattle.registry_store.specs.Run.{HasAnswered}
-use Rattle.registry_store.specs.declared.fault.Fault.TheVariants.{Store, NoMemory}
+use Rattle.registry_store.specs.declared.fault.Fault.TheVariants.{Store, NoMemory, Poisoned}
 use Rattle.registry_store.specs.declared.replies.RunStop.TheVariants as stop
 use Rattle.registry_commands.specs.declared.messages.Failure.{Failure}
 use Rattle.registry_commands.specs.Apply.{IsOfRun}
 use Rattle.registry_commands.specs.Failures.{IsOfOutput}
-use Rattle.registry_commands.proofs.FailureLemmas.{of_fault, of_reply}
+use Rattle.registry_commands.proofs.FailureLemmas.{not_of_output, of_fault, of_reply}
 use Rattle.registry_commands.proofs.ReplyLemmas.{no_more, stopped_lines, taken_lines}
 use Rattle.registry_commands.proofs.apply.write_replies.Goals as goal
 
@@ -42,11 +42,14 @@ returns-in-Err-Fault-clause-failure g c =
     let fault = c.in-Err-Fault.fault in
     let kind : (h : History) → HasAnswered c.args.registry.now h c.args.requests.now c.args.answered → HasCleanDisk (state_of c.run_to.new.self) → (fault ≡ Store) ⊎ (fault ≡ NoMemory) =
     λ h at clean. let halted = rw c.in-Err-Fault.field-0-is at (c.in-Err-Fault.ensures.stopped h at clean) in halted.1.reply.2.1 in
-    rw c.failure_of.ensures (of_fault c.args.registry.now c.run_to.new.self (λ h. HasAnswered c.args.registry.now h c.args.requests.now c.args.answered)
-    (g.W.Sink.failures old.output.now) (g.W.Sink.failures new.output.now) kept fault
-    (λ poisoned. c.in-Err-Fault.ensures.only_poisoned (ap Err (c.in-Err-Fault.field-0-is ∙ ap stop.Fault poisoned)))
-    (λ taken. c.in-Err-Fault.ensures.never_taken (ap Err (c.in-Err-Fault.field-0-is ∙ ap stop.Fault taken)))
-    (elim c.in-Err-Fault.ensures.ends [ inl cut ↦ absurd (cc (cut, c.in-Err-Fault.field-0-is)) | inr spent ↦ spent ]) kind)
+    let spent : is_poisoned c.args.registry.now ≡ true → fault ≡ Poisoned = λ e. let failed = c.in-Err-Fault.ensures.when_poisoned e in cc (failed.0, c.in-Err-Fault.field-0-is) in
+    let keeps : is_poisoned c.args.registry.now ≡ false → poisoned_by c.run_to.new.self ≡ Some fault = λ e. rw c.in-Err-Fault.field-0-is at (c.in-Err-Fault.ensures.keeps_fault e) in
+    rw c.failure_of.ensures (
+      of_fault c.args.registry.now c.run_to.new.self (λ h. HasAnswered c.args.registry.now h c.args.requests.now c.args.answered) fault
+          (λ poisoned. c.in-Err-Fault.ensures.only_poisoned (ap Err (c.in-Err-Fault.field-0-is ∙ ap stop.Fault poisoned))) spent keeps
+          (λ taken. c.in-Err-Fault.ensures.never_taken (ap Err (c.in-Err-Fault.field-0-is ∙ ap stop.Fault taken))) kind,
+      not_of_output (g.W.Sink.failures old.output.now) (g.W.Sink.failures new.output.now) kept fault,
+    )
 
 pub unreachable-requires : goal.unreachable-requires
 unreachable-requires g c =
@@ -72,6 +75,6 @@ returns-in-Some-clause-failure g c =
     let kept : g.W.Sink.failures given.middle.output.now ≡ old = (taken_lines g.W.Sink.contents g.W.Sink.failures c.args.lines.now given.middle given.replies given.taken).kept in
     let same : cut.failure ≡ c.in-Some.failure = cc (cut.noted, c.in-Some.is) in (
       subst (λ (f : Failure). IsOfRun c.args.registry.now c.run_to.new.self (λ h. HasAnswered c.args.registry.now h c.args.requests.now c.args.answered) f) same
-          (of_reply c.args.registry.now c.run_to.new.self (λ h. HasAnswered c.args.registry.now h c.args.requests.now c.args.answered) cut.failure cut.kind),
+          (of_reply c.args.registry.now c.run_to.new.self (λ h. HasAnswered c.args.registry.now h c.args.requests.now c.args.answered) cut.failure (c.in-Err-Cut.ensures.after_cut (ap Err c.in-Err-Cut.field-0-is)) cut.kind),
       subst (λ (f : Failure). IsOfOutput old new f) same (subst (λ (n : ℕ). IsOfOutput n new cut.failure) kept cut.cause),
     )

@@ -5,7 +5,7 @@ use Rattle.registry_commands.proofs.found.found_with.Goals as goal
 
 pub returns-in-Err : goal.returns-in-Err
 returns-in-Err g c =
-    let of = of_founding g.S.Store c.args.conn c.in-Err.conn c.in-Err.fault
+    let of = of_founding g.S.Store c.args.conn c.in-Err.conn c.in-Err.fault c.in-Err.ensures.untaken
     (λ e. let there = c.in-Err.ensures.taken e in (there.0, λ none. let meta = there.1 in absurd cc)) c.in-Err.ensures.kind in
     record {
       survives = c.in-Err.ensures.survives;

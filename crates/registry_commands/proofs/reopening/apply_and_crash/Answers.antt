@@ -12,6 +12,7 @@ returns g c =
     let told = error_output g.E.Sink.contents g.E.Sink.failures c.args.errors.now run.new.errors in (
       bytes,
       run.ensures.1,
+      (run.new.registry, run.ensures.2),
       if_reopened OfInput OfOutput c.args.first run.new.registry (requests_in bytes) c.args.answered (g.W.Sink.contents c.args.output.now) (g.W.Sink.contents run.new.output) told run.result run.ensures.2
           c.crash_and_open.result c.crash_and_open.ensures.represents c.crash_and_open.ensures.clean,
     )

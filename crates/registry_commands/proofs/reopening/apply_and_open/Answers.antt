@@ -1,15 +1,16 @@
-use Rattle.std.proofs.Common.{◌≡◌, true, subst, sym, ◌∙◌, rules}
+use Rattle.std.proofs.Common.{◌≡◌, ℕ, true, subst, sym, ◌∙◌, rules}
 use Rattle.std.proofs.lemmas.Bool.{and_parts}
 use Rattle.std.proofs.lemmas.Option.{IfSome_then}
 use Rattle.sqlite.specs.State.{HasCleanDisk}
 use Rattle.sqlite.specs.Files.{file_state}
 use Rattle.registry_tables.specs.Rows.{newest}
 use Rattle.registry_store.specs.Promise.{Leaves}
-use Rattle.registry_store.specs.Reopen.{IsEither}
+use Rattle.registry_store.specs.Reopen.{IsEither, IsUncopied}
 use Rattle.registry_store.proofs.CrashLemmas.{closed_clean, in_newest}
 use Rattle.registry_commands.specs.Failures.{IsOfInput, IsOfOutput, error_output}
 use Rattle.registry_commands.specs.Lines.{requests_in}
-use Rattle.registry_commands.proofs.ReopenLemmas.{if_reopened}
+use Rattle.registry_commands.specs.Reopened.{EndsClosing}
+use Rattle.registry_commands.proofs.ReopenLemmas.{closing_ends, if_reopened}
 use Rattle.registry_commands.proofs.reopening.apply_and_open.Goals as goal
 
 pub returns : goal.returns
@@ -22,6 +23,7 @@ returns g c =
     let close = c.close_store-closed in (
       bytes,
       run.ensures.1,
+      (run.result, run.new.errors, (run.new.registry, run.ensures.2), subst (λ (n : ℕ). EndsClosing g.E.Sink.contents g.E.Sink.failures run.result run.new.errors close.new.errors n) c.if-closed-status.false (closing_ends g.E.Sink.contents g.E.Sink.failures (IsUncopied c.close.result close.result.1) run.new.errors close.new.errors run.result close.result.0 close.ensures.kept close.ensures.well)),
       if_reopened OfInput OfOutput c.args.first run.new.registry (requests_in bytes) c.args.answered (g.W.Sink.contents c.args.output.now) (g.W.Sink.contents run.new.output) told run.result run.ensures.2
           c.open_files.result
           (λ h next legal legal_next leaves.
@@ -32,10 +34,24 @@ returns g c =
     )
 
 pub returns-then-closed-status : goal.returns-then-closed-status
-returns-then-closed-status g c = (c.apply_lines-status.ensures.0, c.apply_lines-status.ensures.1, tt)
+returns-then-closed-status g c =
+    let run = c.apply_lines-status in
+    let close = c.close_store-closed in (
+      run.ensures.0,
+      run.ensures.1,
+      (run.result, run.new.errors, (run.new.registry, run.ensures.2), closing_ends g.E.Sink.contents g.E.Sink.failures (IsUncopied c.close.result close.result.1) run.new.errors close.new.errors run.result close.result.0 close.ensures.kept close.ensures.well),
+      tt,
+    )
 
 pub returns-then-not-may_be_used : goal.returns-then-not-may_be_used
-returns-then-not-may_be_used g c = (c.apply_lines-status.ensures.0, c.apply_lines-status.ensures.1, tt)
+returns-then-not-may_be_used g c =
+    let run = c.apply_lines-status in
+    let close = c.close_store-closed in (
+      run.ensures.0,
+      run.ensures.1,
+      (run.result, run.new.errors, (run.new.registry, run.ensures.2), subst (λ (n : ℕ). EndsClosing g.E.Sink.contents g.E.Sink.failures run.result run.new.errors close.new.errors n) c.if-closed-status.false (closing_ends g.E.Sink.contents g.E.Sink.failures (IsUncopied c.close.result close.result.1) run.new.errors close.new.errors run.result close.result.0 close.ensures.kept close.ensures.well)),
+      tt,
+    )
 
 pub open_files-requires : goal.open_files-requires
 open_files-requires g c =

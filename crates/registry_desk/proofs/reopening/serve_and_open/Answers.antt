@@ -7,11 +7,11 @@ returns-in-Ok g c =
     let run = c.serve_all-served in
     let it = run.ensures.served in
     let opening = c.close_and_open in
-    (it.0, it.1, it.2, it.3, it.4, it.5, if_reopened c.args.first run.new.registry it.0 (fault_in run.result) it.6 opening.result opening.ensures.represents opening.ensures.clean)
+    (it.0, it.1, it.2, it.3, it.4, it.5, record { last = run.new.registry; served = it.6; poisoned = λ e. (it.7 e).0 }, if_reopened c.args.first run.new.registry it.0 (fault_in run.result) it.6 opening.result opening.ensures.represents opening.ensures.clean)
 
 pub returns-in-Err : goal.returns-in-Err
 returns-in-Err g c =
     let run = c.serve_all-served in
     let it = run.ensures.served in
     let opening = c.leave_and_open in
-    (it.0, it.1, it.2, it.3, it.4, it.5, if_reopened c.args.first run.new.registry it.0 (fault_in run.result) it.6 opening.result opening.ensures.represents opening.ensures.clean)
+    (it.0, it.1, it.2, it.3, it.4, it.5, record { last = run.new.registry; served = it.6; poisoned = λ e. (it.7 e).0 }, if_reopened c.args.first run.new.registry it.0 (fault_in run.result) it.6 opening.result opening.ensures.represents opening.ensures.clean)

@@ -33,8 +33,8 @@ returns-in-Err-Fault-clause-holders g c h legal n deed org has gives = one_organ
 pub returns-in-Err-Cut-clause-holders : goal.returns-in-Err-Cut-clause-holders
 returns-in-Err-Cut-clause-holders g c h legal n deed org has gives = one_organisation (after h c.args.requests.now) (legal_after h c.args.requests.now legal) n deed org has gives
 
-pub returns-then-self-clause-holders : goal.returns-then-self-clause-holders
-returns-then-self-clause-holders g c h legal n deed org has gives = one_organisation (after h c.args.requests.now) (legal_after h c.args.requests.now legal) n deed org has gives
+pub returns-then-is_poisoned-clause-holders : goal.returns-then-is_poisoned-clause-holders
+returns-then-is_poisoned-clause-holders g c h legal n deed org has gives = one_organisation (after h c.args.requests.now) (legal_after h c.args.requests.now legal) n deed org has gives
 
 pub returns-in_default-clause-holders : goal.returns-in_default-clause-holders
 returns-in_default-clause-holders g c h legal n deed org has gives = one_organisation (after h c.args.requests.now) (legal_after h c.args.requests.now legal) n deed org has gives
@@ -46,6 +46,15 @@ returns-in-Err-Fault-clause-ends g c = elim c.in-Err-Fault.ensures.ends [ inl cu
 
 pub returns-in-Err-Cut-clause-ends : goal.returns-in-Err-Cut-clause-ends
 returns-in-Err-Cut-clause-ends g c =
+    let given = rw c.in-Err-Cut.field-0-is at c.in-Err-Cut.ensures.cut in
+    let room : length c.args.requests.now - c.args.answered ≤ vec_capacity c.in-Ok.replies = omega (arith, c.in-Ok.ensures.exact) in
+    absurd (never_full c.in-Ok.replies c.run_to.new.replies (length c.args.requests.now - c.args.answered) c.in-Ok.ensures.items room given)
+
+pub returns-in-Err-Fault-clause-keeps_fault : goal.returns-in-Err-Fault-clause-keeps_fault
+returns-in-Err-Fault-clause-keeps_fault g c not_poisoned = inl (rw c.in-Err-Fault.field-0-is at (c.in-Err-Fault.ensures.keeps_fault not_poisoned))
+
+pub returns-in-Err-Cut-clause-keeps_fault : goal.returns-in-Err-Cut-clause-keeps_fault
+returns-in-Err-Cut-clause-keeps_fault g c _ =
     let given = rw c.in-Err-Cut.field-0-is at c.in-Err-Cut.ensures.cut in
     let room : length c.args.requests.now - c.args.answered ≤ vec_capacity c.in-Ok.replies = omega (arith, c.in-Ok.ensures.exact) in
     absurd (never_full c.in-Ok.replies c.run_to.new.replies (length c.args.requests.now - c.args.answered) c.in-Ok.ensures.items room given)

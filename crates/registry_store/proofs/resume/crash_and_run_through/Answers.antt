@@ -1,7 +1,7 @@
 use Rattle.std.proofs.Common.{◌≡◌, inl, inr, refl, sym, subst}
 use Rattle.std.proofs.Math.Logic.{∥∥₁_elim}
 use Rattle.registry_store.specs.Promise.{Represents}
-use Rattle.registry_store.proofs.reopen.crash_and_run_through.Goals as goal
+use Rattle.registry_store.proofs.resume.crash_and_run_through.Goals as goal
 
 pub returns-in-Ok-clause-clean : goal.returns-in-Ok-clause-clean
 returns-in-Ok-clause-clean g c clean = c.leave_store.ensures.clean (c.in_ok-registry.ensures.honest (c.in-Ok.ensures.clean clean))

@@ -3,7 +3,7 @@ use Rattle.sqlite.specs.WalReads.{AreClean}
 use Rattle.registry_rules.specs.History.{History}
 use Rattle.registry_rules.specs.Run.{Legal}
 use Rattle.registry_store.specs.Reopen.{HoldEither}
-use Rattle.registry_store.proofs.reopen.open_through.Given as goal
+use Rattle.registry_store.proofs.resume.open_through.Given as goal
 
 abbrev pub invariant-loop : goal.invariant-loop
 invariant-loop g l = record {

@@ -1,6 +1,6 @@
 use Rattle.std.proofs.lemmas.Option.{IfSome_then}
 use Rattle.registry_tables.specs.Rows.{newest}
-use Rattle.registry_store.proofs.reopen.crash_until_open.Goals as goal
+use Rattle.registry_store.proofs.resume.crash_until_open.Goals as goal
 
 pub returns-clause-represents : goal.returns-clause-represents
 returns-clause-represents g c h next legal legal_next leaves = c.open_through.ensures.represents newest h next legal legal_next (c.leave.ensures.holds h next leaves)

@@ -1,6 +1,6 @@
 use Rattle.std.proofs.lemmas.Option.{IfSome_then}
 use Rattle.registry_store.proofs.CrashLemmas.{both}
-use Rattle.registry_store.proofs.reopen.crash_and_open_store.Goals as goal
+use Rattle.registry_store.proofs.resume.crash_and_open_store.Goals as goal
 
 pub returns-clause-represents : goal.returns-clause-represents
 returns-clause-represents g c from h next legal legal_next leaves =

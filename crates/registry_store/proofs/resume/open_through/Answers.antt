@@ -1,5 +1,5 @@
 use Rattle.registry_store.proofs.CrashLemmas.{both}
-use Rattle.registry_store.proofs.reopen.open_through.Goals as goal
+use Rattle.registry_store.proofs.resume.open_through.Goals as goal
 
 pub returns-in-Ok-clause-honest : goal.returns-in-Ok-clause-honest
 returns-in-Ok-clause-honest g c clean =

@@ -4,7 +4,7 @@ use Rattle.registry_rules.specs.History.{History}
 use Rattle.registry_rules.specs.Run.{replies_to}
 use Rattle.registry_store.specs.Promise.{Represents, state_of}
 use Rattle.registry_store.specs.Run.{HasAnswered}
-use Rattle.registry_store.proofs.reopen.run_through.Given as goal
+use Rattle.registry_store.proofs.resume.run_through.Given as goal
 
 abbrev pub invariant-stops : goal.invariant-stops
 invariant-stops g l = record {

@@ -1,0 +1,237 @@
+//! What the next opening finds: calls that crash, leave or close a registry and open it again, and runs through crashes.
+
+ghost use Rattle.std.specs.Prelude.{◌≡◌, ℕ, IfSome, IfOk, IfErr, None, take, length};
+ghost use Rattle.sqlite.specs.State.{HasCleanDisk};
+ghost use Rattle.sqlite.specs.Files.{file_state};
+ghost use Rattle.sqlite.specs.WalReads.{AreClean};
+ghost use Rattle.registry_rules.specs.History.{History, founded};
+ghost use Rattle.registry_rules.specs.Run.{Legal, after, replies_to};
+ghost use Rattle.registry_tables.specs.Rows.{newest};
+ghost use Rattle.registry_store.specs.Promise.{Represents, Leaves, LeavesFrom, state_of};
+ghost use Rattle.registry_store.specs.Reopen.{IsEither, HoldEither, KeepsItsWord};
+
+use crate::registry::Registry;
+use crate::reopen::{Closed, close_files, leave, leave_store, open_files, open_files_or_return};
+use crate::run::RunEnd;
+use registry_rules::{Founding, Reply, Request};
+use sqlite::{Connection, FileStore, Files, Options};
+use sqlite_disk::{Crash, Disk, Memory};
+use std::alloc::Global;
+
+/// Crashes both disks and opens the registry in the files. After a fault of the registry it crashes
+/// both and opens again, at most `tries` times in all. Returns `None` if no try succeeds, or after
+/// a fault of the connection.
+pub fn open_through<D: Crash + Drop>(
+    alloc: Global,
+    files: Files<D>,
+    options: Options,
+    tries: u64,
+) -> Option<Registry<FileStore<D>>>
+    ensures honest { IfSome result (λ it. HasCleanDisk (state_of it) → AreClean D.Disk files.log files.db) }
+    ensures represents { (from : ℕ) (h next : History) → Legal h → Legal next → (AreClean D.Disk files.log files.db → HoldEither D.Disk from files h next)
+        → IfSome result (λ it. HasCleanDisk (state_of it) → ∥ ((x : History) × IsEither h next x × Represents it x) ∥₁) }
+{
+    let mut left = files;
+    for _ in 0..tries {
+        left.log.crash();
+        left.db.crash();
+        left = match open_files_or_return(alloc, left, options) {
+            Ok(registry) => return Some(registry),
+            Err(Some(kept)) => kept,
+            Err(None) => return None,
+        };
+    }
+    None
+}
+
+/// Crashes both disks and opens the registry again.
+pub fn crash_and_open<D: Crash + Drop>(
+    alloc: Global,
+    registry: Registry<FileStore<D>>,
+    options: Options,
+) -> Option<Registry<FileStore<D>>>
+    ensures clean { IfSome result (λ it. HasCleanDisk (state_of it) → HasCleanDisk (state_of registry)) }
+    ensures represents { (h next : History) → Legal h → Legal next → (HasCleanDisk (state_of registry) → Leaves newest (state_of registry) (IsEither h next))
+        → IfSome result (λ it. HasCleanDisk (state_of it) → ∥ ((x : History) × IsEither h next x × Represents it x) ∥₁) }
+{
+    let mut files = leave(registry);
+    files.log.crash();
+    files.db.crash();
+    open_files(alloc, files, options)
+}
+
+/// Like `crash_and_open`, but crashes both disks and opens again after each fault of the registry,
+/// at most `tries` times in all.
+pub fn crash_until_open<D: Crash + Drop>(
+    alloc: Global,
+    registry: Registry<FileStore<D>>,
+    options: Options,
+    tries: u64,
+) -> Option<Registry<FileStore<D>>>
+    ensures clean { IfSome result (λ it. HasCleanDisk (state_of it) → HasCleanDisk (state_of registry)) }
+    ensures represents { (h next : History) → Legal h → Legal next → (HasCleanDisk (state_of registry) → Leaves newest (state_of registry) (IsEither h next))
+        → IfSome result (λ it. HasCleanDisk (state_of it) → ∥ ((x : History) × IsEither h next x × Represents it x) ∥₁) }
+{
+    open_through(alloc, leave(registry), options, tries)
+}
+
+/// Like `crash_and_open`, for a connection, for example one that `Registry::open` returned with a
+/// fault: its tables may still be those of an older schema.
+pub fn crash_and_open_store<D: Crash + Drop>(
+    alloc: Global,
+    conn: Connection<FileStore<D>>,
+    options: Options,
+) -> Option<Registry<FileStore<D>>>
+    ensures clean { IfSome result (λ it. HasCleanDisk (state_of it) → HasCleanDisk (file_state conn)) }
+    ensures represents { (from : ℕ) (h next : History) → Legal h → Legal next → (HasCleanDisk (file_state conn) → LeavesFrom from (file_state conn) (IsEither h next))
+        → IfSome result (λ it. HasCleanDisk (state_of it) → ∥ ((x : History) × IsEither h next x × Represents it x) ∥₁) }
+{
+    let mut files = leave_store(conn);
+    files.log.crash();
+    files.db.crash();
+    open_files(alloc, files, options)
+}
+
+/// Abandons the registry while the disks go on, as when the process ends, and opens it again.
+pub fn leave_and_open<D: Disk + Drop>(
+    alloc: Global,
+    registry: Registry<FileStore<D>>,
+    options: Options,
+) -> Option<Registry<FileStore<D>>>
+    ensures clean { IfSome result (λ it. HasCleanDisk (state_of it) → HasCleanDisk (state_of registry)) }
+    ensures represents { (h next : History) → Legal h → Legal next → (HasCleanDisk (state_of registry) → Leaves newest (state_of registry) (IsEither h next))
+        → IfSome result (λ it. HasCleanDisk (state_of it) → ∥ ((x : History) × IsEither h next x × Represents it x) ∥₁) }
+{
+    let files = leave(registry);
+    if !files.may_be_used() {
+        return None;
+    }
+    open_files(alloc, files, options)
+}
+
+/// Closes the registry, which copies its log into its database file, and opens it again.
+pub fn close_and_open<D: Disk + Drop>(
+    alloc: Global,
+    registry: Registry<FileStore<D>>,
+    options: Options,
+) -> Option<Registry<FileStore<D>>>
+    ensures clean { IfSome result (λ it. HasCleanDisk (state_of it) → HasCleanDisk (state_of registry)) }
+    ensures represents { (h next : History) → Legal h → Legal next → (HasCleanDisk (state_of registry) → Leaves newest (state_of registry) (IsEither h next))
+        → IfSome result (λ it. HasCleanDisk (state_of it) → ∥ ((x : History) × IsEither h next x × Represents it x) ∥₁) }
+{
+    let Closed { files, error } = close_files(registry.close());
+    match error {
+        None => open_files(alloc, files, options),
+        Some(_) => None,
+    }
+}
+
+/// Abandons a registry and drops its files.
+fn let_go<D: Disk + Drop>(registry: Registry<FileStore<D>>) {
+    drop(leave(registry));
+}
+
+/// Acts on the requests. After each fault it crashes both disks, opens the registry again and
+/// resumes from the first unanswered request, for at most `stops` runs. If the registry has a fault
+/// while it is opened, it crashes both disks and opens it again, at most `stops` times a run.
+///
+/// However often that happens, the replies and the tables are those of a run without faults. If it
+/// does not finish, it returns the replies so far, which are a prefix of that run's replies.
+pub fn run_through<D: Crash + Drop>(
+    alloc: Global,
+    first: Registry<FileStore<D>>,
+    requests: &[Request],
+    options: Options,
+    stops: u64,
+) -> Result<(Vec<Reply>, Registry<FileStore<D>>), Vec<Reply>>
+    ensures clean { IfOk result (λ end. HasCleanDisk (state_of end.1) → HasCleanDisk (state_of first)) }
+    ensures ended { (h : History) → Represents first h
+        → IfOk result (λ end. HasCleanDisk (state_of end.1) → ∥ ((end.0.items ≡ replies_to h requests.now) × Represents end.1 (after h requests.now)) ∥₁) }
+    ensures unfinished { (h : History) → Represents first h → KeepsItsWord D.Disk
+        → IfErr result (λ replies. ∥ (replies.items ≡ take (length replies.items) (replies_to h requests.now)) ∥₁) }
+{
+    let mut registry = first;
+    let mut replies: Vec<Reply> = Vec::new(alloc);
+    'stops: for _ in 0..stops {
+        if replies.len() > requests.len() {
+            let_go(registry);
+            return Err(replies);
+        }
+        let RunEnd {
+            replies: mut more,
+            fault,
+        } = registry.run_from(requests, replies.len());
+        if replies.append(&mut more).is_err() {
+            let_go(registry);
+            return Err(replies);
+        }
+        match fault {
+            None => return Ok((replies, registry)),
+            Some(_) => {}
+        }
+        registry = match crash_until_open(alloc, registry, options, stops) {
+            Some(registry) => registry,
+            None => return Err(replies),
+        };
+    }
+    let_go(registry);
+    Err(replies)
+}
+
+/// Crashes both disks of a connection, for example one that `Registry::open` returned with a fault,
+/// opens the registry again and acts on the requests, with a crash of both after each fault of
+/// either, as `run_through` does.
+///
+/// The replies and the tables are those of a run without faults over the history that the store
+/// held, in whatever schema.
+pub fn crash_and_run_through<D: Crash + Drop>(
+    alloc: Global,
+    conn: Connection<FileStore<D>>,
+    requests: &[Request],
+    options: Options,
+    stops: u64,
+) -> Option<(Vec<Reply>, Registry<FileStore<D>>)>
+    ensures clean { IfSome result (λ end. HasCleanDisk (state_of end.1) → HasCleanDisk (file_state conn)) }
+    ensures ended { (from : ℕ) (h : History) → Legal h → (HasCleanDisk (file_state conn) → LeavesFrom from (file_state conn) (IsEither h h))
+        → IfSome result (λ end. HasCleanDisk (state_of end.1) → ∥ ((end.0.items ≡ replies_to h requests.now) × Represents end.1 (after h requests.now)) ∥₁) }
+{
+    let registry = open_through(alloc, leave_store(conn), options, stops)?;
+    match run_through(alloc, registry, requests, options, stops) {
+        Ok(end) => Some(end),
+        Err(_) => None,
+    }
+}
+
+/// Founds a registry over two new disks in memory, and acts on the requests there, with a crash of
+/// both after each stop.
+///
+/// The contract assumes nothing of the disks: the result is what the rules say, and the disks are
+/// clean.
+pub fn run_in_memory(
+    alloc: Global,
+    founding: &Founding,
+    requests: &[Request],
+    options: Options,
+    stops: u64,
+) -> Option<(Vec<Reply>, Registry<FileStore<Memory>>)>
+    ensures ended { IfSome result (λ end. ∥ ((end.0.items ≡ replies_to (founded founding.now) requests.now) × Represents end.1 (after (founded founding.now) requests.now)) ∥₁) }
+    ensures clean { IfSome result (λ end. HasCleanDisk (state_of end.1)) }
+{
+    let files = Files {
+        log: Memory::new(alloc),
+        db: Memory::new(alloc),
+    };
+    let Ok(conn) = Connection::open_files(alloc, files, options) else {
+        return None;
+    };
+    match Registry::found(alloc, conn, founding) {
+        Ok(first) => match run_through(alloc, first, requests, options, stops) {
+            Ok(end) => Some(end),
+            Err(_) => None,
+        },
+        Err((_, conn)) => {
+            drop(conn.into_store().close());
+            None
+        }
+    }
+}
