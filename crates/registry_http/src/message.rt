@@ -30,7 +30,9 @@ use usbnum_core::{Key, NoMemory, Slug, Vid};
 /// The query or request of a message without a fault.
 #[derive(Drop)]
 pub enum Message {
+    /// A query, which leaves the registry as it is.
     Query(Query),
+    /// A request to act on.
     Request(Request),
 }
 

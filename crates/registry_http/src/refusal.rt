@@ -11,7 +11,9 @@ use std::fmt;
 /// The method that a path allows.
 #[derive(Clone, Copy, Debug, PartialEq, Eq)]
 pub enum Allow {
+    /// The path is a query.
     Get,
+    /// The path takes orders.
     Post,
 }
 

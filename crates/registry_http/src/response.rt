@@ -15,7 +15,9 @@ use usbnum_core::NoMemory;
 /// The media type of a body.
 #[derive(Clone, Copy, Debug, PartialEq, Eq)]
 pub enum ContentType {
+    /// `application/json`.
     Json,
+    /// `text/plain; charset=utf-8`.
     Text,
 }
 

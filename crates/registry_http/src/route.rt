@@ -5,19 +5,26 @@ use usbnum_core::{Pid, Slug, Vid};
 /// A report, by its name.
 #[derive(Clone, Copy, Debug, PartialEq, Eq)]
 pub enum Report {
+    /// How many numbers of each vendor are free, reserved, held and returned.
     Census,
+    /// How many numbers each organisation holds, and how many it returned.
     Holders,
+    /// The open petitions.
     Petitions,
 }
 
 /// A query to the registry, which does not change it.
 #[derive(Drop)]
 pub enum Query {
+    /// The held numbers of all vendors, as a list in the syntax of usb.ids.
     List,
     /// A product ID, under the founding vendor if no vendor is named.
     Number { vendor: Option<Vid>, pid: Pid },
+    /// The organisation with this slug.
     Org(Slug),
+    /// The petition with this number.
     Petition(u32),
+    /// A report on the whole registry.
     Report(Report),
 }
 
@@ -34,6 +41,8 @@ pub(crate) enum Endpoint {
 /// The route of a path: a query by GET, or an order by POST.
 #[derive(Drop)]
 pub(crate) enum Route {
+    /// A query, by GET.
     Get(Query),
+    /// An order, by POST.
     Post(Endpoint),
 }

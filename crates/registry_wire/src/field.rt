@@ -3,19 +3,33 @@
 /// A field of a request in JSON.
 #[derive(Clone, Copy, Debug, PartialEq, Eq)]
 pub enum Field {
+    /// Who makes the request.
     Caller,
+    /// The request's key, under which its reply is kept.
     Key,
+    /// The name of the order.
     Order,
+    /// The slug of an organisation.
     Org,
+    /// The title of a product or an organisation.
     Title,
+    /// The address of a site.
     Site,
+    /// A product ID.
     Number,
+    /// The name of a licence.
     Licence,
+    /// The address of the source files.
     Source,
+    /// The number of a petition.
     Petition,
+    /// The first product ID of a range.
     First,
+    /// The last product ID of a range.
     Last,
+    /// A vendor ID.
     Vendor,
+    /// The name of a vendor.
     Name,
 }
 

@@ -47,7 +47,9 @@ pub enum WireRefusal {
 /// An HTTP header that names the caller of a request, or its key.
 #[derive(Clone, Copy, Debug, PartialEq, Eq)]
 pub enum Header {
+    /// `registry-caller`.
     Caller,
+    /// `registry-key`.
     Key,
 }
 
@@ -71,10 +73,15 @@ impl Header {
 pub enum FoundingFault {
     /// The bytes are not TOML.
     Toml,
+    /// The vendor ID of the registry.
     Vendor,
+    /// The name of its vendor.
     Name,
+    /// The slugs of the curators.
     Curators,
+    /// The licences that are allowed.
     Licences,
+    /// The product IDs that are reserved for good.
     Fixed,
 }
 
