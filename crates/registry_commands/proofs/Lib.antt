@@ -4,6 +4,7 @@ pub mod FailureLemmas
 pub mod ImportLemmas
 pub mod LineLemmas
 pub mod ReopenLemmas
+pub mod ClosingLemmas
 pub mod ReplyLemmas
 pub mod ReportLemmas
 pub mod ShownLemmas

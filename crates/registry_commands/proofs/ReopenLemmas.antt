@@ -1,11 +1,10 @@
 -- What is opened after request lines were acted on.
-use Rattle.std.proofs.Common.{◌≡◌, inl, inr, ℕ, zero, suc, ◌+◌, ◌≤◌, List, length, take, Option, Some, None, refl, sym, ap, subst, ◌∙◌, arith}
-use Rattle.std.specs.Prelude.{◌≢◌, Result, Ok, Err, IfSome}
+use Rattle.std.proofs.Common.{◌≡◌, inl, inr, ℕ, ◌+◌, ◌≤◌, List, length, take, Option, Some, None, refl, sym, ap, subst, ◌∙◌, arith}
+use Rattle.std.specs.Prelude.{Result, Ok, Err, IfSome}
 use Rattle.std.proofs.Math.Logic.{∥∥₁_map}
 use Rattle.std.proofs.lemmas.Bool.{cases_lt}
 use Rattle.std.proofs.lemmas.List.{take_all}
 use Rattle.std.specs.Io.KnownBytes.{Appends}
-use Rattle.sqlite.specs.declared.error.Error.{Error}
 use Rattle.sqlite.specs.Store.{Ghosts}
 use Rattle.sqlite.specs.State.{HasCleanDisk}
 use Rattle.registry_rules.specs.declared.order.Request.{Request}
@@ -21,23 +20,11 @@ use Rattle.registry_store.proofs.RunLemmas.{leaves_weaker}
 use Rattle.registry_store.proofs.RunToLemmas.{between_all}
 use Rattle.registry_commands.specs.declared.lines.BadLine.{BadLine}
 use Rattle.registry_commands.specs.declared.messages.Failure.{Failure}
-use Rattle.registry_commands.specs.Failures.{IsOfClosing, IsOfStore, PrintsFailure, ErrorOutput, error_output}
+use Rattle.registry_commands.specs.Failures.{ErrorOutput}
 use Rattle.registry_commands.specs.Messages.{reply_lines}
 use Rattle.registry_commands.specs.Apply.{IsApplied, IsRun, lines_between}
-use Rattle.registry_commands.specs.Reopened.{EndsClosing, IsReopened, IsReopenedAt}
+use Rattle.registry_commands.specs.Reopened.{IsReopened, IsReopenedAt}
 use Rattle.registry_commands.proofs.ApplyLemmas.{keeps_same, no_beginning}
-use Rattle.registry_commands.proofs.FailureLemmas.{of_store, tells_more}
-
--- how the status and the error output end after a store is closed
-pub closing_ends : {E : Type 0} (contents : E → Option (List ℕ)) (failures : E → ℕ) (May : Error → Type 0) (errors errors_new : E) (acted status : ℕ)
-    → (acted ≢ 0 → (status ≡ acted) × (errors_new ≡ errors))
-    → (acted ≡ 0 → ((status ≡ 0) × (errors_new ≡ errors)) ⊎ ((status ≡ 1) × PrintsFailure (IsOfClosing May) (error_output contents failures errors errors_new)))
-    → EndsClosing contents failures acted errors errors_new status
-closing_ends contents failures May errors errors_new zero status kept well = elim (well refl) [
-  | inl same ↦ inl same
-  | inr failed ↦ inr (refl, failed.0, tells_more (IsOfClosing May) IsOfStore (error_output contents failures errors errors_new) (of_store May) failed.1)
-]
-closing_ends contents failures May errors errors_new (suc n) status kept well = inl (kept (λ e. absurd cc))
 
 module _ {S : Type 0} {g : Ghosts S} where
   -- the opened registry represents one of the histories that the last one left

@@ -1,4 +1,4 @@
-use Rattle.std.proofs.Common.{◌≡◌, ◌⊎◌, inl, inr, ℕ, ap, subst, ◌∙◌}
+use Rattle.std.proofs.Common.{◌≡◌, ◌⊎◌, ℕ, ap, subst, ◌∙◌}
 use Rattle.std.specs.Prelude.{Err, Some, true, false}
 use Rattle.sqlite.specs.State.{HasCleanDisk}
 use Rattle.registry_rules.specs.History.{History}

@@ -10,7 +10,8 @@ use Rattle.registry_store.proofs.CrashLemmas.{closed_clean, in_newest}
 use Rattle.registry_commands.specs.Failures.{IsOfInput, IsOfOutput, error_output}
 use Rattle.registry_commands.specs.Lines.{requests_in}
 use Rattle.registry_commands.specs.Reopened.{EndsClosing}
-use Rattle.registry_commands.proofs.ReopenLemmas.{closing_ends, if_reopened}
+use Rattle.registry_commands.proofs.ClosingLemmas.{closing_ends}
+use Rattle.registry_commands.proofs.ReopenLemmas.{if_reopened}
 use Rattle.registry_commands.proofs.reopening.apply_and_open.Goals as goal
 
 pub returns : goal.returns
