@@ -1,9 +1,9 @@
 // A plain registry over HTTP, without proofs: the peer that `usbreg serve` is timed beside. It is the registry of peer.c
 // behind a loop of accept, read and write, one connection after another.
 //
-// Usage: http_peer STORE PORT TABLES [PAGE_SIZE]: serves POST /commands, GET /numbers/{pid} and GET /list of a new store or
-// one that is there, on 127.0.0.1, until it is killed. It believes its clients: their messages are whole and have the usual
-// form.
+// Usage: http_peer STORE PORT TABLES [PAGE_SIZE]: serves POST /commands, GET /numbers/{pid}, GET /list and GET
+// /reports/holders of a new store or one that is there, on 127.0.0.1, until it is killed. It believes its clients: their
+// messages are whole and have the usual form.
 #define NO_MAIN
 #include "peer.c"
 
@@ -12,10 +12,14 @@
 #include <netinet/tcp.h>
 #include <sys/socket.h>
 
-enum { MOST = 32768, LIST_ROOM = 16 * 1024 * 1024 };
+enum { MOST = 32768, ROOM = 16 * 1024 * 1024 };
 
-static sqlite3_stmt *one_number, *all_numbers;
-static char listed[LIST_ROOM];
+enum text { LIST, HOLDERS, TEXTS };
+
+static sqlite3_stmt *one_number, *rows[TEXTS];
+// The last list and the last report, which are given again until an order comes: a length of 0 says that there is none.
+static char kept[TEXTS][ROOM];
+static int lengths[TEXTS];
 
 static void write_all(int stream, const char *bytes, size_t length) {
     while (length) {
@@ -68,6 +72,7 @@ static void command(int stream, const char *room, const char *body) {
     char caller[TEXT], key[TEXT], line[MOST + 3 * TEXT], shown[2 * TEXT + 64];
     sprintf(line, "{\"caller\":\"%s\",\"key\":\"%s\",%s", value(room, "registry-caller: ", caller), value(room, "registry-key: ", key), body + 1);
     int length = reply_line(line, shown), is_done = !strncmp(shown, "{\"done\"", 7);
+    memset(lengths, 0, sizeof lengths);
     respond(stream, is_done ? 200 : 409, is_done ? "OK" : "Conflict", "application/json", shown, (size_t)length);
 }
 
@@ -87,20 +92,35 @@ static void ask_number(int stream, const char *room) {
     respond(stream, 200, "OK", "application/json", shown, (size_t)length);
 }
 
-static void ask_list(int stream) {
-    int length = sprintf(listed, "# List of USB numbers in the syntax of usb.ids\n\n1209  Shared products\n");
-    sqlite3_reset(all_numbers);
-    while (finds(all_numbers) && length < LIST_ROOM - 1024)
-        length += sprintf(listed + length, "\t%04x  %s\n", sqlite3_column_int(all_numbers, 0), sqlite3_column_text(all_numbers, 1));
-    sqlite3_reset(all_numbers);
-    respond(stream, 200, "OK", "text/plain; charset=utf-8", listed, (size_t)length);
+static int make_list(char *text) {
+    int length = sprintf(text, "# List of USB numbers in the syntax of usb.ids\n\n1209  Shared products\n");
+    while (finds(rows[LIST]) && length < ROOM - 1024)
+        length += sprintf(text + length, "\t%04x  %s\n", sqlite3_column_int(rows[LIST], 0), sqlite3_column_text(rows[LIST], 1));
+    return length;
+}
+
+static int make_holders(char *text) {
+    int length = 0;
+    while (finds(rows[HOLDERS]) && length < ROOM - 1024)
+        length += sprintf(text + length, "%-32s%6d%6d\n", sqlite3_column_text(rows[HOLDERS], 0), sqlite3_column_int(rows[HOLDERS], 1), sqlite3_column_int(rows[HOLDERS], 2));
+    return length;
+}
+
+static void ask_text(int stream, enum text which) {
+    if (!lengths[which]) {
+        sqlite3_reset(rows[which]);
+        lengths[which] = which == LIST ? make_list(kept[which]) : make_holders(kept[which]);
+        sqlite3_reset(rows[which]);
+    }
+    respond(stream, 200, "OK", "text/plain; charset=utf-8", kept[which], (size_t)lengths[which]);
 }
 
 int main(int count, char **words) {
     if (count != 4 && count != 5) return 2;
     open_store(words[1], words[3], count == 5 ? words[4] : "4096");
     must(sqlite3_prepare_v3(db, "SELECT org, title, licence, site, source, held FROM entries3 WHERE vid = 4617 AND pid = ?1", -1, SQLITE_PREPARE_PERSISTENT, &one_number, NULL) == SQLITE_OK);
-    must(sqlite3_prepare_v3(db, "SELECT pid, title FROM entries3 WHERE vid = 4617 AND held = 1 ORDER BY pid", -1, SQLITE_PREPARE_PERSISTENT, &all_numbers, NULL) == SQLITE_OK);
+    must(sqlite3_prepare_v3(db, "SELECT pid, title FROM entries3 WHERE vid = 4617 AND held = 1 ORDER BY pid", -1, SQLITE_PREPARE_PERSISTENT, &rows[LIST], NULL) == SQLITE_OK);
+    must(sqlite3_prepare_v3(db, "SELECT org, sum(held), sum(1 - held) FROM entries3 GROUP BY org ORDER BY org", -1, SQLITE_PREPARE_PERSISTENT, &rows[HOLDERS], NULL) == SQLITE_OK);
     int listener = socket(AF_INET, SOCK_STREAM, 0), yes = 1;
     struct sockaddr_in place = { .sin_family = AF_INET, .sin_port = htons((uint16_t)atoi(words[2])), .sin_addr.s_addr = htonl(INADDR_LOOPBACK) };
     setsockopt(listener, SOL_SOCKET, SO_REUSEADDR, &yes, sizeof yes);
@@ -114,7 +134,8 @@ int main(int count, char **words) {
         if (read_message(stream, room, &body)) {
             if (!strncmp(room, "POST /commands ", 15)) command(stream, room, body);
             else if (!strncmp(room, "GET /numbers/", 13)) ask_number(stream, room);
-            else if (!strncmp(room, "GET /list ", 10)) ask_list(stream);
+            else if (!strncmp(room, "GET /list ", 10)) ask_text(stream, LIST);
+            else if (!strncmp(room, "GET /reports/holders ", 21)) ask_text(stream, HOLDERS);
         }
         close(stream);
     }

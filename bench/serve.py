@@ -1,10 +1,12 @@
 #!/usr/bin/env python3
 """Times `usbreg serve` beside two registries over HTTP of a few lines without proofs, one in C over libsqlite3 and one in
 Python by http.server and sqlite3: the same messages, one connection each, from a client in C that keeps up. The one in C
-runs once with the pages that SQLite gives it, of 4,096 bytes, and once with pages as small as those of usbreg.
+runs once with the pages that SQLite gives it, of 4,096 bytes, and once with pages as small as those of usbreg. All keep the
+list and a report until an order comes.
 
 Prints messages per second and their ratios, in a file on tmpfs (/dev/shm), best and median of five runs that alternate:
-orders on a new store, and numbers and the list of a store with 60,000 numbers and 100,000 petitions. Then, for usbreg
+orders on a new store, and numbers, the list and the holders of a store with 60,000 numbers and 100,000 petitions: once
+unchanged since they were last asked for, and once after a grant each. Then, for usbreg
 alone, it prints the cost of a query on that store over that on one with 100 numbers, and how much the longest order, the
 longest list, the most devices and a query for the list raise the peak memory. Needs the program that `make` builds, or the
 one whose path is in USBREG, and cc, and says what is missing."""
@@ -114,11 +116,13 @@ def orders(all_programs, client, room):
     side_by_side("POST /commands, in a file on tmpfs", all_programs, len(messages), run)
 
 
-def queries(title, all_programs, client, room, stores, messages):
-    path = write_messages(f"{room}/queries", messages)
+def queries(title, all_programs, client, room, stores, messages, before=()):
+    """Times the messages; those before them are sent first, and not timed."""
+    path, first = write_messages(f"{room}/queries", messages), write_messages(f"{room}/before", before)
 
     def run(it):
         with it.serve(stores[it.name]) as server:
+            client.send(server, first)
             return client.send(server, path)
 
     side_by_side(title, all_programs, len(messages), run)
@@ -127,6 +131,13 @@ def queries(title, all_programs, client, room, stores, messages):
 def numbers(count, most):
     """Queries for held numbers, spread over a store with the given number of them."""
     return [get(f"/numbers/{17 + at * 7919 % most:04x}") for at in range(count)]
+
+
+def granted(count):
+    """Each query for the list follows the grant of one more number to a new organisation."""
+    for number in range(NUMBERS + 1, NUMBERS + 1 + count):
+        yield from (command(it) for it in rounds(number, number, PETITIONS - NUMBERS))
+        yield get("/list")
 
 
 def growth(usbreg, client, room, full):
@@ -177,7 +188,9 @@ def main():
         lines = write_requests(f"{room}/full.jsonl", [*rounds(1, NUMBERS), *declined(NUMBERS, PETITIONS - NUMBERS)])
         stores = {it.name: it.filled(f"{room}/{number}.db", lines) for number, it in enumerate(all_programs)}
         queries(f"GET /numbers/{{pid}} of {NUMBERS:,}", all_programs, client, room, stores, numbers(5000, NUMBERS))
-        queries(f"GET /list of {NUMBERS:,} numbers", all_programs, client, room, stores, [get("/list")] * 20)
+        for path in ("/list", "/reports/holders"):
+            queries(f"GET {path} of {NUMBERS:,} numbers, unchanged", all_programs, client, room, stores, [get(path)] * 500, [get(path)])
+        queries(f"GET /list of {NUMBERS:,} numbers, each after three orders, of which the last grants a number", all_programs, client, room, stores, [*granted(20)])
         usbreg = all_programs[0]
         growth(usbreg, client, room, stores[usbreg.name])
         memory(usbreg, room, stores[usbreg.name])

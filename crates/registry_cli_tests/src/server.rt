@@ -61,9 +61,24 @@ pub fn add_end(served: Result<(), ServerStop>, text: &mut String) -> bool {
 }
 
 // The numbers of connections that are served, one after another.
-const COUNTS: [u64; 3] = [0, 3, 1];
+const COUNTS: [u64; 3] = [0, 8, 1];
 
-const MESSAGES: &[&[u8]] = &[b"", b"GET /orgs/bolt HTTP/1.1\r\n\r\n", ENROL];
+const LIST: &[u8] = b"GET /list HTTP/1.1\r\n\r\n";
+
+const IMPORT: &[u8] =
+    b"POST /imports/acme HTTP/1.1\r\nregistry-caller: cora\r\nregistry-key: i1\r\ncontent-length: 34\r\n\r\n1209  Shared products\n\t0012  Lamp\n";
+
+// The list is asked for again before an order changes it, and after.
+const MESSAGES: &[&[u8]] = &[
+    b"",
+    b"GET /orgs/bolt HTTP/1.1\r\n\r\n",
+    ENROL,
+    LIST,
+    LIST,
+    IMPORT,
+    LIST,
+    b"GET /reports/holders HTTP/1.1\r\n\r\n",
+];
 
 fn serve_counts<S: Alter>(
     alloc: Global,
@@ -103,10 +118,22 @@ impl Calls for OneAfterAnother {
 const BAD_HEAD: &str =
     "HTTP/1.1 400 Bad Request\r\ncontent-type: application/json\r\ncontent-length: 32\r\nconnection: close\r\n\r\n{\"name\":\"BadHead\",\"refused\":20}\n";
 
+const EMPTY: &str =
+    "HTTP/1.1 200 OK\r\ncontent-type: text/plain; charset=utf-8\r\ncontent-length: 70\r\nconnection: close\r\n\r\n# List of USB numbers in the syntax of usb.ids\n\n1209  Shared products\n";
+
+const IMPORTED: &str =
+    "HTTP/1.1 200 OK\r\ncontent-type: application/json\r\ncontent-length: 80\r\nconnection: close\r\n\r\n{\"done\":\"imported fresh 1, owned 0, reserved 0, doubled 0, untitled 0, zero 0\"}\n";
+
+const LAMP: &str =
+    "HTTP/1.1 200 OK\r\ncontent-type: text/plain; charset=utf-8\r\ncontent-length: 82\r\nconnection: close\r\n\r\n# List of USB numbers in the syntax of usb.ids\n\n1209  Shared products\n\t0012  Lamp\n";
+
+const HOLDERS: &str =
+    "HTTP/1.1 200 OK\r\ncontent-type: text/plain; charset=utf-8\r\ncontent-length: 45\r\nconnection: close\r\n\r\nacme                                 1     0\n";
+
 #[test]
 fn serves_one_after_another(rt: HostRuntime) -> Result<(), Fail> {
     let wanted = format!(in rt.alloc();
-        "Ok(())\nSome(400) {BAD_HEAD}Some(404) {NO_ORG}Some(200) {ENROLLED}Ok(())\nErr(Connections)\n"
+        "Ok(())\nSome(400) {BAD_HEAD}Some(404) {NO_ORG}Some(200) {ENROLLED}Some(200) {EMPTY}Some(200) {EMPTY}Some(200) {IMPORTED}Some(200) {LAMP}Some(200) {HOLDERS}Ok(())\nErr(Connections)\n"
     )?;
     check(&rt, &OneAfterAnother, &wanted);
     Ok(())

@@ -1,15 +1,24 @@
 -- What a crash leaves if a registry represents one of two histories.
-use Rattle.std.proofs.Common.{◌⊎◌, inl, inr}
+use Rattle.std.proofs.Common.{◌⊎◌, inl, inr, refl, arith}
 use Rattle.sqlite.specs.Store.{Ghosts}
 use Rattle.sqlite.specs.State.{HasCleanDisk}
 use Rattle.registry_rules.specs.History.{History}
 use Rattle.registry_store.specs.declared.registry.Registry.{Registry as TheRegistry}
 use Rattle.registry_store.specs.Promise.{Represents, state_of}
+use Rattle.registry_commands.specs.Shown.{IsLeft}
 use Rattle.registry_desk.specs.declared.fault.DeskFault.{DeskFault}
 use Rattle.registry_desk.specs.declared.fault.DeskFault.TheVariants.{NoMemory, Registry}
 use Rattle.registry_desk.specs.Acting.{EndsAt, IsLeftAt}
 
 module _ {S : Type 0} {g : Ghosts S} where
+  -- a registry that is not asked is left as it is
+  pub left_same : (it : TheRegistry S g) → IsLeft it it
+  left_same it = record {
+    stays = λ h stands. stands;
+    poisons_nothing = refl;
+    survives = record { clean = omega arith; shield = λ is. is; counts = omega arith; limit = refl; closes = λ clean is. inl is; crash = λ clean db may. inl may };
+  }
+
   pub ends_either : (fault : DeskFault) (it : TheRegistry S g) (h next : History) → Represents it h ⊎ Represents it next → EndsAt fault it h next
   ends_either NoMemory it h next stands = stands
   ends_either (Registry fault) it h next stands = inr stands

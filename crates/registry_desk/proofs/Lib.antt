@@ -1,4 +1,5 @@
 pub mod AskLemmas
+pub mod KeptLemmas
 pub mod LawLemmas
 pub mod OnceLemmas
 pub mod ReopenLemmas

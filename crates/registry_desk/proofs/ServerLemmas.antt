@@ -19,6 +19,9 @@ use Rattle.registry_desk.specs.Serving.{IsNext, IsOfServed, IsServed}
 use Rattle.registry_desk.specs.declared.server.ServerStop.{ServerStop}
 use Rattle.registry_desk.specs.declared.server.ServerStop.TheVariants as stops
 use Rattle.registry_desk.specs.Server.{Visit, IsVisit, IsTurnedAwayAt, AreTurnedAway, HaveVisited, IsTurn, Turns, RepresentsAfter, IsHalted, EndsVisit, EndsServing, IsLeftAfter, EndsAt, IfVisited, fault_in}
+use Rattle.registry_desk.specs.declared.kept.Kept.{Kept}
+use Rattle.registry_desk.specs.Kept.{AreTextsAfterVisit, AreTextsOf, no_texts}
+use Rattle.registry_desk.proofs.KeptLemmas.{none_are}
 
 -- one more connection
 pub visited_more : {C R W : Type 0} (opens : C → C → R → W → Type 0) (closes : C → C → R → W → Option ℕ → Type 0) (remaining : R → Option (List ℕ)) (reads_failed : R → ℕ) (contents : W → Option (List ℕ)) (writes_failed : W → ℕ)
@@ -77,18 +80,25 @@ module _ {S : Type 0} {g : Ghosts S} where
       subst (λ (f : Option Fault). EndsVisit new h (record { bytes = bytes; text = text; end = Ok exchange }) f) (sym (same.fault ∙ ap (λ (s : Served). s.fault) it.served_is))
       (given_up_visit new h bytes text exchange it.fault it.next it.kind it.text_is (subst (λ (s : Served). IfOk exchange.sent (λ status. status ≡ s.status)) it.served_is same.status) it.next_is it.left)
 
+  -- the registry represents the history after these connections, and the texts that are kept are of it
+  abbrev pub RepresentsBeside : TheRegistry S g → Kept → History → List Visit → Type 0
+  RepresentsBeside it kept h visits = (next : History) × Turns h visits next × Represents it next × AreTextsOf next kept
+
+  pub represents_after : (it : TheRegistry S g) (kept : Kept) (h : History) (visits : List Visit) → RepresentsBeside it kept h visits → RepresentsAfter it h visits
+  represents_after it kept h visits so = (so.0, so.1, so.2)
+
   -- the history after one more connection
-  pub represents_more : (mid new : TheRegistry S g) (h : History) (visits : List Visit) (visit : Visit) → RepresentsAfter mid h visits
-      → ((x : History) → Represents mid x → EndsVisit new x visit None) → RepresentsAfter new h (visits ++ visit ∷ [])
-  represents_more mid new h visits visit before one =
-      let it = one before.0 before.2 in
-      (it.0, turns_more h before.0 it.0 visits visit before.1 it.1, it.2)
+  pub represents_more : (mid new : TheRegistry S g) (kept kept_new : Kept) (h : History) (visits : List Visit) (visit : Visit) → RepresentsBeside mid kept h visits
+      → ((x : History) → Represents mid x → AreTextsOf x kept → EndsVisit new x visit None × AreTextsAfterVisit x visit kept_new) → RepresentsBeside new kept_new h (visits ++ visit ∷ [])
+  represents_more mid new kept kept_new h visits visit before one =
+      let it = one before.0 before.2 before.3 in
+      (it.0.0, turns_more h before.0 it.0.0 visits visit before.1 it.0.1, it.0.2, it.1 it.0.0 it.0.1)
 
   -- the fault at one more connection
-  pub halted_more : (mid new : TheRegistry S g) (h : History) (visits : List Visit) (visit : Visit) (fault : Fault) → RepresentsAfter mid h visits
-      → ((x : History) → Represents mid x → EndsVisit new x visit (Some fault)) → IsHalted new h (visits ++ visit ∷ []) fault
-  halted_more mid new h visits visit fault before one =
-      record { before = visits; last = visit; all = refl; middle = before.0; turns = before.1; halted = one before.0 before.2 }
+  pub halted_more : (mid new : TheRegistry S g) (kept : Kept) (h : History) (visits : List Visit) (visit : Visit) (fault : Fault) → RepresentsBeside mid kept h visits
+      → ((x : History) → Represents mid x → AreTextsOf x kept → EndsVisit new x visit (Some fault)) → IsHalted new h (visits ++ visit ∷ []) fault
+  halted_more mid new kept h visits visit fault before one =
+      record { before = visits; last = visit; all = refl; middle = before.0; turns = before.1; halted = one before.0 before.2 before.3 }
 
   -- what a crash leaves then
   pub with_crash : (it : TheRegistry S g) (h : History) (visits : List Visit) (fault : Option Fault) → EndsServing it h visits fault → HasCleanDisk (state_of it)
@@ -131,27 +141,53 @@ module _ {S C R W : Type 0} {g : Ghosts S} (opens : C → C → R → W → Type
       × ((h : History) → Represents first h → HasCleanDisk (state_of last) → EndsServing last h visits (fault_in result) × Leaves newest (state_of last) (IsLeftAfter h visits))
       × (is_poisoned first ≡ true → AreTurnedAway visits (fault_in result) × (last ≡ first))
 
+  -- one connection came beside texts that are kept, with this result
+  abbrev pub CameBeside : C → C → TheRegistry S g → TheRegistry S g → Kept → Kept → Result (Unit {0}) ServerStop → Type 0
+  CameBeside old new mid last kept kept_new result = IfVisited result ((visit : Visit)
+      × IsVisit opens closes remaining reads_failed contents writes_failed old new visit
+      × ((h : History) → Represents mid h → HasCleanDisk (state_of last) → AreTextsOf h kept → EndsVisit last h visit (fault_in result) × AreTextsAfterVisit h visit kept_new)
+      × (is_poisoned mid ≡ true → kept ≡ no_texts → IsTurnedAwayAt visit (fault_in result) × (last ≡ mid) × (kept_new ≡ no_texts)))
+
+  -- the same beside no text
+  pub came_alone : (old new : C) (mid last : TheRegistry S g) (kept kept_new : Kept) (result : Result (Unit {0}) ServerStop) → kept ≡ no_texts → CameBeside old new mid last kept kept_new result
+      → IfVisited result ((visit : Visit)
+      × IsVisit opens closes remaining reads_failed contents writes_failed old new visit
+      × ((h : History) → Represents mid h → HasCleanDisk (state_of last) → EndsVisit last h visit (fault_in result))
+      × (is_poisoned mid ≡ true → IsTurnedAwayAt visit (fault_in result) × (last ≡ mid)))
+  came_alone old new mid last kept kept_new (Ok done) none came = (
+    came.0,
+    came.1,
+    λ h stands clean. (came.2 h stands clean (none_are h kept none)).0,
+    λ poisoned. let away = came.3 poisoned none in (away.0, away.1),
+  )
+  came_alone old new mid last kept kept_new (Err stops.Connections) none came = tt
+  came_alone old new mid last kept kept_new (Err (stops.Registry fault)) none came = (
+    came.0,
+    came.1,
+    λ h stands clean. (came.2 h stands clean (none_are h kept none)).0,
+    λ poisoned. let away = came.3 poisoned none in (away.0, away.1),
+  )
+
   -- a server stops when no more connections come, or at a fault
-  pub stops_at : (old middle new : C) (first mid last : TheRegistry S g) (count : ℕ) (visits : List Visit) (stop : ServerStop)
+  pub stops_at : (old middle new : C) (first mid last : TheRegistry S g) (kept kept_new : Kept) (count : ℕ) (visits : List Visit) (stop : ServerStop)
       → HaveVisited opens closes remaining reads_failed contents writes_failed old middle visits → length visits < count
       → (HasCleanDisk (state_of last) → HasCleanDisk (state_of mid))
-      → ((h : History) → Represents first h → HasCleanDisk (state_of mid) → RepresentsAfter mid h visits)
-      → (is_poisoned first ≡ true → AreTurnedAway visits None × (mid ≡ first))
-      → IfVisited (Err stop) ((visit : Visit) × IsVisit opens closes remaining reads_failed contents writes_failed middle new visit
-      × ((h : History) → Represents mid h → HasCleanDisk (state_of last) → EndsVisit last h visit (fault_in (Err stop)))
-      × (is_poisoned mid ≡ true → IsTurnedAwayAt visit (fault_in (Err stop)) × (last ≡ mid)))
+      → ((h : History) → Represents first h → HasCleanDisk (state_of mid) → RepresentsBeside mid kept h visits)
+      → (is_poisoned first ≡ true → AreTurnedAway visits None × (mid ≡ first) × (kept ≡ no_texts))
+      → CameBeside middle new mid last kept kept_new (Err stop)
       → (stop ≡ stops.Connections → fails middle new × (last ≡ mid)) → Ends old new first last count (Err stop)
-  stops_at old middle new first mid last count visits stops.Connections before less early so_far turned came none = (
+  stops_at old middle new first mid last kept kept_new count visits stops.Connections before less early so_far turned came none = (
     visits,
     middle,
     before,
     (none refl).0,
     omega (arith, less),
     tt,
-    λ h stands clean. with_crash last h visits None (subst (λ it. RepresentsAfter it h visits) (sym (none refl).1) (so_far h stands (early clean))) clean,
+    λ h stands clean.
+        with_crash last h visits None (subst (λ it. RepresentsAfter it h visits) (sym (none refl).1) (represents_after mid kept h visits (so_far h stands (early clean)))) clean,
     λ poisoned. let away = turned poisoned in (away.0, (none refl).1 ∙ away.1),
   )
-  stops_at old middle new first mid last count visits (stops.Registry fault) before less early so_far turned came none =
+  stops_at old middle new first mid last kept kept_new count visits (stops.Registry fault) before less early so_far turned came none =
       let longer = length_more visits came.0 (length visits) refl in (
         visits ++ came.0 ∷ [],
         new,
@@ -159,21 +195,20 @@ module _ {S C R W : Type 0} {g : Ghosts S} (opens : C → C → R → W → Type
         refl,
         omega (arith, less, longer),
         tt,
-        λ h stands clean. with_crash last h (visits ++ came.0 ∷ []) (Some fault) (halted_more mid last h visits came.0 fault (so_far h stands (early clean)) (λ x at. came.2 x at clean)) clean,
+        λ h stands clean.
+            with_crash last h (visits ++ came.0 ∷ []) (Some fault) (halted_more mid last kept h visits came.0 fault (so_far h stands (early clean)) (λ x at are. (came.2 x at clean are).0)) clean,
         λ poisoned.
             let away = turned poisoned in
-            let one = came.3 (subst (λ (r : TheRegistry S g). is_poisoned r ≡ true) (sym away.1) poisoned) in
+            let one = came.3 (subst (λ (r : TheRegistry S g). is_poisoned r ≡ true) (sym away.1) poisoned) away.2 in
             (turned_more visits came.0 (Some fault) away.0 one.0, one.1 ∙ away.1),
       )
 
-  pub stopped_at : (result : Result (Unit {0}) ServerStop) (stop : ServerStop) → result ≡ Err stop → (old middle new : C) (first mid last : TheRegistry S g) (count : ℕ) (visits : List Visit)
+  pub stopped_at : (result : Result (Unit {0}) ServerStop) (stop : ServerStop) → result ≡ Err stop → (old middle new : C) (first mid last : TheRegistry S g) (kept kept_new : Kept) (count : ℕ) (visits : List Visit)
       → HaveVisited opens closes remaining reads_failed contents writes_failed old middle visits → length visits < count
       → (HasCleanDisk (state_of last) → HasCleanDisk (state_of mid))
-      → ((h : History) → Represents first h → HasCleanDisk (state_of mid) → RepresentsAfter mid h visits)
-      → (is_poisoned first ≡ true → AreTurnedAway visits None × (mid ≡ first))
-      → IfVisited (Err stop) ((visit : Visit) × IsVisit opens closes remaining reads_failed contents writes_failed middle new visit
-      × ((h : History) → Represents mid h → HasCleanDisk (state_of last) → EndsVisit last h visit (fault_in (Err stop)))
-      × (is_poisoned mid ≡ true → IsTurnedAwayAt visit (fault_in (Err stop)) × (last ≡ mid)))
+      → ((h : History) → Represents first h → HasCleanDisk (state_of mid) → RepresentsBeside mid kept h visits)
+      → (is_poisoned first ≡ true → AreTurnedAway visits None × (mid ≡ first) × (kept ≡ no_texts))
+      → CameBeside middle new mid last kept kept_new (Err stop)
       → (stop ≡ stops.Connections → fails middle new × (last ≡ mid)) → Ends old new first last count result
-  stopped_at result stop is old middle new first mid last count visits before less early so_far turned came none =
-      subst (λ (r : Result (Unit {0}) ServerStop). Ends old new first last count r) (sym is) (stops_at old middle new first mid last count visits stop before less early so_far turned came none)
+  stopped_at result stop is old middle new first mid last kept kept_new count visits before less early so_far turned came none =
+      subst (λ (r : Result (Unit {0}) ServerStop). Ends old new first last count r) (sym is) (stops_at old middle new first mid last kept kept_new count visits stop before less early so_far turned came none)

@@ -2,4 +2,5 @@ pub mod Faults
 pub mod Acting
 pub mod Serving
 pub mod Server
+pub mod Kept
 pub mod Reopened

@@ -1,18 +1,21 @@
 //! Returns the response to a query, or acts on an order.
 
-ghost use Rattle.std.specs.Prelude.{◌≡◌, ◌≢◌, true, Err, IfOk, IfErr, OnOk, IsOk};
+ghost use Rattle.std.specs.Prelude.{◌≡◌, ◌≢◌, true, None, Err, IfOk, IfErr, OnOk, IsOk};
 ghost use Rattle.sqlite.specs.State.{HasCleanDisk};
 ghost use Rattle.registry_rules.specs.History.{History};
 ghost use Rattle.registry_rules.specs.Run.{after_one, reply_to};
 ghost use Rattle.registry_store.specs.Promise.{Represents, Endures, is_poisoned, state_of};
 ghost use Rattle.registry_store.specs.declared.fault.Fault.TheVariants as faults;
 ghost use Rattle.registry_desk.specs.declared.fault.DeskFault.TheVariants as desk_faults;
+ghost use Rattle.registry_commands.specs.Shown.{IsLeft};
 ghost use Rattle.registry_http.specs.Responses.{refusal_response, reply_response};
-ghost use Rattle.registry_desk.specs.Acting.{IsResponse, after_message, IsOfSoundRegistry, IsLeftAt};
+ghost use Rattle.registry_desk.specs.Acting.{IsQueryResponse, IsResponse, after_message, IsOfSoundRegistry, IsLeftAt};
+ghost use Rattle.registry_desk.specs.Kept.{AreTextsOf, kept_beside, no_texts, with_text};
 
 use crate::fault::DeskFault;
+use crate::kept::Kept;
 use crate::queries::ask;
-use registry_http::{HttpRefusal, Message, Response, refusal_response, reply_response};
+use registry_http::{HttpRefusal, Message, Query, Response, refusal_response, reply_response};
 use registry_rules::Request;
 use registry_store::Registry;
 use sqlite::Alter;
@@ -36,6 +39,26 @@ fn act_on<S: Alter>(
     Ok(reply_response(alloc, &reply)?)
 }
 
+/// Returns the response to a query: the one that is kept, which is taken out, or else a new one.
+fn take_or_ask<S: Alter>(
+    alloc: Global,
+    registry: &mut Registry<S>,
+    kept: &mut Kept,
+    query: &Query,
+) -> Result<Response, DeskFault>
+    ensures answered { (h : History) → Represents registry.old h → HasCleanDisk (state_of registry.new) → AreTextsOf h kept.old → IfOk result (IsQueryResponse h query.now) }
+    ensures kind { (h : History) → Represents registry.old h → HasCleanDisk (state_of registry.new) → IfErr result IsOfSoundRegistry }
+    ensures left { IsLeft registry.old registry.new }
+    ensures only_poisoned { result ≡ Err (desk_faults.Registry faults.Poisoned) → is_poisoned registry.old ≡ true }
+    ensures when_poisoned { is_poisoned registry.old ≡ true → kept.old ≡ no_texts → (result ≡ Err (desk_faults.Registry faults.Poisoned)) × (registry.new ≡ registry.old) }
+    ensures taken { kept.new ≡ with_text kept.old query.now None }
+{
+    match kept.take(query) {
+        Some(response) => Ok(response),
+        None => ask(alloc, registry, query),
+    }
+}
+
 /// Returns the response to a message that is refused.
 fn refuse(alloc: Global, refusal: HttpRefusal) -> Result<Response, DeskFault>
     ensures ok { IfOk result (λ response. response ≡ refusal_response refusal) }
@@ -44,27 +67,29 @@ fn refuse(alloc: Global, refusal: HttpRefusal) -> Result<Response, DeskFault>
     Ok(refusal_response(alloc, refusal)?)
 }
 
-/// Acts on what a message says, and returns the response.
+/// Acts on what a message says, and returns the response. A kept response is taken out.
 pub(crate) fn response_to<S: Alter>(
     alloc: Global,
     registry: &mut Registry<S>,
-    said: Result<Message, HttpRefusal>,
+    kept: &mut Kept,
+    said: &Result<Message, HttpRefusal>,
 ) -> Result<Response, DeskFault>
-    ensures answered { (h : History) → Represents registry.old h → HasCleanDisk (state_of registry.new)
-        → IfOk result (λ response. IsResponse h said response × Represents registry.new (after_message h said)) }
+    ensures answered { (h : History) → Represents registry.old h → HasCleanDisk (state_of registry.new) → AreTextsOf h kept.old
+        → IfOk result (λ response. IsResponse h said.now response × Represents registry.new (after_message h said.now)) }
     ensures left { (h : History) → Represents registry.old h → HasCleanDisk (state_of registry.new)
-        → IfErr result (λ fault. IsOfSoundRegistry fault × IsLeftAt fault registry.new h (after_message h said)) }
-    ensures asked { IfErr result (λ fault. fault ≢ desk_faults.NoMemory → IsOk said) }
+        → IfErr result (λ fault. IsOfSoundRegistry fault × IsLeftAt fault registry.new h (after_message h said.now)) }
+    ensures asked { IfErr result (λ fault. fault ≢ desk_faults.NoMemory → IsOk said.now) }
     // A message that is refused gets its refusal, over any registry.
-    ensures refused { IfErr said (λ refusal. IfOk result (λ response. response ≡ refusal_response refusal) × IfErr result (λ fault. fault ≡ desk_faults.NoMemory) × (registry.new ≡ registry.old)) }
+    ensures refused { IfErr said.now (λ refusal. IfOk result (λ response. response ≡ refusal_response refusal) × IfErr result (λ fault. fault ≡ desk_faults.NoMemory) × (registry.new ≡ registry.old)) }
     // An order or a query gets no response over a poisoned registry.
-    ensures when_poisoned { is_poisoned registry.old ≡ true → OnOk said ((result ≡ Err (desk_faults.Registry faults.Poisoned)) × (registry.new ≡ registry.old)) }
+    ensures when_poisoned { is_poisoned registry.old ≡ true → kept.old ≡ no_texts → OnOk said.now ((result ≡ Err (desk_faults.Registry faults.Poisoned)) × (registry.new ≡ registry.old)) }
     ensures only_poisoned { result ≡ Err (desk_faults.Registry faults.Poisoned) → is_poisoned registry.old ≡ true }
+    ensures beside { kept.new ≡ kept_beside kept.old said.now }
     ensures endures { Endures (state_of registry.old) (state_of registry.new) }
 {
     match said {
-        Ok(Message::Query(query)) => ask(alloc, registry, &query),
-        Ok(Message::Request(request)) => act_on(alloc, registry, &request),
-        Err(refusal) => refuse(alloc, refusal),
+        Ok(Message::Query(query)) => take_or_ask(alloc, registry, kept, query),
+        Ok(Message::Request(request)) => act_on(alloc, registry, request),
+        Err(refusal) => refuse(alloc, *refusal),
     }
 }

@@ -4,6 +4,7 @@
 
 mod acting;
 mod fault;
+mod kept;
 mod laws;
 mod queries;
 mod reopening;

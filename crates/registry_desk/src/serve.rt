@@ -10,9 +10,11 @@ ghost use Rattle.registry_http.specs.Responses.{response_bytes, unavailable_resp
 ghost use Rattle.registry_desk.specs.declared.serve.Served.{Served};
 ghost use Rattle.registry_desk.specs.Faults.{unavailable_of, peer_fault_text};
 ghost use Rattle.registry_desk.specs.Serving.{IsOfServed, IsSent, IsTextOf, IsTold, IsServed, IsTurnedAway, given_up};
+ghost use Rattle.registry_desk.specs.Kept.{AreTextsAfter, AreTextsOf, no_texts};
 
 use crate::acting::response_to;
 use crate::fault::{DeskFault, fault_of, unavailable_of};
+use crate::kept::Kept;
 use byte_streams::{Broken, Sink, Source};
 use registry_http::{InputFault, Response, read_message, write_response, write_unavailable};
 use registry_store::{Fault, Registry};
@@ -82,17 +84,18 @@ fn send_response<W: Sink>(alloc: Global, sink: &mut W, response: &Response) -> E
 }
 
 /// Writes the response, or refusal 30 or 31 for a fault.
-fn send<W: Sink>(alloc: Global, sink: &mut W, done: Result<Response, DeskFault>) -> Exchange
-    ensures told { (text : List ℕ) × (served : Served) × IsTold done text served
+fn send<W: Sink>(alloc: Global, sink: &mut W, done: &Result<Response, DeskFault>) -> Exchange
+    ensures told { (text : List ℕ) × (served : Served) × IsTold done.now text served
         × Writes (W.contents sink.old) (W.contents sink.new) (W.failures sink.old) (W.failures sink.new) result.sent text × IsOfServed result served }
 {
     match done {
-        Ok(response) => send_response(alloc, sink, &response),
-        Err(fault) => give_up(sink, fault),
+        Ok(response) => send_response(alloc, sink, response),
+        Err(fault) => give_up(sink, *fault),
     }
 }
 
-/// Reads one message from the source, acts on it, and writes its response to the sink.
+/// Reads one message from the source, acts on it, and writes its response to the sink. The list or
+/// a report that is kept is written again, and a new one is kept.
 ///
 /// Returns `Broken` only if the source failed in this call: then nothing is written and nothing
 /// was acted on.
@@ -101,25 +104,31 @@ pub(crate) fn serve_message<R: Source, W: Sink, S: Alter>(
     source: &mut R,
     sink: &mut W,
     registry: &mut Registry<S>,
+    kept: &mut Kept,
 ) -> Result<Exchange, Broken>
     ensures served { (bytes : List ℕ) × MayGive (R.remaining source.old) bytes × IfOk result (λ exchange. (text : List ℕ) × (served : Served)
         × Writes (W.contents sink.old) (W.contents sink.new) (W.failures sink.old) (W.failures sink.new) exchange.sent text
         × IsOfServed exchange served × IsTextOf text served
-        × ((h : History) → Represents registry.old h → HasCleanDisk (state_of registry.new) → IsServed registry.new h bytes text served)
-        × (is_poisoned registry.old ≡ true → IsTurnedAway bytes text served × (registry.new ≡ registry.old))) }
+        × ((h : History) → Represents registry.old h → HasCleanDisk (state_of registry.new) → AreTextsOf h kept.old → IsServed registry.new h bytes text served × AreTextsAfter h bytes kept.new)
+        × (is_poisoned registry.old ≡ true → kept.old ≡ no_texts → IsTurnedAway bytes text served × (registry.new ≡ registry.old) × (kept.new ≡ no_texts))) }
     ensures poisoned { IfOk result (λ exchange. exchange.fault ≡ Some faults.Poisoned → is_poisoned registry.old ≡ true) }
-    ensures read { OnErr result (HasFailed (R.failures source.old) (R.failures source.new) × (sink.new ≡ sink.old) × (registry.new ≡ registry.old)) }
+    ensures read { OnErr result (HasFailed (R.failures source.old) (R.failures source.new) × (sink.new ≡ sink.old) × (registry.new ≡ registry.old) × (kept.new ≡ kept.old)) }
     ensures kept { OnOk result (R.failures source.new ≡ R.failures source.old) }
     ensures endures { Endures (state_of registry.old) (state_of registry.new) }
 {
     let founding = registry.founding().vendor;
     match read_message(alloc, source, founding) {
         Ok(said) => {
-            let done = response_to(alloc, registry, said);
-            Ok(send(alloc, sink, done))
+            let done = response_to(alloc, registry, kept, &said);
+            let exchange = send(alloc, sink, &done);
+            kept.keep(said, done);
+            Ok(exchange)
         }
         Err(InputFault::Broken) => Err(Broken),
-        Err(InputFault::NoMemory) => Ok(give_up(sink, DeskFault::NoMemory)),
+        Err(InputFault::NoMemory) => {
+            kept.clear();
+            Ok(give_up(sink, DeskFault::NoMemory))
+        }
     }
 }
 
@@ -163,7 +172,8 @@ pub fn serve_one<R: Source, W: Sink, S: Alter>(
     ensures kept { result ≢ Err PeerFault.Read → R.failures source.new ≡ R.failures source.old }
     ensures endures { Endures (state_of registry.old) (state_of registry.new) }
 {
-    match serve_message(alloc, source, sink, registry) {
+    let mut kept = Kept::new();
+    match serve_message(alloc, source, sink, registry, &mut kept) {
         Ok(exchange) => served_of(exchange),
         Err(Broken) => Err(PeerFault::Read),
     }

@@ -8,7 +8,9 @@ ghost use Rattle.registry_tables.specs.Rows.{newest};
 ghost use Rattle.registry_store.specs.Promise.{Represents, Endures, Leaves, is_poisoned, state_of};
 ghost use Rattle.registry_desk.specs.Faults.{server_stop_text};
 ghost use Rattle.registry_desk.specs.Server.{Visit, IsVisit, IsRead, IsTurnedAwayAt, AreTurnedAway, IsWritten, HaveVisited, EndsVisit, EndsServing, IsLeftAfter, EndsAt, IfVisited, fault_in, status_in, status_of};
+ghost use Rattle.registry_desk.specs.Kept.{AreTextsAfterVisit, AreTextsOf, no_texts};
 
+use crate::kept::Kept;
 use crate::serve::serve_message;
 use byte_streams::{Broken, Sink, Source};
 use registry_store::{Fault, Registry};
@@ -98,16 +100,17 @@ fn serve_between<R: Source, W: Sink, S: Alter>(
     reader: &mut R,
     writer: &mut W,
     registry: &mut Registry<S>,
+    kept: &mut Kept,
 ) -> Outcome
     ensures served { (visit : Visit) × MayGive (R.remaining reader.old) visit.bytes
         × IsRead R.failures reader.old reader.new visit
         × IsWritten W.contents W.failures writer.old writer.new visit
         × (result.status ≡ status_of visit.end)
-        × ((h : History) → Represents registry.old h → HasCleanDisk (state_of registry.new) → EndsVisit registry.new h visit result.fault)
-        × (is_poisoned registry.old ≡ true → IsTurnedAwayAt visit result.fault × (registry.new ≡ registry.old)) }
+        × ((h : History) → Represents registry.old h → HasCleanDisk (state_of registry.new) → AreTextsOf h kept.old → EndsVisit registry.new h visit result.fault × AreTextsAfterVisit h visit kept.new)
+        × (is_poisoned registry.old ≡ true → kept.old ≡ no_texts → IsTurnedAwayAt visit result.fault × (registry.new ≡ registry.old) × (kept.new ≡ no_texts)) }
     ensures endures { Endures (state_of registry.old) (state_of registry.new) }
 {
-    match serve_message(alloc, reader, writer, registry) {
+    match serve_message(alloc, reader, writer, registry, kept) {
         Ok(exchange) => Outcome {
             fault: exchange.fault,
             status: status_in(exchange.sent),
@@ -116,6 +119,35 @@ fn serve_between<R: Source, W: Sink, S: Alter>(
             fault: None,
             status: None,
         },
+    }
+}
+
+/// Opens the next connection, serves its message, and closes it, as `serve_next` does, beside the
+/// texts that earlier connections left.
+fn serve_beside<C: Connections, S: Alter>(
+    alloc: Global,
+    connections: &mut C,
+    registry: &mut Registry<S>,
+    kept: &mut Kept,
+) -> Result<(), ServerStop>
+    ensures visited { IfVisited result ((visit : Visit)
+        × IsVisit C.opens C.closes C.Reader.remaining C.Reader.failures C.Writer.contents C.Writer.failures connections.old connections.new visit
+        × ((h : History) → Represents registry.old h → HasCleanDisk (state_of registry.new) → AreTextsOf h kept.old → EndsVisit registry.new h visit (fault_in result) × AreTextsAfterVisit h visit kept.new)
+        × (is_poisoned registry.old ≡ true → kept.old ≡ no_texts → IsTurnedAwayAt visit (fault_in result) × (registry.new ≡ registry.old) × (kept.new ≡ no_texts))) }
+    ensures none { result ≡ Err ServerStop.Connections → C.fails connections.old connections.new × (registry.new ≡ registry.old) }
+    ensures endures { Endures (state_of registry.old) (state_of registry.new) }
+{
+    match connections.open() {
+        Ok(ends) => {
+            let (mut reader, mut writer) = ends;
+            let outcome = serve_between(alloc, &mut reader, &mut writer, registry, kept);
+            connections.close(reader, writer, outcome.status);
+            match outcome.fault {
+                None => Ok(()),
+                Some(fault) => Err(ServerStop::Registry(fault)),
+            }
+        }
+        Err(Broken) => Err(ServerStop::Connections),
     }
 }
 
@@ -136,18 +168,8 @@ pub fn serve_next<C: Connections, S: Alter>(
     ensures none { result ≡ Err ServerStop.Connections → C.fails connections.old connections.new × (registry.new ≡ registry.old) }
     ensures endures { Endures (state_of registry.old) (state_of registry.new) }
 {
-    match connections.open() {
-        Ok(ends) => {
-            let (mut reader, mut writer) = ends;
-            let outcome = serve_between(alloc, &mut reader, &mut writer, registry);
-            connections.close(reader, writer, outcome.status);
-            match outcome.fault {
-                None => Ok(()),
-                Some(fault) => Err(ServerStop::Registry(fault)),
-            }
-        }
-        Err(Broken) => Err(ServerStop::Connections),
-    }
+    let mut kept = Kept::new();
+    serve_beside(alloc, connections, registry, &mut kept)
 }
 
 /// Serves at most `count` connections, one after another, up to the first fault of the registry.
@@ -157,6 +179,8 @@ pub fn serve_next<C: Connections, S: Alter>(
 /// leaves the history after the messages of all connections, or, if the registry had a fault at
 /// the last one, perhaps of all but that one. So it holds each message whose response was written
 /// whole with a status other than 503.
+///
+/// The list and each report are kept, and written again until an order comes.
 ///
 /// A poisoned registry is not changed: each message that is not refused by itself gets refusal 30,
 /// which ends the server.
@@ -174,8 +198,9 @@ pub fn serve_all<C: Connections, S: Alter>(
         × (is_poisoned registry.old ≡ true → AreTurnedAway visits (fault_in result) × (registry.new ≡ registry.old)) }
     ensures endures { Endures (state_of registry.old) (state_of registry.new) }
 {
+    let mut kept = Kept::new();
     for _ in 0..count {
-        serve_next(alloc, connections, registry)?;
+        serve_beside(alloc, connections, registry, &mut kept)?;
     }
     Ok(())
 }

@@ -5,13 +5,14 @@ use Rattle.registry_http.proofs.MessageLemmas.{gives_some}
 use Rattle.registry_desk.specs.declared.fault.DeskFault.TheVariants.{NoMemory}
 use Rattle.registry_desk.specs.Faults.{unavailable_of}
 use Rattle.registry_desk.specs.Serving.{given_up}
+use Rattle.registry_desk.proofs.KeptLemmas.{none_after, none_are, only_done, texts_after}
 use Rattle.registry_desk.proofs.ServeLemmas.{away_early, given_up_text, served_early, served_then, told_text, turned_away}
 use Rattle.registry_desk.proofs.serve.serve_message.Goals as goal
 
 pub returns-in-Ok-clause-served : goal.returns-in-Ok-clause-served
 returns-in-Ok-clause-served g c =
     let says = c.in-Ok.ensures.ok in
-    let told = c.send.ensures.told in
+    let told = c.send-exchange.ensures.told in
     let acted = c.response_to-done.ensures in (
       says.0,
       says.1,
@@ -21,13 +22,19 @@ returns-in-Ok-clause-served g c =
         told.3,
         told.4,
         told_text c.response_to-done.result told.0 told.1 told.2,
-        λ h stands clean.
-            served_then c.response_to-done.new.registry h says.0 told.0 told.1 c.in-Ok.said c.response_to-done.result
-            (subst (λ (founding : ℕ). Says founding says.0 c.in-Ok.said) (c.founding.ensures h stands).vendor says.2)
-            clean (acted.answered h stands clean) (acted.left h stands clean) acted.asked told.2,
-        λ poisoned.
-            let turned = turned_away c.args.registry.now c.response_to-done.new.registry c.in-Ok.said c.response_to-done.result told.0 told.1 acted.refused (acted.when_poisoned poisoned) told.2 in
-            (inr (_, c.in-Ok.said, says.2, turned.0), turned.1),
+        λ h stands clean of.
+            let here = subst (λ (founding : ℕ). Says founding says.0 c.in-Ok.said) (c.founding.ensures h stands).vendor says.2 in
+            let answered = acted.answered h stands clean of in (
+              served_then c.response_to-done.new.registry h says.0 told.0 told.1 c.in-Ok.said c.response_to-done.result here clean answered (acted.left h stands clean) acted.asked told.2,
+              texts_after _ h says.0 c.args.kept.now c.response_to-done.new.kept c.keep.new.self c.response_to-done.result c.in-Ok.said acted.beside c.keep.ensures here of answered,
+            ),
+        λ poisoned none.
+            let away = acted.when_poisoned poisoned none in
+            let turned = turned_away c.args.registry.now c.response_to-done.new.registry c.in-Ok.said c.response_to-done.result told.0 told.1 acted.refused away told.2 in (
+              inr (_, c.in-Ok.said, says.2, turned.0),
+              turned.1,
+              none_after c.args.kept.now c.response_to-done.new.kept c.keep.new.self c.response_to-done.result c.in-Ok.said acted.beside c.keep.ensures none (only_done _ _ c.in-Ok.said away),
+            ),
       ),
     )
 
@@ -47,7 +54,7 @@ returns-in-Err-NoMemory-clause-served g c =
         c.give_up.ensures.writes,
         c.give_up.ensures.told,
         given_up_text NoMemory,
-        λ h stands clean. served_early c.args.registry.now h all.0 stands clean,
-        λ poisoned. (away_early all.0, refl {a = c.args.registry.now}),
+        λ h stands clean of. (served_early c.args.registry.now h all.0 stands clean, λ next next_is. none_are next c.clear.new.self c.clear.ensures),
+        λ poisoned none. (away_early all.0, refl {a = c.args.registry.now}, c.clear.ensures),
       ),
     )

@@ -1,14 +1,21 @@
-use Rattle.std.proofs.Common.{rules, ◌≡◌, [], ◌∷◌, ◌++◌, ap, arith, sym, subst, ◌∙◌}
+use Rattle.std.proofs.Common.{rules, ◌≡◌, [], ◌∷◌, ◌++◌, refl, ap, arith, sym, subst, ◌∙◌}
 use Rattle.std.specs.Prelude.{Err, None, true}
 use Rattle.sqlite.specs.State.{HasCleanDisk}
 use Rattle.registry_store.specs.Promise.{is_poisoned, state_of}
+use Rattle.registry_desk.proofs.KeptLemmas.{none_are}
 use Rattle.registry_desk.proofs.ServerLemmas.{length_more, represents_more, stopped_at, turned_more, visited_more}
 use Rattle.registry_desk.proofs.server.serve_all.Goals as goal
+
+pub loop-init : goal.loop-init
+loop-init g c = record {
+  endures = search rules;
+  served = ([], refl, refl, λ h stands clean. (h, refl, stands, none_are h c.new-kept.result c.new-kept.ensures), λ poisoned. (refl, refl, c.new-kept.ensures));
+}
 
 pub loop-preserved : goal.loop-preserved
 loop-preserved g c =
     let so_far = c.loop.invariant.served in
-    let came = c.in_ok-serve_next.ensures.visited in
+    let came = c.in_ok-serve_beside.ensures.visited in
     record {
       endures = search rules;
       served = (
@@ -16,22 +23,22 @@ loop-preserved g c =
         visited_more g.C.Connections.opens g.C.Connections.closes g.C.Reader.Source.remaining g.C.Reader.Source.failures g.C.Writer.Sink.contents g.C.Writer.Sink.failures _ c.loop.connections _ so_far.0 came.0 so_far.1 came.1,
         length_more so_far.0 came.0 c.loop.counter so_far.2,
         λ h stands clean.
-            let early : HasCleanDisk (state_of c.loop.registry) = omega (arith, c.serve_next.ensures.endures.clean, clean) in
-            represents_more c.loop.registry c.serve_next.new.registry h so_far.0 came.0 (so_far.3 h stands early) (λ x at. came.2 x at clean),
+            let early : HasCleanDisk (state_of c.loop.registry) = omega (arith, c.serve_beside.ensures.endures.clean, clean) in
+            represents_more c.loop.registry c.serve_beside.new.registry c.loop.kept c.serve_beside.new.kept h so_far.0 came.0 (so_far.3 h stands early) (λ x at are. came.2 x at clean are),
         λ poisoned.
             let away = so_far.4 poisoned in
-            let one = came.3 (subst (λ r. is_poisoned r ≡ true) (sym away.1) poisoned) in
-            (turned_more so_far.0 came.0 None away.0 one.0, one.1 ∙ away.1),
+            let one = came.3 (subst (λ r. is_poisoned r ≡ true) (sym away.1) poisoned) away.2 in
+            (turned_more so_far.0 came.0 None away.0 one.0, one.1 ∙ away.1, one.2),
       );
     }
 
-pub returns-in_err-serve_next-clause-served : goal.returns-in_err-serve_next-clause-served
-returns-in_err-serve_next-clause-served g c =
+pub returns-in_err-serve_beside-clause-served : goal.returns-in_err-serve_beside-clause-served
+returns-in_err-serve_beside-clause-served g c =
     let so_far = c.loop.invariant.served in
-    let stop = c.in_err-serve_next.field-0.0 in
+    let stop = c.in_err-serve_beside.field-0.0 in
     let is : c.from_residual.result ≡ Err stop = search rules in
     stopped_at g.C.Connections.opens g.C.Connections.closes g.C.Reader.Source.remaining g.C.Reader.Source.failures g.C.Writer.Sink.contents g.C.Writer.Sink.failures g.C.Connections.fails
-    c.from_residual.result stop is c.args.connections.now c.loop.connections c.serve_next.new.connections c.args.registry.now c.loop.registry c.serve_next.new.registry c.args.count so_far.0
+    c.from_residual.result stop is c.args.connections.now c.loop.connections c.serve_beside.new.connections c.args.registry.now c.loop.registry c.serve_beside.new.registry c.loop.kept c.serve_beside.new.kept c.args.count so_far.0
     so_far.1 (omega (arith, so_far.2, c.loop-test.true))
-    (λ clean. omega (arith, c.serve_next.ensures.endures.clean, clean))
-    so_far.3 so_far.4 c.in_err-serve_next.ensures.visited (λ same. c.in_err-serve_next.ensures.none (ap Err same))
+    (λ clean. omega (arith, c.serve_beside.ensures.endures.clean, clean))
+    so_far.3 so_far.4 c.in_err-serve_beside.ensures.visited (λ same. c.in_err-serve_beside.ensures.none (ap Err same))

@@ -1,0 +1,110 @@
+-- The texts that a server keeps are of the history that its registry represents.
+use Rattle.std.proofs.Common.{◌≡◌, inl, inr, ℕ, List, Option, Some, None, refl, sym, ap, subst, ◌∙◌}
+use Rattle.std.specs.Prelude.{Result, Ok, Err, IfOk, IfSome, OnOk}
+use Rattle.registry_rules.specs.History.{History}
+use Rattle.registry_store.specs.declared.fault.Fault.TheVariants as faults
+use Rattle.registry_http.specs.declared.response.Response.{Response}
+use Rattle.registry_http.specs.declared.refusal.HttpRefusal.{HttpRefusal}
+use Rattle.registry_http.specs.declared.route.Query.{Query}
+use Rattle.registry_http.specs.declared.route.Query.TheVariants as queries
+use Rattle.registry_http.specs.declared.route.Report.TheVariants as reports
+use Rattle.registry_http.specs.declared.message.Message.{Message}
+use Rattle.registry_http.specs.declared.message.Message.TheVariants as messages
+use Rattle.registry_http.specs.Messages.{Says}
+use Rattle.registry_http.proofs.MessageLemmas.{one_thing}
+use Rattle.registry_desk.specs.declared.fault.DeskFault.{DeskFault}
+use Rattle.registry_desk.specs.declared.fault.DeskFault.TheVariants.{NoMemory, Registry}
+use Rattle.registry_desk.specs.declared.kept.Kept.{Kept}
+use Rattle.registry_desk.specs.declared.serve.Exchange.{Exchange}
+use Rattle.registry_desk.specs.Acting.{IsQueryResponse, IsResponse, IsEither, after_message}
+use Rattle.registry_desk.specs.Serving.{IsNext}
+use Rattle.registry_desk.specs.Kept.{no_texts, text_for, with_text, kept_beside, kept_after, AreTextsOf, AreTextsAfter, AreTextsAfterVisit}
+
+-- where nothing is kept, each text is of each history
+pub none_are : (h : History) (kept : Kept) → kept ≡ no_texts → AreTextsOf h kept
+none_are h kept is = subst (λ (k : Kept). AreTextsOf h k) (sym is) (record { list = tt; census = tt; holders = tt; petitions = tt })
+
+-- what is taken out is the response to its query
+taken_is : (h : History) (kept : Kept) (query : Query) → AreTextsOf h kept → IfSome (text_for kept query) (IsQueryResponse h query)
+taken_is h kept queries.List of = of.list
+taken_is h kept (queries.Number vendor pid) of = tt
+taken_is h kept (queries.Org org) of = tt
+taken_is h kept (queries.Petition id) of = tt
+taken_is h kept (queries.Report reports.Census) of = of.census
+taken_is h kept (queries.Report reports.Holders) of = of.holders
+taken_is h kept (queries.Report reports.Petitions) of = of.petitions
+
+pub taken_of : (h : History) (kept : Kept) (query : Query) (response : Response) → Some response ≡ text_for kept query → AreTextsOf h kept → IsQueryResponse h query response
+taken_of h kept query response is are = subst (λ (text : Option Response). IfSome text (IsQueryResponse h query)) (sym is) (taken_is h kept query are)
+
+-- and nothing is where nothing is kept
+none_taken : (kept : Kept) (query : Query) → kept ≡ no_texts → text_for kept query ≡ None
+none_taken kept queries.List is = ap (λ (k : Kept). k.list) is
+none_taken kept (queries.Number vendor pid) is = refl
+none_taken kept (queries.Org org) is = refl
+none_taken kept (queries.Petition id) is = refl
+none_taken kept (queries.Report reports.Census) is = ap (λ (k : Kept). k.census) is
+none_taken kept (queries.Report reports.Holders) is = ap (λ (k : Kept). k.holders) is
+none_taken kept (queries.Report reports.Petitions) is = ap (λ (k : Kept). k.petitions) is
+
+pub never_taken : (kept : Kept) (query : Query) (response : Response) → Some response ≡ text_for kept query → kept ≡ no_texts → ⊥
+never_taken kept query response is none = let never : Some response ≡ None = is ∙ none_taken kept query none in absurd cc
+
+-- one text more or less
+with_are : (h : History) (kept : Kept) (query : Query) (text : Option Response) → AreTextsOf h kept → IfSome text (IsQueryResponse h query) → AreTextsOf h (with_text kept query text)
+with_are h kept queries.List text of is = record { list = is; census = of.census; holders = of.holders; petitions = of.petitions }
+with_are h kept (queries.Number vendor pid) text of is = of
+with_are h kept (queries.Org org) text of is = of
+with_are h kept (queries.Petition id) text of is = of
+with_are h kept (queries.Report reports.Census) text of is = record { list = of.list; census = is; holders = of.holders; petitions = of.petitions }
+with_are h kept (queries.Report reports.Holders) text of is = record { list = of.list; census = of.census; holders = is; petitions = of.petitions }
+with_are h kept (queries.Report reports.Petitions) text of is = record { list = of.list; census = of.census; holders = of.holders; petitions = is }
+
+the_same : (h x : History) → IsEither h h x → x ≡ h
+the_same h x (inl is) = is
+the_same h x (inr is) = is
+
+-- what is kept after a message is of both histories that it may lead to
+after_are : (h x : History) (kept : Kept) (done : Result Response DeskFault) (said : Result Message HttpRefusal) → AreTextsOf h kept → IfOk done (IsResponse h said)
+    → IsEither h (after_message h said) x → AreTextsOf x (kept_after (kept_beside kept said) done said)
+after_are h x kept (Err fault) said of is either = none_are x no_texts refl
+after_are h x kept (Ok response) (Err refusal) of is either = subst (λ (y : History). AreTextsOf y kept) (sym (the_same h x either)) of
+after_are h x kept (Ok response) (Ok (messages.Query query)) of is either =
+    subst (λ (y : History). AreTextsOf y (with_text (with_text kept query None) query (Some response))) (sym (the_same h x either))
+    (with_are h (with_text kept query None) query (Some response) (with_are h kept query None of tt) is)
+after_are h x kept (Ok response) (Ok (messages.Request request)) of is either = none_are x no_texts refl
+
+only_response : (P : Response → Type 0) (Q : Type 0) (done : Result Response DeskFault) → IfOk done (λ response. P response × Q) → IfOk done P
+only_response P Q (Ok response) is = is.0
+only_response P Q (Err fault) is = tt
+
+either_by : (h x : History) (bytes : List ℕ) (said : Result Message HttpRefusal) → Says h.founding.vendor bytes said → IsNext h bytes NoMemory x → IsEither h (after_message h said) x
+either_by h x bytes said says (inl same) = inl same.1
+either_by h x bytes said says (inr it) = inr (it.2 ∙ ap (after_message h) (one_thing h.founding.vendor bytes it.0 said it.1 says))
+
+-- the same by the bytes of the message
+pub texts_after : (Q : Type 0) (h : History) (bytes : List ℕ) (kept mid new : Kept) (done : Result Response DeskFault) (said : Result Message HttpRefusal)
+    → mid ≡ kept_beside kept said → new ≡ kept_after mid done said → Says h.founding.vendor bytes said → AreTextsOf h kept
+    → IfOk done (λ response. IsResponse h said response × Q) → AreTextsAfter h bytes new
+texts_after Q h bytes kept mid new done said beside after says of is = λ x next.
+    subst (λ (k : Kept). AreTextsOf x k) (sym (after ∙ ap (λ (k : Kept). kept_after k done said) beside))
+    (after_are h x kept done said of (only_response (IsResponse h said) Q done is) (either_by h x bytes said says next))
+
+pub only_done : (P Q : Type 0) (said : Result Message HttpRefusal) → OnOk said (P × Q) → OnOk said P
+only_done P Q (Ok message) is = is.0
+only_done P Q (Err refusal) is = tt
+
+-- nothing is kept over a poisoned registry
+pub none_after : (kept mid new : Kept) (done : Result Response DeskFault) (said : Result Message HttpRefusal)
+    → mid ≡ kept_beside kept said → new ≡ kept_after mid done said → kept ≡ no_texts → OnOk said (done ≡ Err (Registry faults.Poisoned)) → new ≡ no_texts
+none_after kept mid new (Err fault) said beside after none away = after
+none_after kept mid new (Ok response) (Err refusal) beside after none away = after ∙ (beside ∙ none)
+none_after kept mid new (Ok response) (Ok (messages.Query query)) beside after none away = absurd cc
+none_after kept mid new (Ok response) (Ok (messages.Request request)) beside after none away = after
+
+-- the history after a connection is one that its bytes lead to
+pub texts_after_visit : (h : History) (bytes text : List ℕ) (exchange : Exchange) (kept : Kept) → AreTextsAfter h bytes kept → AreTextsAfterVisit h (record { bytes = bytes; text = text; end = Ok exchange }) kept
+texts_after_visit h bytes text exchange kept are = λ next turn. elim turn [
+  | inl it ↦ are next (inr (it.said, it.says, it.next_is, λ other. absurd (other refl)))
+  | inr it ↦ are next it.next_is
+]

@@ -1,0 +1,83 @@
+//! The last list and the last reports, which a server gives again until an order comes.
+
+ghost use Rattle.std.specs.Prelude.{◌≡◌, None, Some};
+ghost use Rattle.registry_desk.specs.Kept.{kept_after, no_texts, text_for, with_text};
+
+use crate::fault::DeskFault;
+use registry_http::{HttpRefusal, Message, Query, Report, Response};
+
+/// The last list and the last report of each kind, each as its whole response.
+#[derive(Drop)]
+pub(crate) struct Kept {
+    list: Option<Response>,
+    census: Option<Response>,
+    holders: Option<Response>,
+    petitions: Option<Response>,
+}
+
+impl Kept {
+    /// Keeps nothing.
+    pub(crate) fn new() -> Kept
+        ensures { result ≡ no_texts }
+    {
+        Kept {
+            list: None,
+            census: None,
+            holders: None,
+            petitions: None,
+        }
+    }
+
+    /// Takes out the response to a query, if it is kept.
+    pub(crate) fn take(&mut self, query: &Query) -> Option<Response>
+        ensures taken { result ≡ text_for self.old query.now }
+        ensures left { self.new ≡ with_text self.old query.now None }
+    {
+        match query {
+            Query::List => self.list.take(),
+            Query::Report(Report::Census) => self.census.take(),
+            Query::Report(Report::Holders) => self.holders.take(),
+            Query::Report(Report::Petitions) => self.petitions.take(),
+            Query::Number { .. } | Query::Org(_) | Query::Petition(_) => None,
+        }
+    }
+
+    /// Keeps the response to a query for the list or a report.
+    fn put(&mut self, query: &Query, response: Response)
+        ensures { self.new ≡ with_text self.old query.now (Some response) }
+    {
+        match query {
+            Query::List => self.list = Some(response),
+            Query::Report(Report::Census) => self.census = Some(response),
+            Query::Report(Report::Holders) => self.holders = Some(response),
+            Query::Report(Report::Petitions) => self.petitions = Some(response),
+            Query::Number { .. } | Query::Org(_) | Query::Petition(_) => {}
+        }
+    }
+
+    /// Drops all texts.
+    pub(crate) fn clear(&mut self)
+        ensures { self.new ≡ no_texts }
+    {
+        *self = Kept::new();
+    }
+
+    /// Keeps what was done for a message, if it is the list or a report. An order and a fault drop
+    /// all texts.
+    pub(crate) fn keep(
+        &mut self,
+        said: Result<Message, HttpRefusal>,
+        done: Result<Response, DeskFault>,
+    )
+        ensures { self.new ≡ kept_after self.old done said }
+    {
+        match done {
+            Ok(response) => match said {
+                Ok(Message::Query(query)) => self.put(&query, response),
+                Ok(Message::Request(_)) => self.clear(),
+                Err(_) => {}
+            },
+            Err(_) => self.clear(),
+        }
+    }
+}
