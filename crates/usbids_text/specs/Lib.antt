@@ -1,5 +1,6 @@
 pub mod Words
 pub mod Entries
+pub mod Heads
 pub mod Lines
 pub mod Cut
 pub mod Documents

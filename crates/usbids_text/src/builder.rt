@@ -1,12 +1,13 @@
 //! Builds a document entry by entry.
 ghost use Rattle.std.specs.Prelude.{◌≡◌, [], OnOk, IfOk, IsTrue, Option, Some, None};
-ghost use Rattle.usbids_text.specs.Words.{is_code};
+ghost use Rattle.usbids_text.specs.Words.{is_code, is_name};
 ghost use Rattle.usbids_text.specs.Entries.{is_depth, is_line};
 ghost use Rattle.usbids_text.specs.Lines.{line_of};
 ghost use Rattle.usbids_text.specs.Opens.{none_open, whole_top, whole, put_top, put_mid, put_leaf, put, misplaced_in, fits_in, has_room_in};
 ghost use Rattle.usbids_text.specs.declared.kind.Depth.TheVariants.{Zero};
 
-use crate::document::{Document, Leaf, Mid, Name, Top};
+use crate::document::{Document, Leaf, Mid, Top};
+use crate::head::Head;
 use crate::kind::{Depth, Kind};
 use crate::line::{Entry, Why};
 use std::alloc::Global;
@@ -73,34 +74,37 @@ impl Builder {
         }
     }
 
-    fn put_top(&mut self, kind: Kind, code: u16, digits: u8, name: Name) -> Result<(), NoMemory>
-        requires code { IsTrue (is_code code digits) }
-        requires kind { IsTrue (is_depth (Zero kind) digits) }
-        ensures { OnOk result (open_of self.new ≡ put_top (open_of self.old) kind code digits name) }
+    fn put_top(&mut self, kind: Kind, head: Head) -> Result<(), NoMemory>
+        requires code { IsTrue (is_code head.code head.digits) }
+        requires name { IsTrue (is_name head.name) }
+        requires kind { IsTrue (is_depth (Zero kind) head.digits) }
+        ensures { OnOk result (open_of self.new ≡ put_top (open_of self.old) kind head.code head.digits head.name) }
     {
         self.close_top()?;
-        self.top = Some(Top::new(self.alloc, kind, code, digits, name));
+        self.top = Some(Top::with(self.alloc, kind, head));
         Ok(())
     }
 
-    fn put_mid(&mut self, code: u16, digits: u8, name: Name) -> Result<(), NoMemory>
-        requires code { IsTrue (is_code code digits) }
-        requires room { IsTrue (has_room_in self.old.top digits) }
-        ensures { OnOk result (open_of self.new ≡ put_mid (open_of self.old) code digits name) }
+    fn put_mid(&mut self, head: Head) -> Result<(), NoMemory>
+        requires code { IsTrue (is_code head.code head.digits) }
+        requires name { IsTrue (is_name head.name) }
+        requires room { IsTrue (has_room_in self.old.top head.digits) }
+        ensures { OnOk result (open_of self.new ≡ put_mid (open_of self.old) head.code head.digits head.name) }
     {
         self.close_mid()?;
-        self.mid = Some(Mid::new(self.alloc, code, digits, name));
+        self.mid = Some(Mid::with(self.alloc, head));
         Ok(())
     }
 
-    fn put_leaf(&mut self, code: u16, digits: u8, name: Name) -> Result<(), NoMemory>
-        requires { IsTrue (is_code code digits) }
-        ensures { OnOk result (open_of self.new ≡ put_leaf (open_of self.old) code digits name) }
+    fn put_leaf(&mut self, head: Head) -> Result<(), NoMemory>
+        requires code { IsTrue (is_code head.code head.digits) }
+        requires name { IsTrue (is_name head.name) }
+        ensures { OnOk result (open_of self.new ≡ put_leaf (open_of self.old) head.code head.digits head.name) }
     {
         let mid = self.mid.take();
         match mid {
             Some(mut mid) => {
-                mid.push(Leaf::new(code, digits, name))?;
+                mid.push(Leaf::with(head))?;
                 self.mid = Some(mid);
                 Ok(())
             }
@@ -121,11 +125,11 @@ impl Builder {
             digits,
             name,
         } = entry;
-        let name = Name::of(self.alloc, name)?;
+        let head = Head::of(self.alloc, code, digits, name)?;
         match depth {
-            Depth::Zero(kind) => self.put_top(kind, code, digits, name),
-            Depth::One => self.put_mid(code, digits, name),
-            Depth::Two => self.put_leaf(code, digits, name),
+            Depth::Zero(kind) => self.put_top(kind, head),
+            Depth::One => self.put_mid(head),
+            Depth::Two => self.put_leaf(head),
         }
     }
 

@@ -1,102 +1,21 @@
 //! A list of USB numbers as a tree of entries.
-ghost use Rattle.std.specs.Prelude.{◌≡◌, [], ◌∷◌, ◌++◌, OnOk, OnErr, IfOk, IsTrue, Some, None, if◌then◌else◌};
-ghost use Rattle.std.specs.List.{list_all};
-ghost use Rattle.usbids_text.specs.Words.{is_inner, begins_well, ends_well, is_name, is_code};
+ghost use Rattle.std.specs.Prelude.{◌≡◌, [], ◌∷◌, ◌++◌, OnOk, OnErr, IfOk, IsTrue};
+ghost use Rattle.usbids_text.specs.Words.{is_code, is_name};
+ghost use Rattle.usbids_text.specs.Heads.{leaves_in};
 ghost use Rattle.usbids_text.specs.Entries.{is_depth, has_room, IsSound};
 ghost use Rattle.usbids_text.specs.declared.kind.Depth.TheVariants.{Zero};
 
+use crate::head::Head;
 use crate::kind::Kind;
-use crate::words::{is_separator, is_tail};
+use crate::name::Name;
 use std::alloc::Global;
 use std::marker::Model;
 use usbnum_core::NoMemory;
 
-/// A name: at most 65,000 bytes without a line feed, not necessarily UTF-8. It does not start or
-/// end with a space or a tab, and does not end with a carriage return. It may be empty.
-#[derive(Debug, Drop)]
-pub struct Name {
-    bytes: Vec<u8>,
-}
-
-impl Model for Name {
-    ghost use Rattle.std.specs.Prelude.{List, ℕ, IsTrue};
-    ghost use Rattle.usbids_text.specs.Words.{is_name};
-
-    ghost Value = { List ℕ };
-
-    ghost view = { λ a. a.bytes.items };
-
-    ghost invariant = { λ a. IsTrue (is_name a.bytes.items) };
-}
-
-fn is_inner(bytes: &[u8]) -> bool
-    ensures { result ≡ list_all is_inner bytes.now }
-{
-    bytes.iter().all(|b| *b != b'\n')
-}
-
-fn begins_well(bytes: &[u8]) -> bool
-    ensures { result ≡ begins_well bytes.now }
-{
-    match bytes {
-        [] => true,
-        [b, ..] => !is_separator(*b),
-    }
-}
-
-fn ends_well(bytes: &[u8]) -> bool
-    ensures { result ≡ ends_well bytes.now }
-{
-    match bytes {
-        [] => true,
-        [.., b] => !is_tail(*b),
-    }
-}
-
-#[tactic(auto, unfolding(crate::specs::Words::is_name))]
-fn is_name(bytes: &[u8]) -> bool
-    ensures { result ≡ is_name bytes.now }
-{
-    bytes.len() <= 65000 && is_inner(bytes) && begins_well(bytes) && ends_well(bytes)
-}
-
-impl Name {
-    /// Makes a name from the bytes, or returns None if they are not a name.
-    pub fn new(alloc: Global, bytes: &[u8]) -> Result<Option<Name>, NoMemory>
-        ensures { IfOk result (λ found. found ≡ (if is_name bytes.now then Some bytes.now else None)) }
-    {
-        if is_name(bytes) {
-            Ok(Some(Name::of(alloc, bytes)?))
-        } else {
-            Ok(None)
-        }
-    }
-
-    // Makes a name from bytes that are known to be one.
-    pub(crate) fn of(alloc: Global, bytes: &[u8]) -> Result<Name, NoMemory>
-        requires { IsTrue (is_name bytes.now) }
-        ensures { IfOk result (λ name. name ≡ bytes.now) }
-    {
-        let mut name = Vec::with_capacity(alloc, bytes.len())?;
-        name.extend_from_slice(bytes)?;
-        Ok(Name { bytes: name })
-    }
-
-    /// Returns the bytes of the name.
-    pub fn as_bytes(&self) -> &[u8]
-        ensures value { result.now ≡ self.now }
-        ensures valid { IsTrue (is_name result.now) }
-    {
-        &self.bytes
-    }
-}
-
 /// An entry of depth two, for example an interface of a device.
 #[derive(Debug, Drop)]
 pub struct Leaf {
-    code: u16,
-    digits: u8,
-    name: Name,
+    head: Head,
 }
 
 impl Model for Leaf {
@@ -105,63 +24,89 @@ impl Model for Leaf {
 
     ghost Value = { LeafEntry };
 
-    ghost view = { λ a. record { code = a.code; digits = a.digits; name = a.name } };
+    ghost view = { λ a. record { code = a.head.code; digits = a.head.digits; name = a.head.name } };
 
-    ghost invariant = { λ a. IsTrue (is_line (leaf_line (record { code = a.code; digits = a.digits; name = a.name }))) };
+    ghost invariant = { λ a. IsTrue (is_line (leaf_line (record { code = a.head.code; digits = a.head.digits; name = a.head.name }))) };
 }
 
 impl Leaf {
+    // Makes an entry of this head.
+    pub(crate) fn with(head: Head) -> Leaf
+        requires code { IsTrue (is_code head.code head.digits) }
+        requires name { IsTrue (is_name head.name) }
+        ensures { result ≡ record { code = head.code; digits = head.digits; name = head.name } }
+    {
+        Leaf { head }
+    }
+
     /// Makes an entry whose code has this number of digits.
     pub fn new(code: u16, digits: u8, name: Name) -> Leaf
         requires { IsTrue (is_code code digits) }
         ensures { result ≡ record { code = code; digits = digits; name = name } }
     {
-        // Only for the proof: the name is valid.
-        let _ = name.as_bytes();
-        Leaf { code, digits, name }
+        Leaf::with(Head::new(code, digits, name.into_text()))
     }
 
     /// Returns the code.
     pub fn code(&self) -> u16
         ensures { result ≡ self.now.code }
     {
-        self.code
+        self.head.code()
     }
 
     /// Returns the number of digits of the code, 1 to 4.
     pub fn digits(&self) -> u8
         ensures { result ≡ self.now.digits }
     {
-        self.digits
+        self.head.digits()
     }
 
     /// Returns the name.
     pub fn name(&self) -> &[u8]
         ensures { result.now ≡ self.now.name }
     {
-        self.name.as_bytes()
+        self.head.name()
     }
 }
 
 /// An entry of depth one, for example a device of a vendor, with the entries below it.
 #[derive(Debug, Drop)]
 pub struct Mid {
-    code: u16,
-    digits: u8,
-    name: Name,
-    leaves: Vec<Leaf>,
+    head: Head,
+    alloc: Global,
+    // Few entries have any below, so it is one pointer and not a vector.
+    leaves: Option<Box<Vec<Leaf>>>,
 }
 
 impl Model for Mid {
     ghost use Rattle.std.specs.Prelude.{IsTrue, [], ◌∷◌, ◌++◌};
     ghost use Rattle.std.specs.List.{list_all};
     ghost use Rattle.usbids_text.specs.Entries.{MidEntry, mids_lines, is_line};
+    ghost use Rattle.usbids_text.specs.Heads.{leaves_in};
 
     ghost Value = { MidEntry };
 
-    ghost view = { λ a. record { code = a.code; digits = a.digits; name = a.name; leaves = a.leaves.items } };
+    ghost view = { λ a. record { code = a.head.code; digits = a.head.digits; name = a.head.name; leaves = leaves_in a.leaves } };
 
-    ghost invariant = { λ a. IsTrue (list_all is_line (mids_lines (record { code = a.code; digits = a.digits; name = a.name; leaves = a.leaves.items } ∷ []))) };
+    ghost invariant = { λ a. IsTrue (list_all is_line (mids_lines (record { code = a.head.code; digits = a.head.digits; name = a.head.name; leaves = leaves_in a.leaves } ∷ []))) };
+}
+
+// Appends an entry to those below one.
+fn put_leaf(alloc: Global, leaves: &mut Option<Box<Vec<Leaf>>>, leaf: Leaf) -> Result<(), NoMemory>
+    ensures ok { OnOk result (leaves_in leaves.new ≡ leaves_in leaves.old ++ leaf ∷ []) }
+    ensures err { OnErr result (leaves_in leaves.new ≡ leaves_in leaves.old) }
+{
+    match leaves {
+        Some(leaves) => {
+            leaves.push(leaf)?;
+        }
+        None => {
+            let mut first = Vec::new(alloc);
+            first.push(leaf)?;
+            *leaves = Some(Box::new(alloc, first)?);
+        }
+    }
+    Ok(())
 }
 
 impl Mid {
@@ -170,13 +115,19 @@ impl Mid {
         requires { IsTrue (is_code code digits) }
         ensures { result ≡ record { code = code; digits = digits; name = name; leaves = [] } }
     {
-        // Only for the proof: the name is valid.
-        let _ = name.as_bytes();
+        Mid::with(alloc, Head::new(code, digits, name.into_text()))
+    }
+
+    // Makes an entry of this head, with no entries below it.
+    pub(crate) fn with(alloc: Global, head: Head) -> Mid
+        requires code { IsTrue (is_code head.code head.digits) }
+        requires name { IsTrue (is_name head.name) }
+        ensures { result ≡ record { code = head.code; digits = head.digits; name = head.name; leaves = [] } }
+    {
         Mid {
-            code,
-            digits,
-            name,
-            leaves: Vec::new(alloc),
+            head,
+            alloc,
+            leaves: None,
         }
     }
 
@@ -186,8 +137,8 @@ impl Mid {
         ensures err { OnErr result (self.new ≡ self.old) }
     {
         // Only for the proof: the name is valid.
-        let _ = &leaf.name;
-        self.leaves.push(leaf)?;
+        let _ = &leaf.head;
+        put_leaf(self.alloc, &mut self.leaves, leaf)?;
         Ok(())
     }
 
@@ -195,35 +146,40 @@ impl Mid {
     pub(crate) fn shrink(&mut self)
         ensures { self.new ≡ self.old }
     {
-        self.leaves.shrink_to_fit();
+        if let Some(leaves) = &mut self.leaves {
+            leaves.shrink_to_fit();
+        }
     }
 
     /// Returns the code.
     pub fn code(&self) -> u16
         ensures { result ≡ self.now.code }
     {
-        self.code
+        self.head.code()
     }
 
     /// Returns the number of digits of the code, 1 to 4.
     pub fn digits(&self) -> u8
         ensures { result ≡ self.now.digits }
     {
-        self.digits
+        self.head.digits()
     }
 
     /// Returns the name.
     pub fn name(&self) -> &[u8]
         ensures { result.now ≡ self.now.name }
     {
-        self.name.as_bytes()
+        self.head.name()
     }
 
     /// Returns the entries below this one, in order.
     pub fn leaves(&self) -> &[Leaf]
         ensures { result.now ≡ self.now.leaves }
     {
-        &self.leaves
+        match &self.leaves {
+            Some(leaves) => leaves.as_slice(),
+            None => &[],
+        }
     }
 }
 
@@ -231,9 +187,7 @@ impl Mid {
 #[derive(Debug, Drop)]
 pub struct Top {
     kind: Kind,
-    code: u16,
-    digits: u8,
-    name: Name,
+    head: Head,
     mids: Vec<Mid>,
 }
 
@@ -243,9 +197,9 @@ impl Model for Top {
 
     ghost Value = { TopEntry };
 
-    ghost view = { λ a. record { kind = a.kind; code = a.code; digits = a.digits; name = a.name; mids = a.mids.items } };
+    ghost view = { λ a. record { kind = a.kind; code = a.head.code; digits = a.head.digits; name = a.head.name; mids = a.mids.items } };
 
-    ghost invariant = { λ a. IsSound (record { kind = a.kind; code = a.code; digits = a.digits; name = a.name; mids = a.mids.items } ∷ []) };
+    ghost invariant = { λ a. IsSound (record { kind = a.kind; code = a.head.code; digits = a.head.digits; name = a.head.name; mids = a.mids.items } ∷ []) };
 }
 
 impl Top {
@@ -256,13 +210,19 @@ impl Top {
         requires kind { IsTrue (is_depth (Zero kind) digits) }
         ensures { result ≡ record { kind = kind; code = code; digits = digits; name = name; mids = [] } }
     {
-        // Only for the proof: the name is valid.
-        let _ = name.as_bytes();
+        Top::with(alloc, kind, Head::new(code, digits, name.into_text()))
+    }
+
+    // Makes an entry of this head, with no entries below it.
+    pub(crate) fn with(alloc: Global, kind: Kind, head: Head) -> Top
+        requires code { IsTrue (is_code head.code head.digits) }
+        requires name { IsTrue (is_name head.name) }
+        requires kind { IsTrue (is_depth (Zero kind) head.digits) }
+        ensures { result ≡ record { kind = kind; code = head.code; digits = head.digits; name = head.name; mids = [] } }
+    {
         Top {
             kind,
-            code,
-            digits,
-            name,
+            head,
             mids: Vec::new(alloc),
         }
     }
@@ -274,7 +234,7 @@ impl Top {
         ensures err { OnErr result (self.new ≡ self.old) }
     {
         // Only for the proof: the name is valid.
-        let _ = &mid.name;
+        let _ = &mid.head;
         self.mids.push(mid)?;
         Ok(())
     }
@@ -297,21 +257,21 @@ impl Top {
     pub fn code(&self) -> u16
         ensures { result ≡ self.now.code }
     {
-        self.code
+        self.head.code()
     }
 
     /// Returns the number of digits of the code, 1 to 4.
     pub fn digits(&self) -> u8
         ensures { result ≡ self.now.digits }
     {
-        self.digits
+        self.head.digits()
     }
 
     /// Returns the name.
     pub fn name(&self) -> &[u8]
         ensures { result.now ≡ self.now.name }
     {
-        self.name.as_bytes()
+        self.head.name()
     }
 
     /// Returns the entries below this one, in order.
@@ -355,7 +315,7 @@ impl Document {
         ensures err { OnErr result (self.new ≡ self.old) }
     {
         // Only for the proof: the name is valid.
-        let _ = &top.name;
+        let _ = &top.head;
         self.tops.push(top)?;
         Ok(())
     }

@@ -5,10 +5,10 @@ ghost use Rattle.usbids_text.specs.Words.{is_inner};
 ghost use Rattle.usbids_text.specs.Scanning.{Scanned, scanned_of, scan_ended, scan_kept, scan_finished, seen_step};
 ghost use Rattle.usbids_text.specs.Feeding.{Fed, fed};
 
-use crate::document::Name;
 use crate::fault::ReadFault;
 use crate::intake::Intake;
 use crate::line::Why;
+use crate::name::Name;
 use crate::pieces::{front, line_feed, past};
 use crate::seen::{Over, Seen, Wanted};
 use std::alloc::Global;

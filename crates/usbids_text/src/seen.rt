@@ -7,10 +7,10 @@ ghost use Rattle.usbids_text.specs.Lines.{line_of};
 ghost use Rattle.usbids_text.specs.Entries.{is_line};
 ghost use Rattle.usbids_text.specs.Scanning.{over_kind, seen_misplaced, seen_put, seen_top, seen_mid, seen_refused, seen_line, seen_step, seen_answer};
 
-use crate::document::Name;
 use crate::fault::{LineFault, ReadFault};
 use crate::kind::{Depth, Kind};
 use crate::line::{Entry, Why, class_of};
+use crate::name::Name;
 use std::alloc::Global;
 use usbnum_core::{NoMemory, Vid};
 

@@ -10,7 +10,7 @@ use std::marker::Model;
 #[derive(Debug, Drop)]
 pub struct Tag {
     text: [u8; 8],
-    len: usize,
+    len: u8,
 }
 
 impl Model for Tag {
@@ -53,9 +53,11 @@ impl Tag {
             return None;
         }
         let mut text = [0u8; 8];
-        let len = bytes.len();
-        text[..len].copy_from_slice(bytes);
-        Some(Tag { text, len })
+        text[..bytes.len()].copy_from_slice(bytes);
+        Some(Tag {
+            text,
+            len: bytes.len() as u8,
+        })
     }
 
     /// Returns the letters of the tag.
@@ -74,6 +76,6 @@ impl Tag {
         ensures value { result.now ≡ self.now }
         ensures valid { IsTrue (is_tag result.now) }
     {
-        &self.text[..self.len]
+        &self.text[..usize::from(self.len)]
     }
 }
