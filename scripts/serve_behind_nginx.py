@@ -1,12 +1,13 @@
 #!/usr/bin/env python3
 """Runs the proxy of examples/nginx.conf in front of `usbreg serve`, by the commands at the top of examples/nginx-trial.conf.
 
-Only the ports are others. The server gets the name that nginx has authenticated, whatever name the client sends; no order
-passes without one. Bodies of the greatest sizes pass, and greater ones do not. Clients that stop in the middle, even 600
-of them, keep nobody waiting, and 240 clients at once are all served. A maker that floods the registry, and an address
-that does, are refused, and the orders of others pass; who doesn't know a password uses up nobody's orders. The proxy keeps
-the list and the reports, the list also while the server is down. What it refuses itself is JSON, and its log has the name
-and the key of each order. With the configuration of Debian's package around it, it serves the same.
+Only the ports are others. The server gets the name that nginx has authenticated, whatever name the client sends; no
+order passes without one. Bodies of the greatest sizes pass, and greater ones do not. Clients that stop in the middle,
+even 600 of them, keep nobody waiting, of 240 clients at once all are served or refused at once, and 100 wait for a
+server that is busy. A maker that floods the registry, and an address that does, are refused, and the orders of others
+pass; who doesn't know a password uses up nobody's orders, and the addresses of one network of IPv6 count as one. The
+proxy keeps the list and the reports, the list also while the server is down. What it refuses itself is JSON, and its
+log has the name and the key of each order. With the configuration of Debian's package around it, it serves the same.
 
 Usage: scripts/serve_behind_nginx.py [PROGRAM], by default the one that `make` builds. If nginx is not installed it says
 that it was skipped. The exit status is 0 if all of this holds."""
@@ -17,7 +18,9 @@ import concurrent.futures
 import os
 import pty
 import re
+import select
 import shutil
+import signal
 import socket
 import subprocess
 import sys
@@ -31,8 +34,9 @@ CURATOR = "curator-1"
 NAMES = ("ann", "bob", "mallory", CURATOR)
 FOUNDING = f'vendor = "1209"\nname = "Shared products"\ncurators = ["{CURATOR}"]\nlicences = ["MIT"]\nfixed = ["0001-0010"]\n'
 PORTS = (8000, 8081, 8080)
-# The clients that stop in the middle of a head, and those that ask at once, each from one of several addresses.
-HALF, MANY = 600, 240
+# The clients that stop in the middle of a head, and those that ask at once, each from one of several addresses; and how
+# many of these reach the server at the same time.
+HALF, MANY, ALL = 600, 240, 100
 # The seconds that a report is kept, and one more.
 KEPT = 11
 DEBIAN = "/etc/nginx/nginx.conf"
@@ -127,6 +131,16 @@ class Recipe:
 
     def log(self):
         return content(f"{self.folder}/usbreg.log").decode()
+
+
+class ByField(Recipe):
+    """The same, but it takes the address of a client from a field of the head: a machine has only one address of IPv6."""
+
+    def __init__(self, room, server):
+        super().__init__(room, server)
+        listen = f":{self.port};"
+        text = content(f"{self.folder}/usbreg.conf").decode().replace(listen, f"{listen} set_real_ip_from {HOST}; real_ip_header x-address;")
+        write(f"{self.folder}/usbreg.conf", text)
 
 
 class Packaged(Recipe):
@@ -228,15 +242,17 @@ def sizes(gate):
 def slow_clients(gate):
     """Checks that clients that stop in the middle of an order or a head do not delay another one."""
     half = signed("ann", command(ask("k3")))[:-10]
-    stopped = [(connected(gate.port, "127.0.0.3"), half) for _ in range(20)]
-    stopped += [(connected(gate.port, "127.0.0.3"), get("/list")[:-2]) for _ in range(HALF)]
-    for connection, sent in stopped:
-        connection.sendall(sent)
+    stopped = []
+    for sent in [half] * 20 + [get("/list")[:-2]] * HALF:
+        stopped.append(connected(gate.port, "127.0.0.3"))
+        stopped[-1].sendall(sent)
+        # nginx has to read it before the next one comes: it may close connections that have sent nothing
+        time.sleep(0.004)
     began = time.monotonic()
     gate.gives("beside slow clients", get("/numbers/0012"), 200, b'{"number":"0012","state":"free"}\n')
     if time.monotonic() - began > 5:
         sys.exit("a client was kept waiting by others that are slow")
-    for connection, _ in stopped:
+    for connection in stopped:
         connection.close()
 
 
@@ -247,8 +263,24 @@ def many_clients(gate):
 
     with concurrent.futures.ThreadPoolExecutor(MANY) as pool:
         statuses = collections.Counter(pool.map(asks, range(MANY)))
-    if not statuses[200] >= MANY / 2 or set(statuses) - {200, 503}:
+    if not statuses[200] >= ALL or set(statuses) - {200, 503}:
         sys.exit(f"{MANY} clients at once get {statuses}")
+
+
+def clients_of_a_busy_server(gate, server):
+    """Checks that a server that is busy, here one that is stopped, has so many clients that wait, and no more."""
+    server.process.send_signal(signal.SIGSTOP)
+    clients = [connected(gate.port, f"127.0.3.{number + 1}") for number in range(ALL + 20)]
+    for client in clients:
+        client.sendall(get("/numbers/0012").replace(b"\r\n", b"\r\nconnection: close\r\n", 1))
+    until = time.monotonic() + 5
+    while len(select.select(clients, [], [], 0.1)[0]) < 20 and time.monotonic() < until:
+        pass
+    server.process.send_signal(signal.SIGCONT)
+    statuses = collections.Counter(int(read_to_end(client).split()[1]) for client in clients)
+    for client in clients:
+        client.close()
+    same("clients of a busy server", sorted(statuses.items()), [(200, ALL), (503, 20)])
 
 
 def floods(gate):
@@ -267,6 +299,16 @@ def floods(gate):
         sys.exit(f"wrong passwords of one address get {set(guesses)}")
     same("another maker's order", enrol("bob", 1, HOST), (200, told("enrolled bob1")))
     same("an address that has sent too many", enrol("bob", 2, "127.0.0.4"), by_proxy(429))
+
+
+def networks(gate):
+    """Checks that all addresses of a client of IPv6 count as one, and those of another network do not."""
+    def guess(address):
+        return gate.ask(signed("bob", command(ENROL), "wrong").replace(b"\r\n", f"\r\nx-address: {address}\r\n".encode(), 1))[0]
+
+    same("guesses of one network", sorted({guess(f"2001:db8:1:2:{number:x}::1") for number in range(1, 200)}), [401, 429])
+    for other in ("2001:db8:1:3::1", "2001:db8:1::1", "127.0.0.5"):
+        same(f"a guess of {other}", guess(other), 401)
 
 
 def what_is_kept(gate, server, census, began):
@@ -290,9 +332,12 @@ def what_is_kept(gate, server, census, began):
 
 
 def logged(recipe):
-    """Checks that the log says who asked what."""
-    if not re.search(r'^\S+T\S+ 127\.0\.0\.1 "ann" "k2" "POST /commands HTTP/1\.1" 200 ', recipe.log(), re.MULTILINE):
-        sys.exit(f"the log has no order of ann: {recipe.log()[:2000]}")
+    """Checks that the log says who asked what. nginx writes a line once the response is gone."""
+    until = time.monotonic() + 5
+    while not re.search(r'^\S+T\S+ 127\.0\.0\.1 "ann" "k2" "POST /commands HTTP/1\.1" 200 ', recipe.log(), re.MULTILINE):
+        if time.monotonic() > until:
+            sys.exit(f"the log has no order of ann: {recipe.log()[:2000]}")
+        time.sleep(0.01)
 
 
 def main():
@@ -307,10 +352,14 @@ def main():
             began, census = time.monotonic(), gate.ask(get("/reports/census"))[1]
             for cases in (names, sizes, slow_clients, many_clients):
                 cases(gate)
+            clients_of_a_busy_server(gate, server)
             what_is_kept(gate, server, census, began)
             logged(recipe)
         with serving(usbreg, store, port=server.port).up(), recipe:
             floods(gate)
+        shutil.rmtree(recipe.folder)
+        with serving(usbreg, store).up() as server, ByField(room, server) as recipe:
+            networks(Gate(recipe.port))
         if os.path.exists(DEBIAN):
             shutil.rmtree(recipe.folder)
             with serving(usbreg, store).up() as server, Packaged(room, server) as packaged:
