@@ -6,6 +6,7 @@ passes."""
 
 import json
 import os
+import shutil
 import subprocess
 import sys
 
@@ -96,6 +97,26 @@ def what_is_not_acted_on(room):
         if tables(store) != before:
             sys.exit(f"a store was changed that is foreign: {change}")
     room.case(["found", changed, FOUNDING], 1, errors="fault: taken\n")
+
+
+def logs_of_others(room):
+    """A database of another program with a log: its file keeps its bytes, and so does all that the log had."""
+    made, store = f"{room.folder}/songs.db", f"{room.folder}/copied.db"
+    with opened(made) as connection:
+        connection.execute("PRAGMA journal_mode = WAL")
+        connection.execute("CREATE TABLE songs (title TEXT NOT NULL) STRICT")
+        connection.execute("INSERT INTO songs VALUES ('Blinker')")
+        connection.commit()
+        for ending in ("", "-wal"):
+            shutil.copy(f"{made}{ending}", f"{store}{ending}")
+    file, log = content(store), content(f"{store}-wal")
+    for words in (["apply", store, TEN], ["export", store], ["report", store, "census"]):
+        room.case(words, 1, errors="fault: foreign\n")
+        if content(store) != file or not content(f"{store}-wal").startswith(log):
+            sys.exit(f"{words[0]} changed a database of another program")
+    with opened(store) as connection:
+        if connection.execute("SELECT title FROM songs").fetchall() != [("Blinker",)]:
+            sys.exit("a database of another program lost a row")
 
 
 def outputs_that_fail(room):
@@ -199,7 +220,7 @@ def help_and_faults(room):
 def main():
     with folder() as made:
         room = Room(program(*sys.argv[1:2]), made)
-        for cases in (ten_enrolments, what_is_not_acted_on, outputs_that_fail, bad_inputs, repeats, words, help_and_faults):
+        for cases in (ten_enrolments, what_is_not_acted_on, logs_of_others, outputs_that_fail, bad_inputs, repeats, words, help_and_faults):
             cases(room)
         print(f"stores in files: {room.seen} cases are as they should be")
 

@@ -1,15 +1,16 @@
 -- Requests that are acted on one after another, and their reply lines.
 use Rattle.std.proofs.Common.{◌≡◌, ◌⊎◌, inl, inr, ℕ, ◌+◌, ◌≤◌, List, [], length, Option, Some, None, refl, sym, ap, subst, arith}
 use Rattle.std.specs.Prelude.{Result, Ok, Err}
+use Rattle.std.proofs.lemmas.Bool.{cases_lt}
 use Rattle.std.specs.Io.KnownBytes.{Appends, Keeps}
 use Rattle.sqlite.specs.Store.{Ghosts}
-use Rattle.sqlite.specs.State.{HasCleanDisk}
+use Rattle.sqlite.specs.State.{State, HasCleanDisk}
 use Rattle.byte_streams.specs.Streams.{AppendsPrefix, MayGive}
 use Rattle.byte_streams.proofs.StreamLemmas.{appends_nil}
 use Rattle.registry_rules.specs.declared.order.Request.{Request}
 use Rattle.registry_rules.specs.History.{History}
 use Rattle.registry_store.specs.declared.registry.Registry.{Registry}
-use Rattle.registry_store.specs.Promise.{state_of}
+use Rattle.registry_store.specs.Promise.{Endures, state_of}
 use Rattle.registry_store.specs.Run.{HasAnswered}
 use Rattle.registry_store.proofs.RunToLemmas.{between_none, place_left}
 use Rattle.registry_commands.specs.declared.lines.BadLine.{BadLine}
@@ -31,6 +32,10 @@ keeps_same (Some xs) = refl
 pub some_bytes : (o : Option (List ℕ)) → (bytes : List ℕ) × MayGive o bytes
 some_bytes None = ([], tt)
 some_bytes (Some bytes) = (bytes, refl)
+
+-- a state endures as it is
+pub still : (s : State) → Endures s s
+still s = record { clean = omega arith; shield = λ shielded. shielded; faults_grow = omega arith; closes = λ _ is_open. inl is_open }
 
 module _ {S : Type 0} {g : Ghosts S} where
   -- the run stops before its first request
@@ -58,6 +63,7 @@ module _ {S : Type 0} {g : Ghosts S} where
       stopped = λ _ h at clean. (a, stopped_before it h rs a out within at clean);
       told = λ _. inl (record { same = refl; silent = keeps_same out; told = told });
       poisoned = λ _. (one, refl, refl, tells_more OfInput (λ failure. (failure ≡ Poisoned) ⊎ OfInput failure) errors (λ failure is. inr is) told);
+      endures = still (state_of it);
     },
   )
 
@@ -87,6 +93,7 @@ module _ {S : Type 0} {g : Ghosts S} where
         tells_more (λ failure. (failure ≡ Poisoned) ⊎ OfMemory failure) (λ failure. (failure ≡ Poisoned) ⊎ OfInput failure) errors
             (λ failure. elim [ inl e ↦ inl e | inr m ↦ inr (more failure m) ]) all.3,
       );
+      endures = is.endures;
     }
 
     -- the requests were read from an input, which may fail too
@@ -94,3 +101,12 @@ module _ {S : Type 0} {g : Ghosts S} where
         → IsApplied OfInput OfOutput it new read a out out_new errors status
     applied_more (Err bad) a is = rejected_more (bad_line_text bad) is
     applied_more (Ok rs) a is = (λ more_answered. rejected_more exceeds_text (is.0 more_answered), λ within. run_more rs a (is.1 within))
+
+  -- whatever the lines were
+  pub applied_endures : (OfInput OfOutput : Failure → Type 0) (it new : Registry S g) (read : Result (List Request) BadLine) (a : ℕ) (out out_new : Option (List ℕ)) (errors : ErrorOutput) (status : ℕ)
+      → IsApplied OfInput OfOutput it new read a out out_new errors status → Endures (state_of it) (state_of new)
+  applied_endures OfInput OfOutput it new (Err bad) a out out_new errors status is = subst (λ (x : Registry S g). Endures (state_of it) (state_of x)) (sym is.same) (still (state_of it))
+  applied_endures OfInput OfOutput it new (Ok rs) a out out_new errors status is = elim (cases_lt (length rs) a) [
+    | inl more ↦ subst (λ (x : Registry S g). Endures (state_of it) (state_of x)) (sym (is.0 more).same) (still (state_of it))
+    | inr within ↦ (is.1 within).endures
+  ]

@@ -10,7 +10,7 @@ use Rattle.registry_rules.specs.Run.{after, replies_to}
 use Rattle.registry_tables.specs.Rows.{newest}
 use Rattle.registry_store.specs.declared.fault.Fault.TheVariants as faults
 use Rattle.registry_store.specs.declared.registry.Registry.{Registry}
-use Rattle.registry_store.specs.Promise.{Leaves, Represents, is_poisoned, poisoned_by, state_of}
+use Rattle.registry_store.specs.Promise.{Endures, Leaves, Represents, is_poisoned, poisoned_by, state_of}
 use Rattle.registry_store.specs.Run.{HasAnswered, IsAfterOrNext}
 use Rattle.registry_commands.specs.declared.lines.BadLine.{BadLine}
 use Rattle.registry_commands.specs.declared.messages.Failure.{Failure}
@@ -73,6 +73,7 @@ module _ {S : Type 0} {g : Ghosts S} where
     pub told : status ≡ 1 → IsUnread OfInput it new out out_new errors
         ⊎ PrintsFailure (λ failure. IsOfRun it new (λ h. HasAnswered it h rs a) failure × OfOutput failure) errors
     pub poisoned : is_poisoned it ≡ true → (status ≡ 1) × (new ≡ it) × (out_new ≡ out) × PrintsFailure (λ failure. (failure ≡ Poisoned) ⊎ OfInput failure) errors
+    pub endures : Endures (state_of it) (state_of new)
 
   -- How a command on request lines ends. Ok: these requests were read, and the first a of them were answered before. Err: this
   -- is the first line that is not a request.

@@ -1,0 +1,3 @@
+pub mod OpeningLemmas
+pub mod StatusLemmas
+pub mod WholeLemmas

@@ -1,0 +1,52 @@
+-- The failures of opening a registry, and what closing a store does.
+use Rattle.std.proofs.Common.{◌≡◌, ◌≢◌, ◌⊎◌, ℕ, List, Option, inl, inr, refl, subst, sym, ap, rules}
+use Rattle.byte_streams.specs.declared.streams.Sink as sink
+use Rattle.sqlite_disk.specs.declared.Disk as disk
+use Rattle.sqlite_disk.specs.declared.Files.{Files}
+use Rattle.sqlite_store.specs.declared.store.FileStore.{FileStore}
+use Rattle.sqlite.specs.Closing.{IsCopied}
+use Rattle.sqlite.specs.Files.{file_state}
+use Rattle.sqlite.specs.Held.{Held}
+use Rattle.sqlite.specs.State.{HasCleanDisk}
+use Rattle.sqlite.specs.WalReads.{AreClean}
+use Rattle.registry_rules.specs.History.{History}
+use Rattle.registry_store.specs.declared.fault.Fault.{Fault}
+use Rattle.registry_store.specs.declared.fault.Fault.TheVariants as faults
+use Rattle.registry_store.specs.Promise.{LeavesFrom}
+use Rattle.registry_store.specs.Reopen.{AreClosed, HoldEither, IsEither, IsUncopied}
+use Rattle.registry_commands.specs.declared.messages.Failure.{Failure}
+use Rattle.registry_commands.specs.Failures.{IsOfClosing, IsOfStore, PrintsFailure, error_output}
+use Rattle.registry_commands.specs.Messages.{failure_of}
+use Rattle.registry_program.specs.declared.host.Host as host
+use Rattle.registry_program.specs.Opening.{IsOfOpening}
+use Rattle.registry_program.specs.Outputs.{sunk}
+use Rattle.registry_program.specs.Stores.{IsClosed}
+
+-- the fault of opening a registry is one of its failures
+pub of_opening : (fault : Fault) → (fault ≢ faults.Poisoned) × (fault ≢ faults.Taken) → IsOfOpening (failure_of fault)
+of_opening faults.Store kind = tt
+of_opening faults.NoMemory kind = tt
+of_opening faults.Foreign kind = tt
+of_opening faults.Taken kind = absurd (kind.1 refl)
+of_opening faults.Poisoned kind = absurd (kind.0 refl)
+
+-- so is that of opening its store
+pub of_store : (failure : Failure) → IsOfStore failure → IsOfOpening failure
+of_store failure is = elim is [ inl store ↦ subst IsOfOpening (sym store) tt | inr memory ↦ subst IsOfOpening (sym memory) tt ]
+
+-- what closing a store does, by what its error output has taken
+pub closes_store : {H F I E : Type 0} (m : host.Ghosts H F I) (d : disk.Ghosts F) (s : sink.Ghosts E)
+    (conn : Held (FileStore F d)) (files : Files F) (e e_new : E) (before status : ℕ)
+    → (before ≢ 0 → (status ≡ before) × (e_new ≡ e))
+    → (before ≡ 0 → ((status ≡ 0) × (e_new ≡ e)) ⊎ ((status ≡ 1) × PrintsFailure (IsOfClosing (IsUncopied conn files)) (error_output s.contents s.failures e e_new)))
+    → AreClosed conn files
+    → (before ≡ 0 → status ≡ 0 → AreClean d files.log files.db → IsCopied conn files)
+    → (status ≡ before → (from : ℕ) (h next : History) → (HasCleanDisk (file_state conn) → LeavesFrom from (file_state conn) (IsEither h next)) → AreClean d files.log files.db → HoldEither d from files h next)
+    → IsClosed m d conn files (sunk s e) (sunk s e_new) before status
+closes_store m d s conn files e e_new before status kept well closed copied holds = record {
+  kept = λ bad. ((kept bad).0, ap (sunk s) (kept bad).1);
+  well = λ good. elim (well good) [ inl same ↦ inl (same.0, ap (sunk s) same.1) | inr failed ↦ inr failed ];
+  closed = closed;
+  copied = copied;
+  holds = holds;
+}

@@ -1,0 +1,481 @@
+-- What the files of a store hold after a command.
+use Rattle.std.proofs.Common.{◌≡◌, ◌⊎◌, inl, inr, ℕ, ◌+◌, ◌≤◌, ◌<◌, List, length, take, Option, Some, None, refl, sym, ap, subst, ◌∙◌, arith}
+use Rattle.std.specs.Prelude.{◌≢◌, Result, Ok, Err}
+use Rattle.std.proofs.Math.Logic.{∥∥₁_map}
+use Rattle.std.proofs.lemmas.Bool.{cases_lt}
+use Rattle.std.proofs.lemmas.List.{take_all}
+use Rattle.std.specs.Io.KnownBytes.{Appends}
+use Rattle.sqlite_disk.specs.declared.Disk as disk
+use Rattle.sqlite_disk.specs.declared.Files.{Files}
+use Rattle.sqlite_store.specs.declared.store.FileStore.{FileStore}
+use Rattle.sqlite.specs.Files.{file_state, over_files}
+use Rattle.sqlite.specs.Held.{Held, state}
+use Rattle.sqlite.specs.State.{HasCleanDisk}
+use Rattle.sqlite.specs.Store.{Ghosts}
+use Rattle.byte_streams.specs.declared.streams.Sink as sink
+use Rattle.byte_streams.specs.declared.streams.Source as source
+use Rattle.byte_streams.specs.Streams.{MayGive}
+use Rattle.usbids_text.specs.Entries.{TopEntry}
+use Rattle.usbids_text.specs.Moments.{Moment}
+use Rattle.usbids_text.specs.Reading.{Answers}
+use Rattle.usbids_text.specs.declared.fault.ReadFault.{ReadFault}
+use Rattle.usbnum_core.specs.Number.{code_of, number_of}
+use Rattle.usbnum_core.specs.declared.error.NoMemory.{NoMemory}
+use Rattle.registry_rules.specs.declared.order.Request.{Request}
+use Rattle.registry_rules.specs.declared.verdict.Reply.{Reply}
+use Rattle.registry_rules.specs.History.{History, founded}
+use Rattle.registry_rules.specs.Run.{after, after_one}
+use Rattle.registry_tables.specs.Rows.{newest}
+use Rattle.registry_wire.specs.Founding.{Listed, founding_listed}
+use Rattle.registry_wire.specs.declared.refusal.WireRefusal.{WireRefusal}
+use Rattle.registry_store.specs.declared.fault.Fault.{Fault}
+use Rattle.registry_store.specs.declared.registry.Registry.{Registry}
+use Rattle.registry_store.specs.Promise.{Endures, Leaves, Represents, connection_of, state_of}
+use Rattle.registry_store.specs.Reopen.{FilesHoldEither, IsEither, IsUncopied}
+use Rattle.registry_store.specs.Run.{HasAnswered, IsAfterOrNext}
+use Rattle.registry_store.proofs.CrashLemmas.{closed_clean, in_newest}
+use Rattle.registry_store.proofs.RunLemmas.{leaves_weaker}
+use Rattle.registry_store.proofs.RunToLemmas.{between_all}
+use Rattle.registry_arguments.specs.declared.command.Command.{Command}
+use Rattle.registry_arguments.specs.declared.command.Command.TheVariants as command
+use Rattle.registry_commands.specs.declared.arguments.BadArgument.{BadArgument}
+use Rattle.registry_commands.specs.declared.importing.Import.{Import}
+use Rattle.registry_commands.specs.declared.lines.BadLine.{BadLine}
+use Rattle.registry_commands.specs.declared.messages.Failure.{Failure}
+use Rattle.registry_commands.specs.declared.reporting.ReportKind.{ReportKind}
+use Rattle.registry_commands.specs.Apply.{IsApplied, IsRun, lines_between}
+use Rattle.registry_commands.specs.Failures.{ErrorOutput, IsOfClosing, IsOfInput, IsOfOutput, IsOfStore, PrintsFailure}
+use Rattle.registry_commands.specs.Found.{IsFoundedBy}
+use Rattle.registry_commands.specs.Imports.{IsImportOf, IsImported, status_of}
+use Rattle.registry_commands.specs.Lines.{requests_in}
+use Rattle.registry_commands.specs.Messages.{reply_line, reply_lines}
+use Rattle.registry_commands.specs.Reports.{report_named}
+use Rattle.registry_commands.proofs.FailureLemmas.{of_store, tells_more}
+use Rattle.registry_commands.proofs.ApplyLemmas.{applied_endures, keeps_same, no_beginning, still}
+use Rattle.registry_desk.specs.declared.server.Connections as connections
+use Rattle.registry_desk.specs.Server.{EndsServing, IsCutShort, IsHalted, IsLeftAfter, Visit, fault_in}
+use Rattle.registry_program.specs.declared.host.Host as host
+use Rattle.registry_program.specs.Commands.{ActsOnFile, Applies, ExportsAs, Founds, FoundsBy, ImportsAs, ImportsFile, ReportsAs, WritesList, WritesReport}
+use Rattle.registry_program.specs.Outputs.{Ends, Sunk, between}
+use Rattle.registry_program.specs.Performing.{Performs}
+use Rattle.registry_program.specs.Serving.{Serves, ServesOn, limit_of}
+use Rattle.registry_program.specs.Stores.{IsClosed, IsOver, Runs, TheRegistry}
+use Rattle.registry_program.specs.Whole.{AppliesWholly, AreLeftAfter, ExportsWhollyAs, FoundsWholly, IfOver, ImportsWhollyAs, IsAfterImport, IsAfterLines, IsAppliedTo, IsCarriedOn, IsFoundedWholly, IsImportedTo, IsListed, IsReportedOn, IsServedTo, IsUnread, IsWhole, ReportsWholly, ServesWholly, Stays, Turns}
+
+zero_or : (n : ℕ) → (n ≡ 0) ⊎ (n ≢ 0)
+zero_or n = elim (cases_lt 0 n) [ inl more ↦ inr (λ zero. omega (arith, more, zero)) | inr none ↦ inl (omega (arith, none)) ]
+
+one_of : (h x : History) → IsEither h h x → x ≡ h
+one_of h x is = elim is [ inl e ↦ e | inr e ↦ e ]
+
+-- ---- what a registry leaves
+
+module _ {S : Type 0} {g : Ghosts S} where
+  -- what a registry leaves after this
+  abbrev LeavesSome : Registry S g → (History → History → Type 0) → Type 0
+  LeavesSome it After = (x : History) × (y : History) × After x y × Leaves newest (state_of it) (IsEither x y)
+
+  only : (it : Registry S g) (h : History) → Represents it h → HasCleanDisk (state_of it) → Leaves newest (state_of it) (IsEither h h)
+  only it h stands clean = leaves_weaker newest (state_of it) (λ x. x ≡ h) (IsEither h h) (λ x e. inl e) (stands.at.left clean)
+
+  stayed : (it new : Registry S g) (h : History) → new ≡ it → Represents it h → HasCleanDisk (state_of new) → LeavesSome new (Stays h)
+  stayed it new h same stands clean = (h, h, (refl, refl), only new h (subst (λ (x : Registry S g). Represents x h) (sym same) stands) clean)
+
+  -- ---- request lines
+
+  at_place : (it : Registry S g) (h : History) (rs : List Request) (n : ℕ) (x : History) → IsEither (after h (take n rs)) (after h (take (n + 1) rs)) x → Represents it x → HasAnswered it h rs n
+  at_place it h rs n x (inl e) stands = inl (subst (Represents it) e stands)
+  at_place it h rs n x (inr e) stands = elim (cases_lt n (length rs)) [
+    | inl more ↦ inr (more, subst (Represents it) e stands)
+    | inr none ↦ inl (subst (Represents it) (e ∙ ap (after h) (take_all (n + 1) rs (omega (arith, none)) ∙ sym (take_all n rs none))) stands)
+  ]
+
+  ran : (OfInput OfOutput : Failure → Type 0) (it new : Registry S g) (rs : List Request) (a : ℕ) (out out_new : Option (List ℕ)) (errors : ErrorOutput) (status : ℕ) → a ≤ length rs
+      → IsRun OfInput OfOutput it new rs a out out_new errors status → (h : History) → HasAnswered it h rs a → HasCleanDisk (state_of new) → LeavesSome new (IsAfterLines h rs a out out_new status)
+  ran OfInput OfOutput it new rs a out out_new errors status within run h at clean = elim run.statuses [
+    | inl zero ↦
+        let through = run.through zero h at clean in
+        let n = length rs in
+        let all : after h rs ≡ after h (take n rs) = ap (after h) (sym (take_all n rs (omega arith))) in (
+          after h (take n rs),
+          after h (take (n + 1) rs),
+          record {
+            n = n;
+            from = within;
+            within = omega arith;
+            whole = λ _. refl;
+            middle = out_new;
+            gained = subst (λ (text : List ℕ). Appends out out_new text) (sym (ap reply_lines (between_all h rs a n refl))) through.gained;
+            begun = no_beginning out_new (lines_between h rs n (n + 1));
+            next = refl;
+            last = inl (refl, keeps_same out_new);
+          },
+          leaves_weaker newest (state_of new) (λ x. x ≡ after h rs) (IsAfterOrNext h rs n) (λ x e. inl (e ∙ all)) (through.represents.at.left clean),
+        )
+    | inr one ↦
+        let stopped = run.stopped one h at clean in
+        let n = stopped.0 in
+        let gained = stopped.1.gained in
+        elim gained.3 [
+          | inl kept ↦ (
+            after h (take n rs),
+            after h (take (n + 1) rs),
+            record {
+              n = n;
+              from = stopped.1.from;
+              within = stopped.1.within;
+              whole = λ zero. absurd (omega (arith, one, zero));
+              middle = gained.0;
+              gained = gained.1;
+              begun = gained.2;
+              next = refl;
+              last = inl (refl, kept);
+            },
+            stopped.1.leaves,
+          )
+          | inr stands ↦ (
+            after h (take (n + 1) rs),
+            after h (take (n + 1) rs),
+            record {
+              n = n;
+              from = stopped.1.from;
+              within = stopped.1.within;
+              whole = λ zero. absurd (omega (arith, one, zero));
+              middle = gained.0;
+              gained = gained.1;
+              begun = gained.2;
+              next = refl;
+              last = inr refl;
+            },
+            only new (after h (take (n + 1) rs)) stands clean,
+          )
+        ]
+  ]
+
+  applied : (OfInput OfOutput : Failure → Type 0) (it new : Registry S g) (read : Result (List Request) BadLine) (a : ℕ) (out out_new : Option (List ℕ)) (errors : ErrorOutput) (status : ℕ)
+      → IsApplied OfInput OfOutput it new read a out out_new errors status → (h : History) (rs : List Request) → read ≡ Ok rs → a ≤ length rs → HasAnswered it h rs a → HasCleanDisk (state_of new)
+      → LeavesSome new (IsAfterLines h rs a out out_new status)
+  applied OfInput OfOutput it new (Err bad) a out out_new errors status is h rs parsed within at clean = absurd (cc parsed)
+  applied OfInput OfOutput it new (Ok read) a out out_new errors status is h rs parsed within at clean =
+      let same : read ≡ rs = cc parsed in
+      let run = subst (λ (x : List Request). IsApplied OfInput OfOutput it new (Ok x) a out out_new errors status) same is in
+      ran OfInput OfOutput it new rs a out out_new errors status within (run.1 within) h at clean
+
+  unacted : (OfInput OfOutput : Failure → Type 0) (it new : Registry S g) (read : Result (List Request) BadLine) (a : ℕ) (out out_new : Option (List ℕ)) (errors : ErrorOutput) (status : ℕ)
+      → IsApplied OfInput OfOutput it new read a out out_new errors status → ((rs : List Request) → read ≡ Ok rs → length rs < a) → new ≡ it
+  unacted OfInput OfOutput it new (Err bad) a out out_new errors status is none = is.same
+  unacted OfInput OfOutput it new (Ok rs) a out out_new errors status is none = (is.0 (none rs refl)).same
+
+  -- ---- lists
+
+  abbrev LeavesImport : Registry S g → List ℕ → Import → Option (List ℕ) → Option (List ℕ) → ℕ → History → Type 0
+  LeavesImport new bytes import out out_new status h = LeavesSome new (λ x y. Stays h x y ⊎ IsAfterImport bytes import out out_new status h x y)
+
+  not_made : (it new : Registry S g) (bytes : List ℕ) (import : Import) (out out_new : Option (List ℕ)) (status : ℕ) (h : History) → new ≡ it → Represents it h → HasCleanDisk (state_of new)
+      → LeavesImport new bytes import out out_new status h
+  not_made it new bytes import out out_new status h same stands clean = let s = stayed it new h same stands clean in (s.0, s.1, inl s.2, s.3)
+
+  imported_as : (OfOutput : Failure → Type 0) (it new : Registry S g) (import : Import) (bytes : List ℕ) (read : Result (List TopEntry) ReadFault) (out out_new : Option (List ℕ)) (errors : ErrorOutput) (status : ℕ)
+      → Answers bytes read → IsImportOf OfOutput it new import read out out_new errors status → (h : History) → Represents it h → HasCleanDisk (state_of new) → LeavesImport new bytes import out out_new status h
+  imported_as OfOutput it new import bytes (Ok doc) out out_new errors status answers is h stands clean = elim is [
+    | inl acted ↦ let r = acted.0 in elim acted.2.ends [
+      | inl gives ↦ let both = gives.answered h (inl stands) clean in (
+        after_one h r,
+        after_one h r,
+        inr (record {
+          doc = doc;
+          answers = answers;
+          r = r;
+          r_is = acted.1 h stands;
+          x_is = inr refl;
+          y_is = refl;
+          replied = λ _. (refl, gives.status_is ∙ ap status_of both.0, subst (λ (reply : Reply). Appends out out_new (reply_line reply)) both.0 gives.gained);
+        }),
+        only new (after_one h r) both.1 clean,
+      )
+      | inr failed ↦ (
+        h,
+        after_one h r,
+        inr (record {
+          doc = doc;
+          answers = answers;
+          r = r;
+          r_is = acted.1 h stands;
+          x_is = inl refl;
+          y_is = refl;
+          replied = λ other. absurd (other failed.status_is);
+        }),
+        (failed.cut h (inl stands) clean).leaves,
+      )
+    ]
+    | inr none ↦ not_made it new bytes import out out_new status h none.0 stands clean
+  ]
+  imported_as OfOutput it new import bytes (Err fault) out out_new errors status answers is h stands clean = not_made it new bytes import out out_new status h is.0 stands clean
+
+  imported : (OfInput OfOutput : Failure → Type 0) (it new : Registry S g) (import : Import) (bytes : List ℕ) (out out_new : Option (List ℕ)) (errors : ErrorOutput) (status : ℕ)
+      → IsImported OfInput OfOutput it new import bytes out out_new errors status → (h : History) → Represents it h → HasCleanDisk (state_of new) → LeavesImport new bytes import out out_new status h
+  imported OfInput OfOutput it new import bytes out out_new errors status is h stands clean = elim is [
+    | inl read ↦ imported_as OfOutput it new import bytes read.0 out out_new errors status read.2 read.3 h stands clean
+    | inr none ↦ not_made it new bytes import out out_new status h none.0 stands clean
+  ]
+
+  same_endures : (it new : Registry S g) → new ≡ it → Endures (state_of it) (state_of new)
+  same_endures it new same = subst (λ (x : Registry S g). Endures (state_of it) (state_of x)) (sym same) (still (state_of it))
+
+  import_endures_as : (OfOutput : Failure → Type 0) (it new : Registry S g) (import : Import) (read : Result (List TopEntry) ReadFault) (out out_new : Option (List ℕ)) (errors : ErrorOutput) (status : ℕ)
+      → IsImportOf OfOutput it new import read out out_new errors status → Endures (state_of it) (state_of new)
+  import_endures_as OfOutput it new import (Ok doc) out out_new errors status is = elim is [ inl acted ↦ acted.2.endures | inr none ↦ same_endures it new none.0 ]
+  import_endures_as OfOutput it new import (Err fault) out out_new errors status is = same_endures it new is.0
+
+  import_endures : (OfInput OfOutput : Failure → Type 0) (it new : Registry S g) (import : Import) (bytes : List ℕ) (out out_new : Option (List ℕ)) (errors : ErrorOutput) (status : ℕ)
+      → IsImported OfInput OfOutput it new import bytes out out_new errors status → Endures (state_of it) (state_of new)
+  import_endures OfInput OfOutput it new import bytes out out_new errors status is = elim is [
+    | inl read ↦ import_endures_as OfOutput it new import read.0 out out_new errors status read.3
+    | inr none ↦ same_endures it new none.0
+  ]
+
+  -- ---- connections
+
+  cut_short : (it : Registry S g) (h : History) (visits : List Visit) (fault : Fault) (ends : IsHalted it h visits fault) (x : History) → IsEither ends.middle ends.halted.next x → IsCutShort h visits x
+  cut_short it h visits fault ends x is = record {
+    before = ends.before;
+    last = ends.last;
+    all = ends.all;
+    middle = ends.middle;
+    turns = ends.turns;
+    fault = fault;
+    text_is = ends.halted.text_is;
+    status_is = ends.halted.status_is;
+    next = ends.halted.next;
+    next_is = ends.halted.next_is;
+    is = is;
+  }
+
+  served : (it : Registry S g) (h : History) (visits : List Visit) (fault : Option Fault) → EndsServing it h visits fault → HasCleanDisk (state_of it) → LeavesSome it (AreLeftAfter visits h)
+  served it h visits None ends clean = (ends.0, ends.0, (inl ends.1, inl ends.1), only it ends.0 ends.2 clean)
+  served it h visits (Some fault) ends clean = (
+    ends.middle,
+    ends.halted.next,
+    (inr (cut_short it h visits fault ends ends.middle (inl refl)), inr (cut_short it h visits fault ends ends.halted.next (inr refl))),
+    ends.halted.left.leaves,
+  )
+
+-- ---- what the files hold
+
+module _ {H F I : Type 0} (m : host.Ghosts H F I) (d : disk.Ghosts F) where
+  -- unless closing failed, the status is the one before
+  closing : (conn : Held (FileStore F d)) (files : Files F) (errors errors_new : Sunk) (before status : ℕ) → IsClosed m d conn files errors errors_new before status
+      → ((status ≡ 1) × PrintsFailure IsOfStore (between errors errors_new)) ⊎ (status ≡ before)
+  closing conn files errors errors_new before status is = elim (zero_or before) [
+    | inl zero ↦ elim (is.well zero) [
+      | inl same ↦ inr (same.0 ∙ sym zero)
+      | inr failed ↦ inl (failed.0, tells_more (IsOfClosing (IsUncopied conn files)) IsOfStore (between errors errors_new) (of_store (IsUncopied conn files)) failed.1)
+    ]
+    | inr other ↦ inr (is.kept other).0
+  ]
+
+  runs_whole : (old new : H) (path : List ℕ) (ends : Ends) (Does : H → H → TheRegistry m d → TheRegistry m d → Ends → Type 0) (P : Type 0)
+      → ((over : IsOver m d old new path ends Does) → ends.status ≡ over.before → P) → Runs m d old new path ends Does → IfOver m d old new path ends P
+  runs_whole old new path ends Does P follows run = elim run [
+    | inl not ↦ inl not
+    | inr over ↦ elim (closing (connection_of over.after) over.closes.files over.errors ends.errors_new over.before ends.status over.closes.closed) [
+      | inl failed ↦ inr (inl (over.errors, failed.0, failed.1))
+      | inr same ↦ inr (inr (follows over same))
+    ]
+  ]
+
+  module _ (old new : H) (path : List ℕ) (ends : Ends) (Does : H → H → TheRegistry m d → TheRegistry m d → Ends → Type 0)
+      (over : IsOver m d old new path ends Does) (same : ends.status ≡ over.before) (endures : HasCleanDisk (state_of over.after) → HasCleanDisk (state_of over.it)) where
+    -- the closed files hold what the registry left
+    turns : (h next : History) (After : History → History → Type 0)
+        → ((x : History) → IsEither h next x → Represents over.it x → HasCleanDisk (state_of over.after) → LeavesSome over.after After)
+        → Turns m d old path over.closes.files h next After
+    turns h next After does legal legal_next from held honest =
+        let clean : HasCleanDisk (state_of over.after) = closed_clean (connection_of over.after) over.closes.files over.closes.closed.closed honest in
+        let found = over.takes.resumes.represents from h next legal legal_next (λ _. subst (λ i. FilesHoldEither from i h next) (sym over.takes.opens.found) held) (endures clean) in
+        ∥∥₁_map found (λ it.
+        let left = does it.0 it.1 it.2 clean in
+        (left.0, left.1, left.2, over.closes.closed.holds same newest left.0 left.1 (in_newest (state_of over.after) (IsEither left.0 left.1) (λ _. left.3)) honest))
+
+    carried : (After : History → History → History → Type 0)
+        → ((h : History) → Represents over.it h → HasCleanDisk (state_of over.after) → LeavesSome over.after (After h)) → IsCarriedOn m d old new path After
+    carried After does = record {
+      done = over.done;
+      files = over.closes.files;
+      lets_go = over.closes.lets_go;
+      holds = λ h. turns h h (After h) (λ x is stands clean. does h (subst (Represents over.it) (one_of h x is) stands) clean);
+    }
+
+  unread : (old new : H) (path : List ℕ) (ends : Ends) (Does : H → H → TheRegistry m d → TheRegistry m d → Ends → Type 0)
+      (over : IsOver m d old new path ends Does) → ends.status ≡ over.before → over.after ≡ over.it → over.before ≡ 1 → ends.out_new ≡ ends.out → IsUnread m d old new path ends
+  unread old new path ends Does over same kept one silent = (
+    same ∙ one,
+    silent,
+    carried old new path ends Does over same (λ clean. subst (λ (x : TheRegistry m d). HasCleanDisk (state_of x)) kept clean) Stays (λ h stands clean. stayed over.it over.after h kept stands clean),
+  )
+
+  list_whole : (old new : H) (path : List ℕ) (stamp : Option Moment) (ends : Ends) → Runs m d old new path ends (WritesList stamp) → IfOver m d old new path ends (IsCarriedOn m d old new path (IsListed stamp ends))
+  list_whole old new path stamp ends = runs_whole old new path ends (WritesList stamp) (IsCarriedOn m d old new path (IsListed stamp ends)) (λ over same.
+      let is = over.does.1 in
+      carried old new path ends (WritesList stamp) over same (λ clean. omega (arith, is.left.survives.clean, clean)) (IsListed stamp ends) (λ h stands clean. (
+        h,
+        h,
+        (
+          (refl, refl),
+          λ zero. let was : over.before ≡ 0 = sym same ∙ zero in elim is.shown [
+            | inl all ↦ (all.0, all.1 h stands clean, all.2, elim all.3 [ inl whole ↦ whole.1 | inr cut ↦ absurd (omega (arith, cut.0, was)) ])
+            | inr none ↦ absurd (omega (arith, none.0, was))
+          ],
+        ),
+        only over.after h (is.left.stays h stands) clean,
+      )))
+
+  report_whole : (old new : H) (path : List ℕ) (name : ReportKind) (ends : Ends) → Runs m d old new path ends (WritesReport name) → IfOver m d old new path ends (IsCarriedOn m d old new path (IsReportedOn name ends))
+  report_whole old new path name ends = runs_whole old new path ends (WritesReport name) (IsCarriedOn m d old new path (IsReportedOn name ends)) (λ over same.
+      let is = over.does.1 in
+      carried old new path ends (WritesReport name) over same (λ clean. omega (arith, is.left.survives.clean, clean)) (IsReportedOn name ends) (λ h stands clean. (
+        h,
+        h,
+        (
+          (refl, refl),
+          λ zero. let was : over.before ≡ 0 = sym same ∙ zero in elim is.shown [
+            | inl all ↦ (all.0, all.1 h stands clean, elim all.2 [ inl whole ↦ whole.1 | inr cut ↦ absurd (omega (arith, cut.0, was)) ])
+            | inr none ↦ absurd (omega (arith, none.0, was))
+          ],
+        ),
+        only over.after h (is.left.stays h stands) clean,
+      )))
+
+  module _ (s : source.Ghosts I) where
+    apply_whole : (old new : H) (path file : List ℕ) (a : ℕ) (ends : Ends) → Applies m d s old new path file a ends → AppliesWholly m d s old new path file a ends
+    apply_whole old new path file a ends = runs_whole old new path ends (ActsOnFile m s file a) (IsAppliedTo m d s old new path file a ends ⊎ IsUnread m d old new path ends) (λ over same. elim over.does [
+      | inl read ↦
+          let earlier : HasCleanDisk (state_of over.after) → HasCleanDisk (state_of over.it) = λ clean. omega (arith, (applied_endures _ _ over.it over.after _ a _ _ _ over.before read.3.2).clean, clean) in
+          inl (record {
+            reading = over.opened;
+            read = over.done;
+            input = read.0;
+            reads = read.2;
+            bytes = read.3.0;
+            gives = read.3.1;
+            done = over.done;
+            files = over.closes.files;
+            lets_go = over.closes.lets_go;
+            holds = λ h rs parsed within.
+                turns old new path ends (ActsOnFile m s file a) over same earlier (after h (take a rs)) (after h (take (a + 1) rs)) (IsAfterLines h rs a ends.out.contents ends.out_new.contents ends.status)
+                (λ x is stands clean. subst (λ (n : ℕ). LeavesSome over.after (IsAfterLines h rs a ends.out.contents ends.out_new.contents n)) (sym same)
+                (applied _ _ over.it over.after _ a _ _ _ over.before read.3.2 h rs parsed within (at_place over.it h rs a x is stands) clean));
+            stays = λ none h.
+                turns old new path ends (ActsOnFile m s file a) over same earlier h h (Stays h)
+                (λ x is stands clean. stayed over.it over.after h (unacted _ _ over.it over.after _ a _ _ _ over.before read.3.2 none) (subst (Represents over.it) (one_of h x is) stands) clean);
+          })
+      | inr not ↦ inr (unread old new path ends (ActsOnFile m s file a) over same not.2.0 not.2.1.1 not.2.1.0)
+    ])
+
+    import_whole : (old new : H) (path list : List ℕ) (import : Import) (ends : Ends) → Runs m d old new path ends (ImportsFile m s list import)
+        → IfOver m d old new path ends (IsImportedTo m d s old new path list import ends ⊎ IsUnread m d old new path ends)
+    import_whole old new path list import ends = runs_whole old new path ends (ImportsFile m s list import) (IsImportedTo m d s old new path list import ends ⊎ IsUnread m d old new path ends) (λ over same. elim over.does [
+      | inl read ↦
+          let earlier : HasCleanDisk (state_of over.after) → HasCleanDisk (state_of over.it) = λ clean. omega (arith, (import_endures _ _ over.it over.after import _ _ _ _ over.before read.3.2).clean, clean) in
+          inl (record {
+            reading = over.opened;
+            read = over.done;
+            input = read.0;
+            reads = read.2;
+            bytes = read.3.0;
+            gives = read.3.1;
+            carried = carried old new path ends (ImportsFile m s list import) over same earlier
+                (λ h x y. Stays h x y ⊎ IsAfterImport read.3.0 import ends.out.contents ends.out_new.contents ends.status h x y)
+                (λ h stands clean. subst (λ (n : ℕ). LeavesImport over.after read.3.0 import ends.out.contents ends.out_new.contents n h) (sym same)
+                (imported _ _ over.it over.after import read.3.0 _ _ _ over.before read.3.2 h stands clean));
+          })
+      | inr not ↦ inr (unread old new path ends (ImportsFile m s list import) over same not.2.0 not.2.1.1 not.2.1.0)
+    ])
+
+    imports_whole : (old new : H) (path list : List ℕ) (asked : Result (Result Import BadArgument) NoMemory) (ends : Ends) → ImportsAs m d s old new path list asked ends → ImportsWhollyAs m d s old new path list asked ends
+    imports_whole old new path list (Ok (Ok import)) ends is = import_whole old new path list import ends is
+    imports_whole old new path list (Ok (Err argument)) ends is = is
+    imports_whole old new path list (Err none) ends is = is
+
+    exports_whole : (old new : H) (path : List ℕ) (read : Result (Option Moment) BadArgument) (ends : Ends) → ExportsAs m d s old new path read ends → ExportsWhollyAs m d old new path read ends
+    exports_whole old new path (Ok stamp) ends is = list_whole old new path stamp ends is
+    exports_whole old new path (Err argument) ends is = is
+
+    reports_whole : (old new : H) (path : List ℕ) (name : Option ReportKind) (ends : Ends) → ReportsAs m d s old new path name ends → ReportsWholly m d old new path name ends
+    reports_whole old new path (Some name) ends is = report_whole old new path name ends is
+    reports_whole old new path None ends is = is
+
+    -- the founding file was read, on this connection, and the status is 0
+    founded_by : (done new : H) (founding bytes : List ℕ) (OfInput : Failure → Type 0) (conn last : Held (FileStore F d)) (files : Files F) (errors : ErrorOutput) (e e_new : Sunk) (before status : ℕ)
+        (read : Result Listed WireRefusal) → founding_listed bytes ≡ read → IsFoundedBy over_files OfInput conn last read errors before → IsClosed m d last files e e_new before status → before ≡ 0 → status ≡ 0
+        → (reading here : H) (input : I) → m.reads reading here founding input → MayGive (s.remaining input) bytes → m.lets_go done new files → IsFoundedWholly m d s new founding
+    founded_by done new founding bytes OfInput conn last files errors e e_new before status (Err refusal) listed is closed zero well reading here input reads gives lets_go =
+        elim is.1 [ inl said ↦ absurd (omega (arith, said.0, zero)) | inr failure ↦ absurd (omega (arith, failure.0, zero)) ]
+    founded_by done new founding bytes OfInput conn last files errors e e_new before status (Ok all) listed is closed zero well reading here input reads gives lets_go = elim is [
+      | inl failure ↦ absurd (omega (arith, failure.1, zero))
+      | inr tried ↦ elim tried.2.ends [
+        | inl ended ↦
+            let h = founded tried.0 in
+            record {
+              reading = reading;
+              read = here;
+              input = input;
+              reads = reads;
+              bytes = bytes;
+              gives = gives;
+              listed = all;
+              is_listed = listed;
+              origin = tried.0;
+              founds = tried.1;
+              done = done;
+              files = files;
+              lets_go = lets_go;
+              holds = λ honest.
+                  let clean : HasCleanDisk (file_state last) = closed_clean last files closed.closed honest in
+                  let left : Leaves newest (file_state last) (IsEither h h) =
+                  leaves_weaker newest (file_state last) (λ x. x ≡ h) (IsEither h h) (λ x e. inl e) ((ended.1.rows clean).left clean) in
+                  closed.holds (well ∙ sym zero) newest h h (in_newest (file_state last) (IsEither h h) (λ _. left)) honest;
+            }
+        | inr failure ↦ absurd (omega (arith, failure.0, zero))
+      ]
+    ]
+
+    found_whole : (old new : H) (path founding : List ℕ) (ends : Ends) → Founds m d s old new path founding ends → FoundsWholly m d s new founding ends
+    found_whole old new path founding ends is well = elim is [
+      | inl not ↦ absurd (omega (arith, not.2.1, well))
+      | inr on ↦
+          let zero : on.before ≡ 0 = elim (zero_or on.before) [ inl zero ↦ zero | inr other ↦ absurd (other (sym (on.closes.closed.kept other).0 ∙ well)) ] in
+          elim on.founds [
+            | inl read ↦ founded_by on.done new founding read.3.0 _ on.conn on.last on.closes.files _ on.errors ends.errors_new on.before ends.status (founding_listed read.3.0) refl read.3.2 on.closes.closed zero well
+                on.opened on.done read.0 read.2 read.3.1 on.closes.lets_go
+            | inr not ↦ absurd (omega (arith, not.2.1, zero))
+          ]
+    ]
+
+    module _ {R W IN : Type 0} (c : connections.Ghosts H R W) (r : source.Ghosts R) (w : sink.Ghosts W) (i : source.Ghosts IN) where
+      serves_whole : (old new : H) (path : List ℕ) (port limit : ℕ) (ends : Ends) → Serves m d c r w old new path port limit ends → ServesWholly m d c r w old new path port ends
+      serves_whole old new path port limit ends = runs_whole old new path ends (ServesOn m c r w port limit) (IsServedTo m d c r w old new path port ⊎ IsUnread m d old new path ends) (λ over same. elim over.does [
+        | inl on ↦
+            let all = on.served.served in
+            inl (record {
+              before = over.opened;
+              listening = on.listening;
+              listens = on.listens;
+              visits = all.0;
+              middle = all.1;
+              visited = all.2;
+              carried = carried old new path ends (ServesOn m c r w port limit) over same (λ clean. omega (arith, on.served.endures.clean, clean)) (AreLeftAfter all.0)
+                  (λ h stands clean. served over.after h all.0 (fault_in on.end) (all.6 h stands clean).0 clean);
+            })
+        | inr not ↦ inr (unread old new path ends (ServesOn m c r w port limit) over same not.1 not.2.1 not.2.0)
+      ])
+
+      pub performs_whole : (command : Command (List ℕ)) (old new : H) (input input_new : IN) (ends : Ends) → Performs m d s c r w i command old new input input_new ends → IsWhole m d s c r w command old new ends
+      performs_whole command.Trial old new input input_new ends is = tt
+      performs_whole (command.Found path founding) old new input input_new ends is = found_whole old new path founding ends is.1
+      performs_whole (command.Apply path file a) old new input input_new ends is = apply_whole old new path file a ends is.1
+      performs_whole (command.Import path list caller key org vendor) old new input input_new ends is = (is.1.0, is.1.1, imports_whole old new path list is.1.0 ends is.1.2)
+      performs_whole (command.Serve path port count) old new input input_new ends is = serves_whole old new path port (limit_of count) ends is.1
+      performs_whole (command.Export path stamp) old new input input_new ends is = (is.1.0, is.1.1, exports_whole old new path is.1.0 ends is.1.2)
+      performs_whole (command.Report path name) old new input input_new ends is = reports_whole old new path (report_named name) ends is.1
+      performs_whole (command.Lookup list vid pid) old new input input_new ends is = tt

@@ -1,0 +1,16 @@
+use Rattle.std.proofs.Common.{inr}
+use Rattle.registry_program.specs.Outputs.{sunk}
+use Rattle.registry_program.proofs.importing.run_import.Goals as goal
+
+pub returns : goal.returns
+returns g c = rw c.in-Ok-Ok.is (rw c.in-Ok-Ok.field-0-is (inr (record {
+  opened = c.open_registry.new.host;
+  it = c.in-Ok.registry;
+  takes = c.in-Ok.ensures.ok;
+  done = c.import_file-status.new.host;
+  after = c.import_file-status.new.registry;
+  errors = sunk g.E.Sink c.import_file-status.new.errors;
+  before = c.import_file-status.result;
+  does = c.import_file-status.ensures;
+  closes = c.close_registry.ensures;
+})))

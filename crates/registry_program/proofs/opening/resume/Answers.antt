@@ -1,0 +1,13 @@
+use Rattle.std.proofs.Common.{inl, inr}
+use Rattle.std.proofs.lemmas.Result.{IfErr-weaker}
+use Rattle.registry_program.proofs.OpeningLemmas.{of_store}
+use Rattle.registry_program.proofs.opening.resume.Goals as goal
+
+pub returns-in-Ok-clause-ok : goal.returns-in-Ok-clause-ok
+returns-in-Ok-clause-ok g c = c.take_over.ensures.ok c.args.files c.in-Ok.ensures.ok
+
+pub returns-in-Ok-clause-err : goal.returns-in-Ok-clause-err
+returns-in-Ok-clause-err g c = IfErr-weaker c.take_over.result _ _ (λ e is. (is.0, inr is.1)) (c.take_over.ensures.err c.args.files c.in-Ok.ensures.ok)
+
+pub returns-in-Err-clause-err : goal.returns-in-Err-clause-err
+returns-in-Err-clause-err g c = (of_store c.in-Err.left.0 c.in-Err.ensures.err.0, inl c.in-Err.ensures.err.1)

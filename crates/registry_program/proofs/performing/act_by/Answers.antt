@@ -1,0 +1,27 @@
+use Rattle.std.proofs.Common.{refl}
+use Rattle.registry_program.specs.Outputs.{sunk}
+use Rattle.registry_program.proofs.performing.act_by.Goals as goal
+
+pub returns-in-Trial : goal.returns-in-Trial
+returns-in-Trial g c = rw c.in-Trial.is (refl, c.trial.ensures)
+
+pub returns-in-Found : goal.returns-in-Found
+returns-in-Found g c = rw c.in-Found.is (refl, c.run_found.ensures (sunk g.W.Sink c.args.output.now))
+
+pub returns-in-Apply : goal.returns-in-Apply
+returns-in-Apply g c = rw c.in-Apply.is (refl, c.run_apply.ensures)
+
+pub returns-in-Import : goal.returns-in-Import
+returns-in-Import g c = rw c.in-Import.is (refl, (c.import_of_arguments-asked.result, c.import_of_arguments-asked.ensures, c.run_import.ensures))
+
+pub returns-in-Serve : goal.returns-in-Serve
+returns-in-Serve g c = rw c.in-Serve.is (refl, c.run_serve.ensures (sunk g.W.Sink c.args.output.now))
+
+pub returns-in-Export : goal.returns-in-Export
+returns-in-Export g c = rw c.in-Export.is (refl, c.run_export.ensures)
+
+pub returns-in-Report : goal.returns-in-Report
+returns-in-Report g c = rw c.in-Report.is (refl, c.run_report.ensures)
+
+pub returns-in-Lookup : goal.returns-in-Lookup
+returns-in-Lookup g c = rw c.in-Lookup.is (refl, c.run_lookup.ensures)

@@ -1,0 +1,178 @@
+-- What each command asks of the machine, in which order, what it writes, and its exit status.
+use Rattle.std.specs.Prelude.{◌≡◌, ◌≢◌, ◌⊎◌, ⊤, true, false, ℕ, List, Option, Some, None, Result, Ok, Err, IfOk, MatchResult}
+use Rattle.std.specs.Io.KnownBytes.{Keeps}
+use Rattle.sqlite_disk.specs.declared.Disk as disk
+use Rattle.sqlite_store.specs.declared.store.FileStore.{FileStore}
+use Rattle.sqlite.specs.Files.{over_files}
+use Rattle.sqlite.specs.Held.{Held}
+use Rattle.sqlite.specs.Store as store
+use Rattle.byte_streams.specs.declared.streams.Source as source
+use Rattle.byte_streams.specs.Streams.{MayGive}
+use Rattle.usbids_text.specs.declared.seen.Wanted.{Wanted}
+use Rattle.usbids_text.specs.Moments.{Moment, is_moment}
+use Rattle.usbnum_core.specs.declared.error.NoMemory.{NoMemory}
+use Rattle.registry_wire.specs.Founding.{founding_listed}
+use Rattle.registry_wire.specs.Stamps.{moment_text}
+use Rattle.registry_store.specs.declared.registry.Registry.{Registry}
+use Rattle.registry_commands.specs.declared.arguments.BadArgument.{BadArgument}
+use Rattle.registry_commands.specs.declared.arguments.BadArgument.TheVariants.{Name, Pid, Stamp, Vid}
+use Rattle.registry_commands.specs.declared.importing.Import.{Import}
+use Rattle.registry_commands.specs.declared.messages.Failure.{Failure}
+use Rattle.registry_commands.specs.declared.messages.Failure.TheVariants.{Memory}
+use Rattle.registry_commands.specs.declared.reporting.ReportKind.{ReportKind}
+use Rattle.registry_commands.specs.Apply.{IsApplied, IsUnread}
+use Rattle.registry_commands.specs.Failures.{IsOfInput, IsOfOutput, IsTooLong, Prints, PrintsFailure}
+use Rattle.registry_commands.specs.Found.{IsFoundedBy}
+use Rattle.registry_commands.specs.Imports.{AreOfImport, IsFirstBad, IsImported}
+use Rattle.registry_commands.specs.Lines.{requests_in}
+use Rattle.registry_commands.specs.LookUp.{IsLookedUp}
+use Rattle.registry_commands.specs.Messages.{failure_line}
+use Rattle.registry_commands.specs.Reports.{IsReported}
+use Rattle.registry_commands.specs.Shown.{IsExported}
+use Rattle.registry_commands.specs.Trial.{IsOfStart, IsTrialOf}
+use Rattle.registry_program.specs.declared.host.Host as host
+use Rattle.registry_program.specs.Outputs.{Ends, IsFailure, IsRejection, Sunk, between}
+use Rattle.registry_program.specs.Stores.{Closes, IsConnected, IsUnconnected, Runs}
+
+-- ---- inputs
+
+module _ {H F I : Type 0} (m : host.Ghosts H F I) where
+  -- the file at this path was opened and this was done with its source, or it could not be opened and this is so
+  abbrev pub ReadsFrom : H → H → List ℕ → (I → I → Type 0) → (Failure → Type 0) → Type 0
+  ReadsFrom old new path Does Fails =
+      ((input : I) × (input_new : I) × m.reads old new path input × Does input input_new) ⊎ ((failure : Failure) × m.lacks old new path failure × Fails failure)
+
+-- ---- trial
+
+-- request lines of an input are acted on in a trial
+abbrev pub Tries : {R : Type 0} → source.Ghosts R → R → R → Ends → Type 0
+Tries s input input_new ends =
+    (bytes : List ℕ) × MayGive (s.remaining input) bytes
+    × IsTrialOf (IsOfInput (s.failures input) (s.failures input_new) bytes) (IsOfOutput ends.out.failures ends.out_new.failures)
+    (requests_in bytes) ends.out.contents ends.out_new.contents (between ends.errors ends.errors_new) ends.status
+    × (IsTooLong bytes → (ends.status ≡ 1) × Keeps ends.out.contents ends.out_new.contents × PrintsFailure (IsOfStart (IsOfInput (s.failures input) (s.failures input_new) bytes)) (between ends.errors ends.errors_new))
+
+-- ---- apply
+
+-- the request lines of a source are acted on, except for the first answered ones
+abbrev pub ActsOnLines : {I : Type 0} → source.Ghosts I → {S : Type 0} {g : store.Ghosts S} → I → I → ℕ → Registry S g → Registry S g → Ends → Type 0
+ActsOnLines s old new answered it after ends =
+    (bytes : List ℕ) × MayGive (s.remaining old) bytes
+    × IsApplied (IsOfInput (s.failures old) (s.failures new) bytes) (IsOfOutput ends.out.failures ends.out_new.failures)
+    it after (requests_in bytes) answered ends.out.contents ends.out_new.contents (between ends.errors ends.errors_new) ends.status
+    × (IsTooLong bytes → (ends.status ≡ 1) × IsUnread (IsOfInput (s.failures old) (s.failures new) bytes) it after ends.out.contents ends.out_new.contents (between ends.errors ends.errors_new))
+
+module _ {H F I : Type 0} (m : host.Ghosts H F I) (s : source.Ghosts I) where
+  -- those of the file at this path are; or it could not be opened
+  abbrev pub ActsOnFile : {S : Type 0} {g : store.Ghosts S} → List ℕ → ℕ → H → H → Registry S g → Registry S g → Ends → Type 0
+  ActsOnFile path answered old new it after ends =
+      ReadsFrom m old new path (λ input input_new. ActsOnLines s input input_new answered it after ends) (λ failure. (after ≡ it) × IsFailure failure ends)
+
+-- ---- import
+
+module _ {H F I : Type 0} (m : host.Ghosts H F I) (s : source.Ghosts I) where
+  -- the list in the file at this path is imported; or it could not be opened
+  abbrev pub ImportsFile : {S : Type 0} {g : store.Ghosts S} → List ℕ → Import → H → H → Registry S g → Registry S g → Ends → Type 0
+  ImportsFile path import old new it after ends =
+      ReadsFrom m old new path
+      (λ input input_new. (bytes : List ℕ) × MayGive (s.remaining input) bytes
+      × IsImported (IsOfInput (s.failures input) (s.failures input_new) bytes) (IsOfOutput ends.out.failures ends.out_new.failures)
+      it after import bytes ends.out.contents ends.out_new.contents (between ends.errors ends.errors_new) ends.status)
+      (λ failure. (after ≡ it) × IsFailure failure ends)
+
+-- ---- lists and reports
+
+-- what is read in the stamp of an export: no stamp if it is absent, else the moment of the text, or the refusal of a text
+-- of no moment
+abbrev pub IsStampOf : Option (List ℕ) → Result (Option Moment) BadArgument → Type 0
+IsStampOf None read = read ≡ Ok None
+IsStampOf (Some text) (Ok None) = ⊥
+IsStampOf (Some text) (Ok (Some moment)) = moment_text moment ≡ text
+IsStampOf (Some text) (Err argument) = (argument ≡ Stamp) × ((m : Moment) → is_moment m ≡ true → moment_text m ≢ text)
+
+-- the list of a registry is written
+abbrev pub WritesList : {H S : Type 0} {g : store.Ghosts S} → Option Moment → H → H → Registry S g → Registry S g → Ends → Type 0
+WritesList stamp old new it after ends =
+    (new ≡ old) × IsExported (IsOfOutput ends.out.failures ends.out_new.failures) it after stamp ends.out.contents ends.out_new.contents (between ends.errors ends.errors_new) ends.status
+
+-- a report on a registry is written
+abbrev pub WritesReport : {H S : Type 0} {g : store.Ghosts S} → ReportKind → H → H → Registry S g → Registry S g → Ends → Type 0
+WritesReport name old new it after ends =
+    (new ≡ old) × IsReported (IsOfOutput ends.out.failures ends.out_new.failures) it after name ends.out.contents ends.out_new.contents (between ends.errors ends.errors_new) ends.status
+
+module _ {H F I : Type 0} (m : host.Ghosts H F I) (s : source.Ghosts I) where
+  -- a device is looked up in the list in the file at this path; or it could not be opened
+  abbrev pub LooksUpIn : H → H → List ℕ → Wanted → Ends → Type 0
+  LooksUpIn old new path wanted ends =
+      ReadsFrom m old new path
+      (λ input input_new. (bytes : List ℕ) × MayGive (s.remaining input) bytes
+      × IsLookedUp (IsOfInput (s.failures input) (s.failures input_new) bytes) (IsOfOutput ends.out.failures ends.out_new.failures)
+      wanted bytes ends.out.contents ends.out_new.contents (between ends.errors ends.errors_new) ends.status)
+      (λ failure. IsFailure failure ends)
+
+-- ---- found
+
+module _ {H F I : Type 0} (m : host.Ghosts H F I) (s : source.Ghosts I) where
+  -- a registry is founded on the connection by the file at this path; or it could not be opened
+  abbrev pub FoundsBy : {S : Type 0} → store.Ghosts S → H → H → List ℕ → Held S → Held S → Ends → Type 0
+  FoundsBy g old new path conn conn_new ends =
+      ReadsFrom m old new path
+      (λ input input_new. (bytes : List ℕ) × MayGive (s.remaining input) bytes
+      × IsFoundedBy g (IsOfInput (s.failures input) (s.failures input_new) bytes) conn conn_new (founding_listed bytes) (between ends.errors ends.errors_new) ends.status
+      × (IsTooLong bytes → (ends.status ≡ 1) × (conn_new ≡ conn) × PrintsFailure (IsOfInput (s.failures input) (s.failures input_new) bytes) (between ends.errors ends.errors_new)))
+      (λ failure. (conn_new ≡ conn) × (ends.status ≡ 1) × Prints (between ends.errors ends.errors_new) (failure_line failure))
+
+-- ---- commands
+
+module _ {H F I : Type 0} (m : host.Ghosts H F I) (d : disk.Ghosts F) (s : source.Ghosts I) where
+  -- found STORE FOUNDING: the store was opened, or made, a registry was founded on it, and it was closed
+  pub record IsFoundedOn (old new : H) (path founding : List ℕ) (ends : Ends) : Type 0 where
+    pub opened : H
+    pub conn : Held (FileStore F d)
+    pub connected : IsConnected m d old opened path conn
+    pub done : H
+    pub last : Held (FileStore F d)
+    pub errors : Sunk
+    pub before : ℕ
+    pub founds : FoundsBy m s over_files opened done founding conn last (record ends { errors_new = errors; status = before })
+    pub silent : ends.out_new ≡ ends.out
+    pub closes : Closes m d done new last errors ends.errors_new before ends.status
+
+  abbrev pub Founds : H → H → List ℕ → List ℕ → Ends → Type 0
+  Founds old new path founding ends =
+      ((failure : Failure) × IsUnconnected m d old new path failure × IsFailure failure ends) ⊎ IsFoundedOn old new path founding ends
+
+  -- apply STORE FILE
+  abbrev pub Applies : H → H → List ℕ → List ℕ → ℕ → Ends → Type 0
+  Applies old new path file answered ends = Runs m d old new path ends (ActsOnFile m s file answered)
+
+  -- import STORE LIST, with what is asked for
+  abbrev pub ImportsAs : H → H → List ℕ → List ℕ → Result (Result Import BadArgument) NoMemory → Ends → Type 0
+  ImportsAs old new path list (Ok (Ok import)) ends = Runs m d old new path ends (ImportsFile m s list import)
+  ImportsAs old new path list (Ok (Err argument)) ends = (new ≡ old) × IsRejection argument ends
+  ImportsAs old new path list (Err none) ends = (new ≡ old) × IsFailure Memory ends
+
+  abbrev pub Imports : H → H → List ℕ → List ℕ → List ℕ → List ℕ → List ℕ → Option (List ℕ) → Ends → Type 0
+  Imports old new path list caller key org vendor ends =
+      (asked : Result (Result Import BadArgument) NoMemory)
+      × IfOk asked (λ read. MatchResult read (AreOfImport caller key org vendor) (IsFirstBad caller key org vendor))
+      × ImportsAs old new path list asked ends
+
+  -- export STORE
+  abbrev pub ExportsAs : H → H → List ℕ → Result (Option Moment) BadArgument → Ends → Type 0
+  ExportsAs old new path (Err argument) ends = (new ≡ old) × IsRejection argument ends
+  ExportsAs old new path (Ok stamp) ends = Runs m d old new path ends (WritesList stamp)
+
+  abbrev pub Exports : H → H → List ℕ → Option (List ℕ) → Ends → Type 0
+  Exports old new path stamp ends = (read : Result (Option Moment) BadArgument) × IsStampOf stamp read × ExportsAs old new path read ends
+
+  -- report STORE NAME
+  abbrev pub ReportsAs : H → H → List ℕ → Option ReportKind → Ends → Type 0
+  ReportsAs old new path None ends = (new ≡ old) × IsRejection Name ends
+  ReportsAs old new path (Some name) ends = Runs m d old new path ends (WritesReport name)
+
+  -- lookup LIST VID PID
+  abbrev pub LooksUp : H → H → List ℕ → Option ℕ → Option ℕ → Ends → Type 0
+  LooksUp old new list None pid ends = (new ≡ old) × IsRejection Vid ends
+  LooksUp old new list (Some vendor) None ends = (new ≡ old) × IsRejection Pid ends
+  LooksUp old new list (Some vendor) (Some code) ends = LooksUpIn m s old new list (record { vendor = vendor; code = code }) ends

@@ -1,0 +1,27 @@
+-- What the program does by its command.
+use Rattle.std.specs.Prelude.{◌≡◌, ℕ, List, Option}
+use Rattle.sqlite_disk.specs.declared.Disk as disk
+use Rattle.byte_streams.specs.declared.streams.Sink as sink
+use Rattle.byte_streams.specs.declared.streams.Source as source
+use Rattle.usbnum_core.specs.Number.{code_of, number_of}
+use Rattle.registry_arguments.specs.declared.command.Command.{Command}
+use Rattle.registry_arguments.specs.declared.command.Command.TheVariants as command
+use Rattle.registry_commands.specs.Reports.{report_named}
+use Rattle.registry_desk.specs.declared.server.Connections as connections
+use Rattle.registry_program.specs.declared.host.Host as host
+use Rattle.registry_program.specs.Commands.{Applies, Exports, Founds, Imports, LooksUp, ReportsAs, Tries}
+use Rattle.registry_program.specs.Outputs.{Ends}
+use Rattle.registry_program.specs.Serving.{Serves, limit_of}
+
+-- What is asked of the machine, and what is written where, by the command. Only a trial reads the standard input.
+abbrev pub Performs : {H F I R W IN : Type 0} → host.Ghosts H F I → disk.Ghosts F → source.Ghosts I → connections.Ghosts H R W → source.Ghosts R → sink.Ghosts W
+    → source.Ghosts IN → Command (List ℕ) → H → H → IN → IN → Ends → Type 0
+Performs m d s c r w i command.Trial old new input input_new ends = (new ≡ old) × Tries i input input_new ends
+Performs m d s c r w i (command.Found path founding) old new input input_new ends = (input_new ≡ input) × Founds m d s old new path founding ends
+Performs m d s c r w i (command.Apply path file answered) old new input input_new ends = (input_new ≡ input) × Applies m d s old new path file answered ends
+Performs m d s c r w i (command.Import path list caller key org vendor) old new input input_new ends =
+    (input_new ≡ input) × Imports m d s old new path list caller key org vendor ends
+Performs m d s c r w i (command.Serve path port count) old new input input_new ends = (input_new ≡ input) × Serves m d c r w old new path port (limit_of count) ends
+Performs m d s c r w i (command.Export path stamp) old new input input_new ends = (input_new ≡ input) × Exports m d s old new path stamp ends
+Performs m d s c r w i (command.Report path name) old new input input_new ends = (input_new ≡ input) × ReportsAs m d s old new path (report_named name) ends
+Performs m d s c r w i (command.Lookup list vid pid) old new input input_new ends = (input_new ≡ input) × LooksUp m d s old new list (number_of vid) (code_of pid) ends

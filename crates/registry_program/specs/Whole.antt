@@ -1,0 +1,216 @@
+-- What the files of a store hold after a command, and what the outputs have gained, by the history that the files held before
+-- it.
+use Rattle.std.specs.Prelude.{◌≡◌, ◌≢◌, ◌⊎◌, ◌<◌, ◌≤◌, ◌+◌, ⊤, ℕ, List, length, take, Option, Some, None, Result, Ok, Err, IfOk, MatchResult}
+use Rattle.std.specs.Io.KnownBytes.{Appends, Keeps}
+use Rattle.sqlite_disk.specs.declared.Disk as disk
+use Rattle.sqlite_disk.specs.declared.Files.{Files}
+use Rattle.sqlite.specs.WalReads.{AreClean}
+use Rattle.byte_streams.specs.declared.streams.Sink as sink
+use Rattle.byte_streams.specs.declared.streams.Source as source
+use Rattle.byte_streams.specs.Streams.{AppendsPrefix, MayGive}
+use Rattle.usbids_text.specs.Documents.{IsTextOf}
+use Rattle.usbids_text.specs.Entries.{TopEntry}
+use Rattle.usbids_text.specs.Moments.{Moment}
+use Rattle.usbids_text.specs.Reading.{Answers}
+use Rattle.usbids_text.specs.Writing.{written}
+use Rattle.usbnum_core.specs.declared.error.NoMemory.{NoMemory}
+use Rattle.registry_rules.specs.declared.founding.Founding.{Founding}
+use Rattle.registry_rules.specs.declared.order.Request.{Request}
+use Rattle.registry_rules.specs.History.{History, founded}
+use Rattle.registry_rules.specs.Run.{Legal, after, after_one, reply_to}
+use Rattle.registry_reports.specs.History.{IsListing}
+use Rattle.registry_tables.specs.Rows.{newest}
+use Rattle.registry_wire.specs.Founding.{Founds, Listed, founding_listed}
+use Rattle.registry_store.specs.Reopen.{FilesHoldEither, HoldEither, IsEither}
+use Rattle.registry_arguments.specs.declared.command.Command.{Command}
+use Rattle.registry_arguments.specs.declared.command.Command.TheVariants as command
+use Rattle.registry_commands.specs.declared.arguments.BadArgument.{BadArgument}
+use Rattle.registry_commands.specs.declared.arguments.BadArgument.TheVariants.{Name}
+use Rattle.registry_commands.specs.declared.importing.Import.{Import}
+use Rattle.registry_commands.specs.declared.messages.Failure.{Failure}
+use Rattle.registry_commands.specs.declared.messages.Failure.TheVariants.{Memory}
+use Rattle.registry_commands.specs.declared.reporting.ReportKind.{ReportKind}
+use Rattle.registry_commands.specs.Apply.{lines_between}
+use Rattle.registry_commands.specs.Failures.{IsOfStore, PrintsFailure}
+use Rattle.registry_commands.specs.Imports.{AreOfImport, IsFirstBad, request_of, status_of}
+use Rattle.registry_commands.specs.Lines.{requests_in}
+use Rattle.registry_commands.specs.Messages.{reply_line}
+use Rattle.registry_commands.specs.Reports.{IsReport, report_named}
+use Rattle.registry_desk.specs.declared.server.Connections as connections
+use Rattle.registry_desk.specs.Server.{HaveVisited, IsLeftAfter, Visit}
+use Rattle.registry_program.specs.declared.host.Host as host
+use Rattle.registry_program.specs.Commands.{IsStampOf}
+use Rattle.registry_program.specs.Outputs.{Ends, IsFailure, IsRejection, Sunk, between}
+use Rattle.registry_program.specs.Stores.{IsMissed}
+
+-- closing a store failed, and the error output says so
+abbrev pub FailsToClose : Ends → Type 0
+FailsToClose ends = (errors : Sunk) × (ends.status ≡ 1) × PrintsFailure IsOfStore (between errors ends.errors_new)
+
+-- ---- what a command makes of the history
+
+-- nothing was done: both histories are the one before
+abbrev pub Stays : History → History → History → Type 0
+Stays h x y = (x ≡ h) × (y ≡ h)
+
+-- Requests were acted on, of which the first a had been answered before: the reply lines up to the n-th are written, and at
+-- status 0 these are all. Then x is the history after the first n requests and y the one after one more. If anything of the
+-- next line is written, x is the one after that request too.
+pub record IsAfterLines (h : History) (rs : List Request) (a : ℕ) (out out_new : Option (List ℕ)) (status : ℕ) (x y : History) : Type 0 where
+  pub n : ℕ
+  pub from : a ≤ n
+  pub within : n ≤ length rs
+  pub whole : status ≡ 0 → n ≡ length rs
+  pub middle : Option (List ℕ)
+  pub gained : Appends out middle (lines_between h rs a n)
+  pub begun : AppendsPrefix middle out_new (lines_between h rs n (n + 1))
+  pub next : y ≡ after h (take (n + 1) rs)
+  pub last : ((x ≡ after h (take n rs)) × Keeps middle out_new) ⊎ (x ≡ y)
+
+-- at status 0 the list of the history is written
+abbrev pub IsListed : Option Moment → Ends → History → History → History → Type 0
+IsListed stamp ends h x y = Stays h x y
+    × (ends.status ≡ 0 → (doc : List TopEntry) × IsListing h doc × IsTextOf (written doc stamp) doc × Appends ends.out.contents ends.out_new.contents (written doc stamp))
+
+-- at status 0 the report on the history is written
+abbrev pub IsReportedOn : ReportKind → Ends → History → History → History → Type 0
+IsReportedOn name ends h x y = Stays h x y × (ends.status ≡ 0 → (text : List ℕ) × IsReport name h text × Appends ends.out.contents ends.out_new.contents text)
+
+-- The request of the list in these bytes was acted on. Unless the status is 1, its reply is written and both histories are the
+-- one after it.
+pub record IsAfterImport (bytes : List ℕ) (import : Import) (out out_new : Option (List ℕ)) (status : ℕ) (h x y : History) : Type 0 where
+  pub doc : List TopEntry
+  pub answers : Answers bytes (Ok doc)
+  pub r : Request
+  pub r_is : r ≡ request_of import h.founding.vendor doc
+  pub x_is : IsEither h (after_one h r) x
+  pub y_is : y ≡ after_one h r
+  pub replied : status ≢ 1 → (x ≡ y) × (status ≡ status_of (reply_to h r)) × Appends out out_new (reply_line (reply_to h r))
+
+-- each is a history that a crash leaves after these connections
+abbrev pub AreLeftAfter : List Visit → History → History → History → Type 0
+AreLeftAfter visits h x y = IsLeftAfter h visits x × IsLeftAfter h visits y
+
+-- ---- what the files hold
+
+module _ {H F I : Type 0} (m : host.Ghosts H F I) (d : disk.Ghosts F) where
+  -- Where the files of the store at a path held one of these two histories, in any schema, and the closed files are clean,
+  -- these hold one of two histories of which this is so, as they now read and after any crash.
+  abbrev pub Turns : H → List ℕ → Files F → History → History → (History → History → Type 0) → Type 0
+  Turns old path files h next After =
+      Legal h → Legal next → (from : ℕ) → FilesHoldEither from (m.holds old path) h next → AreClean d files.log files.db
+      → ∥ ((x : History) × (y : History) × After x y × HoldEither d newest files x y) ∥₁
+
+  -- the store was opened and these files were closed, and for each history that they held this is so
+  pub record IsCarriedOn (old new : H) (path : List ℕ) (After : History → History → History → Type 0) : Type 0 where
+    pub done : H
+    pub files : Files F
+    pub lets_go : m.lets_go done new files
+    pub holds : (h : History) → Turns old path files h h (After h)
+
+  -- the input could not be opened, or the port, and nothing was done
+  abbrev pub IsUnread : H → H → List ℕ → Ends → Type 0
+  IsUnread old new path ends = (ends.status ≡ 1) × (ends.out_new ≡ ends.out) × IsCarriedOn old new path Stays
+
+  -- the store could not be opened, or closing it failed, or this
+  abbrev pub IfOver : H → H → List ℕ → Ends → Type 0 → Type 0
+  IfOver old new path ends P = ((failure : Failure) × IsMissed m d old new path failure × IsFailure failure ends) ⊎ FailsToClose ends ⊎ P
+
+  module _ (s : source.Ghosts I) where
+    -- The lines came from the file at the second path. The store's files held the history after the first `answered` requests of
+    -- these lines, or after one more, as an earlier run may have left them.
+    pub record IsAppliedTo (old new : H) (path file : List ℕ) (answered : ℕ) (ends : Ends) : Type 0 where
+      pub reading : H
+      pub read : H
+      pub input : I
+      pub reads : m.reads reading read file input
+      pub bytes : List ℕ
+      pub gives : MayGive (s.remaining input) bytes
+      pub done : H
+      pub files : Files F
+      pub lets_go : m.lets_go done new files
+      pub holds : (h : History) (rs : List Request) → requests_in bytes ≡ Ok rs → answered ≤ length rs
+          → Turns old path files (after h (take answered rs)) (after h (take (answered + 1) rs)) (IsAfterLines h rs answered ends.out.contents ends.out_new.contents ends.status)
+      -- otherwise nothing was acted on
+      pub stays : ((rs : List Request) → requests_in bytes ≡ Ok rs → length rs < answered) → (h : History) → Turns old path files h h (Stays h)
+
+    abbrev pub AppliesWholly : H → H → List ℕ → List ℕ → ℕ → Ends → Type 0
+    AppliesWholly old new path file answered ends = IfOver old new path ends (IsAppliedTo old new path file answered ends ⊎ IsUnread old new path ends)
+
+    -- the list came from the file at the second path
+    pub record IsImportedTo (old new : H) (path file : List ℕ) (import : Import) (ends : Ends) : Type 0 where
+      pub reading : H
+      pub read : H
+      pub input : I
+      pub reads : m.reads reading read file input
+      pub bytes : List ℕ
+      pub gives : MayGive (s.remaining input) bytes
+      pub carried : IsCarriedOn old new path (λ h x y. Stays h x y ⊎ IsAfterImport bytes import ends.out.contents ends.out_new.contents ends.status h x y)
+
+    abbrev pub ImportsWhollyAs : H → H → List ℕ → List ℕ → Result (Result Import BadArgument) NoMemory → Ends → Type 0
+    ImportsWhollyAs old new path list (Ok (Ok import)) ends = IfOver old new path ends (IsImportedTo old new path list import ends ⊎ IsUnread old new path ends)
+    ImportsWhollyAs old new path list (Ok (Err argument)) ends = (new ≡ old) × IsRejection argument ends
+    ImportsWhollyAs old new path list (Err none) ends = (new ≡ old) × IsFailure Memory ends
+
+    abbrev pub ImportsWholly : H → H → List ℕ → List ℕ → List ℕ → List ℕ → List ℕ → Option (List ℕ) → Ends → Type 0
+    ImportsWholly old new path list caller key org vendor ends =
+        (asked : Result (Result Import BadArgument) NoMemory)
+        × IfOk asked (λ read. MatchResult read (AreOfImport caller key org vendor) (IsFirstBad caller key org vendor))
+        × ImportsWhollyAs old new path list asked ends
+
+    -- the founding file came from the second path, and the closed files hold the new registry
+    pub record IsFoundedWholly (new : H) (founding : List ℕ) : Type 0 where
+      pub reading : H
+      pub read : H
+      pub input : I
+      pub reads : m.reads reading read founding input
+      pub bytes : List ℕ
+      pub gives : MayGive (s.remaining input) bytes
+      pub listed : Listed
+      pub is_listed : founding_listed bytes ≡ Ok listed
+      pub origin : Founding
+      pub founds : Founds listed origin
+      pub done : H
+      pub files : Files F
+      pub lets_go : m.lets_go done new files
+      pub holds : AreClean d files.log files.db → HoldEither d newest files (founded origin) (founded origin)
+
+    abbrev pub FoundsWholly : H → List ℕ → Ends → Type 0
+    FoundsWholly new founding ends = ends.status ≡ 0 → IsFoundedWholly new founding
+
+  abbrev pub ExportsWhollyAs : H → H → List ℕ → Result (Option Moment) BadArgument → Ends → Type 0
+  ExportsWhollyAs old new path (Ok stamp) ends = IfOver old new path ends (IsCarriedOn old new path (IsListed stamp ends))
+  ExportsWhollyAs old new path (Err argument) ends = (new ≡ old) × IsRejection argument ends
+
+  abbrev pub ExportsWholly : H → H → List ℕ → Option (List ℕ) → Ends → Type 0
+  ExportsWholly old new path stamp ends = (read : Result (Option Moment) BadArgument) × IsStampOf stamp read × ExportsWhollyAs old new path read ends
+
+  abbrev pub ReportsWholly : H → H → List ℕ → Option ReportKind → Ends → Type 0
+  ReportsWholly old new path (Some name) ends = IfOver old new path ends (IsCarriedOn old new path (IsReportedOn name ends))
+  ReportsWholly old new path None ends = (new ≡ old) × IsRejection Name ends
+
+  module _ {R W : Type 0} (c : connections.Ghosts H R W) (r : source.Ghosts R) (w : sink.Ghosts W) where
+    -- these connections came to the port and were served
+    pub record IsServedTo (old new : H) (path : List ℕ) (port : ℕ) : Type 0 where
+      pub before : H
+      pub listening : H
+      pub listens : m.listens before listening port
+      pub visits : List Visit
+      pub middle : H
+      pub visited : HaveVisited c.opens c.closes r.remaining r.failures w.contents w.failures listening middle visits
+      pub carried : IsCarriedOn old new path (AreLeftAfter visits)
+
+    abbrev pub ServesWholly : H → H → List ℕ → ℕ → Ends → Type 0
+    ServesWholly old new path port ends = IfOver old new path ends (IsServedTo old new path port ⊎ IsUnread old new path ends)
+
+-- by the command; neither a trial nor a look-up opens a store
+abbrev pub IsWhole : {H F I R W : Type 0} → host.Ghosts H F I → disk.Ghosts F → source.Ghosts I → connections.Ghosts H R W → source.Ghosts R → sink.Ghosts W
+    → Command (List ℕ) → H → H → Ends → Type 0
+IsWhole m d s c r w command.Trial old new ends = ⊤
+IsWhole m d s c r w (command.Found path founding) old new ends = FoundsWholly m d s new founding ends
+IsWhole m d s c r w (command.Apply path file answered) old new ends = AppliesWholly m d s old new path file answered ends
+IsWhole m d s c r w (command.Import path list caller key org vendor) old new ends = ImportsWholly m d s old new path list caller key org vendor ends
+IsWhole m d s c r w (command.Serve path port count) old new ends = ServesWholly m d c r w old new path port ends
+IsWhole m d s c r w (command.Export path stamp) old new ends = ExportsWholly m d old new path stamp ends
+IsWhole m d s c r w (command.Report path name) old new ends = ReportsWholly m d old new path (report_named name) ends
+IsWhole m d s c r w (command.Lookup list vid pid) old new ends = ⊤

@@ -1,0 +1,54 @@
+//! The command that acts on request lines.
+
+ghost use Rattle.registry_program.specs.Commands.{ActsOnFile, Applies};
+ghost use Rattle.registry_program.specs.Outputs.{ends_of};
+
+use crate::host::Host;
+use crate::stores::{close_registry, open_registry};
+use byte_streams::Sink;
+use registry_commands::{apply_lines, fail};
+use registry_store::Registry;
+use sqlite::Alter;
+use std::alloc::Global;
+
+/// Acts on the request lines of a file, except for the first `answered` requests, and returns the
+/// exit status.
+fn apply_file<H: Host, S: Alter, W: Sink, E: Sink>(
+    alloc: Global,
+    host: &mut H,
+    file: &str,
+    answered: u64,
+    registry: &mut Registry<S>,
+    output: &mut W,
+    errors: &mut E,
+) -> u8
+    ensures { ActsOnFile H.Host H.Input.Source file.now answered host.old host.new registry.old registry.new
+        (ends_of W.Sink E.Sink output.old output.new errors.old errors.new result) }
+{
+    match host.open_input(file) {
+        Ok(mut source) => apply_lines(alloc, &mut source, answered, registry, output, errors),
+        Err(failure) => fail(errors, failure),
+    }
+}
+
+/// Runs the request lines of a file, except for the first `answered` requests, over the registry in
+/// a store, and returns the exit status.
+pub fn run_apply<H: Host, W: Sink, E: Sink>(
+    alloc: Global,
+    host: &mut H,
+    store: &str,
+    file: &str,
+    answered: u64,
+    output: &mut W,
+    errors: &mut E,
+) -> u8
+    ensures { Applies H.Host H.File.Disk H.Input.Source host.old host.new store.now file.now answered
+        (ends_of W.Sink E.Sink output.old output.new errors.old errors.new result) }
+{
+    let mut registry = match open_registry(alloc, host, store) {
+        Ok(registry) => registry,
+        Err(failure) => return fail(errors, failure),
+    };
+    let status = apply_file(alloc, host, file, answered, &mut registry, output, errors);
+    close_registry(host, registry, errors, status)
+}

@@ -1,0 +1,59 @@
+//! The command that imports a list.
+
+ghost use Rattle.registry_program.specs.Commands.{ImportsAs, ImportsFile};
+ghost use Rattle.registry_program.specs.Outputs.{ends_of};
+
+use crate::host::Host;
+use crate::stores::{close_registry, open_registry};
+use byte_streams::Sink;
+use registry_commands::{BadArgument, Failure, Import, fail, import_list, reject_argument};
+use registry_store::Registry;
+use sqlite::Alter;
+use std::alloc::Global;
+use usbnum_core::NoMemory;
+
+/// Imports the list in a file, and returns the exit status.
+fn import_file<H: Host, S: Alter, W: Sink, E: Sink>(
+    alloc: Global,
+    host: &mut H,
+    list: &str,
+    import: Import,
+    registry: &mut Registry<S>,
+    output: &mut W,
+    errors: &mut E,
+) -> u8
+    ensures { ImportsFile H.Host H.Input.Source list.now import host.old host.new registry.old registry.new
+        (ends_of W.Sink E.Sink output.old output.new errors.old errors.new result) }
+{
+    match host.open_input(list) {
+        Ok(mut source) => import_list(alloc, &mut source, import, registry, output, errors),
+        Err(failure) => fail(errors, failure),
+    }
+}
+
+/// Imports the list in a file into the registry in a store, if the arguments are valid, and returns
+/// the exit status: 2 if an argument is invalid, and 1 when out of memory.
+pub fn run_import<H: Host, W: Sink, E: Sink>(
+    alloc: Global,
+    host: &mut H,
+    store: &str,
+    list: &str,
+    asked: Result<Result<Import, BadArgument>, NoMemory>,
+    output: &mut W,
+    errors: &mut E,
+) -> u8
+    ensures { ImportsAs H.Host H.File.Disk H.Input.Source host.old host.new store.now list.now asked
+        (ends_of W.Sink E.Sink output.old output.new errors.old errors.new result) }
+{
+    let import = match asked {
+        Ok(Ok(import)) => import,
+        Ok(Err(argument)) => return reject_argument(errors, argument),
+        Err(NoMemory) => return fail(errors, Failure::Memory),
+    };
+    let mut registry = match open_registry(alloc, host, store) {
+        Ok(registry) => registry,
+        Err(failure) => return fail(errors, failure),
+    };
+    let status = import_file(alloc, host, list, import, &mut registry, output, errors);
+    close_registry(host, registry, errors, status)
+}

@@ -1,0 +1,22 @@
+//! The program over any machine: from its arguments to what its files hold and its outputs gain.
+#![tactic(auto)]
+
+mod applying;
+mod founding;
+mod host;
+mod importing;
+mod opening;
+mod performing;
+mod serving;
+mod showing;
+mod stores;
+
+pub use applying::run_apply;
+pub use founding::run_found;
+pub use host::Host;
+pub use importing::run_import;
+pub use opening::{connect_to, resume};
+pub use performing::perform;
+pub use serving::run_serve;
+pub use showing::{run_export, run_lookup, run_report};
+pub use stores::{close_connection, close_registry, connect, open_registry};

@@ -1,0 +1,83 @@
+//! Does what a command asks for.
+
+ghost use Rattle.registry_arguments.specs.Commands.{texts};
+ghost use Rattle.registry_program.specs.Outputs.{ends_of};
+ghost use Rattle.registry_program.specs.Performing.{Performs};
+ghost use Rattle.registry_program.specs.Statuses.{IsStatus};
+ghost use Rattle.registry_program.specs.Whole.{IsWhole};
+
+use crate::applying::run_apply;
+use crate::founding::run_found;
+use crate::host::Host;
+use crate::importing::run_import;
+use crate::serving::run_serve;
+use crate::showing::{run_export, run_lookup, run_report};
+use byte_streams::{Sink, Source};
+use registry_arguments::Command;
+use registry_commands::{import_of_arguments, trial};
+use registry_desk::Connections;
+use std::alloc::Global;
+
+/// Does what the command asks for, and returns the exit status.
+fn act_by<H: Host + Connections, R: Source, W: Sink, E: Sink>(
+    alloc: Global,
+    host: &mut H,
+    command: Command<&str>,
+    input: &mut R,
+    output: &mut W,
+    errors: &mut E,
+) -> u8
+    ensures { Performs H.Host H.File.Disk H.Input.Source H.Connections H.Reader.Source H.Writer.Sink R.Source (texts command.entry) host.old host.new input.old input.new
+        (ends_of W.Sink E.Sink output.old output.new errors.old errors.new result) }
+{
+    match command {
+        Command::Trial => trial(alloc, input, output, errors),
+        Command::Found { store, founding } => run_found(alloc, host, store, founding, errors),
+        Command::Apply {
+            store,
+            file,
+            answered,
+        } => run_apply(alloc, host, store, file, answered, output, errors),
+        Command::Import {
+            store,
+            list,
+            caller,
+            key,
+            org,
+            vendor,
+        } => {
+            let asked = import_of_arguments(alloc, caller, key, org, vendor);
+            run_import(alloc, host, store, list, asked, output, errors)
+        }
+        Command::Serve { store, port, count } => {
+            run_serve(alloc, host, store, port, count, errors)
+        }
+        Command::Export { store, stamp } => run_export(alloc, host, store, stamp, output, errors),
+        Command::Report { store, name } => run_report(alloc, host, store, name, output, errors),
+        Command::Lookup { list, vid, pid } => {
+            run_lookup(alloc, host, list, vid, pid, output, errors)
+        }
+    }
+}
+
+/// Does what the command asks for, over a machine and the standard streams, and returns the exit
+/// status. The contract says of each command which files it opens, in which order, what it does
+/// over them, and what the outputs gain.
+pub fn perform<H: Host + Connections, R: Source, W: Sink, E: Sink>(
+    alloc: Global,
+    host: &mut H,
+    command: Command<&str>,
+    input: &mut R,
+    output: &mut W,
+    errors: &mut E,
+) -> u8
+    ensures performs { Performs H.Host H.File.Disk H.Input.Source H.Connections H.Reader.Source H.Writer.Sink R.Source (texts command.entry) host.old host.new input.old input.new
+        (ends_of W.Sink E.Sink output.old output.new errors.old errors.new result) }
+    ensures status { IsStatus result }
+
+    // From what the files of a store held to what they hold.
+    ensures whole { IsWhole H.Host H.File.Disk H.Input.Source H.Connections H.Reader.Source H.Writer.Sink (texts command.entry) host.old host.new
+        (ends_of W.Sink E.Sink output.old output.new errors.old errors.new result) }
+{
+    act_by(alloc, host, command, input, output, errors)
+}

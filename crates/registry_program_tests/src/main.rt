@@ -1,0 +1,107 @@
+//! Tests of the program over a machine in memory. Of a line of the standard input, `file NAME TEXT`
+//! and `message TEXT` give the machine a file and a connection, and `run ARGUMENTS` runs the
+//! program: the line that is printed has the exit status, what was opened in which order and how
+//! the store was closed, the output and the error output.
+#![tactic(auto)]
+
+mod room;
+
+use byte_streams::{Inlet, Outlet};
+use registry_arguments::command_of;
+use registry_program::perform;
+use room::{Given, Room};
+use row_texts::{RowFault, bytes_of, shown};
+use std::alloc::Global;
+use std::io;
+
+/// What the lines give the machine.
+#[derive(Drop)]
+struct Lines {
+    inputs: Vec<Given>,
+    messages: Vec<Vec<u8>>,
+    runs: Vec<String>,
+}
+
+fn add_line(alloc: Global, lines: &mut Lines, line: &str) -> Result<(), RowFault> {
+    let Some((kind, text)) = line.split_once(' ') else {
+        return Err(RowFault::BadRow);
+    };
+    if kind == "message" {
+        lines.messages.push(bytes_of(alloc, text)?)?;
+        return Ok(());
+    }
+    if kind != "file" {
+        lines.runs.push(String::from_str(alloc, line)?)?;
+        return Ok(());
+    }
+    let Some((name, text)) = text.split_once(' ') else {
+        return Err(RowFault::BadRow);
+    };
+    let name = String::from_str(alloc, name)?;
+    let bytes = bytes_of(alloc, text)?;
+    lines.inputs.push(Given { name, bytes })?;
+    Ok(())
+}
+
+fn words_of(alloc: Global, line: &str) -> Result<Vec<String>, RowFault> {
+    let mut words = Vec::new(alloc);
+    for word in line.split(' ') {
+        words.push(String::from_str(alloc, word)?)?;
+    }
+    Ok(words)
+}
+
+fn run(alloc: Global, room: &mut Room<'_>, line: &str) -> Result<String, RowFault> {
+    let words = words_of(alloc, line)?;
+    let Ok(command) = command_of(alloc, words.as_slice()) else {
+        return Err(RowFault::BadRow);
+    };
+    let mut output = Outlet::new(Vec::new(alloc));
+    let mut errors = Outlet::new(Vec::new(alloc));
+    let nothing: &[u8] = &[];
+    let mut input = Inlet::new(nothing);
+    let status = perform(alloc, room, command, &mut input, &mut output, &mut errors);
+    let (output, errors) = (output.into_inner(), errors.into_inner());
+    let calls = room.calls.clone()?;
+    room.calls.clear();
+    let (output, errors) = (shown(alloc, &output)?, shown(alloc, &errors)?);
+    Ok(format!(in alloc; "{status}: {calls}| {output}| {errors}")?)
+}
+
+fn lines_of(rt: &HostRuntime) -> io::Result<Result<Lines, RowFault>> {
+    let alloc = rt.alloc();
+    let mut lines = Lines {
+        inputs: Vec::new(alloc),
+        messages: Vec::new(alloc),
+        runs: Vec::new(alloc),
+    };
+    for line in rt.lines(alloc) {
+        let line = line?;
+        if let Err(fault) = add_line(alloc, &mut lines, &line) {
+            return Ok(Err(fault));
+        }
+    }
+    Ok(Ok(lines))
+}
+
+fn main(rt: HostRuntime) -> io::Result<()> {
+    let lines = match lines_of(&rt)? {
+        Ok(lines) => lines,
+        Err(fault) => return println!(rt; "{}", fault.name()),
+    };
+    let mut room = Room {
+        alloc: rt.alloc(),
+        store: None,
+        inputs: lines.inputs.as_slice(),
+        messages: lines.messages.as_slice(),
+        opened: 0,
+        calls: String::new(rt.alloc()),
+    };
+    for line in &lines.runs {
+        match run(rt.alloc(), &mut room, line) {
+            Ok(text) => println!(rt; "{text}")?,
+            Err(fault) => println!(rt; "{}", fault.name())?,
+        }
+    }
+    Ok(())
+}
