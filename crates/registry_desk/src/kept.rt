@@ -16,7 +16,7 @@ pub(crate) struct Kept {
 }
 
 impl Kept {
-    /// Keeps nothing.
+    /// Makes one that keeps nothing.
     pub(crate) fn new() -> Kept
         ensures { result ≡ no_texts }
     {

@@ -180,7 +180,8 @@ pub fn serve_next<C: Connections, S: Alter>(
 /// the last one, perhaps of all but that one. So it holds each message whose response was written
 /// whole with a status other than 503.
 ///
-/// The list and each report are kept, and written again until an order comes.
+/// The last list and the last report of each kind are kept in memory, and written again until an
+/// order comes.
 ///
 /// A poisoned registry is not changed: each message that is not refused by itself gets refusal 30,
 /// which ends the server.
