@@ -142,7 +142,9 @@ impl<S: Start> Host for Machine<'_, S> {
         }
     }
 
-    fn let_go(&mut self, files: Files<FileFrom<S>>) {
+    fn let_go(&mut self, files: Files<FileFrom<S>>)
+        ensures { ⊤ }
+    {
         drop(files);
     }
 }

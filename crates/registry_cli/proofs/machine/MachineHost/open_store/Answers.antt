@@ -9,7 +9,7 @@ image log db = record { log = log; db = db }
 abbrev seen : List ℕ → List ℕ → Bool → List Event → List ℕ
 seen log db is_log history = (replay (cond is_log log db) history).seen
 
-pub returns-in-Ok-open_files-clause-found : goal.returns-in-Ok-open_files-clause-found
-returns-in-Ok-open_files-clause-found g c =
-    let (log, db) = c.in-Ok-open_files.ensures.fresh in
+pub returns-in-Ok-clause-found : goal.returns-in-Ok-clause-found
+returns-in-Ok-clause-found g c =
+    let (log, db) = c.in-Ok.ensures.fresh in
     ap₂ image (ap₂ (seen g.S.Start.log g.S.Start.db) log.0 log.1) (ap₂ (seen g.S.Start.log g.S.Start.db) db.0 db.1)
