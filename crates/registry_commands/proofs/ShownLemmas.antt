@@ -13,7 +13,8 @@ use Rattle.registry_store.proofs.TransactionLemmas.{quiet_then}
 use Rattle.registry_commands.specs.declared.messages.Failure.{Failure}
 use Rattle.registry_commands.specs.declared.messages.Failure.TheVariants.{Store, Memory, Foreign, Taken, Poisoned, File}
 use Rattle.registry_commands.specs.Messages.{failure_of}
-use Rattle.registry_commands.specs.Shown.{IsLeft, IsOfReading}
+use Rattle.registry_store.specs.Queries.{IsLeft}
+use Rattle.registry_commands.specs.Shown.{IsOfReading}
 
 module _ {S : Type 0} {g : Ghosts S} where
   -- a list is not returned, after a fault

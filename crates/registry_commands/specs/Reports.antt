@@ -23,7 +23,8 @@ use Rattle.registry_commands.specs.declared.reporting.ReportKind.{ReportKind}
 use Rattle.registry_commands.specs.declared.reporting.ReportKind.TheVariants.{Census, Holders, Petitions}
 use Rattle.registry_commands.specs.Failures.{ErrorOutput}
 use Rattle.registry_commands.specs.Printed.{IsPrinted, IsUnprinted}
-use Rattle.registry_commands.specs.Shown.{Gives, IsLeft, IsOfReading, ShowsNothing}
+use Rattle.registry_store.specs.Queries.{IsLeft}
+use Rattle.registry_commands.specs.Shown.{Gives, IsOfReading, ShowsNothing}
 
 -- the kind of report with this name
 unfoldable pub report_named : List ℕ → Option ReportKind

@@ -10,7 +10,7 @@ use Rattle.registry_rules.specs.History.{History}
 use Rattle.registry_reports.specs.History.{IsListing}
 use Rattle.registry_store.specs.declared.registry.Registry.{Registry}
 use Rattle.registry_store.specs.Promise.{Represents, is_poisoned, state_of}
-pub use Rattle.registry_store.specs.Queries.{IsLeft}
+use Rattle.registry_store.specs.Queries.{IsLeft}
 use Rattle.registry_commands.specs.declared.messages.Failure.{Failure}
 use Rattle.registry_commands.specs.declared.messages.Failure.TheVariants.{Store, Memory, Foreign, Taken, Poisoned, File}
 use Rattle.registry_commands.specs.Failures.{PrintsFailure, ErrorOutput}

@@ -11,7 +11,8 @@ ghost use Rattle.sqlite.specs.State.{HasCleanDisk};
 ghost use Rattle.registry_store.specs.Promise.{Represents, is_poisoned, state_of};
 ghost use Rattle.registry_commands.specs.Failures.{IsOfOutput, error_output};
 ghost use Rattle.registry_commands.specs.Printed.{IsPrinted};
-ghost use Rattle.registry_commands.specs.Shown.{IsExported, IsLeft, IsOfReading};
+ghost use Rattle.registry_store.specs.Queries.{IsLeft};
+ghost use Rattle.registry_commands.specs.Shown.{IsExported, IsOfReading};
 
 use crate::messages::{Failure, fail};
 use crate::reading::{numbers_of, vendors_of};

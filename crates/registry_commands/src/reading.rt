@@ -5,7 +5,8 @@ ghost use Rattle.sqlite.specs.State.{HasCleanDisk};
 ghost use Rattle.registry_rules.specs.History.{History};
 ghost use Rattle.registry_tables.specs.Lists.{IsNumberList, IsPetitionList, IsVendorList};
 ghost use Rattle.registry_store.specs.Promise.{Represents, is_poisoned, state_of};
-ghost use Rattle.registry_commands.specs.Shown.{IsLeft, IsOfReading};
+ghost use Rattle.registry_store.specs.Queries.{IsLeft};
+ghost use Rattle.registry_commands.specs.Shown.{IsOfReading};
 
 use crate::messages::Failure;
 use registry_rules::{Entry, Petition, Vendor};

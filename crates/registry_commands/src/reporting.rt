@@ -11,7 +11,8 @@ ghost use Rattle.registry_tables.specs.Lists.{IsNumberList, IsPetitionList, IsVe
 ghost use Rattle.registry_store.specs.Promise.{Represents, is_poisoned, state_of};
 ghost use Rattle.registry_commands.specs.Failures.{IsOfOutput, error_output};
 ghost use Rattle.registry_commands.specs.Reports.{AreReserved, IsCensus, IsHoldersReport, IsPetitionsReport, IsReport, IsReported, report_named};
-ghost use Rattle.registry_commands.specs.Shown.{IsLeft, IsOfReading};
+ghost use Rattle.registry_store.specs.Queries.{IsLeft};
+ghost use Rattle.registry_commands.specs.Shown.{IsOfReading};
 
 use crate::messages::{Failure, fail};
 use crate::printing::print;

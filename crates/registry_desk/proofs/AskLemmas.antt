@@ -5,7 +5,7 @@ use Rattle.sqlite.specs.State.{HasCleanDisk}
 use Rattle.registry_rules.specs.History.{History}
 use Rattle.registry_store.specs.declared.registry.Registry.{Registry as TheRegistry}
 use Rattle.registry_store.specs.Promise.{Represents, state_of}
-use Rattle.registry_commands.specs.Shown.{IsLeft}
+use Rattle.registry_store.specs.Queries.{IsLeft}
 use Rattle.registry_desk.specs.declared.fault.DeskFault.{DeskFault}
 use Rattle.registry_desk.specs.declared.fault.DeskFault.TheVariants.{NoMemory, Registry}
 use Rattle.registry_desk.specs.Acting.{EndsAt, IsLeftAt}

@@ -7,7 +7,7 @@ ghost use Rattle.registry_rules.specs.Run.{after_one, reply_to};
 ghost use Rattle.registry_store.specs.Promise.{Represents, Endures, is_poisoned, state_of};
 ghost use Rattle.registry_store.specs.declared.fault.Fault.TheVariants as faults;
 ghost use Rattle.registry_desk.specs.declared.fault.DeskFault.TheVariants as desk_faults;
-ghost use Rattle.registry_commands.specs.Shown.{IsLeft};
+ghost use Rattle.registry_store.specs.Queries.{IsLeft};
 ghost use Rattle.registry_http.specs.Responses.{refusal_response, reply_response};
 ghost use Rattle.registry_desk.specs.Acting.{IsQueryResponse, IsResponse, after_message, IsOfSoundRegistry, IsLeftAt};
 ghost use Rattle.registry_desk.specs.Kept.{AreTextsOf, kept_beside, no_texts, with_text};

@@ -11,7 +11,7 @@ ghost use Rattle.registry_rules.specs.declared.verdict.Reply.TheVariants as repl
 ghost use Rattle.registry_rules.specs.declared.refusal.Refusal.TheVariants as rule_refusals;
 ghost use Rattle.registry_store.specs.Promise.{Represents, is_poisoned, state_of};
 ghost use Rattle.registry_store.specs.declared.fault.Fault.TheVariants as faults;
-ghost use Rattle.registry_commands.specs.Shown.{IsLeft};
+ghost use Rattle.registry_store.specs.Queries.{IsLeft};
 ghost use Rattle.registry_http.specs.Responses.{reply_response, text_response};
 ghost use Rattle.registry_http.specs.Resources.{number_response, org_response, petition_response};
 ghost use Rattle.registry_desk.specs.declared.fault.DeskFault.TheVariants as desk_faults;
