@@ -23,7 +23,7 @@ use Rattle.registry_commands.specs.declared.messages.Failure.{Failure}
 use Rattle.registry_commands.specs.Failures.{ErrorOutput}
 use Rattle.registry_commands.specs.Messages.{reply_lines}
 use Rattle.registry_commands.specs.Apply.{IsApplied, IsRun, lines_between}
-use Rattle.registry_commands.specs.Reopened.{IsReopened, IsReopenedAt}
+use Rattle.registry_commands.specs.Reopened.{IsReopenedAfterLines, IsReopenedAt}
 use Rattle.registry_commands.proofs.ApplyLemmas.{keeps_same, no_beginning}
 
 module _ {S : Type 0} {g : Ghosts S} where
@@ -99,7 +99,7 @@ module _ {S : Type 0} {g : Ghosts S} where
             )
       ]
 
-      reopened : (read : Result (List Request) BadLine) (a : ℕ) → IsApplied OfInput OfOutput first last read a out out_new errors status → IsReopened first read a out out_new status it
+      reopened : (read : Result (List Request) BadLine) (a : ℕ) → IsApplied OfInput OfOutput first last read a out out_new errors status → IsReopenedAfterLines first read a out out_new status it
       reopened (Err bad) a is = (is.silent, as_before is.same)
       reopened (Ok rs) a is = (λ more. let rejected = is.0 more in (rejected.silent, as_before rejected.same), λ within. ran rs a within (is.1 within))
 
@@ -111,7 +111,7 @@ module _ {S : Type 0} {g : Ghosts S} where
   pub if_reopened : (OfInput OfOutput : Failure → Type 0) (first last : Registry S g) (read : Result (List Request) BadLine) (a : ℕ) (out out_new : Option (List ℕ)) (errors : ErrorOutput) (status : ℕ)
       → IsApplied OfInput OfOutput first last read a out out_new errors status
       → (opened : Option (Registry S g)) → MayOpen last opened → IfSome opened (λ it. HasCleanDisk (state_of it) → HasCleanDisk (state_of last))
-      → IfSome opened (IsReopened first read a out out_new status)
+      → IfSome opened (IsReopenedAfterLines first read a out out_new status)
   if_reopened OfInput OfOutput first last read a out out_new errors status is None opens before = tt
   if_reopened OfInput OfOutput first last read a out out_new errors status is (Some it) opens before =
       reopened first last it opens before OfInput OfOutput out out_new errors status read a is

@@ -42,8 +42,8 @@ module _ {S : Type 0} {g : Ghosts S} where
 
   -- The registry that is opened after the first one. Ok: these requests were read, and the first a of them were answered
   -- before. Err: this was the first line that is not a request.
-  abbrev pub IsReopened : Registry S g → Result (List Request) BadLine → ℕ → Option (List ℕ) → Option (List ℕ) → ℕ → Registry S g → Type 0
-  IsReopened first (Err bad) a out out_new status it = IsReopenedAsBefore first it out out_new
-  IsReopened first (Ok rs) a out out_new status it =
+  abbrev pub IsReopenedAfterLines : Registry S g → Result (List Request) BadLine → ℕ → Option (List ℕ) → Option (List ℕ) → ℕ → Registry S g → Type 0
+  IsReopenedAfterLines first (Err bad) a out out_new status it = IsReopenedAsBefore first it out out_new
+  IsReopenedAfterLines first (Ok rs) a out out_new status it =
       (length rs < a → IsReopenedAsBefore first it out out_new)
       × (a ≤ length rs → (h : History) → Legal h → HasAnswered first h rs a → HasCleanDisk (state_of it) → (n : ℕ) × IsReopenedAt it h rs a n out out_new status)

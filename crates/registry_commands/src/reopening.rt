@@ -4,7 +4,7 @@ ghost use Rattle.std.specs.Prelude.{ℕ, List, IfSome};
 ghost use Rattle.byte_streams.specs.Streams.{MayGive};
 ghost use Rattle.registry_commands.specs.Failures.{IsOfInput, IsOfOutput, error_output};
 ghost use Rattle.registry_commands.specs.Lines.{requests_in};
-ghost use Rattle.registry_commands.specs.Reopened.{EndsClosing, IsAppliedOver, IsReopened};
+ghost use Rattle.registry_commands.specs.Reopened.{EndsClosing, IsAppliedOver, IsReopenedAfterLines};
 
 use crate::apply::apply_lines;
 use crate::closing::close_store;
@@ -33,7 +33,7 @@ pub fn apply_and_open<R: Source, D: Disk + Drop, W: Sink, E: Sink>(
         × ((acted : ℕ) × (middle : E) × IsAppliedOver (IsOfInput (R.failures source.old) (R.failures source.new) bytes) (IsOfOutput (W.failures output.old) (W.failures output.new))
         first (requests_in bytes) answered (W.contents output.old) (W.contents output.new) (error_output E.contents E.failures errors.old middle) acted
         × EndsClosing E.contents E.failures acted middle errors.new result.0)
-        × IfSome result.1 (IsReopened first (requests_in bytes) answered (W.contents output.old) (W.contents output.new) result.0) }
+        × IfSome result.1 (IsReopenedAfterLines first (requests_in bytes) answered (W.contents output.old) (W.contents output.new) result.0) }
 {
     let mut registry = first;
     let status = apply_lines(alloc, source, answered, &mut registry, output, errors);
@@ -60,7 +60,7 @@ pub fn apply_and_crash<R: Source, D: Crash + Drop, W: Sink, E: Sink>(
     ensures { (bytes : List ℕ) × MayGive (R.remaining source.old) bytes
         × IsAppliedOver (IsOfInput (R.failures source.old) (R.failures source.new) bytes) (IsOfOutput (W.failures output.old) (W.failures output.new))
         first (requests_in bytes) answered (W.contents output.old) (W.contents output.new) (error_output E.contents E.failures errors.old errors.new) result.0
-        × IfSome result.1 (IsReopened first (requests_in bytes) answered (W.contents output.old) (W.contents output.new) result.0) }
+        × IfSome result.1 (IsReopenedAfterLines first (requests_in bytes) answered (W.contents output.old) (W.contents output.new) result.0) }
 {
     let mut registry = first;
     let status = apply_lines(alloc, source, answered, &mut registry, output, errors);

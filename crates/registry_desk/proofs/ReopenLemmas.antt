@@ -23,7 +23,7 @@ use Rattle.registry_desk.specs.declared.serve.Exchange.{Exchange}
 use Rattle.registry_desk.specs.Acting.{after_message}
 use Rattle.registry_desk.specs.Serving.{IsNext}
 use Rattle.registry_desk.specs.Server.{Visit, IsTurn, Turns, EndsServing, IsLeftAfter, IsSentWith, IsAnsweredWhole, IsAfterMessage, HoldsAnswered, LeavesAnswered, status_in}
-use Rattle.registry_desk.specs.Reopened.{IsReopened}
+use Rattle.registry_desk.specs.Reopened.{IsReopenedAfterServing}
 
 -- ---- a history stays legal
 
@@ -89,7 +89,7 @@ module _ {S : Type 0} {g : Ghosts S} where
 
   pub if_reopened : (first last : TheRegistry S g) (visits : List Visit) (fault : Option Fault)
       → ((h : History) → Represents first h → HasCleanDisk (state_of last) → EndsServing last h visits fault × Leaves newest (state_of last) (IsLeftAfter h visits))
-      → (it : Option (TheRegistry S g)) → MayOpen last it → IfSome it (λ it. HasCleanDisk (state_of it) → HasCleanDisk (state_of last)) → IfSome it (IsReopened first visits)
+      → (it : Option (TheRegistry S g)) → MayOpen last it → IfSome it (λ it. HasCleanDisk (state_of it) → HasCleanDisk (state_of last)) → IfSome it (IsReopenedAfterServing first visits)
   if_reopened first last visits fault served None opens before = tt
   if_reopened first last visits fault served (Some it) opens before =
       λ h stands clean. opened last it h visits fault stands.legal_with.legal (served h stands (before clean)).0 opens clean

@@ -18,7 +18,7 @@ use Rattle.registry_desk.specs.Acting.{after_message, IsOfSoundRegistry, IsLeftA
 use Rattle.registry_desk.specs.Serving.{IsNext, IsOfServed, IsServed}
 use Rattle.registry_desk.specs.declared.server.ServerStop.{ServerStop}
 use Rattle.registry_desk.specs.declared.server.ServerStop.TheVariants as stops
-use Rattle.registry_desk.specs.Server.{Visit, IsVisit, IsTurnedAwayAt, AreTurnedAway, HaveVisited, IsTurn, Turns, RepresentsAfter, IsHalted, EndsVisit, EndsServing, IsLeftAfter, EndsAt, IfVisited, fault_in}
+use Rattle.registry_desk.specs.Server.{Visit, IsVisit, IsTurnedAwayAt, AreTurnedAway, HaveVisited, IsTurn, Turns, RepresentsAfter, IsStoppedServing, EndsVisit, EndsServing, IsLeftAfter, EndsAt, IfVisited, fault_in}
 use Rattle.registry_desk.specs.declared.kept.Kept.{Kept}
 use Rattle.registry_desk.specs.Kept.{AreTextsAfterVisit, AreTextsOf, no_texts}
 use Rattle.registry_desk.proofs.KeptLemmas.{none_are}
@@ -96,7 +96,7 @@ module _ {S : Type 0} {g : Ghosts S} where
 
   -- the fault at one more connection
   pub halted_more : (mid new : TheRegistry S g) (kept : Kept) (h : History) (visits : List Visit) (visit : Visit) (fault : Fault) → RepresentsBeside mid kept h visits
-      → ((x : History) → Represents mid x → AreTextsOf x kept → EndsVisit new x visit (Some fault)) → IsHalted new h (visits ++ visit ∷ []) fault
+      → ((x : History) → Represents mid x → AreTextsOf x kept → EndsVisit new x visit (Some fault)) → IsStoppedServing new h (visits ++ visit ∷ []) fault
   halted_more mid new kept h visits visit fault before one =
       record { before = visits; last = visit; all = refl; middle = before.0; turns = before.1; halted = one before.0 before.2 before.3 }
 

@@ -18,5 +18,5 @@ module _ {S : Type 0} {g : Ghosts S} where
 
   -- The opened registry represents a history that a crash leaves after these connections: the one after the messages of all
   -- of them, or of all but the last one, if the registry had a fault there.
-  abbrev pub IsReopened : TheRegistry S g → List Visit → TheRegistry S g → Type 0
-  IsReopened first visits it = (h : History) → Represents first h → HasCleanDisk (state_of it) → ∥ ((x : History) × IsLeftAfter h visits x × Represents it x) ∥₁
+  abbrev pub IsReopenedAfterServing : TheRegistry S g → List Visit → TheRegistry S g → Type 0
+  IsReopenedAfterServing first visits it = (h : History) → Represents first h → HasCleanDisk (state_of it) → ∥ ((x : History) × IsLeftAfter h visits x × Represents it x) ∥₁

@@ -145,7 +145,7 @@ module _ {S : Type 0} {g : Ghosts S} where
 
   -- The registry had a fault at this connection: its message came, and refusal 30 or 31 was written, with status 503, or the
   -- writer failed. A crash leaves the history before its message or after it.
-  pub record IsHaltedAt (it : TheRegistry S g) (h : History) (visit : Visit) (fault : Fault) : Type 0 where
+  pub record IsStoppedAtVisit (it : TheRegistry S g) (h : History) (visit : Visit) (fault : Fault) : Type 0 where
     pub kind : IsOfSoundRegistry (Registry fault)
     pub text_is : visit.text ≡ response_bytes (unavailable_response (unavailable_of (Registry fault)))
     pub status_is : IsSentWith visit.end 503
@@ -155,18 +155,18 @@ module _ {S : Type 0} {g : Ghosts S} where
 
   -- The registry had a fault at the last of these connections: a crash leaves the history after all messages before it, or
   -- after its own.
-  pub record IsHalted (it : TheRegistry S g) (h : History) (visits : List Visit) (fault : Fault) : Type 0 where
+  pub record IsStoppedServing (it : TheRegistry S g) (h : History) (visits : List Visit) (fault : Fault) : Type 0 where
     pub before : List Visit
     pub last : Visit
     pub all : visits ≡ before ++ last ∷ []
     pub middle : History
     pub turns : Turns h before middle
-    pub halted : IsHaltedAt it middle last fault
+    pub halted : IsStoppedAtVisit it middle last fault
 
   -- how serving one connection ends, without a fault of the registry or with one
   abbrev pub EndsVisit : TheRegistry S g → History → Visit → Option Fault → Type 0
   EndsVisit it h visit None = (next : History) × IsTurn h visit next × Represents it next
-  EndsVisit it h visit (Some fault) = IsHaltedAt it h visit fault
+  EndsVisit it h visit (Some fault) = IsStoppedAtVisit it h visit fault
 
 -- the fault of the registry that stopped a server
 abbrev pub fault_in : Result (Unit {0}) ServerStop → Option Fault
@@ -190,7 +190,7 @@ EndsAt fails middle new (Err (stops.Registry fault)) = new ≡ middle
 
 -- The last of these connections got refusal 30 or 31 for a fault of the registry: this is the history after all messages
 -- before it, or after its own.
-pub record IsCutShort (h : History) (visits : List Visit) (x : History) : Type 0 where
+pub record IsServedInPart (h : History) (visits : List Visit) (x : History) : Type 0 where
   pub before : List Visit
   pub last : Visit
   pub all : visits ≡ before ++ last ∷ []
@@ -208,7 +208,7 @@ pub record IsCutShort (h : History) (visits : List Visit) (x : History) : Type 0
 -- got refusal 30 or 31, with status 503, may be held or not. A message whose writer failed is held unless its response was
 -- one of these refusals.
 abbrev pub IsLeftAfter : History → List Visit → History → Type 0
-IsLeftAfter h visits x = Turns h visits x ⊎ IsCutShort h visits x
+IsLeftAfter h visits x = Turns h visits x ⊎ IsServedInPart h visits x
 
 -- the response was written whole, with a status other than 503
 abbrev pub IsAnsweredWhole : Visit → Type 0
@@ -232,4 +232,4 @@ LeavesAnswered = (h : History) (visits : List Visit) (x : History) → IsLeftAft
 module _ {S : Type 0} {g : Ghosts S} where
   abbrev pub EndsServing : TheRegistry S g → History → List Visit → Option Fault → Type 0
   EndsServing it h visits None = RepresentsAfter it h visits
-  EndsServing it h visits (Some fault) = IsHalted it h visits fault
+  EndsServing it h visits (Some fault) = IsStoppedServing it h visits fault

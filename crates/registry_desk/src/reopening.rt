@@ -2,7 +2,7 @@
 
 ghost use Rattle.std.specs.Prelude.{◌≡◌, ◌≤◌, List, length, IfSome, OnOk};
 ghost use Rattle.registry_desk.specs.Server.{Visit, HaveVisited, EndsAt, fault_in};
-ghost use Rattle.registry_desk.specs.Reopened.{AreServedOver, IsReopened};
+ghost use Rattle.registry_desk.specs.Reopened.{AreServedOver, IsReopenedAfterServing};
 
 use crate::server::{Connections, ServerStop, serve_all};
 use registry_store::{Registry, close_and_open, crash_and_open, leave_and_open};
@@ -28,7 +28,7 @@ pub fn serve_and_crash<C: Connections, D: Crash + Drop>(
         × EndsAt C.fails middle connections.new result.0
         × (length visits ≤ count) × OnOk result.0 (length visits ≡ count)
         × AreServedOver first visits (fault_in result.0)
-        × IfSome result.1 (IsReopened first visits) }
+        × IfSome result.1 (IsReopenedAfterServing first visits) }
 {
     let mut registry = first;
     let served = serve_all(alloc, connections, &mut registry, count);
@@ -49,7 +49,7 @@ pub fn serve_and_open<C: Connections, D: Disk + Drop>(
         × EndsAt C.fails middle connections.new result.0
         × (length visits ≤ count) × OnOk result.0 (length visits ≡ count)
         × AreServedOver first visits (fault_in result.0)
-        × IfSome result.1 (IsReopened first visits) }
+        × IfSome result.1 (IsReopenedAfterServing first visits) }
 {
     let mut registry = first;
     let served = serve_all(alloc, connections, &mut registry, count);

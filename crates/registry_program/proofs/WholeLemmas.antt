@@ -53,14 +53,14 @@ use Rattle.registry_commands.specs.Reports.{report_named}
 use Rattle.registry_commands.proofs.FailureLemmas.{of_store, tells_more}
 use Rattle.registry_commands.proofs.ApplyLemmas.{applied_endures, keeps_same, no_beginning, still}
 use Rattle.registry_desk.specs.declared.server.Connections as connections
-use Rattle.registry_desk.specs.Server.{EndsServing, IsCutShort, IsHalted, IsLeftAfter, Visit, fault_in}
+use Rattle.registry_desk.specs.Server.{EndsServing, IsServedInPart, IsStoppedServing, IsLeftAfter, Visit, fault_in}
 use Rattle.registry_program.specs.declared.host.Host as host
 use Rattle.registry_program.specs.Commands.{ActsOnFile, Applies, ExportsAs, Founds, FoundsBy, ImportsAs, ImportsFile, ReportsAs, WritesList, WritesReport}
 use Rattle.registry_program.specs.Outputs.{Ends, Sunk, between}
 use Rattle.registry_program.specs.Performing.{Performs}
 use Rattle.registry_program.specs.Serving.{Serves, ServesOn, limit_of}
 use Rattle.registry_program.specs.Stores.{IsClosed, IsOver, Runs, TheRegistry}
-use Rattle.registry_program.specs.Whole.{AppliesWholly, AreLeftAfter, ExportsWhollyAs, FoundsWholly, IfOver, ImportsWhollyAs, IsAfterImport, IsAfterLines, IsAppliedTo, IsCarriedOn, IsFoundedWholly, IsImportedTo, IsListed, IsReportedOn, IsServedTo, IsUnread, IsWhole, ReportsWholly, ServesWholly, Stays, Turns}
+use Rattle.registry_program.specs.Whole.{AppliesWholly, AreLeftAfter, ExportsWhollyAs, FoundsWholly, IfOver, ImportsWhollyAs, IsAfterImport, IsAfterLines, IsAppliedTo, IsCarriedOn, IsFoundedWholly, IsImportedTo, IsListed, IsReportedOn, IsServedTo, IsUnread, IsWhole, ReportsWholly, ServesWholly, Stays, LeadsTo}
 
 zero_or : (n : ℕ) → (n ≡ 0) ⊎ (n ≢ 0)
 zero_or n = elim (cases_lt 0 n) [ inl more ↦ inr (λ zero. omega (arith, more, zero)) | inr none ↦ inl (omega (arith, none)) ]
@@ -236,7 +236,7 @@ module _ {S : Type 0} {g : Ghosts S} where
 
   -- ---- connections
 
-  cut_short : (it : Registry S g) (h : History) (visits : List Visit) (fault : Fault) (ends : IsHalted it h visits fault) (x : History) → IsEither ends.middle ends.halted.next x → IsCutShort h visits x
+  cut_short : (it : Registry S g) (h : History) (visits : List Visit) (fault : Fault) (ends : IsStoppedServing it h visits fault) (x : History) → IsEither ends.middle ends.halted.next x → IsServedInPart h visits x
   cut_short it h visits fault ends x is = record {
     before = ends.before;
     last = ends.last;
@@ -289,7 +289,7 @@ module _ {H F I : Type 0} (m : host.Ghosts H F I) (d : disk.Ghosts F) where
     -- the closed files hold what the registry left
     turns : (h next : History) (After : History → History → Type 0)
         → ((x : History) → IsEither h next x → Represents over.it x → HasCleanDisk (state_of over.after) → LeavesSome over.after After)
-        → Turns m d old path over.closes.files h next After
+        → LeadsTo m d old path over.closes.files h next After
     turns h next After does legal legal_next from held honest =
         let clean : HasCleanDisk (state_of over.after) = closed_clean (connection_of over.after) over.closes.files over.closes.closed.closed honest in
         let found = over.takes.resumes.represents from h next legal legal_next (λ _. subst (λ i. FilesHoldEither from i h next) (sym over.takes.opens.found) held) (endures clean) in

@@ -64,5 +64,5 @@ module _ {D : Type 0} (g : Ghosts D) where
     pub closed : AreClosed last left
     pub holds : (from : ℕ) (h next : History) → Legal h → Legal next → Hold from files h next → AreClean g left.log left.db → HoldEither g from left h next
 
-  abbrev pub IsLeft : Files D → Files D → Type 0
-  IsLeft files left = IsLeftUnopened files left ⊎ IsLeftUnread files left
+  abbrev pub AreLeft : Files D → Files D → Type 0
+  AreLeft files left = IsLeftUnopened files left ⊎ IsLeftUnread files left

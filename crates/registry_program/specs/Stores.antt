@@ -15,7 +15,7 @@ use Rattle.registry_store.specs.Reopen.{AreClosed, HoldEither, IsEither, IsUncop
 use Rattle.registry_commands.specs.declared.messages.Failure.{Failure}
 use Rattle.registry_commands.specs.Failures.{IsOfClosing, IsOfStore, PrintsFailure}
 use Rattle.registry_program.specs.declared.host.Host as host
-use Rattle.registry_program.specs.Opening.{IsConnectedTo, IsLeft, IsLeftUnopened, IsOfFiles, IsOfOpening, Resumes}
+use Rattle.registry_program.specs.Opening.{IsConnectedTo, AreLeft, IsLeftUnopened, IsOfFiles, IsOfOpening, Resumes}
 use Rattle.registry_program.specs.Outputs.{Ends, IsFailure, Sunk, between}
 
 module _ {H F I : Type 0} (m : host.Ghosts H F I) (d : disk.Ghosts F) where
@@ -44,7 +44,7 @@ module _ {H F I : Type 0} (m : host.Ghosts H F I) (d : disk.Ghosts F) where
 
   -- it could not be opened: there is none, or its files hold no registry that can be read
   abbrev pub IsMissed : H → H → List ℕ → Failure → Type 0
-  IsMissed old new path failure = (m.misses old new path false failure × IsOfFiles false failure) ⊎ (IsOfOpening failure × IsGivenUp old new path false (IsLeft d))
+  IsMissed old new path failure = (m.misses old new path false failure × IsOfFiles false failure) ⊎ (IsOfOpening failure × IsGivenUp old new path false (AreLeft d))
 
   -- the store at a path was opened, or made, and this is the connection to it
   pub record IsConnected (old new : H) (path : List ℕ) (conn : Held (FileStore F d)) : Type 0 where

@@ -96,8 +96,8 @@ AreLeftAfter visits h x y = IsLeftAfter h visits x × IsLeftAfter h visits y
 module _ {H F I : Type 0} (m : host.Ghosts H F I) (d : disk.Ghosts F) where
   -- Where the files of the store at a path held one of these two histories, in any schema, and the closed files are clean,
   -- these hold one of two histories of which this is so, as they now read and after any crash.
-  abbrev pub Turns : H → List ℕ → Files F → History → History → (History → History → Type 0) → Type 0
-  Turns old path files h next After =
+  abbrev pub LeadsTo : H → List ℕ → Files F → History → History → (History → History → Type 0) → Type 0
+  LeadsTo old path files h next After =
       Legal h → Legal next → (from : ℕ) → FilesHoldEither from (m.holds old path) h next → AreClean d files.log files.db
       → ∥ ((x : History) × (y : History) × After x y × HoldEither d newest files x y) ∥₁
 
@@ -106,7 +106,7 @@ module _ {H F I : Type 0} (m : host.Ghosts H F I) (d : disk.Ghosts F) where
     pub done : H
     pub files : Files F
     pub lets_go : m.lets_go done new files
-    pub holds : (h : History) → Turns old path files h h (After h)
+    pub holds : (h : History) → LeadsTo old path files h h (After h)
 
   -- the input could not be opened, or the port, and nothing was done
   abbrev pub IsUnread : H → H → List ℕ → Ends → Type 0
@@ -130,9 +130,9 @@ module _ {H F I : Type 0} (m : host.Ghosts H F I) (d : disk.Ghosts F) where
       pub files : Files F
       pub lets_go : m.lets_go done new files
       pub holds : (h : History) (rs : List Request) → requests_in bytes ≡ Ok rs → answered ≤ length rs
-          → Turns old path files (after h (take answered rs)) (after h (take (answered + 1) rs)) (IsAfterLines h rs answered ends.out.contents ends.out_new.contents ends.status)
+          → LeadsTo old path files (after h (take answered rs)) (after h (take (answered + 1) rs)) (IsAfterLines h rs answered ends.out.contents ends.out_new.contents ends.status)
       -- otherwise nothing was acted on
-      pub stays : ((rs : List Request) → requests_in bytes ≡ Ok rs → length rs < answered) → (h : History) → Turns old path files h h (Stays h)
+      pub stays : ((rs : List Request) → requests_in bytes ≡ Ok rs → length rs < answered) → (h : History) → LeadsTo old path files h h (Stays h)
 
     abbrev pub AppliesWholly : H → H → List ℕ → List ℕ → ℕ → Ends → Type 0
     AppliesWholly old new path file answered ends = IfOver old new path ends (IsAppliedTo old new path file answered ends ⊎ IsUnread old new path ends)

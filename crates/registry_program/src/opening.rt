@@ -2,7 +2,7 @@
 
 ghost use Rattle.std.specs.Prelude.{◌≡◌, IfOk, IfErr, IsTrue};
 ghost use Rattle.registry_commands.specs.Failures.{IsOfStore};
-ghost use Rattle.registry_program.specs.Opening.{IsConnectedTo, IsLeft, IsLeftUnopened, IsLeftUnread, IsOfOpening, Resumes};
+ghost use Rattle.registry_program.specs.Opening.{IsConnectedTo, AreLeft, IsLeftUnopened, IsLeftUnread, IsOfOpening, Resumes};
 
 use registry_commands::{Failure, failure_of, store_failure};
 use registry_store::{Registry, leave_store};
@@ -57,7 +57,7 @@ pub fn resume<D: Disk + Drop>(
 ) -> Result<Registry<FileStore<D>>, (Failure, Files<D>)>
     requires { IsTrue (D.Disk.is_usable files.log) × IsTrue (D.Disk.is_usable files.db) }
     ensures ok { IfOk result (Resumes D.Disk files) }
-    ensures err { IfErr result (λ e. IsOfOpening e.0 × IsLeft D.Disk files e.1) }
+    ensures err { IfErr result (λ e. IsOfOpening e.0 × AreLeft D.Disk files e.1) }
 {
     match connect_to(alloc, files, options) {
         Ok(conn) => take_over(alloc, conn),
