@@ -116,7 +116,9 @@ impl<'a> Host for Room<'a> {
         Ok(())
     }
 
-    fn let_go(&mut self, files: Files<Memory>) {
+    fn let_go(&mut self, files: Files<Memory>)
+        ensures { ⊤ }
+    {
         if files.log.bytes().len() < LEAST_LOG {
             self.note("closed ");
         } else {
