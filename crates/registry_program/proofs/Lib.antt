@@ -1,3 +1,4 @@
 pub mod OpeningLemmas
 pub mod StatusLemmas
+pub mod LeavesLemmas
 pub mod WholeLemmas

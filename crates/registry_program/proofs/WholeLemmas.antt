@@ -1,266 +1,48 @@
 -- What the files of a store hold after a command.
-use Rattle.std.proofs.Common.{◌≡◌, ◌⊎◌, inl, inr, ℕ, ◌+◌, ◌≤◌, ◌<◌, List, length, take, Option, Some, None, refl, sym, ap, subst, ◌∙◌, arith}
-use Rattle.std.specs.Prelude.{◌≢◌, Result, Ok, Err}
+use Rattle.std.proofs.Common.{◌≡◌, ◌⊎◌, inl, inr, ℕ, ◌+◌, List, take, Option, Some, None, refl, sym, subst, ◌∙◌, arith}
+use Rattle.std.specs.Prelude.{Result, Ok, Err}
 use Rattle.std.proofs.Math.Logic.{∥∥₁_map}
-use Rattle.std.proofs.lemmas.Bool.{cases_lt}
-use Rattle.std.proofs.lemmas.List.{take_all}
-use Rattle.std.specs.Io.KnownBytes.{Appends}
 use Rattle.sqlite_disk.specs.declared.Disk as disk
 use Rattle.sqlite_disk.specs.declared.Files.{Files}
 use Rattle.sqlite_store.specs.declared.store.FileStore.{FileStore}
 use Rattle.sqlite.specs.Files.{file_state, over_files}
-use Rattle.sqlite.specs.Held.{Held, state}
+use Rattle.sqlite.specs.Held.{Held}
 use Rattle.sqlite.specs.State.{HasCleanDisk}
-use Rattle.sqlite.specs.Store.{Ghosts}
 use Rattle.byte_streams.specs.declared.streams.Sink as sink
 use Rattle.byte_streams.specs.declared.streams.Source as source
 use Rattle.byte_streams.specs.Streams.{MayGive}
-use Rattle.usbids_text.specs.Entries.{TopEntry}
 use Rattle.usbids_text.specs.Moments.{Moment}
-use Rattle.usbids_text.specs.Reading.{Answers}
-use Rattle.usbids_text.specs.declared.fault.ReadFault.{ReadFault}
-use Rattle.usbnum_core.specs.Number.{code_of, number_of}
 use Rattle.usbnum_core.specs.declared.error.NoMemory.{NoMemory}
-use Rattle.registry_rules.specs.declared.order.Request.{Request}
-use Rattle.registry_rules.specs.declared.verdict.Reply.{Reply}
 use Rattle.registry_rules.specs.History.{History, founded}
-use Rattle.registry_rules.specs.Run.{after, after_one}
+use Rattle.registry_rules.specs.Run.{after}
 use Rattle.registry_tables.specs.Rows.{newest}
 use Rattle.registry_wire.specs.Founding.{Listed, founding_listed}
 use Rattle.registry_wire.specs.declared.refusal.WireRefusal.{WireRefusal}
-use Rattle.registry_store.specs.declared.fault.Fault.{Fault}
-use Rattle.registry_store.specs.declared.registry.Registry.{Registry}
-use Rattle.registry_store.specs.Promise.{Endures, Leaves, Represents, connection_of, state_of}
+use Rattle.registry_store.specs.Promise.{Leaves, Represents, connection_of, state_of}
 use Rattle.registry_store.specs.Reopen.{FilesHoldEither, IsEither, IsUncopied}
-use Rattle.registry_store.specs.Run.{HasAnswered, IsAfterOrNext}
 use Rattle.registry_store.proofs.CrashLemmas.{closed_clean, in_newest}
 use Rattle.registry_store.proofs.RunLemmas.{leaves_weaker}
-use Rattle.registry_store.proofs.RunToLemmas.{between_all}
 use Rattle.registry_arguments.specs.declared.command.Command.{Command}
 use Rattle.registry_arguments.specs.declared.command.Command.TheVariants as command
 use Rattle.registry_commands.specs.declared.arguments.BadArgument.{BadArgument}
 use Rattle.registry_commands.specs.declared.importing.Import.{Import}
-use Rattle.registry_commands.specs.declared.lines.BadLine.{BadLine}
 use Rattle.registry_commands.specs.declared.messages.Failure.{Failure}
 use Rattle.registry_commands.specs.declared.reporting.ReportKind.{ReportKind}
-use Rattle.registry_commands.specs.Apply.{IsApplied, IsRun, lines_between}
-use Rattle.registry_commands.specs.Failures.{ErrorOutput, IsOfClosing, IsOfInput, IsOfOutput, IsOfStore, PrintsFailure}
+use Rattle.registry_commands.specs.Failures.{ErrorOutput, IsOfClosing, IsOfStore, PrintsFailure}
 use Rattle.registry_commands.specs.Found.{IsFoundedBy}
-use Rattle.registry_commands.specs.Imports.{IsImportOf, IsImported, status_of}
-use Rattle.registry_commands.specs.Lines.{requests_in}
-use Rattle.registry_commands.specs.Messages.{reply_line, reply_lines}
 use Rattle.registry_commands.specs.Reports.{report_named}
 use Rattle.registry_commands.proofs.FailureLemmas.{of_store, tells_more}
-use Rattle.registry_commands.proofs.ApplyLemmas.{applied_endures, keeps_same, no_beginning, still}
+use Rattle.registry_commands.proofs.ApplyLemmas.{applied_endures}
 use Rattle.registry_desk.specs.declared.server.Connections as connections
-use Rattle.registry_desk.specs.Server.{EndsServing, IsServedInPart, IsStoppedServing, IsLeftAfter, Visit, fault_in}
+use Rattle.registry_desk.specs.Server.{fault_in}
 use Rattle.registry_program.specs.declared.host.Host as host
-use Rattle.registry_program.specs.Commands.{ActsOnFile, Applies, ExportsAs, Founds, FoundsBy, ImportsAs, ImportsFile, ReportsAs, WritesList, WritesReport}
+use Rattle.registry_program.specs.Commands.{ActsOnFile, Applies, ExportsAs, Founds, ImportsAs, ImportsFile, ReportsAs, WritesList, WritesReport}
 use Rattle.registry_program.specs.Outputs.{Ends, Sunk, between}
 use Rattle.registry_program.specs.Performing.{Performs}
 use Rattle.registry_program.specs.Serving.{Serves, ServesOn, limit_of}
 use Rattle.registry_program.specs.Stores.{IsClosed, IsOver, Runs, TheRegistry}
 use Rattle.registry_program.specs.Whole.{AppliesWholly, AreLeftAfter, ExportsWhollyAs, FoundsWholly, IfOver, ImportsWhollyAs, IsAfterImport, IsAfterLines, IsAppliedTo, IsCarriedOn, IsFoundedWholly, IsImportedTo, IsListed, IsReportedOn, IsServedTo, IsUnread, IsWhole, ReportsWholly, ServesWholly, Stays, LeadsTo}
-
-zero_or : (n : ℕ) → (n ≡ 0) ⊎ (n ≢ 0)
-zero_or n = elim (cases_lt 0 n) [ inl more ↦ inr (λ zero. omega (arith, more, zero)) | inr none ↦ inl (omega (arith, none)) ]
-
-one_of : (h x : History) → IsEither h h x → x ≡ h
-one_of h x is = elim is [ inl e ↦ e | inr e ↦ e ]
-
--- ---- what a registry leaves
-
-module _ {S : Type 0} {g : Ghosts S} where
-  -- what a registry leaves after this
-  abbrev LeavesSome : Registry S g → (History → History → Type 0) → Type 0
-  LeavesSome it After = (x : History) × (y : History) × After x y × Leaves newest (state_of it) (IsEither x y)
-
-  only : (it : Registry S g) (h : History) → Represents it h → HasCleanDisk (state_of it) → Leaves newest (state_of it) (IsEither h h)
-  only it h stands clean = leaves_weaker newest (state_of it) (λ x. x ≡ h) (IsEither h h) (λ x e. inl e) (stands.at.left clean)
-
-  stayed : (it new : Registry S g) (h : History) → new ≡ it → Represents it h → HasCleanDisk (state_of new) → LeavesSome new (Stays h)
-  stayed it new h same stands clean = (h, h, (refl, refl), only new h (subst (λ (x : Registry S g). Represents x h) (sym same) stands) clean)
-
-  -- ---- request lines
-
-  at_place : (it : Registry S g) (h : History) (rs : List Request) (n : ℕ) (x : History) → IsEither (after h (take n rs)) (after h (take (n + 1) rs)) x → Represents it x → HasAnswered it h rs n
-  at_place it h rs n x (inl e) stands = inl (subst (Represents it) e stands)
-  at_place it h rs n x (inr e) stands = elim (cases_lt n (length rs)) [
-    | inl more ↦ inr (more, subst (Represents it) e stands)
-    | inr none ↦ inl (subst (Represents it) (e ∙ ap (after h) (take_all (n + 1) rs (omega (arith, none)) ∙ sym (take_all n rs none))) stands)
-  ]
-
-  ran : (OfInput OfOutput : Failure → Type 0) (it new : Registry S g) (rs : List Request) (a : ℕ) (out out_new : Option (List ℕ)) (errors : ErrorOutput) (status : ℕ) → a ≤ length rs
-      → IsRun OfInput OfOutput it new rs a out out_new errors status → (h : History) → HasAnswered it h rs a → HasCleanDisk (state_of new) → LeavesSome new (IsAfterLines h rs a out out_new status)
-  ran OfInput OfOutput it new rs a out out_new errors status within run h at clean = elim run.statuses [
-    | inl zero ↦
-        let through = run.through zero h at clean in
-        let n = length rs in
-        let all : after h rs ≡ after h (take n rs) = ap (after h) (sym (take_all n rs (omega arith))) in (
-          after h (take n rs),
-          after h (take (n + 1) rs),
-          record {
-            n = n;
-            from = within;
-            within = omega arith;
-            whole = λ _. refl;
-            middle = out_new;
-            gained = subst (λ (text : List ℕ). Appends out out_new text) (sym (ap reply_lines (between_all h rs a n refl))) through.gained;
-            begun = no_beginning out_new (lines_between h rs n (n + 1));
-            next = refl;
-            last = inl (refl, keeps_same out_new);
-          },
-          leaves_weaker newest (state_of new) (λ x. x ≡ after h rs) (IsAfterOrNext h rs n) (λ x e. inl (e ∙ all)) (through.represents.at.left clean),
-        )
-    | inr one ↦
-        let stopped = run.stopped one h at clean in
-        let n = stopped.0 in
-        let gained = stopped.1.gained in
-        elim gained.3 [
-          | inl kept ↦ (
-            after h (take n rs),
-            after h (take (n + 1) rs),
-            record {
-              n = n;
-              from = stopped.1.from;
-              within = stopped.1.within;
-              whole = λ zero. absurd (omega (arith, one, zero));
-              middle = gained.0;
-              gained = gained.1;
-              begun = gained.2;
-              next = refl;
-              last = inl (refl, kept);
-            },
-            stopped.1.leaves,
-          )
-          | inr stands ↦ (
-            after h (take (n + 1) rs),
-            after h (take (n + 1) rs),
-            record {
-              n = n;
-              from = stopped.1.from;
-              within = stopped.1.within;
-              whole = λ zero. absurd (omega (arith, one, zero));
-              middle = gained.0;
-              gained = gained.1;
-              begun = gained.2;
-              next = refl;
-              last = inr refl;
-            },
-            only new (after h (take (n + 1) rs)) stands clean,
-          )
-        ]
-  ]
-
-  applied : (OfInput OfOutput : Failure → Type 0) (it new : Registry S g) (read : Result (List Request) BadLine) (a : ℕ) (out out_new : Option (List ℕ)) (errors : ErrorOutput) (status : ℕ)
-      → IsApplied OfInput OfOutput it new read a out out_new errors status → (h : History) (rs : List Request) → read ≡ Ok rs → a ≤ length rs → HasAnswered it h rs a → HasCleanDisk (state_of new)
-      → LeavesSome new (IsAfterLines h rs a out out_new status)
-  applied OfInput OfOutput it new (Err bad) a out out_new errors status is h rs parsed within at clean = absurd (cc parsed)
-  applied OfInput OfOutput it new (Ok read) a out out_new errors status is h rs parsed within at clean =
-      let same : read ≡ rs = cc parsed in
-      let run = subst (λ (x : List Request). IsApplied OfInput OfOutput it new (Ok x) a out out_new errors status) same is in
-      ran OfInput OfOutput it new rs a out out_new errors status within (run.1 within) h at clean
-
-  unacted : (OfInput OfOutput : Failure → Type 0) (it new : Registry S g) (read : Result (List Request) BadLine) (a : ℕ) (out out_new : Option (List ℕ)) (errors : ErrorOutput) (status : ℕ)
-      → IsApplied OfInput OfOutput it new read a out out_new errors status → ((rs : List Request) → read ≡ Ok rs → length rs < a) → new ≡ it
-  unacted OfInput OfOutput it new (Err bad) a out out_new errors status is none = is.same
-  unacted OfInput OfOutput it new (Ok rs) a out out_new errors status is none = (is.0 (none rs refl)).same
-
-  -- ---- lists
-
-  abbrev LeavesImport : Registry S g → List ℕ → Import → Option (List ℕ) → Option (List ℕ) → ℕ → History → Type 0
-  LeavesImport new bytes import out out_new status h = LeavesSome new (λ x y. Stays h x y ⊎ IsAfterImport bytes import out out_new status h x y)
-
-  not_made : (it new : Registry S g) (bytes : List ℕ) (import : Import) (out out_new : Option (List ℕ)) (status : ℕ) (h : History) → new ≡ it → Represents it h → HasCleanDisk (state_of new)
-      → LeavesImport new bytes import out out_new status h
-  not_made it new bytes import out out_new status h same stands clean = let s = stayed it new h same stands clean in (s.0, s.1, inl s.2, s.3)
-
-  imported_as : (OfOutput : Failure → Type 0) (it new : Registry S g) (import : Import) (bytes : List ℕ) (read : Result (List TopEntry) ReadFault) (out out_new : Option (List ℕ)) (errors : ErrorOutput) (status : ℕ)
-      → Answers bytes read → IsImportOf OfOutput it new import read out out_new errors status → (h : History) → Represents it h → HasCleanDisk (state_of new) → LeavesImport new bytes import out out_new status h
-  imported_as OfOutput it new import bytes (Ok doc) out out_new errors status answers is h stands clean = elim is [
-    | inl acted ↦ let r = acted.0 in elim acted.2.ends [
-      | inl gives ↦ let both = gives.answered h (inl stands) clean in (
-        after_one h r,
-        after_one h r,
-        inr (record {
-          doc = doc;
-          answers = answers;
-          r = r;
-          r_is = acted.1 h stands;
-          x_is = inr refl;
-          y_is = refl;
-          replied = λ _. (refl, gives.status_is ∙ ap status_of both.0, subst (λ (reply : Reply). Appends out out_new (reply_line reply)) both.0 gives.gained);
-        }),
-        only new (after_one h r) both.1 clean,
-      )
-      | inr failed ↦ (
-        h,
-        after_one h r,
-        inr (record {
-          doc = doc;
-          answers = answers;
-          r = r;
-          r_is = acted.1 h stands;
-          x_is = inl refl;
-          y_is = refl;
-          replied = λ other. absurd (other failed.status_is);
-        }),
-        (failed.cut h (inl stands) clean).leaves,
-      )
-    ]
-    | inr none ↦ not_made it new bytes import out out_new status h none.0 stands clean
-  ]
-  imported_as OfOutput it new import bytes (Err fault) out out_new errors status answers is h stands clean = not_made it new bytes import out out_new status h is.0 stands clean
-
-  imported : (OfInput OfOutput : Failure → Type 0) (it new : Registry S g) (import : Import) (bytes : List ℕ) (out out_new : Option (List ℕ)) (errors : ErrorOutput) (status : ℕ)
-      → IsImported OfInput OfOutput it new import bytes out out_new errors status → (h : History) → Represents it h → HasCleanDisk (state_of new) → LeavesImport new bytes import out out_new status h
-  imported OfInput OfOutput it new import bytes out out_new errors status is h stands clean = elim is [
-    | inl read ↦ imported_as OfOutput it new import bytes read.0 out out_new errors status read.2 read.3 h stands clean
-    | inr none ↦ not_made it new bytes import out out_new status h none.0 stands clean
-  ]
-
-  same_endures : (it new : Registry S g) → new ≡ it → Endures (state_of it) (state_of new)
-  same_endures it new same = subst (λ (x : Registry S g). Endures (state_of it) (state_of x)) (sym same) (still (state_of it))
-
-  import_endures_as : (OfOutput : Failure → Type 0) (it new : Registry S g) (import : Import) (read : Result (List TopEntry) ReadFault) (out out_new : Option (List ℕ)) (errors : ErrorOutput) (status : ℕ)
-      → IsImportOf OfOutput it new import read out out_new errors status → Endures (state_of it) (state_of new)
-  import_endures_as OfOutput it new import (Ok doc) out out_new errors status is = elim is [ inl acted ↦ acted.2.endures | inr none ↦ same_endures it new none.0 ]
-  import_endures_as OfOutput it new import (Err fault) out out_new errors status is = same_endures it new is.0
-
-  import_endures : (OfInput OfOutput : Failure → Type 0) (it new : Registry S g) (import : Import) (bytes : List ℕ) (out out_new : Option (List ℕ)) (errors : ErrorOutput) (status : ℕ)
-      → IsImported OfInput OfOutput it new import bytes out out_new errors status → Endures (state_of it) (state_of new)
-  import_endures OfInput OfOutput it new import bytes out out_new errors status is = elim is [
-    | inl read ↦ import_endures_as OfOutput it new import read.0 out out_new errors status read.3
-    | inr none ↦ same_endures it new none.0
-  ]
-
-  -- ---- connections
-
-  cut_short : (it : Registry S g) (h : History) (visits : List Visit) (fault : Fault) (ends : IsStoppedServing it h visits fault) (x : History) → IsEither ends.middle ends.halted.next x → IsServedInPart h visits x
-  cut_short it h visits fault ends x is = record {
-    before = ends.before;
-    last = ends.last;
-    all = ends.all;
-    middle = ends.middle;
-    turns = ends.turns;
-    fault = fault;
-    text_is = ends.halted.text_is;
-    status_is = ends.halted.status_is;
-    next = ends.halted.next;
-    next_is = ends.halted.next_is;
-    is = is;
-  }
-
-  served : (it : Registry S g) (h : History) (visits : List Visit) (fault : Option Fault) → EndsServing it h visits fault → HasCleanDisk (state_of it) → LeavesSome it (AreLeftAfter visits h)
-  served it h visits None ends clean = (ends.0, ends.0, (inl ends.1, inl ends.1), only it ends.0 ends.2 clean)
-  served it h visits (Some fault) ends clean = (
-    ends.middle,
-    ends.halted.next,
-    (inr (cut_short it h visits fault ends ends.middle (inl refl)), inr (cut_short it h visits fault ends ends.halted.next (inr refl))),
-    ends.halted.left.leaves,
-  )
-
--- ---- what the files hold
+use Rattle.registry_program.proofs.LeavesLemmas.{zero_or, one_of, LeavesSome, only, stayed, at_place, applied, unacted, LeavesImport, imported, import_endures, served}
 
 module _ {H F I : Type 0} (m : host.Ghosts H F I) (d : disk.Ghosts F) where
   -- unless closing failed, the status is the one before
