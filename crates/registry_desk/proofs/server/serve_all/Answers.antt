@@ -3,7 +3,7 @@ use Rattle.std.specs.Prelude.{Err, None, true}
 use Rattle.sqlite.specs.State.{HasCleanDisk}
 use Rattle.registry_store.specs.Promise.{is_poisoned, state_of}
 use Rattle.registry_desk.proofs.KeptLemmas.{none_are}
-use Rattle.registry_desk.proofs.ServerLemmas.{length_more, represents_more, stopped_at, turned_more, visited_more}
+use Rattle.registry_desk.proofs.ServerLemmas.{length_more, represents_after, represents_more, stopped_at, turned_more, visited_more, with_crash}
 use Rattle.registry_desk.proofs.server.serve_all.Goals as goal
 
 pub loop-init : goal.loop-init
@@ -42,3 +42,16 @@ returns-in_err-serve_beside-clause-served g c =
     so_far.1 (omega (arith, so_far.2, c.loop-test.true))
     (λ clean. omega (arith, c.serve_beside.ensures.endures.clean, clean))
     so_far.3 so_far.4 c.in_err-serve_beside.ensures.visited (λ same. c.in_err-serve_beside.ensures.none (ap Err same))
+
+pub returns-clause-served : goal.returns-clause-served
+returns-clause-served g c =
+    let so_far = c.loop.invariant.served in (
+      so_far.0,
+      c.loop.connections,
+      so_far.1,
+      refl,
+      omega (arith, so_far.2, c.loop.auto.counter-end),
+      omega (arith, so_far.2, c.loop.auto.counter-end, c.loop-test.false),
+      λ h stands clean. with_crash c.loop.registry h so_far.0 None (represents_after c.loop.registry c.loop.kept h so_far.0 (so_far.3 h stands clean)) clean,
+      λ poisoned. let away = so_far.4 poisoned in (away.0, away.1),
+    )
