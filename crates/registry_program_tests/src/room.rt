@@ -93,7 +93,7 @@ impl<'a> Host for Room<'a> {
                 self.note("store ");
                 Ok((files, Options::new(1)))
             }
-            Err(failure) => Err(failure),
+            Err(_) => Err(Failure::Store),
         }
     }
 
