@@ -2,6 +2,10 @@
 use Rattle.std.specs.Prelude.{◌≡◌, ◌⊎◌, ℕ, ◌+◌, ◌-◌, ◌^◌, ◌<◌, ◌≤◌, min, List, ◌++◌, length, take, Option, Some, None, Result, Ok, Err, ⊤}
 use Rattle.std.specs.Io.KnownBytes.{Consumes, Appends, Keeps, IsAtEnd}
 
+-- the most bytes that are read of one input
+abbrev pub most_bytes : ℕ
+most_bytes = 4294967295
+
 -- these may be all bytes that a source gives until its end: exactly the known ones, if they are known
 abbrev pub MayGive : Option (List ℕ) → List ℕ → Type 0
 MayGive None bytes = ⊤

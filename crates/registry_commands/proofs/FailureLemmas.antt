@@ -4,6 +4,7 @@ use Rattle.std.specs.Prelude.{◌≢◌, Bool, Some, Result, Ok, Err, IfErr, tru
 use Rattle.sqlite.specs.declared.error.Error.{Error}
 use Rattle.sqlite.specs.Store.{Ghosts}
 use Rattle.sqlite.specs.State.{HasCleanDisk}
+use Rattle.byte_streams.specs.Streams.{most_bytes}
 use Rattle.registry_rules.specs.History.{History}
 use Rattle.registry_store.specs.declared.fault.Fault.{Fault}
 use Rattle.registry_store.specs.declared.fault.Fault.TheVariants as faults
@@ -34,7 +35,7 @@ of_store May Poisoned never = absurd never
 of_store May File never = absurd never
 
 -- what was read is not too long
-pub within : (bytes : List ℕ) → length bytes ≤ 4294967295 → ¬ IsTooLong bytes
+pub within : (bytes : List ℕ) → length bytes ≤ most_bytes → ¬ IsTooLong bytes
 within bytes most long = omega (arith, most, long)
 
 -- out of memory, and the input did not fail

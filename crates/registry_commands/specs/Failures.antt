@@ -4,7 +4,7 @@ use Rattle.std.specs.Io.KnownBytes.{Appends, Keeps}
 use Rattle.sqlite.specs.declared.error.Error.{Error}
 use Rattle.sqlite.specs.declared.error.Error.TheVariants.{SqliteFailure}
 use Rattle.sqlite.specs.declared.error.ErrorCode.TheVariants.{OutOfMemory}
-use Rattle.byte_streams.specs.Streams.{AppendsPrefix, HasFailed}
+use Rattle.byte_streams.specs.Streams.{AppendsPrefix, HasFailed, most_bytes}
 use Rattle.registry_commands.specs.declared.messages.Failure.{Failure}
 use Rattle.registry_commands.specs.declared.messages.Failure.TheVariants.{Store, Memory, File}
 use Rattle.registry_commands.specs.Messages.{failure_line}
@@ -39,7 +39,7 @@ PrintsFailure May errors = (failure : Failure) × May failure × Prints errors (
 
 -- more bytes than an input may have
 abbrev pub IsTooLong : List ℕ → Type 0
-IsTooLong bytes = 4294967295 < length bytes
+IsTooLong bytes = most_bytes < length bytes
 
 -- the store failed or was out of memory
 abbrev pub IsOfStore : Failure → Type 0

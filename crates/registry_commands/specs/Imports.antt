@@ -6,9 +6,9 @@ use Rattle.sqlite.specs.State.{HasCleanDisk}
 use Rattle.usbnum_core.specs.Number.{number_of}
 use Rattle.usbnum_core.specs.Text.{IsKey, IsSlug}
 use Rattle.usbids_text.specs.declared.fault.ReadFault.{ReadFault}
-use Rattle.byte_streams.specs.Streams.{AppendsPrefix}
+use Rattle.byte_streams.specs.Streams.{AppendsPrefix, most_bytes}
 use Rattle.usbids_text.specs.Entries.{TopEntry}
-use Rattle.usbids_text.specs.Reading.{Answers}
+use Rattle.usbids_text.specs.Reading.{ReadsAs}
 use Rattle.registry_rules.specs.declared.order.Request.{Request}
 use Rattle.registry_rules.specs.declared.verdict.Reply.{Reply}
 use Rattle.registry_rules.specs.declared.verdict.Reply.TheVariants.{Done, Refused}
@@ -117,5 +117,5 @@ module _ {S : Type 0} {g : Ghosts S} where
   -- what was read in these bytes is imported; or the input failed or was too long, and nothing is done
   abbrev pub IsImported : (Failure → Type 0) → (Failure → Type 0) → Registry S g → Registry S g → Import → List ℕ → Option (List ℕ) → Option (List ℕ) → ErrorOutput → ℕ → Type 0
   IsImported OfInput OfOutput it new import bytes out out_new errors status =
-      ((read : Result (List TopEntry) ReadFault) × (length bytes ≤ 4294967295) × Answers bytes read × IsImportOf OfOutput it new import read out out_new errors status)
+      ((read : Result (List TopEntry) ReadFault) × (length bytes ≤ most_bytes) × ReadsAs bytes read × IsImportOf OfOutput it new import read out out_new errors status)
       ⊎ IsNotMade OfInput it new out out_new errors status

@@ -1,10 +1,11 @@
 -- What a look-up of a device in a list writes.
 use Rattle.std.specs.Prelude.{◌≡◌, ◌⊎◌, ◌≤◌, ℕ, List, [], ◌∷◌, ◌++◌, codes, length, Option, Some, None, Result, Ok, Err}
 use Rattle.std.specs.Io.KnownBytes.{Keeps}
+use Rattle.byte_streams.specs.Streams.{most_bytes}
 use Rattle.usbids_text.specs.declared.fault.ReadFault.{ReadFault}
 use Rattle.usbids_text.specs.declared.fault.ReadFault.TheVariants.{Line, NoMemory}
 use Rattle.usbids_text.specs.declared.seen.Wanted.{Wanted}
-use Rattle.usbids_text.specs.Scans.{Finds}
+use Rattle.usbids_text.specs.Scans.{LooksUpAs}
 use Rattle.registry_wire.specs.declared.refusal.WireRefusal.TheVariants.{BadList}
 use Rattle.registry_commands.specs.declared.messages.Failure.{Failure}
 use Rattle.registry_commands.specs.Failures.{IsOfMemory, Prints, PrintsFailure, ErrorOutput}
@@ -37,5 +38,5 @@ IsAnswered OfOutput (Err fault) out out_new errors status = Keeps out out_new ×
 -- what was found in these bytes is written; or the input failed or was too long
 abbrev pub IsLookedUp : (Failure → Type 0) → (Failure → Type 0) → Wanted → List ℕ → Option (List ℕ) → Option (List ℕ) → ErrorOutput → ℕ → Type 0
 IsLookedUp OfInput OfOutput wanted bytes out out_new errors status =
-    ((found : Result (Option (List ℕ)) ReadFault) × (length bytes ≤ 4294967295) × Finds wanted bytes found × IsAnswered OfOutput found out out_new errors status)
+    ((found : Result (Option (List ℕ)) ReadFault) × (length bytes ≤ most_bytes) × LooksUpAs wanted bytes found × IsAnswered OfOutput found out out_new errors status)
     ⊎ IsUnprinted OfInput out out_new errors status

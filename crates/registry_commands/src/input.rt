@@ -2,7 +2,7 @@
 
 ghost use Rattle.std.specs.Prelude.{Err, Some, ◌≡◌, ◌≤◌, ◌++◌, ℕ, List, length, IfOk, IfErr, OnOk};
 ghost use Rattle.std.specs.Io.KnownBytes.{Consumes, IsAtEnd};
-ghost use Rattle.byte_streams.specs.Streams.{HasFailed, MayGive};
+ghost use Rattle.byte_streams.specs.Streams.{HasFailed, MayGive, most_bytes};
 ghost use Rattle.registry_commands.specs.Failures.{IsOfInput};
 ghost use Rattle.registry_commands.specs.Messages.{input_failure, input_fault_text};
 
@@ -58,7 +58,7 @@ fn take_more<R: Source>(source: &mut R, bytes: &mut Vec<u8>) -> Result<usize, In
 /// Reads all bytes of the source, at most 4,294,967,295. Returns `File` only if the source
 /// failed during this call or gives more bytes, and `NoMemory` only if it did not fail.
 pub fn read_all<R: Source>(alloc: Global, source: &mut R) -> Result<Vec<u8>, InputFault>
-    ensures ok { IfOk result (λ v. MayGive (R.remaining source.old) v.items × (length v.items ≤ 4294967295)) }
+    ensures ok { IfOk result (λ v. MayGive (R.remaining source.old) v.items × (length v.items ≤ most_bytes)) }
     ensures kept { OnOk result (R.failures source.new ≡ R.failures source.old) }
     ensures err { IfErr result (λ fault. (b : List ℕ) × MayGive (R.remaining source.old) b
         × IsOfInput (R.failures source.old) (R.failures source.new) b (input_failure fault)) }

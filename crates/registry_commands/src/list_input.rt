@@ -1,8 +1,8 @@
 //! Reads a list in pieces.
 
 ghost use Rattle.std.specs.Prelude.{◌≡◌, ◌⊎◌, ◌<◌, ◌≤◌, ℕ, List, length, IfOk, OnOk, OnErr};
-ghost use Rattle.byte_streams.specs.Streams.{HasFailed, MayGive};
-ghost use Rattle.usbids_text.specs.Reading.{Answers};
+ghost use Rattle.byte_streams.specs.Streams.{HasFailed, MayGive, most_bytes};
+ghost use Rattle.usbids_text.specs.Reading.{ReadsAs};
 
 use byte_streams::{Broken, Source};
 use std::alloc::Global;
@@ -14,9 +14,9 @@ pub(crate) fn read_list<R: Source>(
     alloc: Global,
     source: &mut R,
 ) -> Result<Result<Document, ReadFault>, Broken>
-    ensures ok { IfOk result (λ read. (bytes : List ℕ) × MayGive (R.remaining source.old) bytes × (length bytes ≤ 4294967295) × Answers bytes read) }
+    ensures ok { IfOk result (λ read. (bytes : List ℕ) × MayGive (R.remaining source.old) bytes × (length bytes ≤ most_bytes) × ReadsAs bytes read) }
     ensures kept { OnOk result (R.failures source.new ≡ R.failures source.old) }
-    ensures err { OnErr result ((bytes : List ℕ) × MayGive (R.remaining source.old) bytes × (HasFailed (R.failures source.old) (R.failures source.new) ⊎ (4294967295 < length bytes))) }
+    ensures err { OnErr result ((bytes : List ℕ) × MayGive (R.remaining source.old) bytes × (HasFailed (R.failures source.old) (R.failures source.new) ⊎ (most_bytes < length bytes))) }
 {
     let mut reader = Reader::new(alloc);
     let mut room = [0u8; 32768];

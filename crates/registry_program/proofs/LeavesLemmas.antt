@@ -7,7 +7,7 @@ use Rattle.std.specs.Io.KnownBytes.{Appends}
 use Rattle.sqlite.specs.State.{HasCleanDisk}
 use Rattle.sqlite.specs.Store.{Ghosts}
 use Rattle.usbids_text.specs.Entries.{TopEntry}
-use Rattle.usbids_text.specs.Reading.{Answers}
+use Rattle.usbids_text.specs.Reading.{ReadsAs}
 use Rattle.usbids_text.specs.declared.fault.ReadFault.{ReadFault}
 use Rattle.registry_rules.specs.declared.order.Request.{Request}
 use Rattle.registry_rules.specs.declared.verdict.Reply.{Reply}
@@ -146,7 +146,7 @@ module _ {S : Type 0} {g : Ghosts S} where
   not_made it new bytes import out out_new status h same stands clean = let s = stayed it new h same stands clean in (s.0, s.1, inl s.2, s.3)
 
   imported_as : (OfOutput : Failure → Type 0) (it new : Registry S g) (import : Import) (bytes : List ℕ) (read : Result (List TopEntry) ReadFault) (out out_new : Option (List ℕ)) (errors : ErrorOutput) (status : ℕ)
-      → Answers bytes read → IsImportOf OfOutput it new import read out out_new errors status → (h : History) → Represents it h → HasCleanDisk (state_of new) → LeavesImport new bytes import out out_new status h
+      → ReadsAs bytes read → IsImportOf OfOutput it new import read out out_new errors status → (h : History) → Represents it h → HasCleanDisk (state_of new) → LeavesImport new bytes import out out_new status h
   imported_as OfOutput it new import bytes (Ok doc) out out_new errors status answers is h stands clean = elim is [
     | inl acted ↦ let r = acted.0 in elim acted.2.ends [
       | inl gives ↦ let both = gives.answered h (inl stands) clean in (

@@ -11,7 +11,7 @@ use Rattle.byte_streams.specs.Streams.{AppendsPrefix, MayGive}
 use Rattle.usbids_text.specs.Documents.{IsTextOf}
 use Rattle.usbids_text.specs.Entries.{TopEntry}
 use Rattle.usbids_text.specs.Moments.{Moment}
-use Rattle.usbids_text.specs.Reading.{Answers}
+use Rattle.usbids_text.specs.Reading.{ReadsAs}
 use Rattle.usbids_text.specs.Writing.{written}
 use Rattle.usbnum_core.specs.declared.error.NoMemory.{NoMemory}
 use Rattle.registry_rules.specs.declared.founding.Founding.{Founding}
@@ -80,7 +80,7 @@ IsReportedOn name ends h x y = Stays h x y × (ends.status ≡ 0 → (text : Lis
 -- one after it.
 pub record IsAfterImport (bytes : List ℕ) (import : Import) (out out_new : Option (List ℕ)) (status : ℕ) (h x y : History) : Type 0 where
   pub doc : List TopEntry
-  pub answers : Answers bytes (Ok doc)
+  pub answers : ReadsAs bytes (Ok doc)
   pub r : Request
   pub r_is : r ≡ request_of import h.founding.vendor doc
   pub x_is : IsEither h (after_one h r) x

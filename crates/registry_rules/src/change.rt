@@ -7,16 +7,23 @@ use usbnum_core::{Number, Span, Title, Vid};
 /// one.
 #[derive(Debug)]
 pub enum Change {
+    /// Puts an organisation under its slug.
     PutOrg(Org),
+    /// Puts a petition under its number, from 1.
     PutPetition { id: u32, petition: Petition },
+    /// Puts the data of a number that gets an owner, or that its owner gets again.
     PutEntry { number: Number, entry: Entry },
+    /// Sets whether an owned number is held.
     SetHeld { number: Number, held: bool },
+    /// Sets the product of an owned number.
     SetCard { number: Number, card: Card },
     /// Adds the numbers of the span to those that orders reserved.
     ReserveSpan { vid: Vid, span: Span },
     /// Removes the numbers of the span from those that orders reserved.
     ReleaseSpan { vid: Vid, span: Span },
+    /// Puts the name of a further vendor.
     PutVendor { vid: Vid, name: Title },
+    /// Adds a licence to those that are allowed.
     PutLicence(Title),
 }
 

@@ -20,7 +20,7 @@ use Rattle.usbids_text.proofs.PieceLemmas.{fed_faulty}
 use Rattle.usbids_text.specs.Cut.{cut, lines, with_rest}
 use Rattle.usbids_text.specs.Feeding.{Held, Fed, fed, line_done, refused, start, step, finished, with_last}
 use Rattle.usbids_text.specs.Outcome.{done, over, outcome}
-use Rattle.usbids_text.specs.Reading.{Answers}
+use Rattle.usbids_text.specs.Reading.{ReadsAs}
 use Rattle.usbids_text.proofs.CutLemmas.{IsPart, is_part_push, cut_open, cut_line, fed_fault, fed_outcome, took_lf, took_more, took_long, line_done_long}
 use Rattle.usbids_text.proofs.RunLemmas.{Good, Bad, verdict_of}
 
@@ -96,13 +96,13 @@ finished_lines t =
 pub ended_at : (t : List ℕ) (h : Held) → h ≡ finished (fed start t) → Good h (lines t) ⊎ Bad h (lines t)
 ended_at t h e = subst (λ (k : Held). Good k (lines t) ⊎ Bad k (lines t)) (sym (e ∙ finished_lines t)) (verdict_of (lines t) (lines_inner t))
 
-pub answers_ok : (t : List ℕ) (h : Held) (doc : List TopEntry) → h ≡ finished (fed start t) → h.fault ≡ None → doc ≡ whole h.built → Answers t (Ok doc)
+pub answers_ok : (t : List ℕ) (h : Held) (doc : List TopEntry) → h ≡ finished (fed start t) → h.fault ≡ None → doc ≡ whole h.built → ReadsAs t (Ok doc)
 answers_ok t h doc e clear is = elim (ended_at t h e) [
   | inl g ↦ subst (λ (d : List TopEntry). AreLinesOf (lines t) d) (sym is) g.lines_of
   | inr b ↦ absurd (let w = b.is in cc)
 ]
 
-pub answers_err : (t : List ℕ) (h : Held) (f : ReadFault) → h ≡ finished (fed start t) → h.fault ≡ Some f → Answers t (Err f)
+pub answers_err : (t : List ℕ) (h : Held) (f : ReadFault) → h ≡ finished (fed start t) → h.fault ≡ Some f → ReadsAs t (Err f)
 answers_err t h NoMemory e is = tt
 answers_err t h (Line f) e is = elim (ended_at t h e) [
   | inl g ↦ absurd (let w = g.clear in cc)
@@ -125,23 +125,23 @@ finished_faulty : (r : Reader) → is_some r.taken.fault ≡ true → finished (
 unfolding finished
 finished_faulty r e = with_last_faulty (held_of r.taken) r.pending.items e
 
-memory : (f : ReadFault) (t : List ℕ) → f ≡ NoMemory → Answers t (Err f)
-memory f t e = subst (λ (g : ReadFault). Answers t (Err g)) (sym e) tt
+memory : (f : ReadFault) (t : List ℕ) → f ≡ NoMemory → ReadsAs t (Err f)
+memory f t e = subst (λ (g : ReadFault). ReadsAs t (Err g)) (sym e) tt
 
-pub finish_stuck : (r : Reader) (t : List ℕ) (f : ReadFault) → WasFed r t → r.taken.fault ≡ Some f → Answers t (Err f)
+pub finish_stuck : (r : Reader) (t : List ℕ) (f : ReadFault) → WasFed r t → r.taken.fault ≡ Some f → ReadsAs t (Err f)
 finish_stuck r t f (inl m) e = memory f t (cc)
 finish_stuck r t f (inr s) e = answers_err t (held_of r.taken) f (sym (finished_faulty r (ap is_some e)) ∙ ap finished s) e
 
 abbrev pub Ended : Taken → Result (List TopEntry) ReadFault → Type 0
 Ended taken result = IfOk result (λ doc. (taken.fault ≡ None) × (doc ≡ whole (open_of taken.builder))) × IfErr result (λ e. (e ≡ NoMemory) ⊎ (taken.fault ≡ Some e))
 
-finish_err : (r : Reader) (t : List ℕ) (taken : Taken) (f : ReadFault) → WasFed r t → held_of taken ≡ finished (state_of r) → taken.fault ≡ Some f → Answers t (Err f)
+finish_err : (r : Reader) (t : List ℕ) (taken : Taken) (f : ReadFault) → WasFed r t → held_of taken ≡ finished (state_of r) → taken.fault ≡ Some f → ReadsAs t (Err f)
 finish_err r t taken f (inl m) e is =
     let gone : taken.fault ≡ Some NoMemory = ap (λ (k : Held). k.fault) (e ∙ finished_faulty r (ap is_some m)) ∙ m in
     memory f t (cc)
 finish_err r t taken f (inr s) e is = answers_err t (held_of taken) f (e ∙ ap finished s) is
 
-pub finish_answer : (r : Reader) (t : List ℕ) (taken : Taken) (result : Result (List TopEntry) ReadFault) → WasFed r t → held_of taken ≡ finished (state_of r) → Ended taken result → Answers t result
+pub finish_answer : (r : Reader) (t : List ℕ) (taken : Taken) (result : Result (List TopEntry) ReadFault) → WasFed r t → held_of taken ≡ finished (state_of r) → Ended taken result → ReadsAs t result
 finish_answer r t taken (Ok doc) (inl m) e h =
     let gone : taken.fault ≡ Some NoMemory = ap (λ (k : Held). k.fault) (e ∙ finished_faulty r (ap is_some m)) ∙ m in
     let none = h.0.0 in absurd cc

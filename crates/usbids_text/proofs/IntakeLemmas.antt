@@ -2,7 +2,7 @@
 use Rattle.std.proofs.Common.{◌≡◌, ◌++◌, ◌+◌, ◌≤◌, List, [], ℕ, length, Option, refl, sym, subst, arith, append_assoc, length-append}
 use Rattle.std.proofs.lemmas.List.{append-nil}
 use Rattle.std.specs.Io.KnownBytes.{Consumes, IsAtEnd}
-use Rattle.byte_streams.specs.Streams.{MayGive}
+use Rattle.byte_streams.specs.Streams.{MayGive, most_bytes}
 use Rattle.byte_streams.proofs.StreamLemmas.{consumes_none, consumes_then, all_of, all_at_end}
 
 -- after any bytes that were fed before, these bytes were fed
@@ -31,11 +31,11 @@ feeds_next I W Was a b c x y z total n f m = record {
 }
 
 abbrev pub All : (I W : Type 0) → (I → W → List ℕ → Type 0) → Option (List ℕ) → I → I → Type 0
-All I W Was old before after = (bytes : List ℕ) × MayGive old bytes × (length bytes ≤ 4294967295) × Takes I W Was before after bytes
+All I W Was old before after = (bytes : List ℕ) × MayGive old bytes × (length bytes ≤ most_bytes) × Takes I W Was before after bytes
 
 -- the source is at its end
 pub feeds_end : (I W : Type 0) (Was : I → W → List ℕ → Type 0) (a b c : Option (List ℕ)) (x y z : I) (total n : ℕ)
-    → Feeds I W Was a b x y total → More I W Was b c y z n → n ≡ 0 → IsAtEnd c → total ≤ 4294967295 → All I W Was a x z
+    → Feeds I W Was a b x y total → More I W Was b c y z n → n ≡ 0 → IsAtEnd c → total ≤ most_bytes → All I W Was a x z
 feeds_end I W Was a b c x y z total n f m none over small =
     let whole = feeds_next I W Was a b c x y z total n f m in
     (whole.bytes, all_at_end a c whole.bytes whole.read over, (let k = whole.count in omega (arith, none)), whole.takes)

@@ -21,7 +21,7 @@ use Rattle.usbids_text.specs.Opens.{Open, whole, open_mid, put, misplaced_in, wi
 use Rattle.usbids_text.specs.Feeding.{Held, Fed, line_done, with_class, with_fault, ended, kept, finished, with_last, fed, start}
 use Rattle.usbids_text.specs.Scanning.{Scanned, scanned_of, seen_of, over_kind, over_of, is_match, seen_below, seen_misplaced, seen_put, seen_class, seen_fault, seen_line, scan_ended, scan_kept, scan_finished, seen_last, seen_next, seen_answer}
 use Rattle.usbids_text.specs.declared.scan.Scan.{Scan}
-use Rattle.usbids_text.specs.Scans.{Finds, Seeks, scan_state}
+use Rattle.usbids_text.specs.Scans.{LooksUpAs, Seeks, scan_state}
 use Rattle.usbids_text.proofs.PieceLemmas.{fed_line, fed_rest, fed_faulty}
 use Rattle.usbids_text.proofs.FeedLemmas.{fed_append}
 use Rattle.usbids_text.proofs.FinishLemmas.{ended_at, answers_err, with_last_faulty}
@@ -186,13 +186,13 @@ scan_line w s state new rest past i found is step after =
 pub scan_rest : (w : Wanted) (s : Fed) (state new : Scanned) (rest : List ℕ) → position (λ b. b == 10) rest ≡ None → state ≡ scanned_of w s → new ≡ scan_kept state rest → new ≡ scanned_of w (fed s rest)
 scan_rest w s state new rest none is step = step ∙ (ap (λ (x : Scanned). scan_kept x rest) is ∙ (kept_scanned w s rest ∙ ap (scanned_of w) (sym (fed_rest s rest none))))
 
-pub found_ok : (w : Wanted) (t : List ℕ) (q : Seen) (h : Held) → h ≡ finished (fed start t) → q ≡ seen_of w h → q.fault ≡ None → Finds w t (Ok q.found)
+pub found_ok : (w : Wanted) (t : List ℕ) (q : Seen) (h : Held) → h ≡ finished (fed start t) → q ≡ seen_of w h → q.fault ≡ None → LooksUpAs w t (Ok q.found)
 found_ok w t q h e is clear = elim (ended_at t h e) [
   | inl g ↦ (whole h.built, g.lines_of, ap (λ (x : Seen). x.found) is)
   | inr b ↦ absurd (let none : h.fault ≡ None = sym (ap (λ (x : Seen). x.fault) is) ∙ clear in let w = b.is in cc)
 ]
 
-pub found_err : (w : Wanted) (t : List ℕ) (q : Seen) (h : Held) (f : ReadFault) → h ≡ finished (fed start t) → q ≡ seen_of w h → q.fault ≡ Some f → Finds w t (Err f)
+pub found_err : (w : Wanted) (t : List ℕ) (q : Seen) (h : Held) (f : ReadFault) → h ≡ finished (fed start t) → q ≡ seen_of w h → q.fault ≡ Some f → LooksUpAs w t (Err f)
 found_err w t q h NoMemory e is faulty = tt
 found_err w t q h (Line f) e is faulty = answers_err t h (Line f) e (sym (ap (λ (x : Seen). x.fault) is) ∙ faulty)
 
@@ -215,10 +215,10 @@ finished_stuck : (s : Fed) → is_some s.held.fault ≡ true → finished s ≡ 
 unfolding finished
 finished_stuck s e = with_last_faulty s.held s.pending e
 
-memory : (w : Wanted) (t : List ℕ) (f : ReadFault) → f ≡ NoMemory → Finds w t (Err f)
-memory w t f e = subst (λ (g : ReadFault). Finds w t (Err g)) (sym e) tt
+memory : (w : Wanted) (t : List ℕ) (f : ReadFault) → f ≡ NoMemory → LooksUpAs w t (Err f)
+memory w t f e = subst (λ (g : ReadFault). LooksUpAs w t (Err g)) (sym e) tt
 
-pub finish_stuck : (r : Scan) (w : Wanted) (t : List ℕ) (f : ReadFault) → Seeks r w t → r.seen.fault ≡ Some f → Finds w t (Err f)
+pub finish_stuck : (r : Scan) (w : Wanted) (t : List ℕ) (f : ReadFault) → Seeks r w t → r.seen.fault ≡ Some f → LooksUpAs w t (Err f)
 finish_stuck r w t f (is, inl m) e = memory w t f (cc)
 finish_stuck r w t f (is, inr s) e =
     let held : (fed start t).held.fault ≡ Some f = ap (λ (x : Scanned). x.seen.fault) (sym s) ∙ e in
@@ -236,17 +236,17 @@ last_stuck : (w : Wanted) (s : Scanned) → is_some s.seen.fault ≡ true → sc
 unfolding scan_finished
 last_stuck w s e = last_kept w s.seen s.pending e
 
-finish_err : (r : Scan) (w : Wanted) (t : List ℕ) (q : Seen) (f : ReadFault) → Seeks r w t → q ≡ scan_finished r.wanted (scan_state r) → q.fault ≡ Some f → Finds w t (Err f)
+finish_err : (r : Scan) (w : Wanted) (t : List ℕ) (q : Seen) (f : ReadFault) → Seeks r w t → q ≡ scan_finished r.wanted (scan_state r) → q.fault ≡ Some f → LooksUpAs w t (Err f)
 finish_err r w t q f (is, inl m) e faulty =
     let kept : q.fault ≡ Some NoMemory = ap (λ (x : Seen). x.fault) (e ∙ last_stuck r.wanted (scan_state r) (ap is_some m)) ∙ m in
     memory w t f (cc)
 finish_err r w t q f (is, inr s) e faulty = found_err w t q (finished (fed start t)) f refl (last_seen_of r w t q is s e) faulty
 
-finish_ok : (r : Scan) (w : Wanted) (t : List ℕ) (q : Seen) → Seeks r w t → q ≡ scan_finished r.wanted (scan_state r) → q.fault ≡ None → Finds w t (Ok q.found)
+finish_ok : (r : Scan) (w : Wanted) (t : List ℕ) (q : Seen) → Seeks r w t → q ≡ scan_finished r.wanted (scan_state r) → q.fault ≡ None → LooksUpAs w t (Ok q.found)
 finish_ok r w t q (is, inl m) e clear =
     let kept : q.fault ≡ Some NoMemory = ap (λ (x : Seen). x.fault) (e ∙ last_stuck r.wanted (scan_state r) (ap is_some m)) ∙ m in absurd cc
 finish_ok r w t q (is, inr s) e clear = found_ok w t q (finished (fed start t)) refl (last_seen_of r w t q is s e) clear
 
-pub finish_answer : (r : Scan) (w : Wanted) (t : List ℕ) (q : Seen) (o : Option ReadFault) → Seeks r w t → q ≡ scan_finished r.wanted (scan_state r) → q.fault ≡ o → Finds w t (seen_answer o q.found)
+pub finish_answer : (r : Scan) (w : Wanted) (t : List ℕ) (q : Seen) (o : Option ReadFault) → Seeks r w t → q ≡ scan_finished r.wanted (scan_state r) → q.fault ≡ o → LooksUpAs w t (seen_answer o q.found)
 finish_answer r w t q None s e is = finish_ok r w t q s e is
 finish_answer r w t q (Some f) s e is = finish_err r w t q f s e is

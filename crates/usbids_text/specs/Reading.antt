@@ -8,10 +8,10 @@ use Rattle.usbids_text.specs.Cut.{cut}
 use Rattle.usbids_text.specs.Documents.{IsTextOf, FaultAt}
 
 -- for a whole text: its document, its first fault, or out of memory
-abbrev pub Answers : List ℕ → Result (List TopEntry) ReadFault → Type 0
-Answers text (Ok doc) = IsTextOf text doc
-Answers text (Err NoMemory) = Unit {0}
-Answers text (Err (Line f)) = FaultAt text f.line f.why
+abbrev pub ReadsAs : List ℕ → Result (List TopEntry) ReadFault → Type 0
+ReadsAs text (Ok doc) = IsTextOf text doc
+ReadsAs text (Err NoMemory) = Unit {0}
+ReadsAs text (Err (Line f)) = FaultAt text f.line f.why
 
 -- the fault as an error, if there is one
 abbrev pub answer_of : Option ReadFault → Result (Unit {0}) ReadFault

@@ -18,7 +18,7 @@ abbrev pub Seeks : Scan → Wanted → List ℕ → Type 0
 Seeks r wanted text = (r.wanted ≡ wanted) × ((r.seen.fault ≡ Some NoMemory) ⊎ (scan_state r ≡ scanned_of wanted (fed start text)))
 
 -- the name of the first match in the text's document, the text's first fault, or out of memory
-abbrev pub Finds : Wanted → List ℕ → Result (Option (List ℕ)) ReadFault → Type 0
-Finds wanted text (Ok found) = (doc : List TopEntry) × IsTextOf text doc × (found ≡ find_mid wanted.vendor wanted.code doc)
-Finds wanted text (Err NoMemory) = Unit {0}
-Finds wanted text (Err (Line f)) = FaultAt text f.line f.why
+abbrev pub LooksUpAs : Wanted → List ℕ → Result (Option (List ℕ)) ReadFault → Type 0
+LooksUpAs wanted text (Ok found) = (doc : List TopEntry) × IsTextOf text doc × (found ≡ find_mid wanted.vendor wanted.code doc)
+LooksUpAs wanted text (Err NoMemory) = Unit {0}
+LooksUpAs wanted text (Err (Line f)) = FaultAt text f.line f.why

@@ -18,7 +18,9 @@ pub struct LineFault {
 /// The reason why a reader returns no document: a faulty line, or out of memory.
 #[derive(Clone, Copy, Debug, PartialEq, Eq)]
 pub enum ReadFault {
+    /// The first faulty line.
     Line(LineFault),
+    /// There was no memory for the document.
     NoMemory,
 }
 

@@ -1,7 +1,7 @@
 //! Feeds a text to a consumer in pieces, from a source.
 ghost use Rattle.std.specs.Prelude.{◌≡◌, ◌⊎◌, ◌<◌, ◌≤◌, ◌++◌, ℕ, List, length, IfOk, OnOk, OnErr};
 ghost use Rattle.std.specs.Io.KnownBytes.{Consumes, IsAtEnd};
-ghost use Rattle.byte_streams.specs.Streams.{HasFailed, MayGive};
+ghost use Rattle.byte_streams.specs.Streams.{HasFailed, MayGive, most_bytes};
 
 use byte_streams::{Broken, Source};
 
@@ -51,10 +51,10 @@ pub fn feed_all<R: Source, I: Intake>(
     room: &mut [u8],
 ) -> Result<(), Broken>
     requires { 0 < length room.old }
-    ensures ok { OnOk result ((bytes : List ℕ) × MayGive (R.remaining source.old) bytes × (length bytes ≤ 4294967295)
+    ensures ok { OnOk result ((bytes : List ℕ) × MayGive (R.remaining source.old) bytes × (length bytes ≤ most_bytes)
         × ((wanted : I.Wanted) (t : List ℕ) → I.was_fed intake.old wanted t → I.was_fed intake.new wanted (t ++ bytes))) }
     ensures kept { OnOk result (R.failures source.new ≡ R.failures source.old) }
-    ensures err { OnErr result ((bytes : List ℕ) × MayGive (R.remaining source.old) bytes × (HasFailed (R.failures source.old) (R.failures source.new) ⊎ (4294967295 < length bytes))) }
+    ensures err { OnErr result ((bytes : List ℕ) × MayGive (R.remaining source.old) bytes × (HasFailed (R.failures source.old) (R.failures source.new) ⊎ (most_bytes < length bytes))) }
 {
     let mut total = 0usize;
     while total <= MOST {

@@ -3,7 +3,7 @@ ghost use Rattle.std.specs.Prelude.{◌≡◌, ◌⊎◌, ◌+◌, ◌<◌, ◌=
 ghost use Rattle.std.specs.List.{list_all};
 ghost use Rattle.usbids_text.specs.Words.{is_inner};
 ghost use Rattle.usbids_text.specs.Feeding.{step, ended, kept, fed, finished};
-ghost use Rattle.usbids_text.specs.Reading.{Answers, AnswersSoFar, SeenFault, HasFault, answer_of};
+ghost use Rattle.usbids_text.specs.Reading.{ReadsAs, AnswersSoFar, SeenFault, HasFault, answer_of};
 ghost use Rattle.usbids_text.specs.declared.line.Why.{Why};
 ghost use Rattle.usbids_text.specs.declared.fault.ReadFault.{ReadFault};
 
@@ -158,7 +158,7 @@ impl Reader {
     ///
     /// The first faulty line, or out of memory.
     pub fn finish(mut self) -> Result<Document, ReadFault>
-        ensures answers { (t : List ℕ) → WasFed self t → Answers t result }
+        ensures answers { (t : List ℕ) → WasFed self t → ReadsAs t result }
         ensures sticks { (f : ReadFault) → fault_of self ≡ Some f → result ≡ Err f }
     {
         if let Some(fault) = self.taken.fault {
@@ -202,7 +202,7 @@ impl Intake for Reader {
 /// assert_eq!(rt; find(&document, vendor, 0x0012), None);
 /// ```
 pub fn read_all(alloc: Global, bytes: &[u8]) -> Result<Document, ReadFault>
-    ensures { Answers bytes.now result }
+    ensures { ReadsAs bytes.now result }
 {
     let mut reader = Reader::new(alloc);
     let _ = reader.feed(bytes);

@@ -26,7 +26,7 @@ pub struct Scan {
 }
 
 impl Scan {
-    ghost use Rattle.usbids_text.specs.Scans.{scan_state, Seeks, Finds};
+    ghost use Rattle.usbids_text.specs.Scans.{scan_state, Seeks, LooksUpAs};
 
     // Ends the pending line with these bytes.
     fn end_pending(&mut self, part: &[u8]) -> Result<(), NoMemory>
@@ -147,7 +147,7 @@ impl Scan {
     ///
     /// The first faulty line, before or after the match, or out of memory.
     pub fn finish(mut self) -> Result<Option<Name>, ReadFault>
-        ensures { (wanted : Wanted) (t : List ℕ) → Seeks self wanted t → Finds wanted t result }
+        ensures { (wanted : Wanted) (t : List ℕ) → Seeks self wanted t → LooksUpAs wanted t result }
     {
         if let Some(fault) = self.seen.fault {
             return Err(fault);
