@@ -1,16 +1,18 @@
 //! The vendor, the numbers and the organisation that an order concerns.
 
-ghost use Rattle.std.specs.Prelude.{◌≡◌, ℕ, true, false, nat_eq, IfSome, IsSomeAnd};
+ghost use Rattle.std.specs.Prelude.{◌≡◌, ℕ, true, false, nat_eq, IfSome, IsSomeAnd, option_and_then};
 ghost use Rattle.std.specs.List.{list_any};
 ghost use Rattle.std.specs.Option.{option_copied, option_map};
 ghost use Rattle.usbnum_core.specs.Spans.{span_has};
 ghost use Rattle.usbnum_core.specs.declared.number.Number.{Number};
 ghost use Rattle.registry_rules.specs.FactsOf.{petition_named, slug_concerned, vendor_concerned, concerns, holding_in, holding_of};
 ghost use Rattle.registry_rules.specs.History.{History};
+ghost use Rattle.registry_rules.specs.Query.{petition_of};
 ghost use Rattle.registry_rules.specs.Verdict.{least_for};
 
 use crate::{
-    Amend, AmendOrg, Ask, Enrol, Holdings, Import, Item, Order, Petition, Release, Reserve, Return,
+    Amend, AmendOrg, Ask, Decline, Enrol, Grant, Holdings, Import, Item, Order, Petition, Release,
+    Reserve, Return, Withdraw,
 };
 use usbnum_core::{Number, Pid, Slug, Span, Vid};
 
@@ -74,6 +76,19 @@ fn codes_span(items: &[Item]) -> Option<Span>
         found = with_code(found, item.code);
     }
     found
+}
+
+/// Returns the number of the petition that the order names.
+#[tactic(auto, unfolding(crate::specs::FactsOf::petition_named))]
+pub fn petition_concerned(order: &Order) -> Option<u32>
+    ensures { (h : History) → petition_named h order.now ≡ option_and_then (petition_of h) result }
+{
+    match order {
+        Order::Grant(Grant { petition, .. })
+        | Order::Decline(Decline { petition })
+        | Order::Withdraw(Withdraw { petition }) => Some(*petition),
+        _ => None,
+    }
 }
 
 /// Returns the vendor that the order names, or its petition's, otherwise the founding vendor.

@@ -9,8 +9,7 @@ ghost use Rattle.registry_rules.specs.declared.order.Order.TheVariants as orders
 
 use crate::checks::{check_curator, check_vendor};
 use crate::limits::MOST_ITEMS;
-use crate::rejection::Rejection;
-use crate::{Act, Facts, Import, Item, ItemClass, Items, Refusal, Tally};
+use crate::{Act, Facts, Import, Item, ItemClass, Items, Refusal, Rejection, Tally};
 use std::alloc::{AllocError, Global};
 use usbnum_core::{Number, Pid, Slug, Vid};
 
@@ -134,7 +133,7 @@ pub(crate) fn import(
     facts: &Facts<'_>,
     caller: &Slug,
     it: &Import,
-) -> Result<Act, Rejection>
+) -> Result<Act, Rejection<Refusal>>
     ensures { Gives result (outcome_on facts.now caller.now (orders.Import it.now)) }
 {
     let vid = facts.vendor;

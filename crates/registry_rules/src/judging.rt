@@ -11,14 +11,20 @@ use crate::importing::import;
 use crate::order_checks::{
     add_licence, add_vendor, amend, amend_org, ask, decline, enrol, give_back, grant, withdraw,
 };
-use crate::rejection::Rejection;
 use crate::span_checks::{release, reserve};
-use crate::{Act, Deed, Facts, KeptReply, Order, Refusal, Request, Verdict, request_bytes};
+use crate::{
+    Act, Deed, Facts, KeptReply, Order, Refusal, Rejection, Request, Verdict, request_bytes,
+};
 use std::alloc::{AllocError, Global};
 use usbnum_core::{NoMemory, Slug};
 
 // Checks the order and returns its act.
-fn act_on(alloc: Global, facts: &Facts<'_>, caller: &Slug, order: &Order) -> Result<Act, Rejection>
+fn act_on(
+    alloc: Global,
+    facts: &Facts<'_>,
+    caller: &Slug,
+    order: &Order,
+) -> Result<Act, Rejection<Refusal>>
     ensures { Gives result (outcome_on facts.now caller.now order.now) }
 {
     match order {

@@ -11,15 +11,14 @@ use crate::checks::{
     check_petition, check_vendor, check_wanted, number_name,
 };
 use crate::limits::{MOST_LICENCES, MOST_OPEN, MOST_ORGS, MOST_PETITIONS, MOST_VENDORS};
-use crate::rejection::Rejection;
 use crate::{
     Act, AddLicence, AddVendor, Amend, AmendOrg, Ask, Card, Decline, Enrol, Facts, Grant, Org,
-    Petition, PetitionState, Refusal, Return, Withdraw,
+    Petition, PetitionState, Refusal, Rejection, Return, Withdraw,
 };
 use usbnum_core::{Number, Slug, Vid};
 
 #[tactic(auto, unfolding(crate::specs::OnFacts::outcome_on))]
-pub(crate) fn enrol(facts: &Facts<'_>, caller: &Slug, it: &Enrol) -> Result<Act, Rejection>
+pub(crate) fn enrol(facts: &Facts<'_>, caller: &Slug, it: &Enrol) -> Result<Act, Rejection<Refusal>>
     ensures { Gives result (outcome_on facts.now caller.now (orders.Enrol it.now)) }
 {
     if facts.org.is_some() {
@@ -37,7 +36,11 @@ pub(crate) fn enrol(facts: &Facts<'_>, caller: &Slug, it: &Enrol) -> Result<Act,
 }
 
 #[tactic(auto, unfolding(crate::specs::OnFacts::outcome_on))]
-pub(crate) fn amend_org(facts: &Facts<'_>, caller: &Slug, it: &AmendOrg) -> Result<Act, Rejection>
+pub(crate) fn amend_org(
+    facts: &Facts<'_>,
+    caller: &Slug,
+    it: &AmendOrg,
+) -> Result<Act, Rejection<Refusal>>
     ensures { Gives result (outcome_on facts.now caller.now (orders.AmendOrg it.now)) }
 {
     let Some(org) = &facts.org else {
@@ -52,7 +55,7 @@ pub(crate) fn amend_org(facts: &Facts<'_>, caller: &Slug, it: &AmendOrg) -> Resu
     }))
 }
 
-fn new_petition(vid: Vid, it: &Ask) -> Result<Petition, Rejection>
+fn new_petition(vid: Vid, it: &Ask) -> Result<Petition, Rejection<Refusal>>
     ensures { Gives result (Ok (new_petition vid it.now.org it.now.want it.now.title it.now.terms)) }
 {
     Ok(Petition {
@@ -66,7 +69,7 @@ fn new_petition(vid: Vid, it: &Ask) -> Result<Petition, Rejection>
 }
 
 #[tactic(auto, unfolding(crate::specs::OnFacts::outcome_on))]
-pub(crate) fn ask(facts: &Facts<'_>, caller: &Slug, it: &Ask) -> Result<Act, Rejection>
+pub(crate) fn ask(facts: &Facts<'_>, caller: &Slug, it: &Ask) -> Result<Act, Rejection<Refusal>>
     ensures { Gives result (outcome_on facts.now caller.now (orders.Ask it.now)) }
 {
     let vid = facts.vendor;
@@ -90,7 +93,7 @@ pub(crate) fn ask(facts: &Facts<'_>, caller: &Slug, it: &Ask) -> Result<Act, Rej
 }
 
 #[tactic(auto, unfolding(crate::specs::OnFacts::outcome_on))]
-pub(crate) fn grant(facts: &Facts<'_>, caller: &Slug, it: &Grant) -> Result<Act, Rejection>
+pub(crate) fn grant(facts: &Facts<'_>, caller: &Slug, it: &Grant) -> Result<Act, Rejection<Refusal>>
     ensures { Gives result (outcome_on facts.now caller.now (orders.Grant it.now)) }
 {
     check_curator(facts.founding, caller)?;
@@ -111,7 +114,11 @@ pub(crate) fn grant(facts: &Facts<'_>, caller: &Slug, it: &Grant) -> Result<Act,
 }
 
 #[tactic(auto, unfolding(crate::specs::OnFacts::outcome_on))]
-pub(crate) fn decline(facts: &Facts<'_>, caller: &Slug, it: &Decline) -> Result<Act, Rejection>
+pub(crate) fn decline(
+    facts: &Facts<'_>,
+    caller: &Slug,
+    it: &Decline,
+) -> Result<Act, Rejection<Refusal>>
     ensures { Gives result (outcome_on facts.now caller.now (orders.Decline it.now)) }
 {
     check_curator(facts.founding, caller)?;
@@ -123,7 +130,11 @@ pub(crate) fn decline(facts: &Facts<'_>, caller: &Slug, it: &Decline) -> Result<
 }
 
 #[tactic(auto, unfolding(crate::specs::OnFacts::outcome_on))]
-pub(crate) fn withdraw(facts: &Facts<'_>, caller: &Slug, it: &Withdraw) -> Result<Act, Rejection>
+pub(crate) fn withdraw(
+    facts: &Facts<'_>,
+    caller: &Slug,
+    it: &Withdraw,
+) -> Result<Act, Rejection<Refusal>>
     ensures { Gives result (outcome_on facts.now caller.now (orders.Withdraw it.now)) }
 {
     if facts.petition.is_none() {
@@ -138,7 +149,7 @@ pub(crate) fn withdraw(facts: &Facts<'_>, caller: &Slug, it: &Withdraw) -> Resul
 }
 
 #[tactic(auto, unfolding(crate::specs::OnFacts::outcome_on))]
-pub(crate) fn amend(facts: &Facts<'_>, caller: &Slug, it: &Amend) -> Result<Act, Rejection>
+pub(crate) fn amend(facts: &Facts<'_>, caller: &Slug, it: &Amend) -> Result<Act, Rejection<Refusal>>
     ensures { Gives result (outcome_on facts.now caller.now (orders.Amend it.now)) }
 {
     let number = Number {
@@ -157,7 +168,11 @@ pub(crate) fn amend(facts: &Facts<'_>, caller: &Slug, it: &Amend) -> Result<Act,
 }
 
 #[tactic(auto, unfolding(crate::specs::OnFacts::outcome_on))]
-pub(crate) fn give_back(facts: &Facts<'_>, caller: &Slug, it: &Return) -> Result<Act, Rejection>
+pub(crate) fn give_back(
+    facts: &Facts<'_>,
+    caller: &Slug,
+    it: &Return,
+) -> Result<Act, Rejection<Refusal>>
     ensures { Gives result (outcome_on facts.now caller.now (orders.Return it.now)) }
 {
     let number = Number {
@@ -170,7 +185,11 @@ pub(crate) fn give_back(facts: &Facts<'_>, caller: &Slug, it: &Return) -> Result
 }
 
 #[tactic(auto, unfolding(crate::specs::OnFacts::outcome_on))]
-pub(crate) fn add_vendor(facts: &Facts<'_>, caller: &Slug, it: &AddVendor) -> Result<Act, Rejection>
+pub(crate) fn add_vendor(
+    facts: &Facts<'_>,
+    caller: &Slug,
+    it: &AddVendor,
+) -> Result<Act, Rejection<Refusal>>
     ensures { Gives result (outcome_on facts.now caller.now (orders.AddVendor it.now)) }
 {
     check_curator(facts.founding, caller)?;
@@ -191,7 +210,7 @@ pub(crate) fn add_licence(
     facts: &Facts<'_>,
     caller: &Slug,
     it: &AddLicence,
-) -> Result<Act, Rejection>
+) -> Result<Act, Rejection<Refusal>>
     ensures { Gives result (outcome_on facts.now caller.now (orders.AddLicence it.now)) }
 {
     check_curator(facts.founding, caller)?;

@@ -1,4 +1,4 @@
-//! The error of the checks.
+//! Why a check, or the reading of a text, ends early.
 
 ghost use Rattle.std.specs.Prelude.{◌≡◌};
 ghost use Rattle.registry_rules.specs.declared.rejection.Rejection.TheVariants.{Refused as WasRefused, OutOfMemory};
@@ -7,33 +7,35 @@ use crate::Refusal;
 use std::alloc::AllocError;
 use usbnum_core::NoMemory;
 
-/// The reason why a check ends early.
+/// The reason why a check, or the reading of a text, ends early. `R` is the type of its refusals.
 #[derive(Debug, Drop)]
-pub(crate) enum Rejection {
-    Refused(Refusal),
+pub enum Rejection<R> {
+    /// It is refused, for this reason.
+    Refused(R),
+    /// Memory ran out before the decision.
     OutOfMemory,
 }
 
-impl From<Refusal> for Rejection {
+impl From<Refusal> for Rejection<Refusal> {
     ghost from_gives = { λ refusal rejection. rejection ≡ WasRefused refusal };
 
-    fn from(refusal: Refusal) -> Rejection {
+    fn from(refusal: Refusal) -> Rejection<Refusal> {
         Rejection::Refused(refusal)
     }
 }
 
-impl From<AllocError> for Rejection {
+impl<R> From<AllocError> for Rejection<R> {
     ghost from_gives = { λ _ rejection. rejection ≡ OutOfMemory };
 
-    fn from(_error: AllocError) -> Rejection {
+    fn from(_error: AllocError) -> Rejection<R> {
         Rejection::OutOfMemory
     }
 }
 
-impl From<NoMemory> for Rejection {
+impl<R> From<NoMemory> for Rejection<R> {
     ghost from_gives = { λ _ rejection. rejection ≡ OutOfMemory };
 
-    fn from(_error: NoMemory) -> Rejection {
+    fn from(_error: NoMemory) -> Rejection<R> {
         Rejection::OutOfMemory
     }
 }

@@ -6,8 +6,7 @@ ghost use Rattle.registry_rules.specs.OnFacts.{is_in_span, least_with, span_meet
 ghost use Rattle.registry_rules.specs.declared.order.Order.TheVariants as orders;
 
 use crate::checks::{check_curator, check_vendor, number_name, span_name};
-use crate::rejection::Rejection;
-use crate::{Act, Facts, Founding, Holding, Holdings, Refusal, Release, Reserve};
+use crate::{Act, Facts, Founding, Holding, Holdings, Refusal, Rejection, Release, Reserve};
 use usbnum_core::{Number, Pid, Slug, Span, Spans, Vid};
 
 // Whether a number of the span is fixed.
@@ -59,7 +58,11 @@ fn least_owned(holdings: &Holdings, vid: Vid, span: &Span) -> Option<Pid>
 }
 
 #[tactic(auto, unfolding(crate::specs::OnFacts::outcome_on))]
-pub(crate) fn reserve(facts: &Facts<'_>, caller: &Slug, it: &Reserve) -> Result<Act, Rejection>
+pub(crate) fn reserve(
+    facts: &Facts<'_>,
+    caller: &Slug,
+    it: &Reserve,
+) -> Result<Act, Rejection<Refusal>>
     ensures { Gives result (outcome_on facts.now caller.now (orders.Reserve it.now)) }
 {
     let vid = facts.vendor;
@@ -77,7 +80,11 @@ pub(crate) fn reserve(facts: &Facts<'_>, caller: &Slug, it: &Reserve) -> Result<
 }
 
 #[tactic(auto, unfolding(crate::specs::OnFacts::outcome_on))]
-pub(crate) fn release(facts: &Facts<'_>, caller: &Slug, it: &Release) -> Result<Act, Rejection>
+pub(crate) fn release(
+    facts: &Facts<'_>,
+    caller: &Slug,
+    it: &Release,
+) -> Result<Act, Rejection<Refusal>>
     ensures { Gives result (outcome_on facts.now caller.now (orders.Release it.now)) }
 {
     let vid = facts.vendor;
