@@ -12,7 +12,7 @@ use crate::{
 };
 use std::alloc::{AllocError, Global};
 use std::fmt::{self, Write};
-use usbnum_core::{NoMemory, Pid, Slug, Title, Vid};
+use usbnum_core::{NoMemory, Pid, Slug, Span, Title, Vid};
 
 /// Returns the canonical form of the request's order: its fields, separated by tabs. Two orders are
 /// equal if their canonical forms are.
@@ -54,24 +54,29 @@ fn order_text(alloc: Global, order: &Order) -> Result<String, AllocError>
             let vendor = VendorField { vendor: *vendor };
             format!(in alloc; "return\t{number}{vendor}")
         }
-        Order::Reserve(Reserve { span, vendor }) => {
-            let first = span.first();
-            let last = span.last();
-            let vendor = VendorField { vendor: *vendor };
-            format!(in alloc; "reserve\t{first}\t{last}{vendor}")
-        }
-        Order::Release(Release { span, vendor }) => {
-            let first = span.first();
-            let last = span.last();
-            let vendor = VendorField { vendor: *vendor };
-            format!(in alloc; "release\t{first}\t{last}{vendor}")
-        }
+        Order::Reserve(Reserve { span, vendor }) => span_text(alloc, "reserve", span, *vendor),
+        Order::Release(Release { span, vendor }) => span_text(alloc, "release", span, *vendor),
         Order::Import(it) => import_text(alloc, &it.org, it.items.as_slice(), it.vendor),
         Order::AddVendor(AddVendor { vendor, name }) => {
             format!(in alloc; "add-vendor\t{vendor}\t{name}")
         }
         Order::AddLicence(AddLicence { licence }) => format!(in alloc; "add-licence\t{licence}"),
     }
+}
+
+// The order with this word on a span of numbers.
+fn span_text(
+    alloc: Global,
+    word: &str,
+    span: &Span,
+    vendor: Option<Vid>,
+) -> Result<String, AllocError>
+    ensures { IfOk result (λ text. string_bytes text ≡ join_with_byte 9 (word.now ∷ digits_of span.now.first ∷ digits_of span.now.last ∷ vendor_fields vendor)) }
+{
+    let first = span.first();
+    let last = span.last();
+    let vendor = VendorField { vendor };
+    format!(in alloc; "{word}\t{first}\t{last}{vendor}")
 }
 
 // The fields of the title, the terms and the vendor of an order.
