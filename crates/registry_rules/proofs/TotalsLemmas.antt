@@ -1,5 +1,5 @@
 -- Totals that are updated with a deed are those of the history with the deed.
-use Rattle.std.proofs.Common.{◌≡◌, ◌∙◌, ap, ap₂, subst, sym, refl, ℕ, ◌+◌, ◌-◌, ◌<◌, ◌≤◌, true, false, List, [], ◌∷◌, ◌++◌, None, length, length-append, append_assoc, arith}
+use Rattle.std.proofs.Common.{◌≡◌, ◌∙◌, ap, ap₂, subst, sym, refl, ℕ, ◌+◌, ◌-◌, ◌<◌, ◌≤◌, true, false, List, [], ◌∷◌, ◌++◌, None, Some, length, length-append, append_assoc, arith}
 use Rattle.std.specs.Prelude.{nat_eq, nat_lt, find, is_some, if◌then◌else◌, ◌&&◌, ◌||◌, not}
 use Rattle.std.proofs.lemmas.Bool.{ltb-true}
 use Rattle.std.specs.List.{list_any}
@@ -7,16 +7,17 @@ use Rattle.std.specs.Str.{bytes_eq}
 use Rattle.std.proofs.lemmas.List.Folds.{find-append, list_any-append}
 use Rattle.usbnum_core.specs.Spans.{span_has, spans_have}
 use Rattle.usbnum_core.specs.declared.number.Number.{Number}
+use Rattle.registry_rules.specs.Limits.{greatest_count}
 use Rattle.registry_rules.specs.Number.{number_eq}
 use Rattle.std.specs.Option.{option_or}
 use Rattle.registry_rules.specs.History.{History, with_deed, last_of, all_of}
-use Rattle.registry_rules.specs.Query.{enrolled, asked, open_count, owner_of, is_reserved, is_fixed, is_licence, licences, vendors, item_of, adds_licence, adds_vendor, reserves}
+use Rattle.registry_rules.specs.Query.{enrolled, asked, open_count, petition_of, with_state, is_open, owner_of, is_reserved, is_fixed, is_licence, licences, vendors, item_of, adds_licence, adds_vendor, reserves}
 use Rattle.registry_rules.specs.Records.{LeadsTo}
 use Rattle.registry_rules.specs.Changes.{act_changes}
 use Rattle.registry_rules.specs.Run.{Legal}
 use Rattle.registry_rules.specs.Sets.{count_at, spans_at}
 use Rattle.registry_rules.specs.FactsOf.{IsCurrentFounding, AreVendorsOf}
-use Rattle.registry_rules.specs.TotalsOf.{IsSummary, AreTotalsOf}
+use Rattle.registry_rules.specs.TotalsOf.{IsSummary, AreTotalsOf, is_taken}
 use Rattle.registry_rules.specs.Carrying.{CarriesAsks, CarriesCloses, HasTaken, CarriesReserves, Releases, CarriesImports, Allows, Carries}
 use Rattle.registry_rules.specs.Verdict.{verdict, standing_at}
 use Rattle.registry_rules.proofs.FollowLemmas.{CanEnrol, CanAsk, CanGrant, CanClose, CanRelease, CanImport, Follows, new_follows}
@@ -38,6 +39,7 @@ use Rattle.registry_rules.specs.declared.order.Request.{Request}
 use Rattle.registry_rules.specs.declared.record.Org.{Org}
 use Rattle.registry_rules.specs.declared.record.Petition.{Petition}
 use Rattle.registry_rules.specs.declared.record.Card.{Card}
+use Rattle.registry_rules.specs.declared.record.PetitionState.{PetitionState}
 use Rattle.registry_rules.specs.declared.record.PetitionState.TheVariants.{Granted as StateGranted, Declined as StateDeclined, Withdrawn as StateWithdrawn}
 use Rattle.registry_rules.specs.declared.record.Vendor.{Vendor}
 use Rattle.registry_rules.specs.declared.name.NumberName.{NumberName}
@@ -72,10 +74,10 @@ the_deed caller key order act = record { caller = caller; key = key; order = ord
 
 -- an enrolment: one more organisation
 enrolled_more : (h : History) (caller key : List ℕ) (order : Order) (org : Org) (old new : Totals) → CanEnrol h caller org
-    → (old.orgs < 4294967295 → new ≡ record old { orgs = old.orgs + 1 }) → IsSummary h old → IsSummary (with_deed h (the_deed caller key order (Enrolled org))) new
+    → (old.orgs < greatest_count → new ≡ record old { orgs = old.orgs + 1 }) → IsSummary h old → IsSummary (with_deed h (the_deed caller key order (Enrolled org))) new
 enrolled_more h caller key order org old new can is s =
     let deed = the_deed caller key order (Enrolled org) in
-    let few : length (enrolled h) < 4294967295 = below_limit (length (enrolled h)) MOST_ORGS 4294967295 can.below (omega arith) in
+    let few : length (enrolled h) < greatest_count = below_limit (length (enrolled h)) MOST_ORGS greatest_count can.below (omega arith) in
     let count : old.orgs ≡ length (enrolled h) = s.orgs in
     let now : new ≡ record old { orgs = old.orgs + 1 } = is (omega (arith, few, count)) in
     let more : length (enrolled h ++ org ∷ []) ≡ length (enrolled h) + 1 = length-append (enrolled h) (org ∷ []) in
@@ -96,8 +98,8 @@ asked_more : (h : History) (caller key : List ℕ) (order : Order) (id : ℕ) (p
     → CarriesAsks old new petition.org → IsSummary h old → IsSummary (with_deed h (the_deed caller key order (Asked id petition))) new
 asked_more h caller key order id petition old new can leads is s =
     let deed = the_deed caller key order (Asked id petition) in
-    let few : length (asked h) < 4294967295 = below_limit (length (asked h)) MOST_PETITIONS 4294967295 can.below (omega arith) in
-    let few_open : open_count h petition.org < 4294967295 = below_limit (open_count h petition.org) MOST_OPEN 4294967295 can.few_open (omega arith) in
+    let few : length (asked h) < greatest_count = below_limit (length (asked h)) MOST_PETITIONS greatest_count can.below (omega arith) in
+    let few_open : open_count h petition.org < greatest_count = below_limit (open_count h petition.org) MOST_OPEN greatest_count can.few_open (omega arith) in
     let count : old.petitions ≡ length (asked h) = s.petitions in
     let count_open : count_at old.still_open petition.org ≡ open_count h petition.org = s.still_open petition.org in
     let more : length (asked h ++ petition ∷ []) ≡ length (asked h) + 1 = length-append (asked h) (petition ∷ []) in
@@ -137,85 +139,42 @@ granted_more h caller key order id petition name old mid new can leads closes ta
       nothing = s.nothing;
     })
 
-declined_less : (h : History) (caller key : List ℕ) (order : Order) (id : ℕ) (petition : Petition) (old new : Totals) → CanClose h id petition
-    → LeadsTo (act_changes (Declined id petition)) h (with_deed h (the_deed caller key order (Declined id petition)))
-    → CarriesCloses old new petition.org → IsSummary h old → IsSummary (with_deed h (the_deed caller key order (Declined id petition))) new
-declined_less h caller key order id petition old new can leads is s =
-    let deed = the_deed caller key order (Declined id petition) in
-    subst (λ t. IsSummary (with_deed h deed) t) (sym is.same) (record {
-      founding = keeps_founding h deed old.founding refl s.founding;
-      vendors = keeps_vendors h deed old.vendors refl s.vendors;
-      orgs = s.orgs;
-      petitions = s.petitions;
-      still_open = λ slug. is.closed slug ∙ ap (λ n. if bytes_eq petition.org slug then n - 1 else n) (s.still_open slug)
-          ∙ sym (open_after_close h (with_deed h deed) id petition StateDeclined leads.petitions can.there can.was_open refl refl slug);
-      taken = s.taken;
-      reserved = s.reserved;
-      nothing = s.nothing;
-    })
+-- a deed that enrols no one, opens no petition, adds no vendor and no licence, and neither gives nor reserves a number
+record KeepsTotals (h : History) (deed : Deed) : Type 0 where
+  licence : adds_licence deed.act ≡ None
+  vendor : adds_vendor deed.act ≡ None
+  orgs : length (enrolled h) ≡ length (enrolled (with_deed h deed))
+  petitions : length (asked h) ≡ length (asked (with_deed h deed))
+  taken : (n : Number) → is_taken h n ≡ is_taken (with_deed h deed) n
+  reserved : (n : Number) → is_reserved h n ≡ is_reserved (with_deed h deed) n
 
-withdrawn_less : (h : History) (caller key : List ℕ) (order : Order) (id : ℕ) (petition : Petition) (old new : Totals) → CanClose h id petition
-    → LeadsTo (act_changes (Withdrawn id petition)) h (with_deed h (the_deed caller key order (Withdrawn id petition)))
-    → CarriesCloses old new petition.org → IsSummary h old → IsSummary (with_deed h (the_deed caller key order (Withdrawn id petition))) new
-withdrawn_less h caller key order id petition old new can leads is s =
-    let deed = the_deed caller key order (Withdrawn id petition) in
-    subst (λ t. IsSummary (with_deed h deed) t) (sym is.same) (record {
-      founding = keeps_founding h deed old.founding refl s.founding;
-      vendors = keeps_vendors h deed old.vendors refl s.vendors;
-      orgs = s.orgs;
-      petitions = s.petitions;
-      still_open = λ slug. is.closed slug ∙ ap (λ n. if bytes_eq petition.org slug then n - 1 else n) (s.still_open slug)
-          ∙ sym (open_after_close h (with_deed h deed) id petition StateWithdrawn leads.petitions can.there can.was_open refl refl slug);
-      taken = s.taken;
-      reserved = s.reserved;
-      nothing = s.nothing;
-    })
+-- only the open counts change
+only_open : (h : History) (deed : Deed) (old new : Totals) → KeepsTotals h deed → new ≡ record old { still_open = new.still_open }
+    → ((slug : List ℕ) → count_at new.still_open slug ≡ open_count (with_deed h deed) slug) → IsSummary h old → IsSummary (with_deed h deed) new
+only_open h deed old new keeps same opened s = subst (λ t. IsSummary (with_deed h deed) t) (sym same) (record {
+  founding = keeps_founding h deed old.founding keeps.licence s.founding;
+  vendors = keeps_vendors h deed old.vendors keeps.vendor s.vendors;
+  orgs = s.orgs ∙ keeps.orgs;
+  petitions = s.petitions ∙ keeps.petitions;
+  still_open = opened;
+  taken = λ n. s.taken n ∙ keeps.taken n;
+  reserved = λ n. s.reserved n ∙ keeps.reserved n;
+  nothing = s.nothing;
+})
 
--- an amendment or a return changes no total
-org_amended_same : (h : History) (caller key : List ℕ) (order : Order) (org : Org) (old new : Totals) → new ≡ old → IsSummary h old
-    → IsSummary (with_deed h (the_deed caller key order (OrgAmended org))) new
-org_amended_same h caller key order org old new is s =
-    let deed = the_deed caller key order (OrgAmended org) in
-    subst (λ t. IsSummary (with_deed h deed) t) (sym is) (record {
-      founding = keeps_founding h deed old.founding refl s.founding;
-      vendors = keeps_vendors h deed old.vendors refl s.vendors;
-      orgs = s.orgs;
-      petitions = s.petitions;
-      still_open = s.still_open;
-      taken = s.taken;
-      reserved = s.reserved;
-      nothing = s.nothing;
-    })
+-- an amendment or a return: no total changes
+no_total : (h : History) (deed : Deed) (old new : Totals) → KeepsTotals h deed → ((slug : List ℕ) → open_count h slug ≡ open_count (with_deed h deed) slug)
+    → new ≡ old → IsSummary h old → IsSummary (with_deed h deed) new
+no_total h deed old new keeps as_before is s =
+    subst (λ t. IsSummary (with_deed h deed) t) (sym is) (only_open h deed old old keeps refl (λ slug. s.still_open slug ∙ as_before slug) s)
 
-card_amended_same : (h : History) (caller key : List ℕ) (order : Order) (name : NumberName) (card : Card) (old new : Totals) → new ≡ old → IsSummary h old
-    → IsSummary (with_deed h (the_deed caller key order (CardAmended name card))) new
-card_amended_same h caller key order name card old new is s =
-    let deed = the_deed caller key order (CardAmended name card) in
-    subst (λ t. IsSummary (with_deed h deed) t) (sym is) (record {
-      founding = keeps_founding h deed old.founding refl s.founding;
-      vendors = keeps_vendors h deed old.vendors refl s.vendors;
-      orgs = s.orgs;
-      petitions = s.petitions;
-      still_open = s.still_open;
-      taken = s.taken;
-      reserved = s.reserved;
-      nothing = s.nothing;
-    })
-
-returned_same : (h : History) (caller key : List ℕ) (order : Order) (name : NumberName) (old new : Totals) → new ≡ old → IsSummary h old
-    → IsSummary (with_deed h (the_deed caller key order (Returned name))) new
-returned_same h caller key order name old new is s =
-    let deed = the_deed caller key order (Returned name) in
-    subst (λ t. IsSummary (with_deed h deed) t) (sym is) (record {
-      founding = keeps_founding h deed old.founding refl s.founding;
-      vendors = keeps_vendors h deed old.vendors refl s.vendors;
-      orgs = s.orgs;
-      petitions = s.petitions;
-      still_open = s.still_open;
-      taken = s.taken;
-      reserved = s.reserved;
-      nothing = s.nothing;
-    })
+-- a petition is declined or withdrawn: one fewer is open
+closed_less : (h : History) (deed : Deed) (id : ℕ) (petition : Petition) (state : PetitionState) (old new : Totals) → KeepsTotals h deed → CanClose h id petition
+    → is_open state ≡ false → ((i : ℕ) → (if nat_eq id i then Some (with_state state petition) else petition_of h i) ≡ petition_of (with_deed h deed) i)
+    → CarriesCloses old new petition.org → IsSummary h old → IsSummary (with_deed h deed) new
+closed_less h deed id petition state old new keeps can closed at is s =
+    only_open h deed old new keeps is.same (λ slug. is.closed slug ∙ ap (λ n. if bytes_eq petition.org slug then n - 1 else n) (s.still_open slug)
+    ∙ sym (open_after_close h (with_deed h deed) id petition state at can.there can.was_open closed (sym keeps.petitions) slug)) s
 
 reserved_more : (h : History) (caller key : List ℕ) (order : Order) (name : SpanName) (old new : Totals) → CarriesReserves old new name.vid name.span
     → IsSummary h old → IsSummary (with_deed h (the_deed caller key order (Reserved name))) new
@@ -325,13 +284,18 @@ licence_more h caller key order licence old new after is s =
 carries_by : (h : History) (caller key : List ℕ) (order : Order) (act : Act) (old new : Totals) → Legal h → Legal (with_deed h (the_deed caller key order act)) → Follows h caller act
     → LeadsTo (act_changes act) h (with_deed h (the_deed caller key order act)) → Carries old new act → IsSummary h old → IsSummary (with_deed h (the_deed caller key order act)) new
 carries_by h caller key order (Enrolled org) old new legal after can leads is s = enrolled_more h caller key order org old new can is s
-carries_by h caller key order (OrgAmended org) old new legal after can leads is s = org_amended_same h caller key order org old new is s
+carries_by h caller key order (OrgAmended org) old new legal after can leads is s = no_total h (the_deed caller key order (OrgAmended org)) old new
+    (record { licence = refl; vendor = refl; orgs = refl; petitions = refl; taken = λ n. refl; reserved = λ n. refl }) (λ slug. refl) is s
 carries_by h caller key order (Asked id petition) old new legal after can leads is s = asked_more h caller key order id petition old new can leads is s
 carries_by h caller key order (Granted id petition name) old new legal after can leads is s = granted_more h caller key order id petition name old is.0 new can leads is.1 is.2 s
-carries_by h caller key order (Declined id petition) old new legal after can leads is s = declined_less h caller key order id petition old new can leads is s
-carries_by h caller key order (Withdrawn id petition) old new legal after can leads is s = withdrawn_less h caller key order id petition old new can leads is s
-carries_by h caller key order (CardAmended name card) old new legal after can leads is s = card_amended_same h caller key order name card old new is s
-carries_by h caller key order (Returned name) old new legal after can leads is s = returned_same h caller key order name old new is s
+carries_by h caller key order (Declined id petition) old new legal after can leads is s = closed_less h (the_deed caller key order (Declined id petition)) id petition StateDeclined old new
+    (record { licence = refl; vendor = refl; orgs = refl; petitions = refl; taken = λ n. refl; reserved = λ n. refl }) can refl leads.petitions is s
+carries_by h caller key order (Withdrawn id petition) old new legal after can leads is s = closed_less h (the_deed caller key order (Withdrawn id petition)) id petition StateWithdrawn old new
+    (record { licence = refl; vendor = refl; orgs = refl; petitions = refl; taken = λ n. refl; reserved = λ n. refl }) can refl leads.petitions is s
+carries_by h caller key order (CardAmended name card) old new legal after can leads is s = no_total h (the_deed caller key order (CardAmended name card)) old new
+    (record { licence = refl; vendor = refl; orgs = refl; petitions = refl; taken = λ n. refl; reserved = λ n. refl }) (λ slug. refl) is s
+carries_by h caller key order (Returned name) old new legal after can leads is s = no_total h (the_deed caller key order (Returned name)) old new
+    (record { licence = refl; vendor = refl; orgs = refl; petitions = refl; taken = λ n. refl; reserved = λ n. refl }) (λ slug. refl) is s
 carries_by h caller key order (Reserved name) old new legal after can leads is s = reserved_more h caller key order name old new is s
 carries_by h caller key order (Released name) old new legal after can leads is s = released_less h caller key order name old new legal can is s
 carries_by h caller key order (Imported vid org fresh tally) old new legal after can leads is s = imported_more h caller key order vid org fresh tally old new can is s

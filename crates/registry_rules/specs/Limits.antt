@@ -28,3 +28,7 @@ most_curators = 64
 -- the most items of one import
 abbrev pub most_items : ℕ
 most_items = 8192
+
+-- the greatest count that totals hold; the limits above keep each count below it
+abbrev pub greatest_count : ℕ
+greatest_count = 4294967295

@@ -1,6 +1,7 @@
 //! The effect of each kind of act on totals.
 
 ghost use Rattle.std.specs.Prelude.{◌≡◌, ◌<◌, ◌+◌, ◌++◌, ◌∷◌, [], OnOk};
+ghost use Rattle.registry_rules.specs.Limits.{greatest_count};
 ghost use Rattle.registry_rules.specs.Carrying.{CarriesAsks, CarriesCloses, HasTaken, CarriesReserves, Releases, CarriesImports, Allows, Carries};
 
 use crate::counting::{add_number, add_span, cut_span, one_less, one_more};
@@ -45,7 +46,7 @@ pub(crate) fn carry_act(totals: &mut Totals, act: &Act) -> Result<(), NoMemory>
 }
 
 fn enrolled(totals: &mut Totals)
-    ensures { totals.old.orgs < 4294967295 → totals.new ≡ record totals.old { orgs = totals.old.orgs + 1 } }
+    ensures { totals.old.orgs < greatest_count → totals.new ≡ record totals.old { orgs = totals.old.orgs + 1 } }
 {
     totals.orgs = totals.orgs.saturating_add(1);
 }
