@@ -104,9 +104,9 @@ tallied_next old new xs i x within is so_far step slug = elim (cases_Bool (bytes
   | inr e ↦ step slug ∙ rw e (so_far slug ∙ next_other xs i x slug within is (flipped x.1.org slug e))
 ]
 
-pub small : (m : BTreeMap (List ℕ) Tally) (xs : List Pair) (i : ℕ) (slug : List ℕ) → i < length xs → ((slug : List ℕ) → get (slice_cmp nat_cmp) m slug ≡ tallied (take i xs) slug)
+pub tally_below : (m : BTreeMap (List ℕ) Tally) (xs : List Pair) (i : ℕ) (slug : List ℕ) → i < length xs → ((slug : List ℕ) → get (slice_cmp nat_cmp) m slug ≡ tallied (take i xs) slug)
     → ((unwrap_or (get (slice_cmp nat_cmp) m slug) zero).held ≤ i) × ((unwrap_or (get (slice_cmp nat_cmp) m slug) zero).returned ≤ i)
-small m xs i slug within so_far =
+tally_below m xs i slug within so_far =
     let is : unwrap_or (get (slice_cmp nat_cmp) m slug) zero ≡ tally_of (take i xs) slug = ap (λ (o : Option Tally). unwrap_or o zero) (so_far slug) ∙ unwrapped slug (take i xs) in
     let short : length (take i xs) ≡ i = length-take-le i xs (omega arith) in
     rw is ((let most = count_by-le-length (holds_for slug) (take i xs) in omega (arith, short)), (let most = count_by-le-length (returned_by slug) (take i xs) in omega (arith, short)))

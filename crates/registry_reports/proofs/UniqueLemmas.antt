@@ -173,8 +173,8 @@ agree_at v a b (Some t) (Some u) i j all each names mids =
     let same : t.name ≡ u.name = cc in
     ap (λ (x : TopEntry). Some x) (one_top v t u (picked IsVendorOfDevices top_code v a t all i) (picked IsVendorOfDevices top_code v b u each j) same mids)
 
-pub one : HasOneList
-one h a b left right =
+pub one_list : HasOneList
+one_list h a b left right =
     let up = sorted_from_strictly_increasing (map top_code a) left.ascend in
     let rise = sorted_from_strictly_increasing (map top_code b) right.ascend in
     list_is_one top_code a b up rise (λ v. agree_at v a b (at top_code v a) (at top_code v b) refl refl left.each right.each

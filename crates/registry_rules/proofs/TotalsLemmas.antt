@@ -38,7 +38,6 @@ use Rattle.registry_rules.specs.declared.order.Order.{Order}
 use Rattle.registry_rules.specs.declared.order.Request.{Request}
 use Rattle.registry_rules.specs.declared.record.Org.{Org}
 use Rattle.registry_rules.specs.declared.record.Petition.{Petition}
-use Rattle.registry_rules.specs.declared.record.Card.{Card}
 use Rattle.registry_rules.specs.declared.record.PetitionState.{PetitionState}
 use Rattle.registry_rules.specs.declared.record.PetitionState.TheVariants.{Granted as StateGranted, Declined as StateDeclined, Withdrawn as StateWithdrawn}
 use Rattle.registry_rules.specs.declared.record.Vendor.{Vendor}

@@ -1,5 +1,5 @@
-use Rattle.registry_reports.proofs.UniqueLemmas.{one}
+use Rattle.registry_reports.proofs.UniqueLemmas.{one_list}
 use Rattle.registry_reports.proofs.laws.has_one_list.Goals as goal
 
 pub returns : goal.returns
-returns c = one
+returns c = one_list
