@@ -31,7 +31,8 @@ pub record IsAt (v : ℕ) (s : State) (h : History) : Type 0 where
   pub shown : HasCleanDisk s → IsTrue s.is_open → (s.now ≡ s.committed) × Rows v s.committed.trees h
   pub left : HasCleanDisk s → Leaves v s (λ x. x ≡ h)
 
--- Over a clean disk: the connection is open and at rest, and shows the rows of the history. It was just opened.
+-- Over a clean disk: the connection is open, and shows the committed rows of the history. Unlike `IsAt` this says nothing about a
+-- crash; a connection that was just opened has it.
 abbrev pub IsFreshAt : ℕ → State → History → Type 0
 IsFreshAt v s h = HasCleanDisk s → IsTrue s.is_open × (s.now ≡ s.committed) × Rows v s.committed.trees h
 
@@ -40,8 +41,9 @@ pub record IsLegalWith (totals : Totals) (h : History) : Type 0 where
   pub legal : Legal h
   pub totals_are : AreTotalsOf h totals
 
--- This holds of every call, whatever it commits: an unclean disk stays unclean, a shielded store stays shielded, the count of
--- faults never falls, and over a clean disk only a fault closes the connection.
+-- This holds of every call, whatever it commits: an unclean disk stays unclean; if each read was tested against a digest, it
+-- still is (`IsShielded`); the count of failed calls of the disk never falls; and over a clean disk the connection shuts only if
+-- such a call fails.
 pub record Endures (old new : State) : Type 0 where
   pub clean : doubt old.is_clean ≤ doubt new.is_clean
   pub shield : old.IsShielded → new.IsShielded

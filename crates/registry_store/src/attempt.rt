@@ -7,7 +7,7 @@ ghost use Rattle.table_laws.specs.Inside.{CommitsNothing};
 ghost use Rattle.registry_rules.specs.History.{History};
 ghost use Rattle.registry_rules.specs.Verdict.{verdict};
 ghost use Rattle.registry_rules.specs.declared.deed.Deed.{Deed};
-ghost use Rattle.registry_rules.specs.declared.verdict.Verdict.TheVariants as found;
+ghost use Rattle.registry_rules.specs.declared.verdict.Verdict.TheVariants as verdicts;
 ghost use Rattle.registry_rules.specs.Reply.{act_text};
 ghost use Rattle.registry_rules.specs.Run.{after_one, reply_to};
 ghost use Rattle.registry_rules.specs.TotalsOf.{AreTotalsOf};
@@ -83,7 +83,7 @@ pub(crate) fn attempt<S: Alter>(
     ensures answered { HasCleanDisk (state S.Store conn.new) → IfOk result (λ reply. (h : History) → IsLegalWith totals.old h → IsAt newest (state S.Store conn.old) h
         → (reply ≡ reply_to h request.now) × IsLegalWith totals.new (after_one h request.now) × IsAt newest (state S.Store conn.new) (after_one h request.now)) }
     ensures open { HasCleanDisk (state S.Store conn.new) → OnOk result ((h : History) (deed : Deed) → IsLegalWith totals.old h → IsAt newest (state S.Store conn.old) h
-        → verdict h request.now ≡ found.New deed → IsTrue (state S.Store conn.new).is_open) }
+        → verdict h request.now ≡ verdicts.New deed → IsTrue (state S.Store conn.new).is_open) }
     ensures foreign { HasCleanDisk (state S.Store conn.new) → result ≡ Err TableFault.Foreign → (h : History) → IsLegalWith totals.old h → IsAt newest (state S.Store conn.old) h → ⊥ }
     ensures survives { Survives (state S.Store conn.old) (state S.Store conn.new) (CommitsOne (state S.Store conn.old) totals.old request.now) }
 {

@@ -18,7 +18,8 @@ pub enum Fault {
     Foreign,
     /// The database already has a table `meta`, so no registry is founded in it.
     Taken,
-    /// An earlier call of this registry had a fault. Close the registry and open it again.
+    /// An earlier `act` had a fault. Take the connection back, close it and open the files again; to
+    /// open a registry on the same connection is not enough.
     Poisoned,
 }
 

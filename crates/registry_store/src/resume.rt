@@ -92,7 +92,8 @@ pub fn crash_and_open_store<D: Crash + Drop>(
     open_files(alloc, files, options)
 }
 
-/// Abandons the registry while the disks go on, as when the process ends, and opens it again.
+/// Abandons the registry without a crash of the disks, as when the process ends, and opens it again.
+/// Returns `None` if a disk is no longer usable, or if the opening fails.
 pub fn leave_and_open<D: Disk + Drop>(
     alloc: Global,
     registry: Registry<FileStore<D>>,
@@ -109,7 +110,8 @@ pub fn leave_and_open<D: Disk + Drop>(
     open_files(alloc, files, options)
 }
 
-/// Closes the registry, which copies its log into its database file, and opens it again.
+/// Closes the registry, which copies its log into its database file, and opens it again. Returns
+/// `None` if closing or opening fails.
 pub fn close_and_open<D: Disk + Drop>(
     alloc: Global,
     registry: Registry<FileStore<D>>,
@@ -135,8 +137,10 @@ fn let_go<D: Disk + Drop>(registry: Registry<FileStore<D>>) {
 /// resumes from the first unanswered request, for at most `stops` runs. If the registry has a fault
 /// while it is opened, it crashes both disks and opens it again, at most `stops` times a run.
 ///
-/// However often that happens, the replies and the tables are those of a run without faults. If it
-/// does not finish, it returns the replies so far, which are a prefix of that run's replies.
+/// If the first registry represents a history, and the disks of the returned one are clean, the
+/// replies and the tables are those of a run without faults, however often that happens. If it does
+/// not finish, it returns the replies so far. That these are a prefix of that run's replies is
+/// promised only for disks that always read back what was written, as disks in memory do.
 pub fn run_through<D: Crash + Drop>(
     alloc: Global,
     first: Registry<FileStore<D>>,
@@ -153,6 +157,7 @@ pub fn run_through<D: Crash + Drop>(
     let mut registry = first;
     let mut replies: Vec<Reply> = Vec::new(alloc);
     'stops: for _ in 0..stops {
+        // `run_from` requires this bound, and no clause without a premise bounds its replies.
         if replies.len() > requests.len() {
             let_go(registry);
             return Err(replies);
@@ -203,7 +208,7 @@ pub fn crash_and_run_through<D: Crash + Drop>(
 }
 
 /// Founds a registry over two new disks in memory, and acts on the requests there, with a crash of
-/// both after each stop.
+/// both after each fault.
 ///
 /// The contract assumes nothing of the disks: the result is what the rules say, and the disks are
 /// clean.

@@ -24,20 +24,20 @@ returns-in-Err-Cut-clause-run g c h at clean =
     let room : length c.args.requests.now - c.args.answered ≤ vec_capacity c.in-Ok.replies = omega (arith, c.in-Ok.ensures.exact) in
     absurd (has_room c.run_to.new.self h c.args.requests.now c.args.answered stop.0 c.in-Ok.replies c.run_to.new.replies c.in-Ok.ensures.items room stop.1)
 
-pub returns-in-Ok-run_to-clause-holders : goal.returns-in-Ok-run_to-clause-holders
-returns-in-Ok-run_to-clause-holders g c h legal n deed org has gives = one_organisation (after h c.args.requests.now) (legal_after h c.args.requests.now legal) n deed org has gives
+pub returns-in-Ok-run_to-clause-one_owner : goal.returns-in-Ok-run_to-clause-one_owner
+returns-in-Ok-run_to-clause-one_owner g c h legal n deed org has gives = one_organisation (after h c.args.requests.now) (legal_after h c.args.requests.now legal) n deed org has gives
 
-pub returns-in-Err-Fault-clause-holders : goal.returns-in-Err-Fault-clause-holders
-returns-in-Err-Fault-clause-holders g c h legal n deed org has gives = one_organisation (after h c.args.requests.now) (legal_after h c.args.requests.now legal) n deed org has gives
+pub returns-in-Err-Fault-clause-one_owner : goal.returns-in-Err-Fault-clause-one_owner
+returns-in-Err-Fault-clause-one_owner g c h legal n deed org has gives = one_organisation (after h c.args.requests.now) (legal_after h c.args.requests.now legal) n deed org has gives
 
-pub returns-in-Err-Cut-clause-holders : goal.returns-in-Err-Cut-clause-holders
-returns-in-Err-Cut-clause-holders g c h legal n deed org has gives = one_organisation (after h c.args.requests.now) (legal_after h c.args.requests.now legal) n deed org has gives
+pub returns-in-Err-Cut-clause-one_owner : goal.returns-in-Err-Cut-clause-one_owner
+returns-in-Err-Cut-clause-one_owner g c h legal n deed org has gives = one_organisation (after h c.args.requests.now) (legal_after h c.args.requests.now legal) n deed org has gives
 
-pub returns-then-is_poisoned-clause-holders : goal.returns-then-is_poisoned-clause-holders
-returns-then-is_poisoned-clause-holders g c h legal n deed org has gives = one_organisation (after h c.args.requests.now) (legal_after h c.args.requests.now legal) n deed org has gives
+pub returns-then-is_poisoned-clause-one_owner : goal.returns-then-is_poisoned-clause-one_owner
+returns-then-is_poisoned-clause-one_owner g c h legal n deed org has gives = one_organisation (after h c.args.requests.now) (legal_after h c.args.requests.now legal) n deed org has gives
 
-pub returns-in_default-clause-holders : goal.returns-in_default-clause-holders
-returns-in_default-clause-holders g c h legal n deed org has gives = one_organisation (after h c.args.requests.now) (legal_after h c.args.requests.now legal) n deed org has gives
+pub returns-in_default-clause-one_owner : goal.returns-in_default-clause-one_owner
+returns-in_default-clause-one_owner g c h legal n deed org has gives = one_organisation (after h c.args.requests.now) (legal_after h c.args.requests.now legal) n deed org has gives
 
 -- ---- how a run ends early
 
