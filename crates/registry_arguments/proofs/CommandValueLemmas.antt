@@ -11,8 +11,8 @@ use Rattle.clap.specs.Kinds.{value_kinds}
 use Rattle.clap.specs.declared.builder.value_parser.ValueParser.TheVariants as parser
 use Rattle.clap.specs.declared.error.kind.ErrorKind.TheVariants as kind
 use Rattle.registry_arguments.specs.declared.command.Command.TheVariants as command
-use Rattle.registry_arguments.specs.Commands.{apply_app, apply_in, asked_by, bare_app, chosen, command_of, export_app, export_in, faults_of, found_app, found_in, import_app, import_in, lookup_app, lookup_in, number_if_given, number_in, report_app, report_in, serve_app, serve_in, trial_app, usbreg_app}
-use Rattle.registry_arguments.proofs.LevelLemmas.{HasValues, first_given, first_passes, level_values}
+use Rattle.registry_arguments.specs.Commands.{apply_app, apply_in, asked_by, bare_app, chosen, command_of, export_app, export_in, faults_of, found_app, found_in, import_app, import_in, lookup_app, lookup_in, most_connections, number_if_given, number_in, report_app, report_in, serve_app, serve_in, trial_app, usbreg_app}
+use Rattle.registry_arguments.proofs.ClapLevelLemmas.{HasValues, first_given, first_passes, level_values}
 use Rattle.registry_arguments.proofs.EnteredLemmas.{Asks, asked}
 
 -- without a subcommand the trial is asked for
@@ -59,7 +59,7 @@ import_there : (rows : List Row) → Has rows (codes "store") → Has rows (code
 import_there rows store list caller key org = rw ((value_of _ store).1, (value_of _ list).1, (value_of _ caller).1, (value_of _ key).1, (value_of _ org).1) refl
 
 serve_there : (rows : List Row) → Has rows (codes "store") → (port : (text : Text) × (first_of (codes "port") rows ≡ Some text)) → IsSome (number_in 1 65535 port.0)
-    → IsSome (number_if_given 0 4294967295 (first_of (codes "count") rows)) → IsSome (serve_in rows)
+    → IsSome (number_if_given 0 most_connections (first_of (codes "count") rows)) → IsSome (serve_in rows)
 serve_there rows store port number count = rw ((value_of _ store).1, port.1, (value_of _ number).1, (value_of _ count).1) refl
 
 export_there : (rows : List Row) → Has rows (codes "store") → IsSome (export_in rows)
@@ -114,7 +114,7 @@ serve_asks name words met free none =
     let given = λ (id : Text). first_given s rows id has.values in
     let port = value_of (first_of (codes "port") rows) (given (codes "port") (has.given.1.0 refl)) in
     let number = number_passes false 1 65535 port.0 (first_passes s rows (codes "port") port.0 _ has.values refl port.1) in
-    serve_there rows (given (codes "store") (has.given.0 refl)) port number (number_given false 0 4294967295 (first_of (codes "count") rows)
+    serve_there rows (given (codes "store") (has.given.0 refl)) port number (number_given false 0 most_connections (first_of (codes "count") rows)
     (λ text is. first_passes s rows (codes "count") text _ has.values refl is))
 
 export_asks : Asks (built_leaf export_app.top)

@@ -11,7 +11,7 @@ use Rattle.clap.specs.Kinds.{or_else}
 use Rattle.clap.specs.Faults.{built_fault, entered_fault, level_fault, other_fault, step_fault, turn_fault, walk_fault, word_fault}
 use Rattle.clap.specs.declared.error.kind.ErrorKind.TheVariants as kind
 use Rattle.registry_arguments.specs.Commands.{asked_by, named}
-use Rattle.registry_arguments.proofs.LevelLemmas.{Every, every_found, or_else_none}
+use Rattle.registry_arguments.proofs.ClapLevelLemmas.{Every, every_found, or_else_none}
 
 -- ---- a walk without a fault does not stop at `help`
 

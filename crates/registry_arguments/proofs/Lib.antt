@@ -1,9 +1,9 @@
-pub mod AcceptLemmas
+pub mod ClapAcceptLemmas
 pub mod AcceptedLemmas
 pub mod CommandLemmas
 pub mod CommandValueLemmas
 pub mod EnteredLemmas
-pub mod LevelLemmas
+pub mod ClapLevelLemmas
 pub mod NumberLemmas
 pub mod UsageLemmas
 pub mod ExampleLemmas

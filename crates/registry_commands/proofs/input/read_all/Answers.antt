@@ -1,5 +1,5 @@
 use Rattle.std.proofs.Common.{◌≡◌, ◌<◌, ◌++◌, List, ℕ, length, ◌∙◌, inl, inr, ap, refl, Err, arith, length-append}
-use Rattle.byte_streams.specs.Streams.{HasFailed}
+use Rattle.byte_streams.specs.Streams.{HasFailed, most_bytes}
 use Rattle.byte_streams.proofs.StreamLemmas.{all_of}
 use Rattle.registry_commands.specs.declared.input.InputFault.{InputFault}
 use Rattle.registry_commands.specs.declared.input.InputFault.TheVariants as inputs
@@ -17,7 +17,7 @@ pub returns-clause-err : goal.returns-clause-err
 returns-clause-err g c =
     let bytes = c.loop-source.bytes.items in
     let all = all_of _ _ bytes c.loop-source.invariant.read in
-    let long : 4294967295 < length (bytes ++ all.0) = omega (arith, length-append bytes all.0) in
+    let long : most_bytes < length (bytes ++ all.0) = omega (arith, length-append bytes all.0) in
     (bytes ++ all.0, all.1, inr long)
 
 pub returns-in-Err-clause-err : goal.returns-in-Err-clause-err

@@ -1,5 +1,5 @@
--- A command whose arguments have no default values and no rules on one another accepts arguments if and only if they
--- have no fault.
+-- About `clap` alone, and not this program: a command whose arguments have no default values and no rules on one another
+-- accepts arguments if and only if they have no fault.
 use Rattle.std.proofs.Common.{◌≡◌, ◌∙◌, ◌≤◌, ◌<◌, ◌+◌, ◌&&◌, ◌||◌, ℕ, Bool, cond, true, false, not, zero, suc, refl, sym, ap, ap₂, arith, List, [], ◌∷◌, length, drop, Option, Some, None, is_some, true≢false}
 use Rattle.std.specs.Prelude.{codes, encode_utf8, min, nat_le, nat_lt, slice_get, ◌==◌}
 use Rattle.std.specs.Option.{option_map_or}

@@ -1,4 +1,5 @@
--- After one level of a parse without a fault, each row has a value that passed, and each required argument has a row.
+-- About `clap` alone, and not this program: after one level of a parse without a fault, each row has a value that passed, and
+-- each required argument has a row.
 use Rattle.std.proofs.Common.{◌≡◌, ◌∙◌, ◌&&◌, ◌||◌, ◌⊎◌, ℕ, Bool, cond, true, false, not, zero, suc, refl, sym, ap, subst, List, [], ◌∷◌, ◌++◌, length, drop, Option, Some, None, inl, inr, is_some, true≢false, append-nil}
 use Rattle.std.specs.Prelude.{⊤, IsSome, encode_utf8, option_and_then, slice_get}
 use Rattle.std.specs.Option.{option_map_or}
