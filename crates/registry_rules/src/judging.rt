@@ -95,6 +95,6 @@ pub fn judge(alloc: Global, facts: &Facts<'_>, request: &Request) -> Result<Verd
     match act_on(alloc, facts, &request.caller, &request.order) {
         Ok(act) => Ok(Verdict::New(deed_of(request, act)?)),
         Err(Rejection::Refused(refusal)) => Ok(Verdict::Refused(refusal)),
-        Err(Rejection::OutOfMemory) => Err(NoMemory),
+        Err(Rejection::NoMemory) => Err(NoMemory),
     }
 }

@@ -1,7 +1,7 @@
 //! Why a check, or the reading of a text, ends early.
 
 ghost use Rattle.std.specs.Prelude.{◌≡◌};
-ghost use Rattle.registry_rules.specs.declared.rejection.Rejection.TheVariants.{Refused as WasRefused, OutOfMemory};
+ghost use Rattle.registry_rules.specs.declared.rejection.Rejection.TheVariants.{Refused as WasRefused, NoMemory as OutOfMemory};
 
 use crate::Refusal;
 use std::alloc::AllocError;
@@ -13,7 +13,7 @@ pub enum Rejection<R> {
     /// It is refused, for this reason.
     Refused(R),
     /// Memory ran out before the decision.
-    OutOfMemory,
+    NoMemory,
 }
 
 impl From<Refusal> for Rejection<Refusal> {
@@ -28,7 +28,7 @@ impl<R> From<AllocError> for Rejection<R> {
     ghost from_gives = { λ _ rejection. rejection ≡ OutOfMemory };
 
     fn from(_error: AllocError) -> Rejection<R> {
-        Rejection::OutOfMemory
+        Rejection::NoMemory
     }
 }
 
@@ -36,6 +36,6 @@ impl<R> From<NoMemory> for Rejection<R> {
     ghost from_gives = { λ _ rejection. rejection ≡ OutOfMemory };
 
     fn from(_error: NoMemory) -> Rejection<R> {
-        Rejection::OutOfMemory
+        Rejection::NoMemory
     }
 }
