@@ -1,5 +1,5 @@
 -- What the statements on the tables of the second schema do to the values, and what they show.
-use Rattle.std.proofs.Common.{◌≡◌, ◌≢◌, inl, Vec, Some, ℕ, true, List, [], ◌∷◌, map, Ok, Err, Result, MatchResult, refl, ap, subst, ◌∙◌}
+use Rattle.std.proofs.Common.{◌≡◌, ◌≢◌, Vec, Some, ℕ, true, List, [], ◌∷◌, map, Ok, Err, Result, MatchResult, refl, ap, subst, ◌∙◌}
 use Rattle.std.specs.List.{AllByRecursion}
 use Rattle.sqlite.specs.Order.{Row}
 use Rattle.sqlite.specs.declared.types.Value.TheVariants.{Null}
@@ -13,7 +13,6 @@ use Rattle.sqlite_value.proofs.OrderLemmas.{value_cmp-Int}
 use Rattle.sqlite_typed.proofs.TestLemmas.{last_key}
 use Rattle.usbnum_core.specs.Number.{IsId}
 use Rattle.usbnum_core.specs.declared.number.Span.{Span}
-use Rattle.table_laws.specs.Inside.{GoesOn}
 use Rattle.table_laws.specs.Stored.{Stores}
 use Rattle.table_laws.proofs.ReadLemmas.{shows_rows}
 use Rattle.table_laws.proofs.DeleteLemmas.{deletes_stored}
@@ -31,7 +30,6 @@ use Rattle.registry_old_rows.specs.declared.second.Reserved.{Reserved}
 use Rattle.std.specs.declared.alloc.Global.{Global}
 use Rattle.registry_old_rows.specs.Old.{number_key, number_row, number_shown, old_span_key, old_span_row, IsSpanOf}
 use Rattle.registry_old_rows.specs.Between.{HoldsSecond}
-use Rattle.registry_rows.specs.Steps.{AnswersOf}
 use Rattle.registry_old_rows.proofs.AgreeLemmas.{untied_2}
 use Rattle.registry_old_rows.proofs.HoldLemmas.{holds_second_metas, holds_second_spans, holds_second_reserved}
 use Rattle.registry_old_rows.proofs.MoveLemmas.{none_left}
@@ -75,15 +73,6 @@ empties_reserved vid old new count h t numbers has =
     let done = deletes schema_2 untied_2 7 10 reserved.name reserved.columns (Some 0) (0 ∷ []) [] refl old new has.schema _ [] count _ w in
     let left = deletes_stored IsId number_key number_row (λ _. refl) (overlay old.now.trees []) 10 numbers has.rows.first.reserved [] [] (λ _. true) (λ _. refl) done.0 (done.1.answer Null) in
     holds_second_reserved vid old.now new.now t numbers _ [] has done.2 (subst (Stores IsId number_key number_row _) (none_left numbers) left)
-
--- all rows read as all values
-module _ {V X : Type 0} (IsValid : X → Type 0) (show : X → Row) (old new : State) (Held : V → Type 0) (pick : V → List X) (rows : List Row)
-    (read : GoesOn old new × ((v : V) → Held v → IsUnchanged old new × (rows ≡ map show (pick v)))) (valid : (v : V) → Held v → AllByRecursion IsValid (pick v)) where
-  pub tells_all : {A : Type 0} (items : A → List X) (result : Result A TableFault)
-      → ((values : List X) → AllByRecursion IsValid values → rows ≡ map show values → MatchResult result (λ all. items all ≡ values) (λ fault. fault ≢ Foreign))
-      → AnswersOf old new Held result (λ v all. items all ≡ pick v)
-  tells_all items (Ok all) decodes = (read.0, λ v has. (let h = read.1 v has in (h.0, decodes (pick v) (valid v has) h.1)))
-  tells_all items (Err fault) decodes = (λ foreign. (read.0, λ v has. decodes (pick v) (valid v has) (read.1 v has).1 foreign), inl read.0)
 
 -- ---- numbers of their own type
 

@@ -1,14 +1,8 @@
 -- What a call on the tables of an older schema does within a transaction.
-use Rattle.std.specs.Prelude.{◌≡◌, ◌≢◌, ℕ, List, IsTrue, Result, Err, OnOk}
-use Rattle.std.specs.Borrow.{MutBor}
-use Rattle.sqlite_trees.specs.declared.store.Store.{Ghosts}
-use Rattle.sqlite.specs.Held.{Held, state}
+use Rattle.std.specs.Prelude.{ℕ, List}
 use Rattle.sqlite.specs.Effect.{Database}
-use Rattle.sqlite.specs.State.{State, HasCleanDisk}
-use Rattle.table_laws.specs.Inside.{GoesOn, CommitsNothing}
-use Rattle.registry_schema.specs.declared.fault.TableFault.{TableFault}
-use Rattle.registry_schema.specs.declared.fault.TableFault.TheVariants.{Foreign}
-use Rattle.registry_rows.specs.Steps.{AnswersOf}
+use Rattle.sqlite.specs.State.{State}
+use Rattle.table_laws.specs.Inside.{GoesOn}
 use Rattle.registry_rows.specs.Tables.{Tables}
 use Rattle.registry_old_rows.specs.Between.{HoldsSecond, HoldsBoth}
 
@@ -28,17 +22,3 @@ pub record Second : Type 0 where
 
 abbrev pub IsHeld : Database → Second → Type 0
 IsHeld db x = HoldsSecond x.vid db x.tables x.numbers
-
-module _ {S : Type 0} (g : Ghosts S) (old new : MutBor (Held S)) {A : Type 0} (result : Result A TableFault) where
-  -- this is done within the transaction, or a fault comes that is not Foreign; nothing is committed
-  pub record Writes (Does : State → State → Type 0) : Type 0 where
-    pub same_reference : new.ghost_name ≡ old.ghost_name
-    pub done : HasCleanDisk (state g new.now) → IsTrue (state g old.now).in_transaction → OnOk result (Does (state g old.now) (state g new.now))
-    pub fault : result ≢ Err Foreign
-    pub survives : CommitsNothing (state g old.now) (state g new.now)
-
-  -- what the database holds is read within the transaction; nothing is committed
-  pub record Reads {X : Type 0} (Is : Database → X → Type 0) (Says : X → A → Type 0) : Type 0 where
-    pub same_reference : new.ghost_name ≡ old.ghost_name
-    pub answers : HasCleanDisk (state g new.now) → IsTrue (state g old.now).in_transaction → AnswersOf (state g old.now) (state g new.now) (Is (state g old.now).now) result Says
-    pub survives : CommitsNothing (state g old.now) (state g new.now)

@@ -1,12 +1,11 @@
 //! Moves rows from the tables of the second schema to those of the third.
 
-ghost use Rattle.std.specs.Prelude.{◌≡◌, ◌≢◌, [], ◌++◌, ℕ, List, IsTrue, OnOk, Err};
-ghost use Rattle.sqlite.specs.State.{HasCleanDisk};
-ghost use Rattle.sqlite.specs.Held.{state};
-ghost use Rattle.table_laws.specs.Inside.{CommitsNothing, GoesOn};
+ghost use Rattle.std.specs.Prelude.{◌≡◌, [], ◌++◌, ℕ};
+ghost use Rattle.table_laws.specs.Inside.{GoesOn};
 ghost use Rattle.registry_rows.specs.Tables.{Tables};
 ghost use Rattle.registry_old_rows.specs.Between.{HoldsBoth};
-ghost use Rattle.registry_old_rows.specs.Steps.{Moves, Writes};
+ghost use Rattle.registry_rows.specs.Steps.{Writes};
+ghost use Rattle.registry_old_rows.specs.Steps.{Moves};
 
 use registry_schema::TableFault;
 use sqlite::{Alter, Transaction, params};

@@ -1,18 +1,13 @@
 //! The tables of the second schema, in which a store from the first still has its rows of
 //! `reserved`.
 
-ghost use Rattle.std.specs.Prelude.{◌≡◌, ◌≢◌, [], ℕ, List, map, IsTrue, OnOk, Err};
-ghost use Rattle.sqlite.specs.State.{HasCleanDisk};
-ghost use Rattle.sqlite.specs.Held.{state};
+ghost use Rattle.std.specs.Prelude.{◌≡◌, [], ℕ, map};
 ghost use Rattle.sqlite_keyed.specs.Keyed.{insert_by};
-ghost use Rattle.table_laws.specs.Inside.{CommitsNothing};
 ghost use Rattle.usbnum_core.specs.Number.{IsId};
 ghost use Rattle.registry_rows.specs.Rows.{meta_key, meta_shown};
-ghost use Rattle.registry_rows.specs.Tables.{Tables};
 ghost use Rattle.registry_old_rows.specs.Old.{number_shown, old_span_key};
-ghost use Rattle.registry_old_rows.specs.Between.{HoldsSecond};
-ghost use Rattle.registry_old_rows.specs.Steps.{Rewrites, IsHeld, Writes, Reads};
-ghost use Rattle.registry_rows.specs.Steps.{AnswersOf};
+ghost use Rattle.registry_old_rows.specs.Steps.{Rewrites, IsHeld};
+ghost use Rattle.registry_rows.specs.Steps.{Writes, Reads, ReadsRows};
 
 use registry_rows::{FromRow, Meta, all_from, pid_at};
 use registry_schema::TableFault;
@@ -21,8 +16,7 @@ use std::alloc::Global;
 use usbnum_core::{Pid, Span, Title, Vid};
 
 fn meta_rows<S: Alter>(tx: &mut Transaction<'_, S>) -> Result<Vec<Row>, TableFault>
-    ensures reads { Reads S.Store tx.old.conn tx.new.conn result IsHeld (λ x rows. rows.items ≡ map meta_shown x.tables.metas) }
-    ensures fault { result ≢ Err TableFault.Foreign }
+    ensures reads { ReadsRows S.Store tx.old.conn tx.new.conn result IsHeld (λ x. map meta_shown x.tables.metas) }
 {
     Ok(tx.query_all("SELECT version, vendor, name FROM meta ORDER BY id", &[])?)
 }
@@ -77,8 +71,7 @@ impl FromRow for Reserved {
 }
 
 fn reserved_rows<S: Alter>(tx: &mut Transaction<'_, S>) -> Result<Vec<Row>, TableFault>
-    ensures reads { Reads S.Store tx.old.conn tx.new.conn result IsHeld (λ x rows. rows.items ≡ map number_shown x.numbers) }
-    ensures fault { result ≢ Err TableFault.Foreign }
+    ensures reads { ReadsRows S.Store tx.old.conn tx.new.conn result IsHeld (λ x. map number_shown x.numbers) }
 {
     Ok(tx.query_all("SELECT pid FROM reserved ORDER BY pid", &[])?)
 }

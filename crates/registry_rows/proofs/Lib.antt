@@ -10,5 +10,5 @@ pub mod UpdateLemmas
 pub mod PutLemmas
 pub mod ReadLemmas
 pub mod DecodeLemmas
-pub mod AnswerLemmas
+pub mod StepLemmas
 pub mod GivenLemmas

@@ -1,7 +1,13 @@
 -- What a call on the tables does within a transaction.
-use Rattle.std.specs.Prelude.{◌≡◌, ◌≢◌, Result, Ok, Err}
-use Rattle.sqlite.specs.State.{State, IsUnchanged}
-use Rattle.table_laws.specs.Inside.{GoesOn, StaysInside}
+use Rattle.std.specs.Prelude.{◌≡◌, ◌≢◌, List, IsTrue, Result, Ok, Err, MatchResult, Vec}
+use Rattle.std.specs.Borrow.{MutBor}
+use Rattle.std.specs.declared.alloc.Global.{Global}
+use Rattle.sqlite_trees.specs.declared.store.Store.{Ghosts}
+use Rattle.sqlite.specs.Effect.{Database}
+use Rattle.sqlite.specs.Held.{Held, state}
+use Rattle.sqlite.specs.Order.{Row}
+use Rattle.sqlite.specs.State.{State, HasCleanDisk, IsUnchanged}
+use Rattle.table_laws.specs.Inside.{GoesOn, StaysInside, CommitsNothing}
 use Rattle.registry_schema.specs.declared.fault.TableFault.{TableFault}
 use Rattle.registry_schema.specs.declared.fault.TableFault.TheVariants.{Foreign}
 use Rattle.registry_rows.specs.Tables.{Tables, Holds}
@@ -11,17 +17,32 @@ abbrev pub Decodes : {A : Type 0} → Result A TableFault → A → Type 0
 Decodes (Ok a) value = a ≡ value
 Decodes (Err e) value = e ≢ Foreign
 
+-- the transaction goes on, and this function gives the tables after the call
+abbrev pub Changes : (Tables → Tables) → State → State → Type 0
+Changes after old new = GoesOn old new × ((t : Tables) → Holds old.now t → Holds new.now (after t))
+
 module _ (old new : State) where
-  -- the change is made; or the call fails, never with Foreign, and the transaction goes on or was rolled back
-  abbrev pub Changes : {A : Type 0} → Result A TableFault → (Tables → Tables) → Type 0
-  Changes (Ok _) after = GoesOn old new × ((t : Tables) → Holds old.now t → Holds new.now (after t))
-  Changes (Err e) after = (e ≢ Foreign) × StaysInside old new
-
   -- what is held determines the result, and does not change; Foreign comes only if nothing of that kind is held
-  abbrev pub AnswersOf : {A X : Type 0} → (X → Type 0) → Result A TableFault → (X → A → Type 0) → Type 0
-  AnswersOf {A} {X} Held (Ok a) Is = GoesOn old new × ((x : X) → Held x → IsUnchanged old new × Is x a)
-  AnswersOf {A} {X} Held (Err e) Is = (e ≡ Foreign → GoesOn old new × ((x : X) → ¬ Held x)) × StaysInside old new
+  abbrev pub Tells : {A X : Type 0} → (X → Type 0) → Result A TableFault → (X → A → Type 0) → Type 0
+  Tells {A} {X} Held (Ok a) Says = GoesOn old new × ((x : X) → Held x → IsUnchanged old new × Says x a)
+  Tells {A} {X} Held (Err e) Says = (e ≡ Foreign → GoesOn old new × ((x : X) → ¬ Held x)) × StaysInside old new
 
-  -- the same of the tables: Foreign comes only if the rows were read and store no values
-  abbrev pub Answers : {A : Type 0} → Result A TableFault → (Tables → A → Type 0) → Type 0
-  Answers result IsAnswer = AnswersOf (Holds old.now) result IsAnswer
+module _ {S : Type 0} (g : Ghosts S) (old new : MutBor (Held S)) where
+  -- This is done within the transaction, or a fault comes that is not Foreign, and the transaction goes on or was rolled back.
+  -- Nothing is committed.
+  pub record Writes {A : Type 0} (result : Result A TableFault) (Does : State → State → Type 0) : Type 0 where
+    pub same_reference : new.ghost_name ≡ old.ghost_name
+    pub done : HasCleanDisk (state g new.now) → IsTrue (state g old.now).in_transaction → MatchResult result (λ _. Does (state g old.now) (state g new.now)) (λ _. StaysInside (state g old.now) (state g new.now))
+    pub fault : result ≢ Err Foreign
+    pub survives : CommitsNothing (state g old.now) (state g new.now)
+
+  -- what the database holds is read within the transaction; nothing is committed
+  pub record Reads {A X : Type 0} (result : Result A TableFault) (Is : Database → X → Type 0) (Says : X → A → Type 0) : Type 0 where
+    pub same_reference : new.ghost_name ≡ old.ghost_name
+    pub told : HasCleanDisk (state g new.now) → IsTrue (state g old.now).in_transaction → Tells (state g old.now) (state g new.now) (Is (state g old.now).now) result Says
+    pub survives : CommitsNothing (state g old.now) (state g new.now)
+
+  -- its rows are read as SELECT shows them; a fault is never Foreign
+  pub record ReadsRows {X : Type 0} (result : Result (Vec Row Global) TableFault) (Is : Database → X → Type 0) (shown : X → List Row) : Type 0 where
+    pub reads : Reads result Is (λ x rows. rows.items ≡ shown x)
+    pub fault : result ≢ Err Foreign

@@ -1,15 +1,13 @@
 //! The numbers that have an owner.
 
-ghost use Rattle.std.specs.Prelude.{◌≡◌, ◌≢◌, [], ◌∷◌, ◌++◌, map, filter, find, IsTrue, Err, IfSome};
+ghost use Rattle.std.specs.Prelude.{◌≡◌, [], ◌∷◌, ◌++◌, map, filter, find, IfSome};
 ghost use Rattle.std.specs.Option.{option_map, option_copied};
 ghost use Rattle.usbnum_core.specs.Text.{IsTitle, IsLink};
-ghost use Rattle.sqlite.specs.State.{HasCleanDisk};
-ghost use Rattle.sqlite.specs.Held.{state};
 ghost use Rattle.sqlite_keyed.specs.Lists.{update_where, delete_where, sort_by};
-ghost use Rattle.table_laws.specs.Inside.{CommitsNothing};
 ghost use Rattle.registry_rules.specs.Records.{with_held, with_card};
 ghost use Rattle.registry_rows.specs.Rows.{IsEntry, entry_row, is_of, is_between, by_number};
-ghost use Rattle.registry_rows.specs.Steps.{Answers, Changes, Decodes};
+ghost use Rattle.registry_rows.specs.Steps.{Changes, Decodes, Reads, ReadsRows, Writes};
+ghost use Rattle.registry_rows.specs.Tables.{Holds};
 
 use crate::columns::{flag_at, pid_at, text_at, text_or_null_at, vid_at};
 use crate::decode::{FromRow, all_from, first_from};
@@ -112,11 +110,7 @@ pub fn put_entry<S: Alter>(
     number: Number,
     entry: &Entry,
 ) -> Result<(), TableFault>
-    ensures same_reference { tx.new.conn.ghost_name ≡ tx.old.conn.ghost_name }
-    ensures put { HasCleanDisk (state S.Store tx.new.conn.now) → IsTrue (state S.Store tx.old.conn.now).in_transaction
-        → Changes (state S.Store tx.old.conn.now) (state S.Store tx.new.conn.now) result (λ t. record t { entries = delete_where (λ other. is_of number other) t.entries ++ (number, entry.now) ∷ [] }) }
-    ensures fault { result ≢ Err TableFault.Foreign }
-    ensures survives { CommitsNothing (state S.Store tx.old.conn.now) (state S.Store tx.new.conn.now) }
+    ensures writes { Writes S.Store tx.old.conn tx.new.conn result (Changes (λ t. record t { entries = delete_where (λ other. is_of number other) t.entries ++ (number, entry.now) ∷ [] })) }
 {
     tx.execute(
         "INSERT OR REPLACE INTO entries3 (vid, pid, org, held, title, licence, site, source) VALUES (?1, ?2, ?3, ?4, ?5, ?6, ?7, ?8)",
@@ -140,11 +134,7 @@ pub fn set_held<S: Alter>(
     number: Number,
     held: bool,
 ) -> Result<(), TableFault>
-    ensures same_reference { tx.new.conn.ghost_name ≡ tx.old.conn.ghost_name }
-    ensures set { HasCleanDisk (state S.Store tx.new.conn.now) → IsTrue (state S.Store tx.old.conn.now).in_transaction
-        → Changes (state S.Store tx.old.conn.now) (state S.Store tx.new.conn.now) result (λ t. record t { entries = update_where (is_of number) (λ e. (e.0, with_held held e.1)) t.entries }) }
-    ensures fault { result ≢ Err TableFault.Foreign }
-    ensures survives { CommitsNothing (state S.Store tx.old.conn.now) (state S.Store tx.new.conn.now) }
+    ensures writes { Writes S.Store tx.old.conn tx.new.conn result (Changes (λ t. record t { entries = update_where (is_of number) (λ e. (e.0, with_held held e.1)) t.entries })) }
 {
     tx.execute(
         "UPDATE entries3 SET held = ?1 WHERE vid = ?2 AND pid = ?3",
@@ -163,11 +153,7 @@ pub fn set_card<S: Alter>(
     number: Number,
     card: &Card,
 ) -> Result<(), TableFault>
-    ensures same_reference { tx.new.conn.ghost_name ≡ tx.old.conn.ghost_name }
-    ensures set { HasCleanDisk (state S.Store tx.new.conn.now) → IsTrue (state S.Store tx.old.conn.now).in_transaction
-        → Changes (state S.Store tx.old.conn.now) (state S.Store tx.new.conn.now) result (λ t. record t { entries = update_where (is_of number) (λ e. (e.0, with_card card.now e.1)) t.entries }) }
-    ensures fault { result ≢ Err TableFault.Foreign }
-    ensures survives { CommitsNothing (state S.Store tx.old.conn.now) (state S.Store tx.new.conn.now) }
+    ensures writes { Writes S.Store tx.old.conn tx.new.conn result (Changes (λ t. record t { entries = update_where (is_of number) (λ e. (e.0, with_card card.now e.1)) t.entries })) }
 {
     tx.execute(
         "UPDATE entries3 SET title = ?1, licence = ?2, site = ?3, source = ?4 WHERE vid = ?5 AND pid = ?6",
@@ -184,11 +170,7 @@ pub fn set_card<S: Alter>(
 }
 
 fn entry_rows<S: Alter>(tx: &mut Transaction<'_, S>, number: Number) -> Result<Vec<Row>, TableFault>
-    ensures same_reference { tx.new.conn.ghost_name ≡ tx.old.conn.ghost_name }
-    ensures rows { HasCleanDisk (state S.Store tx.new.conn.now) → IsTrue (state S.Store tx.old.conn.now).in_transaction
-        → Answers (state S.Store tx.old.conn.now) (state S.Store tx.new.conn.now) result (λ t rows. rows.items ≡ map entry_row (filter (is_of number) t.entries)) }
-    ensures fault { result ≢ Err TableFault.Foreign }
-    ensures survives { CommitsNothing (state S.Store tx.old.conn.now) (state S.Store tx.new.conn.now) }
+    ensures reads { ReadsRows S.Store tx.old.conn tx.new.conn result Holds (λ t. map entry_row (filter (is_of number) t.entries)) }
 {
     Ok(tx.query_all(
         "SELECT vid, pid, org, held, title, licence, site, source FROM entries3 WHERE vid = ?1 AND pid = ?2 ORDER BY rowid",
@@ -202,10 +184,7 @@ pub fn find_entry<S: Alter>(
     tx: &mut Transaction<'_, S>,
     number: Number,
 ) -> Result<Option<(Number, Entry)>, TableFault>
-    ensures same_reference { tx.new.conn.ghost_name ≡ tx.old.conn.ghost_name }
-    ensures found { HasCleanDisk (state S.Store tx.new.conn.now) → IsTrue (state S.Store tx.old.conn.now).in_transaction
-        → Answers (state S.Store tx.old.conn.now) (state S.Store tx.new.conn.now) result (λ t found. found ≡ find (is_of number) t.entries) }
-    ensures survives { CommitsNothing (state S.Store tx.old.conn.now) (state S.Store tx.new.conn.now) }
+    ensures reads { Reads S.Store tx.old.conn tx.new.conn result Holds (λ t found. found ≡ find (is_of number) t.entries) }
 {
     let rows = entry_rows(tx, number)?;
     first_from(alloc, &rows)
@@ -217,11 +196,7 @@ fn rows_between<S: Alter>(
     low: Pid,
     high: Pid,
 ) -> Result<Vec<Row>, TableFault>
-    ensures same_reference { tx.new.conn.ghost_name ≡ tx.old.conn.ghost_name }
-    ensures rows { HasCleanDisk (state S.Store tx.new.conn.now) → IsTrue (state S.Store tx.old.conn.now).in_transaction
-        → Answers (state S.Store tx.old.conn.now) (state S.Store tx.new.conn.now) result (λ t rows. rows.items ≡ map entry_row (sort_by by_number (filter (is_between vid low high) t.entries))) }
-    ensures fault { result ≢ Err TableFault.Foreign }
-    ensures survives { CommitsNothing (state S.Store tx.old.conn.now) (state S.Store tx.new.conn.now) }
+    ensures reads { ReadsRows S.Store tx.old.conn tx.new.conn result Holds (λ t. map entry_row (sort_by by_number (filter (is_between vid low high) t.entries))) }
 {
     Ok(tx.query_all(
         "SELECT vid, pid, org, held, title, licence, site, source FROM entries3 WHERE vid = ?1 AND pid BETWEEN ?2 AND ?3 ORDER BY vid, pid, rowid",
@@ -241,21 +216,14 @@ pub fn find_entries<S: Alter>(
     low: Pid,
     high: Pid,
 ) -> Result<Vec<(Number, Entry)>, TableFault>
-    ensures same_reference { tx.new.conn.ghost_name ≡ tx.old.conn.ghost_name }
-    ensures listed { HasCleanDisk (state S.Store tx.new.conn.now) → IsTrue (state S.Store tx.old.conn.now).in_transaction
-        → Answers (state S.Store tx.old.conn.now) (state S.Store tx.new.conn.now) result (λ t all. all.items ≡ sort_by by_number (filter (is_between vid low high) t.entries)) }
-    ensures survives { CommitsNothing (state S.Store tx.old.conn.now) (state S.Store tx.new.conn.now) }
+    ensures reads { Reads S.Store tx.old.conn tx.new.conn result Holds (λ t all. all.items ≡ sort_by by_number (filter (is_between vid low high) t.entries)) }
 {
     let rows = rows_between(tx, vid, low, high)?;
     all_from(alloc, &rows)
 }
 
 fn all_rows<S: Alter>(tx: &mut Transaction<'_, S>) -> Result<Vec<Row>, TableFault>
-    ensures same_reference { tx.new.conn.ghost_name ≡ tx.old.conn.ghost_name }
-    ensures rows { HasCleanDisk (state S.Store tx.new.conn.now) → IsTrue (state S.Store tx.old.conn.now).in_transaction
-        → Answers (state S.Store tx.old.conn.now) (state S.Store tx.new.conn.now) result (λ t rows. rows.items ≡ map entry_row (sort_by by_number t.entries)) }
-    ensures fault { result ≢ Err TableFault.Foreign }
-    ensures survives { CommitsNothing (state S.Store tx.old.conn.now) (state S.Store tx.new.conn.now) }
+    ensures reads { ReadsRows S.Store tx.old.conn tx.new.conn result Holds (λ t. map entry_row (sort_by by_number t.entries)) }
 {
     Ok(tx.query_all(
         "SELECT vid, pid, org, held, title, licence, site, source FROM entries3 ORDER BY vid, pid, rowid",
@@ -268,10 +236,7 @@ pub fn list_entries<S: Alter>(
     alloc: Global,
     tx: &mut Transaction<'_, S>,
 ) -> Result<Vec<(Number, Entry)>, TableFault>
-    ensures same_reference { tx.new.conn.ghost_name ≡ tx.old.conn.ghost_name }
-    ensures listed { HasCleanDisk (state S.Store tx.new.conn.now) → IsTrue (state S.Store tx.old.conn.now).in_transaction
-        → Answers (state S.Store tx.old.conn.now) (state S.Store tx.new.conn.now) result (λ t all. all.items ≡ sort_by by_number t.entries) }
-    ensures survives { CommitsNothing (state S.Store tx.old.conn.now) (state S.Store tx.new.conn.now) }
+    ensures reads { Reads S.Store tx.old.conn tx.new.conn result Holds (λ t all. all.items ≡ sort_by by_number t.entries) }
 {
     let rows = all_rows(tx)?;
     all_from(alloc, &rows)

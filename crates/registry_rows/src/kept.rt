@@ -1,12 +1,10 @@
 //! The kept replies.
 
-ghost use Rattle.std.specs.Prelude.{◌≡◌, ◌≢◌, [], ◌∷◌, ◌++◌, map, filter, find, IsTrue, Err};
-ghost use Rattle.sqlite.specs.State.{HasCleanDisk};
-ghost use Rattle.sqlite.specs.Held.{state};
+ghost use Rattle.std.specs.Prelude.{◌≡◌, [], ◌∷◌, ◌++◌, map, filter, find};
 ghost use Rattle.sqlite_keyed.specs.Lists.{delete_where};
-ghost use Rattle.table_laws.specs.Inside.{CommitsNothing};
 ghost use Rattle.registry_rows.specs.Rows.{kept_row, is_kept_under};
-ghost use Rattle.registry_rows.specs.Steps.{Answers, Changes};
+ghost use Rattle.registry_rows.specs.Steps.{Changes, Reads, ReadsRows, Writes};
+ghost use Rattle.registry_rows.specs.Tables.{Holds};
 
 use crate::columns::{canonical_form_at, reply_at, text_at};
 use crate::decode::{FromRow, first_from};
@@ -54,11 +52,7 @@ pub fn put_kept<S: Alter>(
     order: &CanonicalForm,
     reply: &ReplyText,
 ) -> Result<(), TableFault>
-    ensures same_reference { tx.new.conn.ghost_name ≡ tx.old.conn.ghost_name }
-    ensures put { HasCleanDisk (state S.Store tx.new.conn.now) → IsTrue (state S.Store tx.old.conn.now).in_transaction
-        → Changes (state S.Store tx.old.conn.now) (state S.Store tx.new.conn.now) result (λ t. record t { kept = delete_where (λ other. is_kept_under caller.now key.now other) t.kept ++ record { caller = caller.now; key = key.now; kept = record { order = order.now; reply = reply.now } } ∷ [] }) }
-    ensures fault { result ≢ Err TableFault.Foreign }
-    ensures survives { CommitsNothing (state S.Store tx.old.conn.now) (state S.Store tx.new.conn.now) }
+    ensures writes { Writes S.Store tx.old.conn tx.new.conn result (Changes (λ t. record t { kept = delete_where (λ other. is_kept_under caller.now key.now other) t.kept ++ record { caller = caller.now; key = key.now; kept = record { order = order.now; reply = reply.now } } ∷ [] })) }
 {
     tx.execute(
         "INSERT OR REPLACE INTO kept (caller, request_key, request, reply) VALUES (?1, ?2, ?3, ?4)",
@@ -77,11 +71,7 @@ fn kept_rows<S: Alter>(
     caller: &Slug,
     key: &Key,
 ) -> Result<Vec<Row>, TableFault>
-    ensures same_reference { tx.new.conn.ghost_name ≡ tx.old.conn.ghost_name }
-    ensures rows { HasCleanDisk (state S.Store tx.new.conn.now) → IsTrue (state S.Store tx.old.conn.now).in_transaction
-        → Answers (state S.Store tx.old.conn.now) (state S.Store tx.new.conn.now) result (λ t rows. rows.items ≡ map kept_row (filter (is_kept_under caller.now key.now) t.kept)) }
-    ensures fault { result ≢ Err TableFault.Foreign }
-    ensures survives { CommitsNothing (state S.Store tx.old.conn.now) (state S.Store tx.new.conn.now) }
+    ensures reads { ReadsRows S.Store tx.old.conn tx.new.conn result Holds (λ t. map kept_row (filter (is_kept_under caller.now key.now) t.kept)) }
 {
     Ok(tx.query_all(
         "SELECT caller, request_key, request, reply FROM kept WHERE caller = ?1 AND request_key = ?2 ORDER BY rowid",
@@ -96,10 +86,7 @@ pub fn find_kept<S: Alter>(
     caller: &Slug,
     key: &Key,
 ) -> Result<Option<KeptRow>, TableFault>
-    ensures same_reference { tx.new.conn.ghost_name ≡ tx.old.conn.ghost_name }
-    ensures found { HasCleanDisk (state S.Store tx.new.conn.now) → IsTrue (state S.Store tx.old.conn.now).in_transaction
-        → Answers (state S.Store tx.old.conn.now) (state S.Store tx.new.conn.now) result (λ t found. found ≡ find (is_kept_under caller.now key.now) t.kept) }
-    ensures survives { CommitsNothing (state S.Store tx.old.conn.now) (state S.Store tx.new.conn.now) }
+    ensures reads { Reads S.Store tx.old.conn tx.new.conn result Holds (λ t found. found ≡ find (is_kept_under caller.now key.now) t.kept) }
 {
     let rows = kept_rows(tx, caller, key)?;
     first_from(alloc, &rows)

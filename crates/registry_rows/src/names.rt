@@ -1,12 +1,10 @@
 //! The curators and the allowed licences.
 
-ghost use Rattle.std.specs.Prelude.{◌≡◌, ◌≢◌, [], ◌∷◌, ◌++◌, map, IsTrue, Err};
-ghost use Rattle.sqlite.specs.State.{HasCleanDisk};
-ghost use Rattle.sqlite.specs.Held.{state};
+ghost use Rattle.std.specs.Prelude.{◌≡◌, [], ◌∷◌, ◌++◌, map};
 ghost use Rattle.sqlite_keyed.specs.Lists.{delete_where, sort_by};
-ghost use Rattle.table_laws.specs.Inside.{CommitsNothing};
 ghost use Rattle.registry_rows.specs.Rows.{name_row, is_named, by_bytes};
-ghost use Rattle.registry_rows.specs.Steps.{Answers, Changes};
+ghost use Rattle.registry_rows.specs.Steps.{Changes, Reads, ReadsRows, Writes};
+ghost use Rattle.registry_rows.specs.Tables.{Holds};
 
 use crate::columns::text_at;
 use crate::decode::{FromRow, all_from};
@@ -43,11 +41,7 @@ impl FromRow for Title {
 
 /// Inserts the curator, or replaces its row.
 pub fn put_curator<S: Alter>(tx: &mut Transaction<'_, S>, name: &Slug) -> Result<(), TableFault>
-    ensures same_reference { tx.new.conn.ghost_name ≡ tx.old.conn.ghost_name }
-    ensures put { HasCleanDisk (state S.Store tx.new.conn.now) → IsTrue (state S.Store tx.old.conn.now).in_transaction
-        → Changes (state S.Store tx.old.conn.now) (state S.Store tx.new.conn.now) result (λ t. record t { curators = delete_where (λ other. is_named other name.now) t.curators ++ name.now ∷ [] }) }
-    ensures fault { result ≢ Err TableFault.Foreign }
-    ensures survives { CommitsNothing (state S.Store tx.old.conn.now) (state S.Store tx.new.conn.now) }
+    ensures writes { Writes S.Store tx.old.conn tx.new.conn result (Changes (λ t. record t { curators = delete_where (λ other. is_named other name.now) t.curators ++ name.now ∷ [] })) }
 {
     tx.execute(
         "INSERT OR REPLACE INTO curators (name) VALUES (?1)",
@@ -57,11 +51,7 @@ pub fn put_curator<S: Alter>(tx: &mut Transaction<'_, S>, name: &Slug) -> Result
 }
 
 fn curator_rows<S: Alter>(tx: &mut Transaction<'_, S>) -> Result<Vec<Row>, TableFault>
-    ensures same_reference { tx.new.conn.ghost_name ≡ tx.old.conn.ghost_name }
-    ensures rows { HasCleanDisk (state S.Store tx.new.conn.now) → IsTrue (state S.Store tx.old.conn.now).in_transaction
-        → Answers (state S.Store tx.old.conn.now) (state S.Store tx.new.conn.now) result (λ t rows. rows.items ≡ map name_row (sort_by by_bytes t.curators)) }
-    ensures fault { result ≢ Err TableFault.Foreign }
-    ensures survives { CommitsNothing (state S.Store tx.old.conn.now) (state S.Store tx.new.conn.now) }
+    ensures reads { ReadsRows S.Store tx.old.conn tx.new.conn result Holds (λ t. map name_row (sort_by by_bytes t.curators)) }
 {
     Ok(tx.query_all("SELECT name FROM curators ORDER BY name, rowid", &[])?)
 }
@@ -71,10 +61,7 @@ pub fn list_curators<S: Alter>(
     alloc: Global,
     tx: &mut Transaction<'_, S>,
 ) -> Result<Vec<Slug>, TableFault>
-    ensures same_reference { tx.new.conn.ghost_name ≡ tx.old.conn.ghost_name }
-    ensures listed { HasCleanDisk (state S.Store tx.new.conn.now) → IsTrue (state S.Store tx.old.conn.now).in_transaction
-        → Answers (state S.Store tx.old.conn.now) (state S.Store tx.new.conn.now) result (λ t all. all.items ≡ sort_by by_bytes t.curators) }
-    ensures survives { CommitsNothing (state S.Store tx.old.conn.now) (state S.Store tx.new.conn.now) }
+    ensures reads { Reads S.Store tx.old.conn tx.new.conn result Holds (λ t all. all.items ≡ sort_by by_bytes t.curators) }
 {
     let rows = curator_rows(tx)?;
     all_from(alloc, &rows)
@@ -82,11 +69,7 @@ pub fn list_curators<S: Alter>(
 
 /// Inserts the licence, or replaces its row.
 pub fn put_licence<S: Alter>(tx: &mut Transaction<'_, S>, name: &Title) -> Result<(), TableFault>
-    ensures same_reference { tx.new.conn.ghost_name ≡ tx.old.conn.ghost_name }
-    ensures put { HasCleanDisk (state S.Store tx.new.conn.now) → IsTrue (state S.Store tx.old.conn.now).in_transaction
-        → Changes (state S.Store tx.old.conn.now) (state S.Store tx.new.conn.now) result (λ t. record t { licences = delete_where (λ other. is_named other name.now) t.licences ++ name.now ∷ [] }) }
-    ensures fault { result ≢ Err TableFault.Foreign }
-    ensures survives { CommitsNothing (state S.Store tx.old.conn.now) (state S.Store tx.new.conn.now) }
+    ensures writes { Writes S.Store tx.old.conn tx.new.conn result (Changes (λ t. record t { licences = delete_where (λ other. is_named other name.now) t.licences ++ name.now ∷ [] })) }
 {
     tx.execute(
         "INSERT OR REPLACE INTO licences (name) VALUES (?1)",
@@ -96,11 +79,7 @@ pub fn put_licence<S: Alter>(tx: &mut Transaction<'_, S>, name: &Title) -> Resul
 }
 
 fn licence_rows<S: Alter>(tx: &mut Transaction<'_, S>) -> Result<Vec<Row>, TableFault>
-    ensures same_reference { tx.new.conn.ghost_name ≡ tx.old.conn.ghost_name }
-    ensures rows { HasCleanDisk (state S.Store tx.new.conn.now) → IsTrue (state S.Store tx.old.conn.now).in_transaction
-        → Answers (state S.Store tx.old.conn.now) (state S.Store tx.new.conn.now) result (λ t rows. rows.items ≡ map name_row (sort_by by_bytes t.licences)) }
-    ensures fault { result ≢ Err TableFault.Foreign }
-    ensures survives { CommitsNothing (state S.Store tx.old.conn.now) (state S.Store tx.new.conn.now) }
+    ensures reads { ReadsRows S.Store tx.old.conn tx.new.conn result Holds (λ t. map name_row (sort_by by_bytes t.licences)) }
 {
     Ok(tx.query_all("SELECT name FROM licences ORDER BY name, rowid", &[])?)
 }
@@ -110,10 +89,7 @@ pub fn list_licences<S: Alter>(
     alloc: Global,
     tx: &mut Transaction<'_, S>,
 ) -> Result<Vec<Title>, TableFault>
-    ensures same_reference { tx.new.conn.ghost_name ≡ tx.old.conn.ghost_name }
-    ensures listed { HasCleanDisk (state S.Store tx.new.conn.now) → IsTrue (state S.Store tx.old.conn.now).in_transaction
-        → Answers (state S.Store tx.old.conn.now) (state S.Store tx.new.conn.now) result (λ t all. all.items ≡ sort_by by_bytes t.licences) }
-    ensures survives { CommitsNothing (state S.Store tx.old.conn.now) (state S.Store tx.new.conn.now) }
+    ensures reads { Reads S.Store tx.old.conn tx.new.conn result Holds (λ t all. all.items ≡ sort_by by_bytes t.licences) }
 {
     let rows = licence_rows(tx)?;
     all_from(alloc, &rows)

@@ -1,12 +1,10 @@
 //! The numbers that orders reserved, as spans.
 
-ghost use Rattle.std.specs.Prelude.{◌≡◌, ◌≢◌, [], ◌∷◌, ◌++◌, map, filter, IsTrue, Err};
-ghost use Rattle.sqlite.specs.State.{HasCleanDisk};
-ghost use Rattle.sqlite.specs.Held.{state};
+ghost use Rattle.std.specs.Prelude.{◌≡◌, [], ◌∷◌, ◌++◌, map, filter};
 ghost use Rattle.sqlite_keyed.specs.Lists.{delete_where, sort_by};
-ghost use Rattle.table_laws.specs.Inside.{CommitsNothing};
 ghost use Rattle.registry_rows.specs.Rows.{IsVendorSpan, span_row, begins_at, meets, by_beginning};
-ghost use Rattle.registry_rows.specs.Steps.{Answers, Changes, Decodes};
+ghost use Rattle.registry_rows.specs.Steps.{Changes, Decodes, Reads, ReadsRows, Writes};
+ghost use Rattle.registry_rows.specs.Tables.{Holds};
 
 use crate::columns::{span_at, vid_at};
 use crate::decode::{FromRow, all_from};
@@ -39,11 +37,7 @@ pub fn put_span<S: Alter>(
     vid: Vid,
     span: Span,
 ) -> Result<(), TableFault>
-    ensures same_reference { tx.new.conn.ghost_name ≡ tx.old.conn.ghost_name }
-    ensures put { HasCleanDisk (state S.Store tx.new.conn.now) → IsTrue (state S.Store tx.old.conn.now).in_transaction
-        → Changes (state S.Store tx.old.conn.now) (state S.Store tx.new.conn.now) result (λ t. record t { spans = delete_where (λ other. begins_at vid span.first other) t.spans ++ (vid, span) ∷ [] }) }
-    ensures fault { result ≢ Err TableFault.Foreign }
-    ensures survives { CommitsNothing (state S.Store tx.old.conn.now) (state S.Store tx.new.conn.now) }
+    ensures writes { Writes S.Store tx.old.conn tx.new.conn result (Changes (λ t. record t { spans = delete_where (λ other. begins_at vid span.first other) t.spans ++ (vid, span) ∷ [] })) }
 {
     tx.execute(
         "INSERT OR REPLACE INTO spans3 (vid, lo, hi) VALUES (?1, ?2, ?3)",
@@ -63,11 +57,7 @@ pub fn cut_spans<S: Alter>(
     low: u32,
     high: u32,
 ) -> Result<(), TableFault>
-    ensures same_reference { tx.new.conn.ghost_name ≡ tx.old.conn.ghost_name }
-    ensures cut { HasCleanDisk (state S.Store tx.new.conn.now) → IsTrue (state S.Store tx.old.conn.now).in_transaction
-        → Changes (state S.Store tx.old.conn.now) (state S.Store tx.new.conn.now) result (λ t. record t { spans = delete_where (meets vid low high) t.spans }) }
-    ensures fault { result ≢ Err TableFault.Foreign }
-    ensures survives { CommitsNothing (state S.Store tx.old.conn.now) (state S.Store tx.new.conn.now) }
+    ensures writes { Writes S.Store tx.old.conn tx.new.conn result (Changes (λ t. record t { spans = delete_where (meets vid low high) t.spans })) }
 {
     tx.execute(
         "DELETE FROM spans3 WHERE vid = ?1 AND hi >= ?2 AND lo <= ?3",
@@ -82,11 +72,7 @@ fn meeting_rows<S: Alter>(
     low: u32,
     high: u32,
 ) -> Result<Vec<Row>, TableFault>
-    ensures same_reference { tx.new.conn.ghost_name ≡ tx.old.conn.ghost_name }
-    ensures rows { HasCleanDisk (state S.Store tx.new.conn.now) → IsTrue (state S.Store tx.old.conn.now).in_transaction
-        → Answers (state S.Store tx.old.conn.now) (state S.Store tx.new.conn.now) result (λ t rows. rows.items ≡ map span_row (sort_by by_beginning (filter (meets vid low high) t.spans))) }
-    ensures fault { result ≢ Err TableFault.Foreign }
-    ensures survives { CommitsNothing (state S.Store tx.old.conn.now) (state S.Store tx.new.conn.now) }
+    ensures reads { ReadsRows S.Store tx.old.conn tx.new.conn result Holds (λ t. map span_row (sort_by by_beginning (filter (meets vid low high) t.spans))) }
 {
     Ok(tx.query_all(
         "SELECT vid, lo, hi FROM spans3 WHERE vid = ?1 AND hi >= ?2 AND lo <= ?3 ORDER BY vid, lo, rowid",
@@ -102,21 +88,14 @@ pub fn find_spans<S: Alter>(
     low: u32,
     high: u32,
 ) -> Result<Vec<(Vid, Span)>, TableFault>
-    ensures same_reference { tx.new.conn.ghost_name ≡ tx.old.conn.ghost_name }
-    ensures listed { HasCleanDisk (state S.Store tx.new.conn.now) → IsTrue (state S.Store tx.old.conn.now).in_transaction
-        → Answers (state S.Store tx.old.conn.now) (state S.Store tx.new.conn.now) result (λ t all. all.items ≡ sort_by by_beginning (filter (meets vid low high) t.spans)) }
-    ensures survives { CommitsNothing (state S.Store tx.old.conn.now) (state S.Store tx.new.conn.now) }
+    ensures reads { Reads S.Store tx.old.conn tx.new.conn result Holds (λ t all. all.items ≡ sort_by by_beginning (filter (meets vid low high) t.spans)) }
 {
     let rows = meeting_rows(tx, vid, low, high)?;
     all_from(alloc, &rows)
 }
 
 fn all_rows<S: Alter>(tx: &mut Transaction<'_, S>) -> Result<Vec<Row>, TableFault>
-    ensures same_reference { tx.new.conn.ghost_name ≡ tx.old.conn.ghost_name }
-    ensures rows { HasCleanDisk (state S.Store tx.new.conn.now) → IsTrue (state S.Store tx.old.conn.now).in_transaction
-        → Answers (state S.Store tx.old.conn.now) (state S.Store tx.new.conn.now) result (λ t rows. rows.items ≡ map span_row (sort_by by_beginning t.spans)) }
-    ensures fault { result ≢ Err TableFault.Foreign }
-    ensures survives { CommitsNothing (state S.Store tx.old.conn.now) (state S.Store tx.new.conn.now) }
+    ensures reads { ReadsRows S.Store tx.old.conn tx.new.conn result Holds (λ t. map span_row (sort_by by_beginning t.spans)) }
 {
     Ok(tx.query_all(
         "SELECT vid, lo, hi FROM spans3 ORDER BY vid, lo, rowid",
@@ -129,10 +108,7 @@ pub fn list_spans<S: Alter>(
     alloc: Global,
     tx: &mut Transaction<'_, S>,
 ) -> Result<Vec<(Vid, Span)>, TableFault>
-    ensures same_reference { tx.new.conn.ghost_name ≡ tx.old.conn.ghost_name }
-    ensures listed { HasCleanDisk (state S.Store tx.new.conn.now) → IsTrue (state S.Store tx.old.conn.now).in_transaction
-        → Answers (state S.Store tx.old.conn.now) (state S.Store tx.new.conn.now) result (λ t all. all.items ≡ sort_by by_beginning t.spans) }
-    ensures survives { CommitsNothing (state S.Store tx.old.conn.now) (state S.Store tx.new.conn.now) }
+    ensures reads { Reads S.Store tx.old.conn tx.new.conn result Holds (λ t all. all.items ≡ sort_by by_beginning t.spans) }
 {
     let rows = all_rows(tx)?;
     all_from(alloc, &rows)

@@ -1,12 +1,10 @@
 //! The vendors.
 
-ghost use Rattle.std.specs.Prelude.{◌≡◌, ◌≢◌, map, IsTrue, Err};
-ghost use Rattle.sqlite.specs.State.{HasCleanDisk};
-ghost use Rattle.sqlite.specs.Held.{state};
+ghost use Rattle.std.specs.Prelude.{◌≡◌, map};
 ghost use Rattle.sqlite_keyed.specs.Keyed.{insert_by};
-ghost use Rattle.table_laws.specs.Inside.{CommitsNothing};
 ghost use Rattle.registry_rows.specs.Rows.{vendor_key, vendor_shown};
-ghost use Rattle.registry_rows.specs.Steps.{Answers, Changes};
+ghost use Rattle.registry_rows.specs.Steps.{Changes, Reads, ReadsRows, Writes};
+ghost use Rattle.registry_rows.specs.Tables.{Holds};
 
 use crate::columns::{text_at, vid_at};
 use crate::decode::{FromRow, all_from};
@@ -37,11 +35,7 @@ pub fn put_vendor<S: Alter>(
     vid: Vid,
     name: &Title,
 ) -> Result<(), TableFault>
-    ensures same_reference { tx.new.conn.ghost_name ≡ tx.old.conn.ghost_name }
-    ensures put { HasCleanDisk (state S.Store tx.new.conn.now) → IsTrue (state S.Store tx.old.conn.now).in_transaction
-        → Changes (state S.Store tx.old.conn.now) (state S.Store tx.new.conn.now) result (λ t. record t { vendors = insert_by vendor_key t.vendors (record { vid = vid; name = name.now }) }) }
-    ensures fault { result ≢ Err TableFault.Foreign }
-    ensures survives { CommitsNothing (state S.Store tx.old.conn.now) (state S.Store tx.new.conn.now) }
+    ensures writes { Writes S.Store tx.old.conn tx.new.conn result (Changes (λ t. record t { vendors = insert_by vendor_key t.vendors (record { vid = vid; name = name.now }) })) }
 {
     tx.execute(
         "INSERT OR REPLACE INTO vendors (vid, name) VALUES (?1, ?2)",
@@ -51,11 +45,7 @@ pub fn put_vendor<S: Alter>(
 }
 
 fn all_rows<S: Alter>(tx: &mut Transaction<'_, S>) -> Result<Vec<Row>, TableFault>
-    ensures same_reference { tx.new.conn.ghost_name ≡ tx.old.conn.ghost_name }
-    ensures rows { HasCleanDisk (state S.Store tx.new.conn.now) → IsTrue (state S.Store tx.old.conn.now).in_transaction
-        → Answers (state S.Store tx.old.conn.now) (state S.Store tx.new.conn.now) result (λ t rows. rows.items ≡ map vendor_shown t.vendors) }
-    ensures fault { result ≢ Err TableFault.Foreign }
-    ensures survives { CommitsNothing (state S.Store tx.old.conn.now) (state S.Store tx.new.conn.now) }
+    ensures reads { ReadsRows S.Store tx.old.conn tx.new.conn result Holds (λ t. map vendor_shown t.vendors) }
 {
     Ok(tx.query_all("SELECT vid, name FROM vendors ORDER BY vid", &[])?)
 }
@@ -65,10 +55,7 @@ pub fn list_vendors<S: Alter>(
     alloc: Global,
     tx: &mut Transaction<'_, S>,
 ) -> Result<Vec<Vendor>, TableFault>
-    ensures same_reference { tx.new.conn.ghost_name ≡ tx.old.conn.ghost_name }
-    ensures listed { HasCleanDisk (state S.Store tx.new.conn.now) → IsTrue (state S.Store tx.old.conn.now).in_transaction
-        → Answers (state S.Store tx.old.conn.now) (state S.Store tx.new.conn.now) result (λ t all. all.items ≡ t.vendors) }
-    ensures survives { CommitsNothing (state S.Store tx.old.conn.now) (state S.Store tx.new.conn.now) }
+    ensures reads { Reads S.Store tx.old.conn tx.new.conn result Holds (λ t all. all.items ≡ t.vendors) }
 {
     let rows = all_rows(tx)?;
     all_from(alloc, &rows)

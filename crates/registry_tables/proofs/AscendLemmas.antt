@@ -1,5 +1,6 @@
 -- Lists that ascend strictly.
 use Rattle.std.proofs.Common.{◌≡◌, Bool, true, false, ◌||◌, List, [], ◌∷◌, refl, sym, ap, subst, ◌∙◌, Ordering, Less, Equal, Greater, is_eq}
+use Rattle.std.proofs.lemmas.Bool.{or_left}
 use Rattle.std.specs.Ordering.{ordering_reverse}
 use Rattle.std.specs.List.{AllByRecursion, list_any}
 use Rattle.std.specs.List.Sorted.{IsStrictlySortedBy}
@@ -20,9 +21,6 @@ module _ {K : Type 0} (cmp : K → K → Ordering) (total : IsTotalOrder cmp) (s
       go Less is = absurd (let turned : cmp k k ≡ Greater = total.antisymm k k ∙ ap ordering_reverse is in cc)
       go Greater is = absurd (let turned : cmp k k ≡ Less = total.antisymm k k ∙ ap ordering_reverse is in cc)
 
-  or_first : (a b : Bool) → a ≡ true → (a || b) ≡ true
-  or_first a b is = rw is refl
-
   below_both : (x y : K) (ys : List K) → cmp x y ≡ Less → AllByRecursion (λ z. cmp y z ≡ Less) ys → list_any (same x) (y ∷ ys) ≡ false
   below_both x y ys less above = lacks x (y ∷ ys) (less, all_weaker (λ z. cmp y z ≡ Less) (λ z. cmp x z ≡ Less) (λ z more. total.trans x y z less more) ys above)
 
@@ -38,15 +36,15 @@ module _ {K : Type 0} (cmp : K → K → Ordering) (total : IsTotalOrder cmp) (s
   pub one_order : (xs ys : List K) → IsStrictlySortedBy cmp xs → IsStrictlySortedBy cmp ys → ((k : K) → list_any (same k) xs ≡ list_any (same k) ys) → xs ≡ ys
   unfolding IsStrictlySortedBy
   one_order [] [] up rise agree = refl
-  one_order [] (y ∷ ys) up rise agree = absurd (let there = agree y ∙ or_first (same y y) (list_any (same y) ys) (itself y) in cc)
-  one_order (x ∷ xs) [] up rise agree = absurd (let there = sym (agree x) ∙ or_first (same x x) (list_any (same x) xs) (itself x) in cc)
+  one_order [] (y ∷ ys) up rise agree = absurd (let there = agree y ∙ or_left (same y y) (list_any (same y) ys) (itself y) in cc)
+  one_order (x ∷ xs) [] up rise agree = absurd (let there = sym (agree x) ∙ or_left (same x x) (list_any (same x) xs) (itself x) in cc)
   one_order (x ∷ xs) (y ∷ ys) up rise agree = go (cmp x y) refl (one_order xs ys up.1 rise.1)
     where
       go : (o : Ordering) → cmp x y ≡ o → (((k : K) → list_any (same k) xs ≡ list_any (same k) ys) → xs ≡ ys) → x ∷ xs ≡ y ∷ ys
-      go Less is more = absurd (let there = sym (agree x) ∙ or_first (same x x) (list_any (same x) xs) (itself x) in let not_there = below_both x y ys is rise.0 in cc)
+      go Less is more = absurd (let there = sym (agree x) ∙ or_left (same x x) (list_any (same x) xs) (itself x) in let not_there = below_both x y ys is rise.0 in cc)
       go Greater is more =
           let turned : cmp y x ≡ Less = total.antisymm y x ∙ ap ordering_reverse is in
-          absurd (let there = agree y ∙ or_first (same y y) (list_any (same y) ys) (itself y) in let not_there = below_both y x xs turned up.0 in cc)
+          absurd (let there = agree y ∙ or_left (same y y) (list_any (same y) ys) (itself y) in let not_there = below_both y x xs turned up.0 in cc)
       go Equal is more =
           let here : x ≡ y = exact x y (sym (told x y) ∙ ap is_eq is) in
           let rise_x : AllByRecursion (λ z. cmp x z ≡ Less) ys = subst (λ k. AllByRecursion (λ z. cmp k z ≡ Less) ys) (sym here) rise.0 in

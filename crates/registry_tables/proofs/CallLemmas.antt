@@ -1,5 +1,6 @@
 -- A transaction that reads and is rolled back.
 use Rattle.std.proofs.Common.{◌≡◌, IsTrue, true, refl, sym, ap, subst, ◌∙◌, arith, Result, Ok, Err, IfOk}
+use Rattle.std.specs.Borrow.{MutBor}
 use Rattle.sqlite.specs.Store.{Ghosts}
 use Rattle.sqlite.specs.State.{HasCleanDisk, IsLive, IsRolledBack, KeepsCommit}
 use Rattle.sqlite.specs.Held.{Held, state}
@@ -10,8 +11,8 @@ use Rattle.registry_schema.specs.declared.fault.TableFault.{TableFault}
 use Rattle.registry_schema.specs.declared.fault.TableFault.TheVariants.{Foreign}
 use Rattle.registry_rules.specs.History.{History}
 use Rattle.registry_tables.specs.Rows.{newest, Rows, HoldsRows}
-use Rattle.registry_tables.specs.Calls.{Lists, KeepsAll, IsForeign, IsLookUp}
-use Rattle.registry_tables.specs.Finds.{Finds}
+use Rattle.registry_tables.specs.Calls.{Lists, IsForeign, IsLookUp}
+use Rattle.registry_tables.specs.Finds.{Finds, ReadsHistory}
 use Rattle.registry_tables.proofs.FindLemmas.{goes_keeps}
 use Rattle.registry_tables.proofs.RowsLemmas.{enters}
 
@@ -47,23 +48,18 @@ module _ {S : Type 0} (g : Ghosts S) (old begun mid end : Held S) (is : begun �
         let is_open = opened none.0 in
         (is_open, λ h legal rows. none.1 h legal (held h is_open rows))
 
-    module _ {A : Type 0} (Is : History → A → Type 0) (result : Result A TableFault) (told : HasCleanDisk (state g mid) → IsTrue (state g begun).in_transaction → Finds (state g begun) (state g mid) result Is)
-        (last : CommitsNothing (state g mid) (state g end)) where
-      tells : HasCleanDisk (state g end) → Finds (state g begun) (state g mid) result Is
-      tells clean = let early : HasCleanDisk (state g mid) = omega (arith, last.clean) in told early inside
-
-      lists_all : HasCleanDisk (state g end) → IfOk result (λ a. Lists (state g old) (state g end) Is a)
-      lists_all clean = lists_by Is result (tells clean)
-
-      is_foreign : HasCleanDisk (state g end) → IsForeign (state g old) (state g end) result
-      is_foreign clean = foreign_by Is result (tells clean)
-
-      keeps_all : (HasCleanDisk (state g end) → IsRolledBack (state g mid) (state g end)) → HasCleanDisk (state g end) → KeepsAll (state g old) (state g end)
-      keeps_all undone clean is_open =
-          let back = undone clean in
-          let kept = keeps_by Is result (tells clean) in
-          let same = kept.committed (back.was_open is_open) ∙ ap (λ b. (state g b).committed) is in
-          (opened (kept.was_open (back.was_open is_open)), (back.undone is_open).0 ∙ same, (back.undone is_open).1 ∙ same)
-
-      pub look_up : (HasCleanDisk (state g end) → IsRolledBack (state g mid) (state g end)) → CommitsNothing (state g begun) (state g mid) → IsLookUp (state g old) (state g end) result Is
-      look_up undone first = record { answer = lists_all; same = keeps_all undone; foreign = is_foreign; survives = quiet_all first last }
+pub look_up : {S A : Type 0} {g : Ghosts S} {end shown : Held S} {begun mid : MutBor (Held S)} {result : Result A TableFault} {Is : History → A → Type 0} (old : Held S) → begun.now ≡ record old { in_transaction = true } → IsLive (state g old)
+    → ReadsHistory g begun mid result Is → CommitsNothing (state g mid.now) (state g end) → (HasCleanDisk (state g end) → IsRolledBack (state g mid.now) (state g end)) → end ≡ shown → IsLookUp (state g old) (state g shown) result Is
+look_up {S} {A} {g} {end} {shown} {begun} {mid} {result} {Is} old is live reads last undone same = subst (λ e. IsLookUp (state g old) (state g e) result Is) same (record {
+  answer = λ clean. lists_by g old begun.now mid.now end is live Is result (tells clean);
+  same = λ clean is_open.
+      let back = undone clean in
+      let kept = keeps_by g old begun.now mid.now end is Is result (tells clean) in
+      let was = kept.committed (back.was_open is_open) ∙ ap (λ b. (state g b).committed) is in
+      (opened g old begun.now mid.now end is (kept.was_open (back.was_open is_open)), (back.undone is_open).0 ∙ was, (back.undone is_open).1 ∙ was);
+  foreign = λ clean. foreign_by g old begun.now mid.now end is live Is result (tells clean);
+  survives = quiet_all g old begun.now mid.now end is reads.survives last;
+})
+  where
+    tells : HasCleanDisk (state g end) → Finds (state g begun.now) (state g mid.now) result Is
+    tells clean = reads.found (omega (arith, last.clean)) (inside g old begun.now mid.now end is)

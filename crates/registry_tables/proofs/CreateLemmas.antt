@@ -1,14 +1,19 @@
 -- From an empty store to the rows of a founding.
-use Rattle.std.proofs.Common.{◌≡◌, [], refl, ap, subst}
+use Rattle.std.proofs.Common.{◌≡◌, true, IsTrue, Ok, [], refl, ap, subst, arith}
+use Rattle.std.specs.Borrow.{MutBor}
+use Rattle.sqlite.specs.Store.{Ghosts}
+use Rattle.sqlite.specs.Held.{Held, state}
+use Rattle.sqlite.specs.State.{HasCleanDisk, IsLive}
 use Rattle.sqlite.specs.Effect.{Database}
 use Rattle.sqlite_catalog.specs.Listing.{IsSound}
-use Rattle.table_laws.specs.Making.{no_schema, IsBlank}
+use Rattle.table_laws.specs.Making.{no_schema, IsBlank, Adds}
 use Rattle.registry_schema.specs.Meta.{has_meta_table}
 use Rattle.registry_schema.specs.Schema.{schema_3}
 use Rattle.registry_rules.specs.History.{founded}
 use Rattle.registry_rules.specs.declared.founding.Founding.{Founding}
+use Rattle.registry_rows.specs.Steps.{Changes}
 use Rattle.registry_rows.specs.Tables.{Holds, no_rows}
-use Rattle.registry_tables.specs.Calls.{HasNoMeta, with_founding}
+use Rattle.registry_tables.specs.Calls.{HasNoMeta, WritesTables, with_founding}
 use Rattle.registry_tables.specs.Rows.{newest, IsFounding, Rows, HoldsRows}
 use Rattle.registry_tables.proofs.FoundingLemmas.{founded_records, founded_kept}
 use Rattle.registry_tables.proofs.RowsLemmas.{goes_out}
@@ -48,3 +53,15 @@ all_held db founding valid holds = (refl, with_founding founding no_rows, holds,
 
 pub founding_rows : (db : Database) (founding : Founding) → IsFounding founding → Holds db (with_founding founding no_rows) → Rows newest db.trees (founded founding)
 founding_rows db founding valid holds = goes_out db (founded founding) (all_held db founding valid holds)
+
+-- what the transaction of a founding shows at its end
+pub founding_shown : {S A : Type 0} {g : Ghosts S} {mid last : MutBor (Held S)} {x : A} (old begun : Held S) (founding : Founding) → begun ≡ record old { in_transaction = true } → (state g old).now.schema ≡ no_schema → IsLive (state g old)
+    → (HasCleanDisk (state g mid.now) → IsTrue (state g begun).in_transaction → Adds no_schema schema_3 (state g begun) (state g mid.now)) → WritesTables g mid last (Ok x) (Changes (with_founding founding)) → IsFounding founding
+    → HasCleanDisk (state g last.now) → IsTrue (state g old).is_open × HasNoMeta (state g old).now × Rows newest (state g last.now).now.trees (founded founding)
+founding_shown {S} {A} {g} {mid} {last} old begun founding started is live made wrote valid fine =
+    let one = made (omega (arith, wrote.survives.clean)) (rw started refl) in
+    let was : IsTrue (state g old).is_open = rw started at one.0.was_open in
+    let blank = blank_of (state g old).now is (live was).0 in
+    let filled = one.1 (rw started blank) in
+    let two = wrote.done fine one.0.mode in
+    (was, no_meta (state g old).now is, founding_rows (state g last.now).now founding valid (two.1 no_rows (blank_holds (state g mid.now).now filled)))

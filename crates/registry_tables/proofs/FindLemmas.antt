@@ -1,15 +1,14 @@
 -- How lookups return what the history says.
-use Rattle.std.proofs.Common.{◌≡◌, inl, inr, IsTrue, Result, Ok, Err, sym, subst, ◌∙◌}
+use Rattle.std.proofs.Common.{◌≡◌, inl, inr, Result, Ok, Err, sym, subst, ◌∙◌}
 use Rattle.sqlite.specs.State.{State, IsUnchanged, KeepsCommit}
-use Rattle.sqlite.proofs.StateLemmas.{unchanged}
 use Rattle.sqlite.proofs.Callers.{unchanged_then}
 use Rattle.table_laws.specs.Inside.{GoesOn, StaysInside}
-use Rattle.table_laws.proofs.InsideLemmas.{goes_then, unchanged_goes}
+use Rattle.table_laws.proofs.InsideLemmas.{goes_then}
 use Rattle.registry_schema.specs.declared.fault.TableFault.{TableFault}
 use Rattle.registry_schema.specs.declared.fault.TableFault.TheVariants.{Foreign}
 use Rattle.registry_rules.specs.History.{History}
 use Rattle.registry_rules.specs.Run.{Legal}
-use Rattle.registry_rows.specs.Steps.{Answers}
+use Rattle.registry_rows.specs.Steps.{Tells}
 use Rattle.registry_rows.specs.Tables.{Tables, Holds}
 use Rattle.registry_tables.specs.Finds.{Finds}
 use Rattle.registry_tables.specs.Rows.{newest, HoldsRows, AreRecords, AreKeptReplies}
@@ -32,17 +31,11 @@ stays_keeps old new (inr undone) = record { was_open = undone.was_open; committe
 module _ (old new : State) where
   -- ---- from the tables to a history
 
-  -- what the tables return is what the history says
-  pub finds_by : {A B : Type 0} (P : Tables → A → Type 0) (Is : History → B → Type 0) (a : A) (b : B)
-      → ((h : History) (t : Tables) → Legal h → AreRecords h t → AreKeptReplies h t.kept → P t a → Is h b) → Answers old new (Ok a) P → Finds old new (Ok b) Is
-  unfolding HoldsRows
-  finds_by P Is a b means read = (read.0, λ h legal had. (let it = read.1 had.1 had.2 in (it.0, means h had.1 legal had.3 had.4 it.1)))
-
   module _ {B : Type 0} (Is : History → B → Type 0) where
     -- a result about the tables becomes one about the history
-    pub passes : (Says : Tables → Type 0) (b : B) → ((h : History) (t : Tables) → Legal h → Holds old.now t → AreRecords h t → Says t → Is h b) → Read old new Says → Finds old new (Ok b) Is
+    pub passes : (Says : Tables → Type 0) (b : B) → ((h : History) (t : Tables) → Legal h → Holds old.now t → AreRecords h t → AreKeptReplies h t.kept → Says t → Is h b) → Read old new Says → Finds old new (Ok b) Is
     unfolding HoldsRows
-    passes Says b means read = (read.0, λ h legal rows. (let it = read.1 rows.1 rows.2 in (it.0, means h rows.1 legal rows.2 rows.3 it.1)))
+    passes Says b means read = (read.0, λ h legal rows. (let it = read.1 rows.1 rows.2 in (it.0, means h rows.1 legal rows.2 rows.3 rows.4 it.1)))
 
     -- or it refutes every history
     pub refuses : (Says : Tables → Type 0) → ((h : History) (t : Tables) → Legal h → Holds old.now t → AreRecords h t → ¬ Says t) → Read old new Says → Finds old new (Err Foreign) Is
@@ -58,10 +51,10 @@ module _ (old new : State) where
     short e never goes = (λ foreign. absurd (never foreign), goes_keeps old new goes)
 
   -- what the tables say is what the history says
-  pub answers_tell : {A : Type 0} (result : Result A TableFault) (Says : Tables → A → Type 0) (Is : History → A → Type 0)
-      → ((h : History) (t : Tables) → Legal h → Holds old.now t → AreRecords h t → (a : A) → Says t a → Is h a) → Answers old new result Says → Finds old new result Is
-  answers_tell (Ok a) Says Is means read = passes Is (λ t. Says t a) a (λ h t legal has had says. means h t legal has had a says) read
-  answers_tell (Err e) Says Is means read = fails Is e read
+  pub tells : {A : Type 0} (result : Result A TableFault) (Says : Tables → A → Type 0) (Is : History → A → Type 0)
+      → ((h : History) (t : Tables) → Legal h → Holds old.now t → AreRecords h t → (a : A) → Says t a → Is h a) → Tells old new (Holds old.now) result Says → Finds old new result Is
+  tells (Ok a) Says Is means read = passes Is (λ t. Says t a) a (λ h t legal has had kept says. means h t legal has had a says) read
+  tells (Err e) Says Is means read = fails Is e read
 
   -- ---- from one result to another
 
@@ -73,14 +66,6 @@ module _ (old new : State) where
   pub finds_as : {A : Type 0} (Is Also : History → A → Type 0) (result : Result A TableFault) → ((h : History) (a : A) → Legal h → Is h a → Also h a) → Finds old new result Is → Finds old new result Also
   finds_as Is Also (Ok a) means found = (found.0, λ h legal had. (let it = found.1 h legal had in (it.0, means h a legal it.1)))
   finds_as Is Also (Err e) means found = found
-
-  -- what the lookups so far say gives a result
-  pub told_makes : {B : Type 0} (Is : History → Type 0) (Also : History → B → Type 0) (b : B) → ((h : History) → Legal h → Is h → Also h b) → Told old new Is → Finds old new (Ok b) Also
-  told_makes Is Also b makes told = (told.0, λ h legal rows. (let it = told.1 h legal rows in (it.0, makes h legal it.1)))
-
--- a result that needs no read
-pub finds_at_once : (s : State) → IsTrue s.is_open → IsTrue s.in_transaction → {A : Type 0} (Is : History → A → Type 0) (a : A) → ((h : History) → Legal h → Is h a) → Finds s s (Ok a) Is
-finds_at_once s is_open inside Is a is = let same = unchanged s is_open in (unchanged_goes s s inside same, λ h legal had. (same, is h legal))
 
 -- ---- one lookup after another
 

@@ -23,24 +23,17 @@ use Rattle.registry_tables.proofs.StoreLemmas.{name_put}
 
 -- ---- names
 
-or_moved : (a b : Bool) (rest : Bool) → cond a true b ≡ (b || a)
-or_moved true true rest = refl
-or_moved true false rest = refl
-or_moved false true rest = refl
-or_moved false false rest = refl
-
-or_chain : (a b c : Bool) → (cond a true b || c) ≡ (b || (a || c))
-or_chain true true c = refl
-or_chain true false c = refl
-or_chain false true c = refl
-or_chain false false c = refl
+or_after : (a b c : Bool) → (cond a true b || c) ≡ (b || (a || c))
+or_after true true c = refl
+or_after true false c = refl
+or_after false b c = refl
 
 -- a name is present if it was before or is among those inserted
 pub names_each : (names had : List (List ℕ)) (name : List ℕ) → list_any (bytes_eq name) (names_put names had) ≡ (list_any (bytes_eq name) had || list_any (bytes_eq name) names)
 names_each [] had name = elim (list_any (bytes_eq name) had) as (λ b. b ≡ (b || false)) [ true ↦ refl | false ↦ refl ]
 names_each (n ∷ names) had name =
     names_each names (delete_where (λ other. is_named other n) had ++ n ∷ []) name ∙ ap (λ b. b || list_any (bytes_eq name) names) (name_put name n had)
-    ∙ or_chain (bytes_eq name n) (list_any (bytes_eq name) had) (list_any (bytes_eq name) names)
+    ∙ or_after (bytes_eq name n) (list_any (bytes_eq name) had) (list_any (bytes_eq name) names)
 
 pub names_once : (names had : List (List ℕ)) → NoTwo is_named had → NoTwo is_named (names_put names had)
 names_once [] had once = once

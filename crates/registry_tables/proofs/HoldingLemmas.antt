@@ -1,11 +1,9 @@
 -- From the entries of a range to the owners of its numbers.
-use Rattle.std.proofs.Common.{◌≡◌, ℕ, Bool, true, false, cond, ◌&&◌, nat_eq, nat_le, List, [], ◌∷◌, map, filter, find, slice_get, Option, Some, None, option_and_then, refl, sym, ap, subst, ◌∙◌, eq-eqb, Ordering, is_gt}
+use Rattle.std.proofs.Common.{◌≡◌, ℕ, Bool, true, false, cond, ◌&&◌, nat_eq, nat_le, List, [], ◌∷◌, map, filter, find, slice_get, Option, Some, None, option_and_then, refl, sym, ap, subst, ◌∙◌, eq-eqb}
 use Rattle.std.specs.Option.{option_map}
-use Rattle.std.specs.List.{AllByRecursion}
 use Rattle.std.proofs.lemmas.Bool.{and_from}
-use Rattle.sqlite_trees.specs.Tree.{IsAscending}
-use Rattle.sqlite_keyed.specs.Lists.{insert_sorted, sort_by}
-use Rattle.sqlite_keyed.proofs.ListLemmas.{filter-filter, slice_get-filter, ascending-filter, ascending_weaker}
+use Rattle.sqlite_keyed.specs.Lists.{sort_by}
+use Rattle.sqlite_keyed.proofs.ListLemmas.{filter-filter, slice_get-filter, ascending-filter}
 use Rattle.usbnum_core.specs.declared.number.Number.{Number}
 use Rattle.registry_rules.specs.Number.{number_eq}
 use Rattle.registry_rules.specs.FactsOf.{holding_of}
@@ -19,30 +17,13 @@ use Rattle.registry_rules.specs.declared.record.Entry.{Entry}
 use Rattle.registry_rules.specs.declared.record.Holding.{Holding}
 use Rattle.registry_rules.proofs.EntryLemmas.{carded}
 use Rattle.registry_rows.specs.Rows.{is_of, is_between, by_number}
-use Rattle.registry_rows.proofs.AnswerLemmas.{valid_sorted}
 use Rattle.registry_tables.specs.Finds.{holding_at, AreHoldings}
 use Rattle.registry_tables.specs.Rows.{AreEntries}
-use Rattle.registry_tables.proofs.ViewLemmas.{same_number, number_same}
+use Rattle.registry_tables.proofs.ListLemmas.{one_number}
+use Rattle.registry_tables.proofs.SortLemmas.{find_sorted}
+use Rattle.registry_tables.proofs.ViewLemmas.{same_number}
 
--- ---- lookups in a sorted list with at most one match
-
-module _ {X : Type 0} (p : X → Bool) (cmp : X → X → Ordering) where
-  swapped : (a b : Bool) (x y : X) (o : Option X) → (a ≡ true → b ≡ false) → cond b (Some y) (cond a (Some x) o) ≡ cond a (Some x) (cond b (Some y) o)
-  swapped true b x y o apart = rw (apart refl) refl
-  swapped false b x y o apart = refl
-
-  find_inserted : (x : X) (xs : List X) → AllByRecursion (λ y. p x ≡ true → p y ≡ false) xs → find p (insert_sorted cmp x xs) ≡ cond (p x) (Some x) (find p xs)
-  find_inserted x [] apart = refl
-  find_inserted x (y ∷ ys) apart =
-      elim (is_gt (cmp x y)) as (λ b. find p (cond b (y ∷ insert_sorted cmp x ys) (x ∷ y ∷ ys)) ≡ cond (p x) (Some x) (cond (p y) (Some y) (find p ys))) [
-        | true ↦ ap (λ o. cond (p y) (Some y) o) (find_inserted x ys apart.1) ∙ swapped (p x) (p y) x y (find p ys) apart.0
-        | false ↦ refl
-      ]
-
-  pub find_sorted : (xs : List X) → IsAscending (λ x y. p x ≡ true → p y ≡ false) xs → find p (sort_by cmp xs) ≡ find p xs
-  find_sorted [] apart = refl
-  find_sorted (x ∷ xs) apart =
-      find_inserted x (sort_by cmp xs) (valid_sorted (λ y. p x ≡ true → p y ≡ false) cmp xs apart.0) ∙ ap (λ o. cond (p x) (Some x) o) (find_sorted xs apart.1)
+-- ---- lookups in a list
 
 pub find_among : {X : Type 0} (p q : X → Bool) → ((x : X) → p x ≡ true → q x ≡ true) → (xs : List X) → find p (filter q xs) ≡ find p xs
 find_among p q within xs = sym (slice_get-filter p (filter q xs)) ∙ ap (λ l. slice_get l 0) (filter-filter p q within xs) ∙ slice_get-filter p xs
@@ -74,17 +55,9 @@ holdings_are h legal entries are range n within =
     let at = is_of n in
     let inside : (e : Number × Entry) → at e ≡ true → there e ≡ true = λ e is.
     subst (λ (m : Number). (nat_eq m.vid range.vid && (nat_le range.span.first m.pid && nat_le m.pid range.span.last)) ≡ true) (same_number n e.0 is) (and_from _ _ (rw within.0 (eq_self n.vid)) within.1) in
-    let apart = ascending-filter _ there entries (ascending_weaker _ (λ (a b : Number × Entry). at a ≡ true → at b ≡ false) (λ a b other here. only_one a b other here) entries are.once) in
     find_each (λ (holding : Holding). number_eq n holding.number) holding_at _
-    ∙ ap (option_map holding_at) (find_sorted at by_number (filter there entries) apart ∙ find_among at there inside entries ∙ are.each n)
+    ∙ ap (option_map holding_at) (find_sorted by_number at (λ a b. is_of b.0 a) (one_number n) (filter there entries) (ascending-filter _ there entries are.once) ∙ find_among at there inside entries ∙ are.each n)
     ∙ holding_is h legal n
   where
     eq_self : (a : ℕ) → nat_eq a a ≡ true
     eq_self a = eq-eqb a a refl
-
-    only_one : (a b : Number × Entry) → is_of b.0 a ≡ false → is_of n a ≡ true → is_of n b ≡ false
-    only_one a b other here = go (is_of n b) refl
-      where
-        go : (c : Bool) → is_of n b ≡ c → is_of n b ≡ false
-        go false is = is
-        go true is = let same : b.0 ≡ a.0 = sym (same_number n b.0 is) ∙ same_number n a.0 here in absurd (let e : is_of b.0 a ≡ true = subst (λ (m : Number). number_eq m a.0 ≡ true) (sym same) (number_same a.0) in cc)

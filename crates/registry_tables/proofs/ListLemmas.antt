@@ -1,5 +1,5 @@
 -- The lists read are those of the history.
-use Rattle.std.proofs.Common.{◌≡◌, ℕ, Bool, true, false, List, map, find, nat_eq, Ordering, Less, Equal, Greater, is_eq, refl, sym, ap, subst, ◌∙◌, arith}
+use Rattle.std.proofs.Common.{◌≡◌, ℕ, Bool, true, false, List, map, find, nat_eq, Ordering, Equal, is_eq, refl, sym, ap, subst, ◌∙◌, arith}
 use Rattle.std.specs.Ordering.{nat_cmp, ordering_then}
 use Rattle.std.specs.Cmp.{IsTotalOrder}
 use Rattle.std.specs.Cmp.Lexicographic.{slice_cmp}
@@ -59,10 +59,8 @@ vendor_list h db t has had all is = record {
 
 pub both_equal : (o p : Ordering) → is_eq (ordering_then o p) ≡ true → (o ≡ Equal) × (p ≡ Equal)
 both_equal Equal Equal is = (refl, refl)
-both_equal Equal Less is = absurd cc
-both_equal Equal Greater is = absurd cc
-both_equal Less p is = absurd cc
-both_equal Greater p is = absurd cc
+both_equal Equal _ is = absurd cc
+both_equal _ p is = absurd cc
 
 pub level : (x y : ℕ) → nat_cmp x y ≡ Equal → x ≡ y
 level x y is = grind (arith, nat_tests)
@@ -83,7 +81,7 @@ told_apart a b apart = go (is_eq (by_number a b)) refl
         let p = level a.0.pid b.0.pid both.1 in
         absurd (let here : number_eq b.0 a.0 ≡ true = rw (v, p) (number_same b.0) in cc)
 
-one_number : (n : Number) (a b : Number × Entry) → is_of n a ≡ true → is_of n b ≡ true → is_of b.0 a ≡ true
+pub one_number : (n : Number) (a b : Number × Entry) → is_of n a ≡ true → is_of n b ≡ true → is_of b.0 a ≡ true
 one_number n a b x y = rw (sym (same_number n a.0 x), sym (same_number n b.0 y)) (number_same n)
 
 pub number_list : (h : History) (entries : List (Number × Entry)) → AreEntries h entries → (all : List (Number × Entry)) → all ≡ sort_by by_number entries → IsNumberList h all

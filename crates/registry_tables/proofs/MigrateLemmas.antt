@@ -4,35 +4,13 @@ use Rattle.std.specs.Option.{option_eq}
 use Rattle.std.proofs.lemmas.Bool.{eqb-true}
 use Rattle.std.proofs.lemmas.Bool.Decides.{nat_tests}
 use Rattle.sqlite.specs.Tree.{Trees}
-use Rattle.sqlite.specs.State.{State, HasCleanDisk, Survives}
-use Rattle.sqlite.proofs.StateLemmas.{survives_then, survives_weaker}
+use Rattle.sqlite.specs.State.{State, Survives}
+use Rattle.sqlite.proofs.StateLemmas.{survives_weaker}
 use Rattle.table_laws.specs.Making.{HasTables}
 use Rattle.registry_schema.specs.Texts.{texts_1, texts_2, texts_3}
 use Rattle.registry_rules.specs.History.{History}
 use Rattle.registry_tables.specs.Rows.{Rows}
-use Rattle.registry_tables.specs.Raising.{IsMadeBy, CommitsStep, CommitsTwo, EndsTwo, CommitsLater, IsAtRest, StaysOpen}
-
-module _ (a b c : State) (clean : HasCleanDisk b) (first : IsMadeBy (CommitsStep 1 a) b) where
-  mid_rows : (h : History) → Rows 1 a.now.trees h → Rows 2 b.now.trees h
-  mid_rows h rows = subst (λ d. Rows 2 d.trees h) (sym first.1) (first.2.1 h rows)
-
-  pub two_made : {E : Type 0} (result : Result (Unit {0}) E) → OnOk result (IsMadeBy (CommitsStep 2 b) c) → OnOk result (IsMadeBy (EndsTwo a) c)
-  two_made (Ok x) second = (second.0, second.1, (first.2.0, λ h rows. second.2.1 h (mid_rows h rows)))
-  two_made (Err e) second = tt
-
-  pub two_foreign : IsTrue b.is_open × ((h : History) → ¬ Rows 2 b.now.trees h) → IsTrue a.is_open × ((h : History) → ¬ Rows 1 a.now.trees h)
-  two_foreign none = (first.2.0, λ h rows. none.1 h (mid_rows h rows))
-
-  second_commits : (db : Trees) → CommitsStep 2 b db → CommitsTwo a db
-  second_commits db step = (first.2.0, λ h rows. inr (step.1 h (mid_rows h rows)))
-
-pub first_commits : (a : State) (db : Trees) → CommitsStep 1 a db → CommitsTwo a db
-first_commits a db step = (step.0, λ h rows. inl (step.1 h rows))
-
-pub two_survive : (a b c : State) → Survives a b (CommitsStep 1 a) → (HasCleanDisk b → IsMadeBy (CommitsStep 1 a) b) → Survives b c (CommitsStep 2 b) → Survives a c (CommitsTwo a)
-two_survive a b c one made two =
-    survives_then a b c _ _ (CommitsTwo a) (λ _ db step. first_commits a db step)
-    (λ clean db step. (let early : HasCleanDisk b = omega (arith, two.clean) in second_commits a b c early (made early) db step)) one two
+use Rattle.registry_tables.specs.Raising.{IsMadeBy, CommitsStep, CommitsTwo, CommitsLater, IsAtRest, StaysOpen}
 
 -- ---- the schema version of a store
 

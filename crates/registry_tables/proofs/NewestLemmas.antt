@@ -1,5 +1,6 @@
 -- A read of `meta` returns that the schema is the newest.
-use Rattle.std.proofs.Common.{◌≡◌, ◌≢◌, Bool, true, nat_eq, List, [], ◌∷◌, ◌++◌, IsTrue, Result, Ok, Err, OnOk, MatchResult, refl, sym, ap, subst, ◌∙◌, arith}
+use Rattle.std.proofs.Common.{◌≡◌, ◌≢◌, Global, Vec, Bool, true, nat_eq, List, [], ◌∷◌, ◌++◌, IsTrue, Result, Ok, Err, OnOk, MatchResult, refl, sym, ap, subst, ◌∙◌, arith}
+use Rattle.std.specs.Borrow.{MutBor}
 use Rattle.std.specs.List.{list_any}
 use Rattle.std.proofs.lemmas.List.Folds.{list_any-append}
 use Rattle.std.proofs.lemmas.Bool.Decides.{nat_tests}
@@ -11,11 +12,14 @@ use Rattle.registry_schema.specs.declared.fault.TableFault.{TableFault}
 use Rattle.registry_schema.specs.declared.fault.TableFault.TheVariants.{Foreign}
 use Rattle.registry_rows.specs.declared.meta.Meta.{Meta}
 use Rattle.registry_rules.specs.History.{History}
-use Rattle.registry_tables.specs.Finds.{Finds}
+use Rattle.registry_rows.specs.Steps.{Reads}
+use Rattle.registry_rows.specs.Tables.{Holds}
+use Rattle.registry_tables.specs.Finds.{ReadsHistory}
 use Rattle.registry_tables.specs.Rows.{newest, meta_of}
 use Rattle.registry_tables.specs.Version.{SaysNewest}
-use Rattle.registry_tables.proofs.FindLemmas.{Read, passes, refuses}
+use Rattle.registry_tables.proofs.FindLemmas.{Read}
 use Rattle.registry_tables.proofs.OpeningLemmas.{only_meta}
+use Rattle.registry_tables.proofs.ReadLemmas.{rows_pass, rows_refuse}
 
 abbrev is_newest : Meta → Bool
 is_newest meta = nat_eq meta.version newest
@@ -23,15 +27,15 @@ is_newest meta = nat_eq meta.version newest
 last_passes : {X : Type 0} (p : X → Bool) (xs : List X) (x : X) → p x ≡ true → list_any p (xs ++ x ∷ []) ≡ true
 last_passes p xs x is = grind (arith, list_any-append p xs (x ∷ []), is)
 
-module _ (old new : State) (all rest : List Meta) (meta : Meta) (is : all ≡ rest ++ meta ∷ []) (read : Read old new (λ t. all ≡ t.metas)) where
-  -- the last row read is the row of meta, if its version is the newest
-  pub meta_told : (result : Result Meta TableFault) → MatchResult result (λ same. (same ≡ meta) × (meta.version ≡ newest)) (λ fault. (fault ≡ Foreign) × (meta.version ≢ newest))
-      → Finds old new result (λ h m. m ≡ meta_of h)
-  meta_told (Ok m) says = passes old new (λ (h : History) (m : Meta). m ≡ meta_of h) (λ t. all ≡ t.metas) m (λ h t legal has had same. says.0 ∙ only_meta h t had rest meta (sym same ∙ is)) read
-  meta_told (Err e) says =
-      subst (λ e. Finds old new (Err e) (λ (h : History) (m : Meta). m ≡ meta_of h)) (sym says.0)
-      (refuses old new (λ (h : History) (m : Meta). m ≡ meta_of h) (λ t. all ≡ t.metas) (λ h t legal has had same. says.1 (ap (λ (m : Meta). m.version) (only_meta h t had rest meta (sym same ∙ is)))) read)
+-- the last row read is the row of meta, if its version is the newest
+pub meta_told : {S : Type 0} {g : Ghosts S} {a b : MutBor (Held S)} {all : Vec Meta Global} (rest : List Meta) (meta : Meta) → all.items ≡ rest ++ meta ∷ [] → (result : Result Meta TableFault)
+    → MatchResult result (λ same. (same ≡ meta) × (meta.version ≡ newest)) (λ fault. (fault ≡ Foreign) × (meta.version ≢ newest))
+    → Reads g a b (Ok all) Holds (λ t all. all.items ≡ t.metas) → ReadsHistory g a b result (λ h m. m ≡ meta_of h)
+meta_told rest meta is (Ok m) says rows = rows_pass (λ h t legal has had kept same. says.0 ∙ only_meta h t had rest meta (sym same ∙ is)) rows
+meta_told {S} {g} {a} {b} rest meta is (Err e) says rows =
+    subst (λ e. ReadsHistory g a b (Err e) (λ (h : History) (m : Meta). m ≡ meta_of h)) (sym says.0) (rows_refuse (λ h t legal has had same. says.1 (ap (λ (m : Meta). m.version) (only_meta h t had rest meta (sym same ∙ is)))) rows)
 
+module _ (old new : State) (all rest : List Meta) (meta : Meta) (is : all ≡ rest ++ meta ∷ []) (read : Read old new (λ t. all ≡ t.metas)) where
   pub meta_newest : (result : Result Meta TableFault) → MatchResult result (λ same. (same ≡ meta) × (meta.version ≡ newest)) (λ fault. (fault ≡ Foreign) × (meta.version ≢ newest))
       → OnOk result (SaysNewest old.now)
   meta_newest (Ok m) says = λ t holds. (let same : all ≡ t.metas = (read.1 t holds).1 in subst (λ metas. list_any is_newest metas ≡ true) (sym is ∙ same) (last_passes is_newest rest meta (grind (arith, nat_tests, says.1))))

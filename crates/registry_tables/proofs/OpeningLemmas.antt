@@ -1,5 +1,5 @@
 -- What is read from tables that hold the rows of a history.
-use Rattle.std.proofs.Common.{◌≡◌, ℕ, ◌<◌, ◌≤◌, pos, ◌<ℤ◌, false, nat_eq, List, [], ◌∷◌, ◌++◌, length, append-nil, append_assoc, length-append, find, Option, Some, None, Result, Ok, Err, IfOk, ◌≢◌, refl, sym, ap, subst, ◌∙◌, arith}
+use Rattle.std.proofs.Common.{◌≡◌, ℕ, ◌<◌, ◌≤◌, pos, ◌<ℤ◌, false, nat_eq, List, [], ◌∷◌, ◌++◌, length, append-nil, append_assoc, length-append, find, Option, Some, None, refl, sym, ap, subst, ◌∙◌, arith}
 use Rattle.std.specs.List.{list_any}
 use Rattle.std.specs.Cmp.Lexicographic.{slice_cmp}
 use Rattle.std.specs.Ordering.{nat_cmp}
@@ -9,8 +9,6 @@ use Rattle.std.proofs.lemmas.Cmp.{nat_list_cmp_total}
 use Rattle.std.proofs.lemmas.Int.{ints}
 use Rattle.std.proofs.lemmas.Map.Text.{is_eq-slice_cmp}
 use Rattle.sqlite.specs.Effect.{Database}
-use Rattle.sqlite.specs.State.{State}
-use Rattle.usbnum_core.specs.Spans.{IsSpread}
 use Rattle.usbnum_core.specs.declared.number.Number.{Number}
 use Rattle.usbnum_core.specs.declared.number.Span.{Span}
 use Rattle.sqlite_trees.specs.Tree.{IsAscending as RiseBy}
@@ -32,26 +30,22 @@ use Rattle.registry_rules.proofs.RunLemmas.{legal_before, legal_licences}
 use Rattle.registry_rules.proofs.NoRepeatLemmas.{NoneTwice, licences_counted, ascending_distinct, vendor_count}
 use Rattle.registry_rows.specs.declared.meta.Meta.{Meta}
 use Rattle.registry_rows.specs.Rows.{by_bytes, by_beginning, is_named}
-use Rattle.registry_schema.specs.declared.fault.TableFault.{TableFault}
-use Rattle.registry_schema.specs.declared.fault.TableFault.TheVariants.{Foreign}
 use Rattle.registry_rows.specs.Tables.{Tables, Holds}
 use Rattle.registry_tables.specs.Rows.{meta_of, vendor_span_has, AreCurators, AreLicences, AreRecords, IsFounding}
 use Rattle.registry_tables.specs.Lists.{AreAllowed}
-use Rattle.registry_tables.specs.Finds.{Finds}
-use Rattle.registry_tables.proofs.FindLemmas.{Read, passes, short}
 use Rattle.registry_tables.proofs.AscendLemmas.{one_order}
 use Rattle.registry_tables.proofs.SortLemmas.{sorted_up, any_sorted}
 use Rattle.registry_tables.proofs.ViewLemmas.{same_bytes}
 
 -- ---- meta
 
-alone : {X : Type 0} (xs : List X) (x y : X) → y ∷ [] ≡ xs ++ x ∷ [] → x ≡ y
-alone [] x y is = cc
-alone (z ∷ []) x y is = absurd cc
-alone (z ∷ w ∷ zs) x y is = absurd cc
+pub last_is_only : {X : Type 0} (xs : List X) (x y : X) → y ∷ [] ≡ xs ++ x ∷ [] → x ≡ y
+last_is_only [] x y is = cc
+last_is_only (z ∷ []) x y is = absurd cc
+last_is_only (z ∷ w ∷ zs) x y is = absurd cc
 
 pub only_meta : (h : History) (t : Tables) → AreRecords h t → (rest : List Meta) (meta : Meta) → t.metas ≡ rest ++ meta ∷ [] → meta ≡ meta_of h
-only_meta h t had rest meta is = alone rest meta (meta_of h) (sym had.metas ∙ is)
+only_meta h t had rest meta is = last_is_only rest meta (meta_of h) (sym had.metas ∙ is)
 
 pub one_meta : (h : History) (t : Tables) → AreRecords h t → 0 < length t.metas
 one_meta h t had = subst (λ l. 0 < length l) (sym had.metas) (omega arith)
@@ -126,15 +120,6 @@ pub vendors_are : (h : History) (db : Database) (t : Tables) → Legal h → Hol
 vendors_are h db t legal has had all is =
     let each = λ (vid : ℕ). ap (find (λ (v : Vendor). nat_eq v.vid vid)) is ∙ had.vendors vid in
     record { each = each; count = vendor_count h legal all each (subst (NoneTwice (λ a b. nat_eq a.vid b.vid)) (sym is) (rise_once t.vendors has.rows.vendors.keyed)) }
-
--- ---- the fixed numbers
-
-pub fixed_tells : (old new : State) (all : List Span) (result : Result (List Span) TableFault) → (IsSpread 1 all → IfOk result (λ set. set ≡ all)) → result ≢ Err Foreign
-    → Read old new (λ t. all ≡ t.fixed) → Finds old new result (λ h fixed. fixed ≡ h.founding.fixed)
-fixed_tells old new all (Ok set) same kind read =
-    passes old new (λ (h : History) (fixed : List Span). fixed ≡ h.founding.fixed) (λ t. all ≡ t.fixed) set
-    (λ h t legal has had is. (let founded = is ∙ had.fixed in same (subst (IsSpread 1) (sym founded) had.founding.fixed) ∙ founded)) read
-fixed_tells old new all (Err e) same kind read = short old new (λ (h : History) (fixed : List Span). fixed ≡ h.founding.fixed) e (λ foreign. kind (ap Err foreign)) read.0
 
 -- ---- the reserved numbers
 

@@ -1,90 +1,121 @@
 -- One look-up of a transaction after another.
-use Rattle.std.proofs.Common.{◌≡◌, ℕ, Bool, Global, IsTrue, Result, Ok, Err, refl, sym, subst, arith}
+use Rattle.std.proofs.Common.{◌≡◌, ◌≢◌, ℕ, Bool, Global, Vec, List, IsTrue, Result, Ok, Err, IfOk, refl, sym, ap, subst, ◌∙◌, arith}
 use Rattle.std.specs.List.{list_any}
-use Rattle.std.specs.declared.vec.Vec.{Vec}
-use Rattle.sqlite.specs.State.{State, HasCleanDisk}
+use Rattle.std.specs.Borrow.{MutBor}
+use Rattle.sqlite_trees.specs.declared.store.Store.{Ghosts}
+use Rattle.sqlite.specs.Held.{Held, state}
+use Rattle.sqlite.specs.State.{State}
+use Rattle.sqlite.proofs.StateLemmas.{survives_then}
 use Rattle.sqlite_keyed.specs.Lists.{sort_by}
+use Rattle.usbnum_core.specs.Spans.{IsSpread}
 use Rattle.usbnum_core.specs.declared.number.Number.{Number as NumberValue}
 use Rattle.usbnum_core.specs.declared.number.Span.{Span}
-use Rattle.sqlite.proofs.StateLemmas.{survives_then}
-use Rattle.table_laws.specs.Inside.{CommitsNothing, GoesOn, StaysInside}
+use Rattle.table_laws.specs.Inside.{CommitsNothing}
 use Rattle.registry_schema.specs.declared.fault.TableFault.{TableFault}
 use Rattle.registry_schema.specs.declared.fault.TableFault.TheVariants.{Foreign}
 use Rattle.registry_rules.specs.History.{History}
-use Rattle.registry_rules.specs.Run.{Legal}
 use Rattle.registry_rules.specs.Query.{is_reserved_by_order}
+use Rattle.registry_rules.specs.Run.{Legal}
 use Rattle.registry_rules.specs.declared.record.Org.{Org}
 use Rattle.registry_rules.specs.declared.record.Entry.{Entry}
 use Rattle.registry_rows.specs.Rows.{by_slug, by_number, by_beginning}
+use Rattle.registry_rows.specs.Steps.{Reads}
 use Rattle.registry_rows.specs.Tables.{Tables, Holds}
-use Rattle.registry_tables.specs.Finds.{Reads, ReadsOpen}
-use Rattle.registry_tables.specs.Rows.{AreRecords, vendor_span_has}
+use Rattle.registry_tables.specs.Finds.{ReadsHistory, ReadsHistoryOpen}
 use Rattle.registry_tables.specs.Lists.{IsOrgList, IsNumberList}
+use Rattle.registry_tables.specs.Rows.{AreRecords, AreKeptReplies, vendor_span_has}
 use Rattle.registry_tables.proofs.ListLemmas.{org_list, number_list}
 use Rattle.registry_tables.proofs.OpeningLemmas.{spans_told}
-use Rattle.registry_tables.proofs.FindLemmas.{Read, finds_then, finds_ok, fails_then, passes, refuses, fails}
+use Rattle.registry_tables.proofs.FindLemmas.{finds_then, finds_ok, finds_as, fails_then, passes, refuses, fails, short, tells}
 
 pub quiet_then : (a b c : State) → CommitsNothing a b → CommitsNothing b c → CommitsNothing a c
 quiet_then a b c p q = survives_then a b c _ _ (λ _. ⊥) (λ _ db none. none) (λ _ db none. none) p q
 
-pub opened : {a b : State} {A : Type 0} {P : History → A → Type 0} {r : Result A TableFault} → Reads a b r P → ReadsOpen a b r P
-opened one = record { found = λ clean inside _. one.found clean inside; survives = one.survives }
+module _ {S : Type 0} {g : Ghosts S} {a b : MutBor (Held S)} {A : Type 0} {P : History → A → Type 0} where
+  pub opened : {r : Result A TableFault} → ReadsHistory g a b r P → ReadsHistoryOpen g a b r P
+  opened one = record { same_reference = one.same_reference; found = λ clean inside _. one.found clean inside; survives = one.survives }
 
--- what the rows say of a fault
-abbrev pub Faults : State → State → TableFault → Type 0
-Faults a b e = (e ≡ Foreign → GoesOn a b × ((t : Tables) → ¬ Holds a.now t)) × StaysInside a b
+  -- a result that satisfies one relation satisfies a weaker one
+  pub reads_as : {Also : History → A → Type 0} {r : Result A TableFault} → ((h : History) (x : A) → Legal h → P h x → Also h x) → ReadsHistory g a b r P → ReadsHistory g a b r Also
+  reads_as {Also} {r} means one = record { same_reference = one.same_reference; found = λ clean inside. finds_as (state g a.now) (state g b.now) P Also r means (one.found clean inside); survives = one.survives }
 
-module _ {a b : State} (quiet : CommitsNothing a b) where
+  -- a result made of what was read, and a fault that is passed on
   module _ {B : Type 0} {Is : History → B → Type 0} where
-    -- what the rows say is what the history says
-    pub rows_pass : {Says : Tables → Type 0} {y : B} → (HasCleanDisk b → IsTrue a.in_transaction → Read a b Says)
-        → ((h : History) (t : Tables) → Legal h → Holds a.now t → AreRecords h t → Says t → Is h y) → Reads a b (Ok y) Is
-    rows_pass {Says} {y} read means = record { found = λ clean inside. passes a b Is Says y means (read clean inside); survives = quiet }
+    pub makes : {x : A} {y : B} → ((h : History) → Legal h → P h x → Is h y) → ReadsHistory g a b (Ok x) P → ReadsHistory g a b (Ok y) Is
+    makes {x} {y} means one = record { same_reference = one.same_reference; found = λ clean inside. finds_ok (state g a.now) (state g b.now) P Is x y means (one.found clean inside); survives = one.survives }
 
-    -- or it refutes every history
-    pub rows_refuse : {Says : Tables → Type 0} → (HasCleanDisk b → IsTrue a.in_transaction → Read a b Says)
-        → ((h : History) (t : Tables) → Legal h → Holds a.now t → AreRecords h t → ¬ Says t) → Reads a b (Err Foreign) Is
-    rows_refuse {Says} read never = record { found = λ clean inside. refuses a b Is Says never (read clean inside); survives = quiet }
+    pub fails_first : {e : TableFault} {r : Result B TableFault} → r ≡ Err e → ReadsHistory g a b (Err e) P → ReadsHistory g a b r Is
+    fails_first {e} {r} is one = subst (λ r. ReadsHistory g a b r Is) (sym is) (record { same_reference = one.same_reference; found = one.found; survives = one.survives })
 
-    -- a fault of the rows
-    pub rows_fail : {e : TableFault} {r : Result B TableFault} → r ≡ Err e → (HasCleanDisk b → IsTrue a.in_transaction → Faults a b e) → Reads a b r Is
-    rows_fail {e} {r} is read = subst (λ r. Reads a b r Is) (sym is) (record { found = λ clean inside. fails a b Is e (read clean inside); survives = quiet })
-
-  pub rows_fault : {e : TableFault} → (HasCleanDisk b → IsTrue a.in_transaction → Faults a b e) → ReadsOpen a b (Err e) (λ (h : History) (x : Bool). IsTrue x)
-  rows_fault read = opened (rows_fail refl read)
-
-module _ {a b c : State} {A : Type 0} {P : History → A → Type 0} {x : A} where
-  -- two look-ups as one, and a fault of the second as a fault of both
-  pub then_open : {B : Type 0} {Q : History → B → Type 0} {r : Result B TableFault} → Reads a b (Ok x) P → ReadsOpen b c r Q → Reads a c r (λ h y. P h x × Q h y)
-  then_open {B} {Q} {r} one two = record {
-    found = λ clean inside. (let first = one.found (omega (arith, two.survives.clean)) inside in finds_then a b c P Q x r first (two.found clean first.0.mode first.0.is_open));
-    survives = quiet_then a b c one.survives two.survives;
+-- from the tables to a history
+module _ {S : Type 0} {g : Ghosts S} {a b : MutBor (Held S)} {A B : Type 0} {Says : Tables → A → Type 0} {Is : History → B → Type 0} where
+  -- what the rows say is what the history says
+  pub rows_pass : {x : A} {y : B} → ((h : History) (t : Tables) → Legal h → Holds (state g a.now).now t → AreRecords h t → AreKeptReplies h t.kept → Says t x → Is h y) → Reads g a b (Ok x) Holds Says → ReadsHistory g a b (Ok y) Is
+  rows_pass {x} {y} means rows = record {
+    same_reference = rows.same_reference;
+    found = λ clean inside. passes (state g a.now) (state g b.now) Is (λ t. Says t x) y means (rows.told clean inside);
+    survives = rows.survives;
   }
 
-  pub fails_open : {B C : Type 0} {Q : History → B → Type 0} {Is : History → C → Type 0} {e : TableFault} {r : Result C TableFault} → r ≡ Err e → Reads a b (Ok x) P → ReadsOpen b c (Err e) Q → Reads a c r Is
-  fails_open {B} {C} {Q} {Is} {e} {r} is one two = subst (λ r. Reads a c r Is) (sym is) (record {
+  -- or it refutes every history
+  pub rows_refuse : {x : A} → ((h : History) (t : Tables) → Legal h → Holds (state g a.now).now t → AreRecords h t → ¬ Says t x) → Reads g a b (Ok x) Holds Says → ReadsHistory g a b (Err Foreign) Is
+  rows_refuse {x} never rows =
+      record { same_reference = rows.same_reference; found = λ clean inside. refuses (state g a.now) (state g b.now) Is (λ t. Says t x) never (rows.told clean inside); survives = rows.survives }
+
+  -- a fault of the rows, and one that comes after them
+  pub rows_fail : {e : TableFault} {r : Result B TableFault} → r ≡ Err e → Reads g a b (Err e) Holds Says → ReadsHistory g a b r Is
+  rows_fail {e} {r} is rows = subst (λ r. ReadsHistory g a b r Is) (sym is)
+      (record { same_reference = rows.same_reference; found = λ clean inside. fails (state g a.now) (state g b.now) Is e (rows.told clean inside); survives = rows.survives })
+
+  pub rows_short : {x : A} {e : TableFault} → e ≢ Foreign → Reads g a b (Ok x) Holds Says → ReadsHistory g a b (Err e) Is
+  rows_short {x} {e} other rows =
+      record { same_reference = rows.same_reference; found = λ clean inside. short (state g a.now) (state g b.now) Is e other (rows.told clean inside).0; survives = rows.survives }
+
+-- the same of any result
+pub rows_tell : {S : Type 0} {g : Ghosts S} {a b : MutBor (Held S)} {A : Type 0} {Says : Tables → A → Type 0} {Is : History → A → Type 0} {r : Result A TableFault}
+    → ((h : History) (t : Tables) → Legal h → Holds (state g a.now).now t → AreRecords h t → (x : A) → Says t x → Is h x) → Reads g a b r Holds Says → ReadsHistory g a b r Is
+rows_tell {S} {g} {a} {b} {A} {Says} {Is} {r} means rows =
+    record { same_reference = rows.same_reference; found = λ clean inside. tells (state g a.now) (state g b.now) r Says Is means (rows.told clean inside); survives = rows.survives }
+
+module _ {S : Type 0} {g : Ghosts S} {a b c : MutBor (Held S)} {A : Type 0} {P : History → A → Type 0} {x : A} where
+  -- two look-ups as one, and a fault of the second as a fault of both
+  pub then_open : {B : Type 0} {Q : History → B → Type 0} {r : Result B TableFault} → ReadsHistory g a b (Ok x) P → ReadsHistoryOpen g b c r Q → ReadsHistory g a c r (λ h y. P h x × Q h y)
+  then_open {B} {Q} {r} one two = record {
+    same_reference = two.same_reference ∙ one.same_reference;
     found = λ clean inside. (
         let first = one.found (omega (arith, two.survives.clean)) inside in
-        fails_then a b c (λ h. P h x) first e Q Is (two.found clean first.0.mode first.0.is_open));
-    survives = quiet_then a b c one.survives two.survives;
+        finds_then (state g a.now) (state g b.now) (state g c.now) P Q x r first (two.found clean first.0.mode first.0.is_open));
+    survives = quiet_then (state g a.now) (state g b.now) (state g c.now) one.survives two.survives;
+  }
+
+  pub fails_open : {B C : Type 0} {Q : History → B → Type 0} {Is : History → C → Type 0} {e : TableFault} {r : Result C TableFault} → r ≡ Err e → ReadsHistory g a b (Ok x) P → ReadsHistoryOpen g b c (Err e) Q
+      → ReadsHistory g a c r Is
+  fails_open {B} {C} {Q} {Is} {e} {r} is one two = subst (λ r. ReadsHistory g a c r Is) (sym is) (record {
+    same_reference = two.same_reference ∙ one.same_reference;
+    found = λ clean inside. (
+        let first = one.found (omega (arith, two.survives.clean)) inside in
+        fails_then (state g a.now) (state g b.now) (state g c.now) (λ h. P h x) first e Q Is (two.found clean first.0.mode first.0.is_open));
+    survives = quiet_then (state g a.now) (state g b.now) (state g c.now) one.survives two.survives;
   })
 
--- a result made of what was read
-pub makes : {a b : State} {A B : Type 0} {P : History → A → Type 0} {Is : History → B → Type 0} {x : A} {y : B} → ((h : History) → Legal h → P h x → Is h y) → Reads a b (Ok x) P → Reads a b (Ok y) Is
-makes {a} {b} {A} {B} {P} {Is} {x} {y} means one = record { found = λ clean inside. finds_ok a b P Is x y means (one.found clean inside); survives = one.survives }
-
--- a fault that is passed on
-pub fails_first : {a b : State} {A B : Type 0} {P : History → A → Type 0} {Is : History → B → Type 0} {e : TableFault} {r : Result B TableFault} → r ≡ Err e → Reads a b (Err e) P → Reads a b r Is
-fails_first {a} {b} {A} {B} {P} {Is} {e} {r} is one = subst (λ r. Reads a b r Is) (sym is) (record { found = one.found; survives = one.survives })
-
 -- the tables that the totals are made of
-module _ {a b : State} (quiet : CommitsNothing a b) where
-  pub orgs_read : (all : Vec Org Global) → (HasCleanDisk b → IsTrue a.in_transaction → Read a b (λ t. all.items ≡ sort_by by_slug t.orgs)) → ReadsOpen a b (Ok all) (λ h x. IsOrgList h x.items)
-  orgs_read all read = opened (rows_pass quiet read (λ h t legal has had is. org_list h t.orgs had.orgs all.items is))
+module _ {S : Type 0} {g : Ghosts S} {a b : MutBor (Held S)} where
+  pub orgs_read : {all : Vec Org Global} → Reads g a b (Ok all) Holds (λ t all. all.items ≡ sort_by by_slug t.orgs) → ReadsHistoryOpen g a b (Ok all) (λ h all. IsOrgList h all.items)
+  orgs_read {all} rows = opened (rows_tell (λ h t legal has had all is. org_list h t.orgs had.orgs all.items is) rows)
 
-  pub entries_read : (all : Vec (NumberValue × Entry) Global) → (HasCleanDisk b → IsTrue a.in_transaction → Read a b (λ t. all.items ≡ sort_by by_number t.entries)) → ReadsOpen a b (Ok all) (λ h x. IsNumberList h x.items)
-  entries_read all read = opened (rows_pass quiet read (λ h t legal has had is. number_list h t.entries had.entries all.items is))
+  pub entries_read : {all : Vec (NumberValue × Entry) Global} → Reads g a b (Ok all) Holds (λ t all. all.items ≡ sort_by by_number t.entries) → ReadsHistoryOpen g a b (Ok all) (λ h all. IsNumberList h all.items)
+  entries_read {all} rows = opened (rows_tell (λ h t legal has had all is. number_list h t.entries had.entries all.items is) rows)
 
-  pub spans_read : (all : Vec (ℕ × Span) Global) → (HasCleanDisk b → IsTrue a.in_transaction → Read a b (λ t. all.items ≡ sort_by by_beginning t.spans))
-      → ReadsOpen a b (Ok all) (λ h x. (n : NumberValue) → list_any (vendor_span_has n) x.items ≡ is_reserved_by_order h n)
-  spans_read all read = opened (rows_pass quiet read (λ h t legal has had is. spans_told h t had all.items is))
+  pub spans_read : {all : Vec (ℕ × Span) Global} → Reads g a b (Ok all) Holds (λ t all. all.items ≡ sort_by by_beginning t.spans)
+      → ReadsHistoryOpen g a b (Ok all) (λ h all. (n : NumberValue) → list_any (vendor_span_has n) all.items ≡ is_reserved_by_order h n)
+  spans_read {all} rows = opened (rows_tell (λ h t legal has had all is. spans_told h t had all.items is) rows)
+
+  -- a fault, whatever would have been read
+  pub rows_fault : {A : Type 0} {Says : Tables → A → Type 0} {e : TableFault} → Reads g a b (Err e) Holds Says → ReadsHistoryOpen g a b (Err e) (λ (h : History) (x : Bool). IsTrue x)
+  rows_fault rows = opened (rows_fail refl rows)
+
+  -- the fixed numbers, as a set
+  pub fixed_tell : {all : Vec Span Global} (result : Result (List Span) TableFault) → (IsSpread 1 all.items → IfOk result (λ set. set ≡ all.items)) → result ≢ Err Foreign
+      → Reads g a b (Ok all) Holds (λ t all. all.items ≡ t.fixed) → ReadsHistory g a b result (λ h fixed. fixed ≡ h.founding.fixed)
+  fixed_tell (Ok set) same kind = rows_pass (λ h t legal has had kept is. (let founded = is ∙ had.fixed in same (subst (IsSpread 1) (sym founded) had.founding.fixed) ∙ founded))
+  fixed_tell (Err e) same kind = rows_short (λ foreign. kind (ap Err foreign))

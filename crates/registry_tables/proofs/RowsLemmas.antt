@@ -1,5 +1,5 @@
 -- Laws of the rows of a history, so that the layer above need not unfold them.
-use Rattle.std.proofs.Common.{◌≡◌, ℕ, inl, inr, true, IsTrue, refl, sym, ap, subst, ◌∙◌, arith}
+use Rattle.std.proofs.Common.{ℕ, inl, inr, IsTrue, refl, sym, subst, arith}
 use Rattle.sqlite_schema.specs.declared.schema.Schema.{Schema}
 use Rattle.sqlite.specs.Effect.{Database}
 use Rattle.sqlite.specs.State.{State, IsLive}
@@ -7,9 +7,8 @@ use Rattle.sqlite_catalog.specs.Listing.{IsSound}
 use Rattle.sqlite_trees.specs.Tree.{Trees}
 use Rattle.table_laws.specs.Making.{schema_by}
 use Rattle.registry_schema.specs.Texts.{texts_1, texts_2, texts_3}
-use Rattle.registry_schema.specs.Meta.{has_meta_table}
 use Rattle.registry_schema.proofs.TextLemmas.{schema_3_is}
-use Rattle.registry_schema.proofs.VersionLemmas.{has_schema_1, has_schema_2, has_schema_3, meta_first, meta_second, meta_third}
+use Rattle.registry_schema.proofs.VersionLemmas.{has_schema_3}
 use Rattle.registry_rules.specs.History.{History}
 use Rattle.registry_rows.specs.Tables.{Tables, HasRows}
 use Rattle.registry_tables.specs.Rows.{newest, Rows, HoldsRows, AreRecords, AreKeptReplies}
@@ -39,10 +38,3 @@ unfolding Rows
 rows_sound version db h (t, inl first, had, kept) = (schema_by texts_1, first.1.has)
 rows_sound version db h (t, inr (inl second), had, kept) = (schema_by texts_2, second.1.has)
 rows_sound version db h (t, inr (inr third), had, kept) = (schema_by texts_3, third.1.has)
-
--- a store that holds the rows of a history has the table meta
-pub rows_have_meta : (version : ℕ) (s : State) (h : History) → IsLive s → IsTrue s.is_open → Rows version s.now.trees h → has_meta_table s.now.schema ≡ true
-unfolding Rows
-rows_have_meta version s h live is_open (t, inl first, had, kept) = ap has_meta_table (has_schema_1 s live is_open first.1.has) ∙ meta_first
-rows_have_meta version s h live is_open (t, inr (inl second), had, kept) = ap has_meta_table (has_schema_2 s live is_open second.1.has) ∙ meta_second
-rows_have_meta version s h live is_open (t, inr (inr third), had, kept) = ap has_meta_table (has_schema_3 s live is_open third.1.has) ∙ meta_third

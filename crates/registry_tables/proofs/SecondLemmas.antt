@@ -16,12 +16,12 @@ use Rattle.registry_rules.specs.History.{History}
 use Rattle.registry_rows.specs.declared.meta.Meta.{Meta}
 use Rattle.registry_rows.specs.Rows.{meta_key}
 use Rattle.registry_rows.specs.Tables.{Tables}
-use Rattle.registry_tables.specs.Rows.{newest, meta_of, AreRecords, AreKeptReplies}
+use Rattle.registry_tables.specs.Rows.{meta_of, AreRecords, AreKeptReplies}
 use Rattle.table_laws.specs.Making.{HasMore}
 use Rattle.registry_old_rows.specs.Old.{old_span_key, with_version, at_version}
 use Rattle.registry_old_rows.specs.Between.{HoldsFirst, HoldsSecond}
 use Rattle.registry_old_rows.specs.Steps.{Second, IsHeld}
-use Rattle.registry_rows.specs.Steps.{AnswersOf}
+use Rattle.registry_rows.specs.Steps.{Tells}
 use Rattle.registry_old_rows.proofs.AgreeLemmas.{agree_1}
 use Rattle.registry_tables.specs.Versions.{IsFirst, HoldsOf}
 use Rattle.registry_tables.specs.Raising.{IsMarked, Raises}
@@ -87,7 +87,7 @@ module _ (a s1 : State) (one : a.now.schema ≡ schema_1 → HasMore schema_1 (s
   }
 
   -- a store whose meta does not name the first schema has no rows in it
-  pub first_refused : (new : State) (e : TableFault) → IsTrue a.is_open → AnswersOf s1 new (IsMarked 1 s1.now) (Err e) (λ x (m : Meta). x.tables.metas ≡ m ∷ []) → Raises 1 a new {A = Unit {0}} (Err e)
+  pub first_refused : (new : State) (e : TableFault) → IsTrue a.is_open → Tells s1 new (IsMarked 1 s1.now) (Err e) (λ x (m : Meta). x.tables.metas ≡ m ∷ []) → Raises 1 a new {A = Unit {0}} (Err e)
   first_refused new e was read foreign =
       let none = read.0 foreign in
       (was, λ h rows. (let it = marked_first a.now h rows in none.1 _ (begun_marked h it.0 it.1 it.2)))

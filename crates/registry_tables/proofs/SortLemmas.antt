@@ -8,6 +8,7 @@ use Rattle.std.proofs.lemmas.Int.{ints}
 use Rattle.sqlite_trees.specs.Tree.{IsAscending}
 use Rattle.sqlite_keyed.specs.Lists.{insert_sorted, sort_by}
 use Rattle.sqlite_keyed.proofs.ListLemmas.{all_weaker}
+use Rattle.registry_rows.proofs.StepLemmas.{valid_sorted}
 
 -- ---- what holds for each value
 
@@ -16,10 +17,6 @@ module _ {X : Type 0} (cmp : X → X → Ordering) (P : X → Type 0) where
   all_inserted new [] h all = (h, tt)
   all_inserted new (x ∷ xs) h all =
       elim (is_gt (cmp new x)) as (λ b. AllByRecursion P (cond b (x ∷ insert_sorted cmp new xs) (new ∷ x ∷ xs))) [ true ↦ (all.0, all_inserted new xs h all.1) | false ↦ (h, all) ]
-
-  pub all_sorted : (xs : List X) → AllByRecursion P xs → AllByRecursion P (sort_by cmp xs)
-  all_sorted [] all = tt
-  all_sorted (x ∷ xs) all = all_inserted x (sort_by cmp xs) all.0 (all_sorted xs all.1)
 
 -- ---- the order
 
@@ -41,17 +38,22 @@ module _ {X : Type 0} (cmp : X → X → Ordering) (total : IsTotalOrder cmp) (s
   pub sorted_up : (xs : List X) → IsAscending (λ a b. same a b ≡ false) xs → IsStrictlySortedBy cmp (sort_by cmp xs)
   unfolding IsStrictlySortedBy
   sorted_up [] once = tt
-  sorted_up (x ∷ xs) once = inserted x (sort_by cmp xs) (all_sorted cmp (λ y. same x y ≡ false) xs once.0) (sorted_up xs once.1)
+  sorted_up (x ∷ xs) once = inserted x (sort_by cmp xs) (valid_sorted (λ y. same x y ≡ false) cmp xs once.0) (sorted_up xs once.1)
 
 -- ---- lookups
 
-module _ {X : Type 0} (cmp : X → X → Ordering) (test : X → Bool) where
-  or_swapped : (a b : Bool) (rest : Bool) → (a || (b || rest)) ≡ (b || (a || rest))
-  or_swapped true true rest = refl
-  or_swapped true false rest = refl
-  or_swapped false true rest = refl
-  or_swapped false false rest = refl
+pub or_swapped : (a b rest : Bool) → (a || (b || rest)) ≡ (b || (a || rest))
+or_swapped true true rest = refl
+or_swapped true false rest = refl
+or_swapped false b rest = refl
 
+-- of two tests at most one passes, so either may come first
+pub found_swapped : {X : Type 0} (a b : Bool) (x y : X) (o : Option X) → (a ≡ true → b ≡ true → ⊥) → cond a (Some x) (cond b (Some y) o) ≡ cond b (Some y) (cond a (Some x) o)
+found_swapped true true x y o never = absurd (never refl refl)
+found_swapped true false x y o never = refl
+found_swapped false b x y o never = refl
+
+module _ {X : Type 0} (cmp : X → X → Ordering) (test : X → Bool) where
   any_inserted : (new : X) (xs : List X) → list_any test (insert_sorted cmp new xs) ≡ (test new || list_any test xs)
   any_inserted new [] = refl
   any_inserted new (x ∷ xs) =
@@ -64,21 +66,16 @@ module _ {X : Type 0} (cmp : X → X → Ordering) (test : X → Bool) where
   any_sorted (x ∷ xs) = any_inserted x (sort_by cmp xs) ∙ ap (λ b. test x || b) (any_sorted xs)
 
   module _ (same : X → X → Bool) (one : (a b : X) → test a ≡ true → test b ≡ true → same a b ≡ true) where
-    swapped : (a b : Bool) (x y : X) (o : Option X) → (a ≡ true → b ≡ true → ⊥) → cond a (Some x) (cond b (Some y) o) ≡ cond b (Some y) (cond a (Some x) o)
-    swapped true true x y o never = absurd (never refl refl)
-    swapped true false x y o never = refl
-    swapped false b x y o never = refl
-
     find_inserted : (new : X) (xs : List X) → AllByRecursion (λ y. same new y ≡ false) xs → find test (insert_sorted cmp new xs) ≡ cond (test new) (Some new) (find test xs)
     find_inserted new [] apart = refl
     find_inserted new (x ∷ xs) apart =
         elim (is_gt (cmp new x)) as (λ b. find test (cond b (x ∷ insert_sorted cmp new xs) (new ∷ x ∷ xs)) ≡ cond (test new) (Some new) (cond (test x) (Some x) (find test xs)))
-        [ true ↦ ap (λ o. cond (test x) (Some x) o) (find_inserted new xs apart.1) ∙ swapped (test x) (test new) x new (find test xs) (λ a b. (let both = one new x b a in absurd cc)) | false ↦ refl ]
+        [ true ↦ ap (λ o. cond (test x) (Some x) o) (find_inserted new xs apart.1) ∙ found_swapped (test x) (test new) x new (find test xs) (λ a b. (let both = one new x b a in absurd cc)) | false ↦ refl ]
 
     -- a sort keeps the value found, if at most one passes
     pub find_sorted : (xs : List X) → IsAscending (λ a b. same a b ≡ false) xs → find test (sort_by cmp xs) ≡ find test xs
     find_sorted [] once = refl
-    find_sorted (x ∷ xs) once = find_inserted x (sort_by cmp xs) (all_sorted cmp (λ y. same x y ≡ false) xs once.0) ∙ ap (λ o. cond (test x) (Some x) o) (find_sorted xs once.1)
+    find_sorted (x ∷ xs) once = find_inserted x (sort_by cmp xs) (valid_sorted (λ y. same x y ≡ false) cmp xs once.0) ∙ ap (λ o. cond (test x) (Some x) o) (find_sorted xs once.1)
 
 -- ---- by a key
 

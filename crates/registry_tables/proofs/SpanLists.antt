@@ -10,21 +10,16 @@ use Rattle.usbnum_core.specs.Spans.{span_has}
 use Rattle.usbnum_core.specs.declared.number.Number.{Number}
 use Rattle.usbnum_core.specs.declared.number.Span.{Span}
 use Rattle.registry_rows.specs.Rows.{meets, begins_at, by_beginning}
-use Rattle.registry_rows.proofs.AnswerLemmas.{valid_sorted}
+use Rattle.registry_rows.proofs.StepLemmas.{valid_sorted}
 use Rattle.registry_tables.specs.Rows.{vendor_span_has, AreApart}
 use Rattle.registry_tables.specs.Reserved.{Reaches}
-use Rattle.registry_tables.proofs.SortLemmas.{any_sorted}
+use Rattle.registry_tables.proofs.SortLemmas.{any_sorted, or_swapped}
 
 -- ---- lists
 
 or_between : (a b c : Bool) → (a || (b || c)) ≡ ((a || b) || c)
 or_between true b c = refl
 or_between false b c = refl
-
-or_moved : (a b c : Bool) → (a || (b || c)) ≡ (b || (a || c))
-or_moved true true c = refl
-or_moved true false c = refl
-or_moved false b c = refl
 
 module _ {X : Type 0} where
   pub any_split : (test p : X → Bool) (xs : List X) → list_any test xs ≡ (list_any test (filter p xs) || list_any test (delete_where p xs))
@@ -40,7 +35,7 @@ module _ {X : Type 0} where
       go : (b : Bool) → list_any test xs ≡ (list_any test cut || list_any test kept)
           → (test x || list_any test xs) ≡ (list_any test (cond b (x ∷ cut) cut) || list_any test (cond (not b) (x ∷ kept) kept))
       go true more = ap (λ b. test x || b) more ∙ or_between (test x) (list_any test cut) (list_any test kept)
-      go false more = ap (λ b. test x || b) more ∙ or_moved (test x) (list_any test cut) (list_any test kept)
+      go false more = ap (λ b. test x || b) more ∙ or_swapped (test x) (list_any test cut) (list_any test kept)
 
   -- each kept value relates to each cut value as two of the list do
   pub crossing : (R : X → X → Type 0) → ((a b : X) → R a b → R b a) → (p : X → Bool) (xs : List X) → IsAscending R xs

@@ -2,15 +2,16 @@
 use Rattle.std.proofs.Common.{◌≡◌, ◌<◌, ◌≤◌, ◌+◌, ℕ, ◌<ℤ◌, inl, inr, Bool, true, false, ◌&&◌, ◌||◌, nat_eq, List, [], ◌∷◌, ◌++◌, map, fold, refl, ap, ap₂, ◌∙◌, arith}
 use Rattle.std.specs.List.{AllByRecursion, list_any}
 use Rattle.std.proofs.lemmas.Int.{ints}
-use Rattle.std.proofs.lemmas.Bool.Decides.{nat_tests}
 use Rattle.std.proofs.lemmas.List.Folds.{list_any-append}
 use Rattle.sqlite.specs.declared.types.Value.TheVariants.{Int}
 use Rattle.sqlite_trees.specs.Tree.{IsAscending}
 use Rattle.sqlite_keyed.specs.Keyed.{IsKeyedBy, insert_by}
+use Rattle.usbnum_core.specs.Number.{IsId}
 use Rattle.usbnum_core.specs.Spans.{span_has, spans_have, IsSpread}
 use Rattle.usbnum_core.specs.declared.number.Number.{Number}
 use Rattle.usbnum_core.specs.declared.number.Span.{Span}
 use Rattle.table_laws.proofs.CopyLemmas.{in_order}
+use Rattle.registry_rows.proofs.KeyLemmas.{turned}
 use Rattle.registry_old_rows.specs.Old.{old_span_key, is_listed}
 use Rattle.registry_tables.specs.Rows.{vendor_span_has, AreApart}
 
@@ -56,15 +57,8 @@ module _ (vid : ℕ) where
   owned_have n [] = no_and (nat_eq vid n.vid)
   owned_have n (s ∷ rest) = ap (λ b. (nat_eq vid n.vid && span_has s n.pid) || b) (owned_have n rest) ∙ and_or (nat_eq vid n.vid) (span_has s n.pid) (spans_have rest n.pid)
 
-  turned : (a b : ℕ) → nat_eq a b ≡ nat_eq b a
-  turned a b = grind (arith, nat_tests)
-
   pub owned_listed : (n : Number) (parts : List Span) (numbers : List ℕ) → spans_have parts n.pid ≡ list_any (nat_eq n.pid) numbers → list_any (vendor_span_has n) (map owned parts) ≡ is_listed vid numbers n
   owned_listed n parts numbers same = owned_have n parts ∙ ap₂ ◌&&◌ (turned vid n.vid) same
-
--- a span of one number has only that number
-pub alone_has : (span : Span) (p n : ℕ) → span.first ≡ p → span.last ≡ p → span_has span n ≡ nat_eq n p
-alone_has span p n first last = rw (first, last) (grind (arith, nat_tests))
 
 pub one_more : (f : ℕ → Bool) (ns : List ℕ) (p : ℕ) → list_any f (ns ++ p ∷ []) ≡ (list_any f ns || f p)
 one_more f ns p = list_any-append f ns (p ∷ []) ∙ ap (λ b. list_any f ns || b) (last (f p))
@@ -82,3 +76,7 @@ put_more vid (s ∷ rest) one had = put_more vid rest one (insert_by old_span_ke
 -- spans in the order of their keys fill an empty table in that order
 pub put_all_spans : (vid start : ℕ) (parts : List Span) → IsSpread start parts → fold (insert_by old_span_key) [] (map (owned vid) parts) ≡ map (owned vid) parts
 put_all_spans vid start parts h = in_order old_span_key (λ s. Int (old_span_key s) ∷ []) (λ _. refl) (map (owned vid) parts) (spread_keyed vid start parts h)
+
+-- some vendor ID
+pub one_id : IsId 1
+one_id = record { above = omega arith; within = omega arith }

@@ -36,18 +36,23 @@ module _ {S : Type 0} (g : Ghosts S) (version : ℕ) (old begun mid : Held S) (i
         let is_open = opened it.0.was_open in
         (is_open, λ h rows. goes_out (version + 1) (state g mid).now h (it.1 h (held h is_open rows)))
 
-    module _ (end : Held S) (last : Survives (state g mid) (state g end) (λ db. db ≡ (state g mid).now.trees)) where
-      pub step_survives : Survives (state g old) (state g end) Commits
+    module _ (end ended : Held S) (last : Survives (state g mid) (state g end) (λ db. db ≡ (state g mid).now.trees)) (same : end ≡ ended) where
+      pub step_survives : Survives (state g old) (state g ended) Commits
       step_survives =
-          survives_then (state g old) (state g mid) (state g end) _ _ Commits (λ _ db none. absurd none) (λ clean db there. subst Commits (sym there) (shown (omega (arith, last.clean))))
-          (survives_begin g old (state g mid) _ (subst (λ b. CommitsNothing (state g b) (state g mid)) is first)) last
+          subst (λ e. Survives (state g old) (state g e) Commits) same
+          (survives_then (state g old) (state g mid) (state g end) _ _ Commits (λ _ db none. absurd none) (λ clean db there. subst Commits (sym there) (shown (omega (arith, last.clean))))
+          (survives_begin g old (state g mid) _ (subst (λ b. CommitsNothing (state g b) (state g mid)) is first)) last)
 
-      pub step_made : {E : Type 0} (result : Result (Unit {0}) E) → (HasCleanDisk (state g end) → OnOk result (Shows (state g mid) (state g end) (state g mid).now (state g mid).now false))
+      made : {E : Type 0} (result : Result (Unit {0}) E) → (HasCleanDisk (state g end) → OnOk result (Shows (state g mid) (state g end) (state g mid).now (state g mid).now false))
           → HasCleanDisk (state g end) → OnOk result (IsMadeBy Commits (state g end))
-      step_made (Err e) ok clean = tt
-      step_made (Ok x) ok clean =
+      made (Err e) ok clean = tt
+      made (Ok x) ok clean =
           let done = ok clean in
           (done.is_open, done.now_is ∙ sym done.committed_is, subst (λ d. Commits d.trees) (sym done.committed_is) (shown (omega (arith, last.clean))))
+
+      pub step_made : {E : Type 0} (result : Result (Unit {0}) E) → (HasCleanDisk (state g end) → OnOk result (Shows (state g mid) (state g end) (state g mid).now (state g mid).now false))
+          → HasCleanDisk (state g ended) → OnOk result (IsMadeBy Commits (state g ended))
+      step_made result ok = subst (λ e. HasCleanDisk (state g e) → OnOk result (IsMadeBy Commits (state g e))) same (made result ok)
 
   -- Foreign comes only from the rows of no history
   pub step_foreign : (HasCleanDisk (state g mid) → IsTrue (state g begun).in_transaction → Raises version (state g begun) (state g mid) {A = Unit {0}} (Err Foreign)) → HasCleanDisk (state g mid)

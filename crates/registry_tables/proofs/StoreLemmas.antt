@@ -1,5 +1,5 @@
 -- Changes take the rows of one history to those of another.
-use Rattle.std.proofs.Common.{◌≡◌, ℕ, Bool, true, false, cond, not, ◌||◌, if◌then◌else◌, List, [], ◌∷◌, ◌++◌, find, nat_eq, Option, Some, Result, Ok, Err, OnOk, refl, sym, ap, subst, ◌∙◌}
+use Rattle.std.proofs.Common.{◌≡◌, ℕ, Bool, true, false, cond, not, ◌||◌, if◌then◌else◌, List, [], ◌∷◌, ◌++◌, find, nat_eq, Option, Some, refl, sym, ap, subst, ◌∙◌}
 use Rattle.std.specs.List.{list_any}
 use Rattle.std.specs.Option.{option_map}
 use Rattle.std.specs.Str.{bytes_eq}
@@ -10,11 +10,10 @@ use Rattle.sqlite_trees.specs.Tree.{IsAscending}
 use Rattle.usbnum_core.specs.declared.number.Number.{Number}
 use Rattle.usbnum_core.specs.declared.number.Span.{Span}
 use Rattle.table_laws.proofs.FoundLemmas.{apart_put}
-use Rattle.registry_schema.specs.declared.fault.TableFault.{TableFault}
 use Rattle.registry_rules.specs.History.{History}
 use Rattle.registry_rules.specs.Records.{with_held, with_card, org_changed, petition_changed, entry_changed, reserved_changed, vendor_changed, licence_changed, after_all, LeadsTo}
 use Rattle.registry_rules.specs.declared.change.Change.{Change}
-use Rattle.registry_rules.specs.declared.change.Change.TheVariants.{PutOrg, PutPetition, PutEntry, SetHeld, SetCard, ReserveSpan, ReleaseSpan, PutVendor, PutLicence}
+use Rattle.registry_rules.specs.declared.change.Change.TheVariants.{PutOrg, PutPetition, PutEntry, SetHeld, SetCard, PutVendor, PutLicence}
 use Rattle.registry_rules.specs.declared.founding.Founding.{Founding}
 use Rattle.registry_rules.specs.declared.record.Org.{Org}
 use Rattle.registry_rules.specs.declared.record.Entry.{Entry}
@@ -29,10 +28,6 @@ use Rattle.registry_tables.proofs.EntryLemmas.{entry_set, entries_once}
 use Rattle.registry_tables.proofs.ViewLemmas.{same_bytes, org_put, entry_put, petition_put, vendor_put}
 
 -- ---- inserting a name
-
-any_kept : (b c : Bool) (rest : List (List ℕ)) (name other : List ℕ) → bytes_eq name other ≡ c → (b ≡ true → c ≡ false) → list_any (bytes_eq name) (cond (not b) (other ∷ rest) rest) ≡ (c || list_any (bytes_eq name) rest)
-any_kept true c rest name other is gone = rw (gone refl) refl
-any_kept false c rest name other is gone = rw is refl
 
 last_any : (name last : List ℕ) → (bytes_eq name last || false) ≡ cond (bytes_eq name last) true false
 last_any name last = elim (bytes_eq name last) as (λ b. (b || false) ≡ cond b true false) [ true ↦ refl | false ↦ refl ]
@@ -65,80 +60,56 @@ record IsView (t : Tables) (o : List ℕ → Option Org) (p : ℕ → Option Pet
   licences : (name : List ℕ) → list_any (bytes_eq name) t.licences ≡ l name
   licences_once : NoTwo is_named t.licences
 
+orgs_view : (c : Change) (t : Tables) (o : List ℕ → Option Org) → ((slug : List ℕ) → find (is_called slug) t.orgs ≡ o slug) → (slug : List ℕ) → find (is_called slug) (applied c t).orgs ≡ org_changed slug c (o slug)
+orgs_view (PutOrg org) t o was slug = org_put org t.orgs slug ∙ ap (λ old. if bytes_eq org.slug slug then Some org else old) (was slug)
+orgs_view _ t o was slug = was slug
+
+orgs_once_view : (c : Change) (t : Tables) → NoTwo (λ a b. is_called b.slug a) t.orgs → NoTwo (λ a b. is_called b.slug a) (applied c t).orgs
+orgs_once_view (PutOrg org) t once = apart_put (λ a b. is_called b.slug a) org t.orgs once
+orgs_once_view _ t once = once
+
+petitions_view : (c : Change) (t : Tables) (p : ℕ → Option Petition) → ((i : ℕ) → find (is_numbered i) t.petitions ≡ option_map (λ petition. (i, petition)) (p i))
+    → (i : ℕ) → find (is_numbered i) (applied c t).petitions ≡ option_map (λ petition. (i, petition)) (petition_changed i c (p i))
+petitions_view (PutPetition id petition) t p was i = petition_put id petition t.petitions i (p i) (was i)
+petitions_view _ t p was i = was i
+
+entries_view : (c : Change) (t : Tables) (e : Number → Option Entry) → ((n : Number) → find (is_of n) t.entries ≡ option_map (λ entry. (n, entry)) (e n))
+    → (n : Number) → find (is_of n) (applied c t).entries ≡ option_map (λ entry. (n, entry)) (entry_changed n c (e n))
+entries_view (PutEntry number entry) t e was n = entry_put number entry t.entries n (e n) (was n)
+entries_view (SetHeld number held) t e was n = entry_set (with_held held) number t.entries n (e n) (was n)
+entries_view (SetCard number card) t e was n = entry_set (with_card card) number t.entries n (e n) (was n)
+entries_view _ t e was n = was n
+
+entries_once_view : (c : Change) (t : Tables) → NoTwo (λ a b. is_of b.0 a) t.entries → NoTwo (λ a b. is_of b.0 a) (applied c t).entries
+entries_once_view (PutEntry number entry) t once = apart_put (λ a b. is_of b.0 a) (number, entry) t.entries once
+entries_once_view (SetHeld number held) t once = entries_once (with_held held) number t.entries once
+entries_once_view (SetCard number card) t once = entries_once (with_card card) number t.entries once
+entries_once_view _ t once = once
+
+vendors_view : (c : Change) (t : Tables) (v : ℕ → Option Vendor) → ((vid : ℕ) → find (λ vendor. nat_eq vendor.vid vid) t.vendors ≡ v vid) → (d : ℕ) → find (λ vendor. nat_eq vendor.vid d) (applied c t).vendors ≡ vendor_changed d c (v d)
+vendors_view (PutVendor vid name) t v was d = let new : Vendor = record { vid = vid; name = name } in vendor_put new t.vendors d ∙ ap (λ old. if nat_eq vid d then Some new else old) (was d)
+vendors_view _ t v was d = was d
+
+licences_view : (c : Change) (t : Tables) (l : List ℕ → Bool) → ((name : List ℕ) → list_any (bytes_eq name) t.licences ≡ l name) → (name : List ℕ) → list_any (bytes_eq name) (applied c t).licences ≡ licence_changed name c (l name)
+licences_view (PutLicence name) t l was other = name_put other name t.licences ∙ ap (λ old. if bytes_eq other name then true else old) (was other)
+licences_view _ t l was other = was other
+
+licences_once_view : (c : Change) (t : Tables) → NoTwo is_named t.licences → NoTwo is_named (applied c t).licences
+licences_once_view (PutLicence name) t once = apart_put is_named name t.licences once
+licences_once_view _ t once = once
+
 view_one : (c : Change) (t : Tables) (o : List ℕ → Option Org) (p : ℕ → Option Petition) (e : Number → Option Entry) (v : ℕ → Option Vendor) (l : List ℕ → Bool) → IsView t o p e v l
     → IsView (applied c t) (λ s. org_changed s c (o s)) (λ i. petition_changed i c (p i)) (λ n. entry_changed n c (e n)) (λ d. vendor_changed d c (v d)) (λ n. licence_changed n c (l n))
-view_one (PutOrg org) t o p e v l was = record {
-  orgs = λ slug. org_put org t.orgs slug ∙ ap (λ old. if bytes_eq org.slug slug then Some org else old) (was.orgs slug);
-  orgs_once = apart_put (λ a b. is_called b.slug a) org t.orgs was.orgs_once;
-  petitions = was.petitions;
-  entries = was.entries;
-  entries_once = was.entries_once;
-  vendors = was.vendors;
-  licences = was.licences;
-  licences_once = was.licences_once;
+view_one c t o p e v l was = record {
+  orgs = orgs_view c t o was.orgs;
+  orgs_once = orgs_once_view c t was.orgs_once;
+  petitions = petitions_view c t p was.petitions;
+  entries = entries_view c t e was.entries;
+  entries_once = entries_once_view c t was.entries_once;
+  vendors = vendors_view c t v was.vendors;
+  licences = licences_view c t l was.licences;
+  licences_once = licences_once_view c t was.licences_once;
 }
-view_one (PutPetition id petition) t o p e v l was = record {
-  orgs = was.orgs;
-  orgs_once = was.orgs_once;
-  petitions = λ i. petition_put id petition t.petitions i (p i) (was.petitions i);
-  entries = was.entries;
-  entries_once = was.entries_once;
-  vendors = was.vendors;
-  licences = was.licences;
-  licences_once = was.licences_once;
-}
-view_one (PutEntry number entry) t o p e v l was = record {
-  orgs = was.orgs;
-  orgs_once = was.orgs_once;
-  petitions = was.petitions;
-  entries = λ n. entry_put number entry t.entries n (e n) (was.entries n);
-  entries_once = apart_put (λ a b. is_of b.0 a) (number, entry) t.entries was.entries_once;
-  vendors = was.vendors;
-  licences = was.licences;
-  licences_once = was.licences_once;
-}
-view_one (PutVendor vid name) t o p e v l was = record {
-  orgs = was.orgs;
-  orgs_once = was.orgs_once;
-  petitions = was.petitions;
-  entries = was.entries;
-  entries_once = was.entries_once;
-  vendors = λ d. (let new : Vendor = record { vid = vid; name = name } in vendor_put new t.vendors d ∙ ap (λ old. if nat_eq vid d then Some new else old) (was.vendors d));
-  licences = was.licences;
-  licences_once = was.licences_once;
-}
-view_one (PutLicence name) t o p e v l was = record {
-  orgs = was.orgs;
-  orgs_once = was.orgs_once;
-  petitions = was.petitions;
-  entries = was.entries;
-  entries_once = was.entries_once;
-  vendors = was.vendors;
-  licences = λ other. name_put other name t.licences ∙ ap (λ old. if bytes_eq other name then true else old) (was.licences other);
-  licences_once = apart_put is_named name t.licences was.licences_once;
-}
-view_one (SetHeld number held) t o p e v l was = record {
-  orgs = was.orgs;
-  orgs_once = was.orgs_once;
-  petitions = was.petitions;
-  entries = λ n. entry_set (with_held held) number t.entries n (e n) (was.entries n);
-  entries_once = entries_once (with_held held) number t.entries was.entries_once;
-  vendors = was.vendors;
-  licences = was.licences;
-  licences_once = was.licences_once;
-}
-view_one (SetCard number card) t o p e v l was = record {
-  orgs = was.orgs;
-  orgs_once = was.orgs_once;
-  petitions = was.petitions;
-  entries = λ n. entry_set (with_card card) number t.entries n (e n) (was.entries n);
-  entries_once = entries_once (with_card card) number t.entries was.entries_once;
-  vendors = was.vendors;
-  licences = was.licences;
-  licences_once = was.licences_once;
-}
-view_one (ReserveSpan vid span) t o p e v l was = was
-view_one (ReleaseSpan vid span) t o p e v l was = was
 
 view_all : (cs : List Change) (t : Tables) (o : List ℕ → Option Org) (p : ℕ → Option Petition) (e : Number → Option Entry) (v : ℕ → Option Vendor) (l : List ℕ → Bool) → IsView t o p e v l
     → IsView (applied_all cs t) (λ s. after_all (org_changed s) cs (o s)) (λ i. after_all (petition_changed i) cs (p i)) (λ n. after_all (entry_changed n) cs (e n)) (λ d. after_all (vendor_changed d) cs (v d)) (λ n. after_all (licence_changed n) cs (l n))
@@ -155,14 +126,7 @@ record IsRest (a b : Tables) : Type 0 where
 
 rest_one : (c : Change) (t : Tables) → IsRest t (applied c t)
 rest_one (PutOrg org) t = record { metas = refl; curators = refl; fixed = refl; kept = refl }
-rest_one (PutPetition id petition) t = record { metas = refl; curators = refl; fixed = refl; kept = refl }
-rest_one (PutEntry number entry) t = record { metas = refl; curators = refl; fixed = refl; kept = refl }
-rest_one (SetHeld number held) t = record { metas = refl; curators = refl; fixed = refl; kept = refl }
-rest_one (SetCard number card) t = record { metas = refl; curators = refl; fixed = refl; kept = refl }
-rest_one (ReserveSpan vid span) t = record { metas = refl; curators = refl; fixed = refl; kept = refl }
-rest_one (ReleaseSpan vid span) t = record { metas = refl; curators = refl; fixed = refl; kept = refl }
-rest_one (PutVendor vid name) t = record { metas = refl; curators = refl; fixed = refl; kept = refl }
-rest_one (PutLicence name) t = record { metas = refl; curators = refl; fixed = refl; kept = refl }
+rest_one _ t = record { metas = refl; curators = refl; fixed = refl; kept = refl }
 
 rest_all : (cs : List Change) (t : Tables) → IsRest t (applied_all cs t)
 rest_all [] t = record { metas = refl; curators = refl; fixed = refl; kept = refl }
@@ -183,24 +147,15 @@ reserved_more (x ∷ cs) c n b = reserved_more cs c n (reserved_changed n x b)
 
 spans_over : (c : Change) (a b : List (ℕ × Span)) (t : Tables) → with_spans b (applied c (with_spans a t)) ≡ with_spans b (applied c t)
 spans_over (PutOrg org) a b t = refl
-spans_over (PutPetition id petition) a b t = refl
-spans_over (PutEntry number entry) a b t = refl
-spans_over (SetHeld number held) a b t = refl
-spans_over (SetCard number card) a b t = refl
-spans_over (ReserveSpan vid span) a b t = refl
-spans_over (ReleaseSpan vid span) a b t = refl
-spans_over (PutVendor vid name) a b t = refl
-spans_over (PutLicence name) a b t = refl
+spans_over _ a b t = refl
 
 -- a change that does not touch the spans
-pub record_made : {A : Type 0} (old new : State) (change made : Change) → change ≡ made → (result : Result A TableFault) → ((t : Tables) → with_spans t.spans (applied made t) ≡ applied made t)
-    → ((n : Number) (b : Bool) → reserved_changed n made b ≡ b) → Changes old new result (applied made) → OnOk result (Makes change old new)
-record_made old new change made is (Err e) same unordered h = tt
-record_made old new change made is (Ok a) same unordered h =
-    subst (λ x. Makes x old new) (sym is) (
-      h.0,
-      λ t has up. (t.spans, subst (Holds new.now) (sym (same t)) (h.1 t has), record { each = λ n. sym (unordered n (list_any (vendor_span_has n) t.spans)); apart = up }),
-    )
+pub record_made : (old new : State) (change made : Change) → change ≡ made → ((t : Tables) → with_spans t.spans (applied made t) ≡ applied made t) → ((n : Number) (b : Bool) → reserved_changed n made b ≡ b)
+    → Changes (applied made) old new → Makes change old new
+record_made old new change made is same unordered h = subst (λ x. Makes x old new) (sym is) (
+  h.0,
+  λ t has up. (t.spans, subst (Holds new.now) (sym (same t)) (h.1 t has), record { each = λ n. sym (unordered n (list_any (vendor_span_has n) t.spans)); apart = up }),
+)
 
 -- the changes are made to the tables and to their spans
 pub record AreMade (cs : List Change) (t : Tables) (db : Database) : Type 0 where

@@ -13,7 +13,7 @@ use Rattle.table_laws.specs.Making.{HasMore}
 use Rattle.registry_old_rows.specs.Old.{with_version, at_version, vendor_in, HasOneVendor}
 use Rattle.registry_old_rows.specs.Between.{HoldsSecond, HoldsBoth}
 use Rattle.registry_old_rows.specs.Steps.{Second}
-use Rattle.registry_rows.specs.Steps.{AnswersOf}
+use Rattle.registry_rows.specs.Steps.{Tells}
 use Rattle.registry_schema.specs.declared.fault.TableFault.{TableFault}
 use Rattle.registry_old_rows.proofs.AgreeLemmas.{agree_2}
 use Rattle.registry_tables.specs.Versions.{IsSecond, HoldsOf}
@@ -101,7 +101,7 @@ module _ (a s1 s2 s3 s4 s5 : State) (meta : Meta) where
       let ended = third_ends meta.vendor s3.now o (three o begun) in
       (t, inr (inr (refl, same_values s5.now t h it.2 it.1.one meta is (five _ (four _ ended)))), it.2, it.3)
 
-pub third_refused : (old new : State) (e : TableFault) → AnswersOf old new (IsMarked 2 old.now) (Err e) (λ x (m : Meta). x.tables.metas ≡ m ∷ []) → Raises 2 old new {A = Unit {0}} (Err e)
+pub third_refused : (old new : State) (e : TableFault) → Tells old new (IsMarked 2 old.now) (Err e) (λ x (m : Meta). x.tables.metas ≡ m ∷ []) → Raises 2 old new {A = Unit {0}} (Err e)
 third_refused old new e read foreign =
     let none = read.0 foreign in
     (none.0.was_open, λ h rows. (let it = marked_second old.now h rows in none.1 _ (as_marked old.now h it.0 it.1 it.2)))

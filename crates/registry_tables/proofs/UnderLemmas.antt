@@ -5,6 +5,7 @@ use Rattle.std.proofs.lemmas.Int.{ints}
 use Rattle.sqlite_keyed.specs.Keyed.{insert_by}
 use Rattle.sqlite_keyed.specs.Lists.{delete_where}
 use Rattle.table_laws.proofs.FoundLemmas.{found_put, found_other}
+use Rattle.registry_tables.proofs.SortLemmas.{found_swapped}
 
 -- for values that do not contain their rowid
 module _ {K X : Type 0} (key : X → K) (test : K → X → Bool) (own : (x : X) → test (key x) x ≡ true) (tells : (k : K) (x : X) → test k x ≡ true → k ≡ key x) where
@@ -27,14 +28,9 @@ module _ {K X : Type 0} (key : X → K) (test : K → X → Bool) (own : (x : X)
 -- for values whose key is a number
 module _ {K X : Type 0} (key : X → ℤ) (test : K → X → Bool) (tells : (k : K) (x y : X) → test k x ≡ true → test k y ≡ true → key x ≡ key y)
     (level : (k : K) (x y : X) → key x ≡ key y → test k x ≡ test k y) where
-  swapped : (a b : Bool) (x y : X) (o : Option X) → (a ≡ true → b ≡ true → ⊥) → cond a (Some x) (cond b (Some y) o) ≡ cond b (Some y) (cond a (Some x) o)
-  swapped true true x y o never = absurd (never refl refl)
-  swapped true false x y o never = refl
-  swapped false b x y o never = refl
-
-  again : (a : Bool) (x y : X) (o : Option X) → cond a (Some x) o ≡ cond a (Some x) (cond a (Some y) o)
-  again true x y o = refl
-  again false x y o = refl
+  found_once : (a : Bool) (x y : X) (o : Option X) → cond a (Some x) o ≡ cond a (Some x) (cond a (Some y) o)
+  found_once true x y o = refl
+  found_once false x y o = refl
 
   pub found_among : (x : X) (xs : List X) (k : K) → find (test k) (insert_by key xs x) ≡ (if test k x then Some x else find (test k) xs)
   found_among x [] k = refl
@@ -43,8 +39,8 @@ module _ {K X : Type 0} (key : X → ℤ) (test : K → X → Bool) (tells : (k 
       go : (o : Ordering) → int_cmp (key y) (key x) ≡ o → find (test k) (insert_by key ys x) ≡ cond (test k x) (Some x) (find (test k) ys)
           → find (test k) (match_ordering o (y ∷ insert_by key ys x) (x ∷ ys) (x ∷ y ∷ ys)) ≡ cond (test k x) (Some x) (cond (test k y) (Some y) (find (test k) ys))
       go Less is more =
-          rw more (swapped (test k y) (test k x) y x (find (test k) ys) (λ a b. (let same : key y ≡ key x = tells k y x a b in absurd (grind (arith, ints)))))
+          rw more (found_swapped (test k y) (test k x) y x (find (test k) ys) (λ a b. (let same : key y ≡ key x = tells k y x a b in absurd (grind (arith, ints)))))
       go Equal is more =
           let same : key y ≡ key x = grind (arith, ints) in
-          rw (level k y x same) (again (test k x) x y (find (test k) ys))
+          rw (level k y x same) (found_once (test k x) x y (find (test k) ys))
       go Greater is more = refl

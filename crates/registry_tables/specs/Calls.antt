@@ -1,5 +1,8 @@
 -- What the calls on the tables do.
-use Rattle.std.specs.Prelude.{◌≡◌, false, IsTrue, IfOk, Result, Err}
+use Rattle.std.specs.Prelude.{◌≡◌, ◌≢◌, false, IsTrue, IfOk, OnOk, Result, Err}
+use Rattle.std.specs.Borrow.{MutBor}
+use Rattle.sqlite_trees.specs.declared.store.Store.{Ghosts}
+use Rattle.sqlite.specs.Held.{Held, state}
 use Rattle.sqlite.specs.State.{State, HasCleanDisk}
 use Rattle.sqlite.specs.Effect.{Database}
 use Rattle.registry_schema.specs.Meta.{has_meta_table}
@@ -11,11 +14,11 @@ use Rattle.registry_rules.specs.Run.{Legal}
 use Rattle.registry_rules.specs.declared.deed.Deed.{Deed}
 use Rattle.registry_rules.specs.declared.order.Request.{Request}
 use Rattle.std.specs.Prelude.{List, ℕ}
-use Rattle.table_laws.specs.Inside.{CommitsNothing, GoesOn}
+use Rattle.table_laws.specs.Inside.{CommitsNothing}
 use Rattle.sqlite_keyed.specs.Keyed.{insert_by}
 use Rattle.registry_rules.specs.declared.founding.Founding.{Founding}
 use Rattle.registry_rows.specs.Rows.{meta_key, vendor_key}
-use Rattle.registry_rows.specs.Tables.{Tables, Holds}
+use Rattle.registry_rows.specs.Tables.{Tables}
 use Rattle.registry_tables.specs.Changed.{names_put, spans_put}
 use Rattle.registry_tables.specs.Rows.{newest, Rows}
 
@@ -50,9 +53,20 @@ pub record IsLookUp {A : Type 0} (old new : State) (result : Result A TableFault
   pub foreign : HasCleanDisk new → IsForeign old new result
   pub survives : CommitsNothing old new
 
--- the transaction goes on, and this function gives its tables after the call
-abbrev pub PutsIn : State → State → (Tables → Tables) → Type 0
-PutsIn old new after = GoesOn old new × ((t : Tables) → Holds old.now t → Holds new.now (after t))
+module _ {S : Type 0} (g : Ghosts S) (old new : MutBor (Held S)) {A : Type 0} (result : Result A TableFault) (Does : State → State → Type 0) where
+  -- statements within a transaction do this, or a fault comes that is not Foreign; nothing is committed
+  pub record WritesTables : Type 0 where
+    pub same_reference : new.ghost_name ≡ old.ghost_name
+    pub done : HasCleanDisk (state g new.now) → IsTrue (state g old.now).in_transaction → OnOk result (Does (state g old.now) (state g new.now))
+    pub fault : result ≢ Err Foreign
+    pub survives : CommitsNothing (state g old.now) (state g new.now)
+
+  -- the same of a connection that is known to be open: it may need no statement
+  pub record WritesTablesOpen : Type 0 where
+    pub same_reference : new.ghost_name ≡ old.ghost_name
+    pub done : HasCleanDisk (state g new.now) → IsTrue (state g old.now).in_transaction → IsTrue (state g old.now).is_open → OnOk result (Does (state g old.now) (state g new.now))
+    pub fault : result ≢ Err Foreign
+    pub survives : CommitsNothing (state g old.now) (state g new.now)
 
 -- the tables after the rows of a founding are inserted
 abbrev pub with_founding : Founding → Tables → Tables

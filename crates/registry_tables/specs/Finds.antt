@@ -1,5 +1,8 @@
 -- What a lookup within a transaction returns.
 use Rattle.std.specs.Prelude.{◌≡◌, List, true, IsTrue, Result, Ok, Err}
+use Rattle.std.specs.Borrow.{MutBor}
+use Rattle.sqlite_trees.specs.declared.store.Store.{Ghosts}
+use Rattle.sqlite.specs.Held.{Held, state}
 use Rattle.sqlite.specs.State.{State, HasCleanDisk, IsUnchanged, KeepsCommit}
 use Rattle.usbnum_core.specs.Spans.{span_has}
 use Rattle.usbnum_core.specs.declared.number.Number.{Number}
@@ -21,15 +24,18 @@ module _ (old new : State) where
   Finds (Ok a) Is = GoesOn old new × ((h : History) → Legal h → HoldsRows newest old.now h → IsUnchanged old new × Is h a)
   Finds (Err e) Is = (e ≡ Foreign → IsTrue old.is_open × ((h : History) → Legal h → ¬ HoldsRows newest old.now h)) × KeepsCommit old new
 
--- a look-up within a transaction: over a clean disk it finds what the history says, and it commits nothing
-pub record Reads {A : Type 0} (old new : State) (result : Result A TableFault) (Is : History → A → Type 0) : Type 0 where
-  pub found : HasCleanDisk new → IsTrue old.in_transaction → Finds old new result Is
-  pub survives : CommitsNothing old new
+module _ {S : Type 0} (g : Ghosts S) (old new : MutBor (Held S)) {A : Type 0} (result : Result A TableFault) (Is : History → A → Type 0) where
+  -- a look-up within a transaction: over a clean disk it finds what the history says, and it commits nothing
+  pub record ReadsHistory : Type 0 where
+    pub same_reference : new.ghost_name ≡ old.ghost_name
+    pub found : HasCleanDisk (state g new.now) → IsTrue (state g old.now).in_transaction → Finds (state g old.now) (state g new.now) result Is
+    pub survives : CommitsNothing (state g old.now) (state g new.now)
 
--- the same of a connection that is known to be open: it may need no read
-pub record ReadsOpen {A : Type 0} (old new : State) (result : Result A TableFault) (Is : History → A → Type 0) : Type 0 where
-  pub found : HasCleanDisk new → IsTrue old.in_transaction → IsTrue old.is_open → Finds old new result Is
-  pub survives : CommitsNothing old new
+  -- the same of a connection that is known to be open: it may need no read
+  pub record ReadsHistoryOpen : Type 0 where
+    pub same_reference : new.ghost_name ≡ old.ghost_name
+    pub found : HasCleanDisk (state g new.now) → IsTrue (state g old.now).in_transaction → IsTrue (state g old.now).is_open → Finds (state g old.now) (state g new.now) result Is
+    pub survives : CommitsNothing (state g old.now) (state g new.now)
 
 -- the owner of a number that has an entry, and whether the number is held
 abbrev pub holding_at : Number × Entry → Holding

@@ -1,7 +1,11 @@
 -- Joining and cutting the spans of vendors.
-use Rattle.std.specs.Prelude.{◌≡◌, ℕ, ◌≤◌, ◌⊎◌, true, List, [], ◌∷◌, Option, Some, None, nat_eq}
+use Rattle.std.specs.Prelude.{◌≡◌, ℕ, ◌≤◌, ◌⊎◌, true, List, [], ◌∷◌, ◌++◌, Option, Some, None, nat_eq}
 use Rattle.std.specs.List.{AllByRecursion, list_any}
+use Rattle.sqlite.specs.State.{State}
 use Rattle.usbnum_core.specs.declared.number.Span.{Span}
+use Rattle.table_laws.specs.Inside.{GoesOn}
+use Rattle.registry_rows.specs.Tables.{Tables, Holds}
+use Rattle.registry_tables.specs.Changed.{with_spans}
 use Rattle.registry_tables.specs.Rows.{AreApart}
 
 -- the least and the greatest number of the span and of the spans found
@@ -20,3 +24,7 @@ part_of vid (Some span) = (vid, span) ∷ []
 -- each of the parts is apart from each of the spans
 abbrev pub AreApartFrom : List (ℕ × Span) → List (ℕ × Span) → Type 0
 AreApartFrom parts = AllByRecursion (λ span. AllByRecursion (AreApart span) parts)
+
+-- the transaction goes on, and the part is added to spans that it is apart from
+abbrev pub Puts : ℕ → Option Span → State → State → Type 0
+Puts vid part old new = GoesOn old new × ((t : Tables) → Holds old.now t → AreApartFrom (part_of vid part) t.spans → Holds new.now (with_spans (t.spans ++ part_of vid part) t))

@@ -7,6 +7,7 @@ ghost use Rattle.table_laws.specs.Inside.{CommitsNothing, GoesOn};
 ghost use Rattle.registry_rules.specs.History.{History};
 ghost use Rattle.registry_rules.specs.Records.{LeadsTo};
 ghost use Rattle.registry_rules.specs.Run.{Legal};
+ghost use Rattle.registry_tables.specs.Calls.{WritesTables};
 ghost use Rattle.registry_tables.specs.Changed.{Makes};
 ghost use Rattle.registry_tables.specs.Rows.{newest, HoldsRows, HoldsUnkept};
 
@@ -25,11 +26,7 @@ fn make<S: Alter>(
     tx: &mut Transaction<'_, S>,
     change: &Change,
 ) -> Result<(), TableFault>
-    ensures same_reference { tx.new.conn.ghost_name ≡ tx.old.conn.ghost_name }
-    ensures made { HasCleanDisk (state S.Store tx.new.conn.now) → IsTrue (state S.Store tx.old.conn.now).in_transaction
-        → OnOk result (Makes change.now (state S.Store tx.old.conn.now) (state S.Store tx.new.conn.now)) }
-    ensures kind { result ≢ Err TableFault.Foreign }
-    ensures survives { CommitsNothing (state S.Store tx.old.conn.now) (state S.Store tx.new.conn.now) }
+    ensures writes { WritesTables S.Store tx.old.conn tx.new.conn result (Makes change.now) }
 {
     match change {
         Change::PutOrg(org) => put_org(tx, org),

@@ -1,12 +1,10 @@
 //! The rows of a founding.
 
-ghost use Rattle.std.specs.Prelude.{◌≡◌, ◌≢◌, IsTrue, OnOk, Err};
-ghost use Rattle.sqlite.specs.State.{HasCleanDisk};
-ghost use Rattle.sqlite.specs.Held.{state};
-ghost use Rattle.table_laws.specs.Inside.{CommitsNothing};
+ghost use Rattle.std.specs.Prelude.{OnOk};
+ghost use Rattle.registry_rows.specs.Steps.{Changes};
 ghost use Rattle.registry_tables.specs.Rows.{IsFounding};
 ghost use Rattle.registry_tables.specs.Changed.{names_put, spans_put};
-ghost use Rattle.registry_tables.specs.Calls.{PutsIn, with_founding};
+ghost use Rattle.registry_tables.specs.Calls.{WritesTables, WritesTablesOpen, with_founding};
 
 use crate::TableFault;
 use registry_rows::{put_curator, put_fixed, put_licence, put_meta, put_vendor};
@@ -15,11 +13,7 @@ use sqlite::{Alter, Transaction};
 use usbnum_core::{Slug, Span, Title};
 
 fn add_curators<S: Alter>(tx: &mut Transaction<'_, S>, names: &[Slug]) -> Result<(), TableFault>
-    ensures same_reference { tx.new.conn.ghost_name ≡ tx.old.conn.ghost_name }
-    ensures added { HasCleanDisk (state S.Store tx.new.conn.now) → IsTrue (state S.Store tx.old.conn.now).in_transaction → IsTrue (state S.Store tx.old.conn.now).is_open
-        → OnOk result (PutsIn (state S.Store tx.old.conn.now) (state S.Store tx.new.conn.now) (λ t. record t { curators = names_put names.now t.curators })) }
-    ensures kind { result ≢ Err TableFault.Foreign }
-    ensures survives { CommitsNothing (state S.Store tx.old.conn.now) (state S.Store tx.new.conn.now) }
+    ensures writes { WritesTablesOpen S.Store tx.old.conn tx.new.conn result (Changes (λ t. record t { curators = names_put names.now t.curators })) }
 {
     for name in names {
         match put_curator(tx, name) {
@@ -31,11 +25,7 @@ fn add_curators<S: Alter>(tx: &mut Transaction<'_, S>, names: &[Slug]) -> Result
 }
 
 fn add_licences<S: Alter>(tx: &mut Transaction<'_, S>, names: &[Title]) -> Result<(), TableFault>
-    ensures same_reference { tx.new.conn.ghost_name ≡ tx.old.conn.ghost_name }
-    ensures added { HasCleanDisk (state S.Store tx.new.conn.now) → IsTrue (state S.Store tx.old.conn.now).in_transaction → IsTrue (state S.Store tx.old.conn.now).is_open
-        → OnOk result (PutsIn (state S.Store tx.old.conn.now) (state S.Store tx.new.conn.now) (λ t. record t { licences = names_put names.now t.licences })) }
-    ensures kind { result ≢ Err TableFault.Foreign }
-    ensures survives { CommitsNothing (state S.Store tx.old.conn.now) (state S.Store tx.new.conn.now) }
+    ensures writes { WritesTablesOpen S.Store tx.old.conn tx.new.conn result (Changes (λ t. record t { licences = names_put names.now t.licences })) }
 {
     for name in names {
         match put_licence(tx, name) {
@@ -47,11 +37,7 @@ fn add_licences<S: Alter>(tx: &mut Transaction<'_, S>, names: &[Title]) -> Resul
 }
 
 fn add_fixed<S: Alter>(tx: &mut Transaction<'_, S>, spans: &[Span]) -> Result<(), TableFault>
-    ensures same_reference { tx.new.conn.ghost_name ≡ tx.old.conn.ghost_name }
-    ensures added { HasCleanDisk (state S.Store tx.new.conn.now) → IsTrue (state S.Store tx.old.conn.now).in_transaction → IsTrue (state S.Store tx.old.conn.now).is_open
-        → OnOk result (PutsIn (state S.Store tx.old.conn.now) (state S.Store tx.new.conn.now) (λ t. record t { fixed = spans_put spans.now t.fixed })) }
-    ensures kind { result ≢ Err TableFault.Foreign }
-    ensures survives { CommitsNothing (state S.Store tx.old.conn.now) (state S.Store tx.new.conn.now) }
+    ensures writes { WritesTablesOpen S.Store tx.old.conn tx.new.conn result (Changes (λ t. record t { fixed = spans_put spans.now t.fixed })) }
 {
     for span in spans {
         match put_fixed(tx, *span) {
@@ -67,12 +53,8 @@ pub fn write_founding<S: Alter>(
     tx: &mut Transaction<'_, S>,
     founding: &Founding,
 ) -> Result<(), TableFault>
-    ensures same_reference { tx.new.conn.ghost_name ≡ tx.old.conn.ghost_name }
-    ensures written { HasCleanDisk (state S.Store tx.new.conn.now) → IsTrue (state S.Store tx.old.conn.now).in_transaction
-        → OnOk result (PutsIn (state S.Store tx.old.conn.now) (state S.Store tx.new.conn.now) (with_founding founding.now)) }
+    ensures writes { WritesTables S.Store tx.old.conn tx.new.conn result (Changes (with_founding founding.now)) }
     ensures valid { OnOk result (IsFounding founding.now) }
-    ensures kind { result ≢ Err TableFault.Foreign }
-    ensures survives { CommitsNothing (state S.Store tx.old.conn.now) (state S.Store tx.new.conn.now) }
 {
     put_meta(tx, 3, founding.vendor, &founding.name)?;
     add_curators(tx, founding.curators.as_slice())?;

@@ -1,10 +1,7 @@
 //! The schema version that the table `meta` names.
 
-ghost use Rattle.std.specs.Prelude.{◌≡◌, ◌≢◌, [], ◌∷◌, IsTrue, MatchResult, Err};
-ghost use Rattle.sqlite.specs.State.{HasCleanDisk};
-ghost use Rattle.sqlite.specs.Held.{state};
-ghost use Rattle.table_laws.specs.Inside.{CommitsNothing};
-ghost use Rattle.registry_rows.specs.Steps.{AnswersOf};
+ghost use Rattle.std.specs.Prelude.{◌≡◌, ◌≢◌, [], ◌∷◌, MatchResult};
+ghost use Rattle.registry_rows.specs.Steps.{Reads};
 ghost use Rattle.registry_tables.specs.Raising.{IsMarked};
 
 use registry_old_rows::list_old_metas;
@@ -29,10 +26,7 @@ pub(crate) fn old_meta<S: Alter>(
     tx: &mut Transaction<'_, S>,
     version: u32,
 ) -> Result<Meta, TableFault>
-    ensures same_reference { tx.new.conn.ghost_name ≡ tx.old.conn.ghost_name }
-    ensures told { HasCleanDisk (state S.Store tx.new.conn.now) → IsTrue (state S.Store tx.old.conn.now).in_transaction
-        → AnswersOf (state S.Store tx.old.conn.now) (state S.Store tx.new.conn.now) (IsMarked version (state S.Store tx.old.conn.now).now) result (λ x meta. x.tables.metas ≡ meta ∷ []) }
-    ensures survives { CommitsNothing (state S.Store tx.old.conn.now) (state S.Store tx.new.conn.now) }
+    ensures reads { Reads S.Store tx.old.conn tx.new.conn result (IsMarked version) (λ x meta. x.tables.metas ≡ meta ∷ []) }
 {
     let mut metas = list_old_metas(alloc, tx)?;
     match metas.pop() {

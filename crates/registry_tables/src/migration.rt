@@ -1,14 +1,15 @@
 //! Migration from an older schema to the newest, one version at a time.
 
-ghost use Rattle.std.specs.Prelude.{◌≡◌, ◌≢◌, ◌⊎◌, ℕ, Ok, false, IsTrue, OnOk, Err};
+ghost use Rattle.std.specs.Prelude.{◌≡◌, ◌⊎◌, ℕ, Ok, false, IsTrue, OnOk, Err};
 ghost use Rattle.sqlite.specs.State.{HasCleanDisk, Survives};
 ghost use Rattle.sqlite.specs.Held.{state};
 ghost use Rattle.table_laws.specs.Inside.{CommitsNothing, GoesOn};
 ghost use Rattle.table_laws.specs.Making.{HasTables};
 ghost use Rattle.registry_schema.specs.Texts.{texts_3};
 ghost use Rattle.registry_rules.specs.History.{History};
+ghost use Rattle.registry_tables.specs.Calls.{WritesTables};
 ghost use Rattle.registry_tables.specs.Rows.{newest, Rows};
-ghost use Rattle.registry_tables.specs.Raising.{IsMadeBy, CommitsStep, CommitsTwo, EndsTwo, CommitsLater, IsAtRest, IsNamedOlder, StaysOpen};
+ghost use Rattle.registry_tables.specs.Raising.{IsMadeBy, CommitsTwo, EndsTwo, CommitsLater, IsAtRest, IsNamedOlder, StaysOpen};
 
 use crate::second::first_to_second;
 use crate::third::second_to_third;
@@ -30,10 +31,7 @@ fn first_to_third<S: Alter>(alloc: Global, conn: &mut Connection<S>) -> Result<(
 
 // Checks that the store works, with a statement that reads no table.
 fn try_store<S: Alter>(tx: &mut Transaction<'_, S>) -> Result<(), TableFault>
-    ensures same_reference { tx.new.conn.ghost_name ≡ tx.old.conn.ghost_name }
-    ensures answered { HasCleanDisk (state S.Store tx.new.conn.now) → IsTrue (state S.Store tx.old.conn.now).in_transaction → OnOk result (GoesOn (state S.Store tx.old.conn.now) (state S.Store tx.new.conn.now)) }
-    ensures fault { result ≢ Err TableFault.Foreign }
-    ensures survives { CommitsNothing (state S.Store tx.old.conn.now) (state S.Store tx.new.conn.now) }
+    ensures writes { WritesTables S.Store tx.old.conn tx.new.conn result GoesOn }
 {
     tx.query_all("SELECT 1", &[])?;
     Ok(())

@@ -1,6 +1,6 @@
 //! The step from the first schema to the second.
 
-ghost use Rattle.std.specs.Prelude.{◌≡◌, ◌≢◌, ℕ, [], map, fold, nat_eq, false, IsTrue, OnOk, IfOk, Err};
+ghost use Rattle.std.specs.Prelude.{◌≡◌, ◌≢◌, ℕ, map, fold, nat_eq, false, IsTrue, OnOk, IfOk, Err};
 ghost use Rattle.std.specs.List.{list_any};
 ghost use Rattle.sqlite.specs.State.{HasCleanDisk, Survives};
 ghost use Rattle.sqlite.specs.Held.{state};
@@ -11,6 +11,7 @@ ghost use Rattle.usbnum_core.specs.Spans.{spans_have};
 ghost use Rattle.registry_rules.specs.History.{History};
 ghost use Rattle.registry_old_rows.specs.Old.{old_span_key};
 ghost use Rattle.registry_old_rows.specs.Steps.{Rewrites};
+ghost use Rattle.registry_tables.specs.Calls.{WritesTablesOpen};
 ghost use Rattle.registry_tables.specs.Rows.{Rows};
 ghost use Rattle.registry_tables.specs.Raising.{Raises, CommitsStep, IsMadeBy};
 
@@ -41,11 +42,7 @@ fn spans_of(alloc: Global, numbers: &[Reserved]) -> Result<Spans, TableFault>
 
 // Writes the spans as those of the founding vendor.
 fn put_spans<S: Alter>(tx: &mut Transaction<'_, S>, parts: &[Span]) -> Result<(), TableFault>
-    ensures same_reference { tx.new.conn.ghost_name ≡ tx.old.conn.ghost_name }
-    ensures put { (vid : ℕ) → IsId vid → HasCleanDisk (state S.Store tx.new.conn.now) → IsTrue (state S.Store tx.old.conn.now).in_transaction → IsTrue (state S.Store tx.old.conn.now).is_open
-        → OnOk result (Rewrites vid (λ t. record t { spans = fold (insert_by old_span_key) t.spans (map (λ part. (vid, part)) parts.now) }) (λ numbers. numbers) (state S.Store tx.old.conn.now) (state S.Store tx.new.conn.now)) }
-    ensures kind { result ≢ Err TableFault.Foreign }
-    ensures survives { CommitsNothing (state S.Store tx.old.conn.now) (state S.Store tx.new.conn.now) }
+    ensures writes { WritesTablesOpen S.Store tx.old.conn tx.new.conn result (λ old new. (vid : ℕ) → IsId vid → Rewrites vid (λ t. record t { spans = fold (insert_by old_span_key) t.spans (map (λ part. (vid, part)) parts.now) }) (λ numbers. numbers) old new) }
 {
     for part in parts {
         match put_old_span(tx, *part) {

@@ -1,14 +1,13 @@
 //! The numbers that orders reserved, stored as maximal spans.
 
-ghost use Rattle.std.specs.Prelude.{◌≡◌, ◌≢◌, ◌+◌, ◌≤◌, ◌++◌, IsTrue, IfOk, OnOk, MatchOption, Err, filter};
-ghost use Rattle.sqlite.specs.State.{HasCleanDisk, IsUnchanged};
-ghost use Rattle.sqlite.specs.Held.{state};
+ghost use Rattle.std.specs.Prelude.{◌≡◌, ◌≢◌, ◌+◌, ◌≤◌, MatchOption, Err, filter};
 ghost use Rattle.sqlite_keyed.specs.Lists.{sort_by};
-ghost use Rattle.table_laws.specs.Inside.{CommitsNothing, GoesOn};
 ghost use Rattle.registry_rows.specs.Rows.{meets, by_beginning};
-ghost use Rattle.registry_rows.specs.Tables.{Tables, Holds};
-ghost use Rattle.registry_tables.specs.Changed.{with_spans, Makes};
-ghost use Rattle.registry_tables.specs.Reserved.{Reaches, part_of, AreApartFrom};
+ghost use Rattle.registry_rows.specs.Steps.{Reads};
+ghost use Rattle.registry_rows.specs.Tables.{Holds};
+ghost use Rattle.registry_tables.specs.Calls.{WritesTables, WritesTablesOpen};
+ghost use Rattle.registry_tables.specs.Changed.{Makes};
+ghost use Rattle.registry_tables.specs.Reserved.{Reaches, Puts};
 
 use crate::TableFault;
 use registry_rows::{cut_spans, find_spans, put_span};
@@ -26,13 +25,8 @@ fn spans_meeting<S: Alter>(
     low: u32,
     high: u32,
 ) -> Result<Vec<(Vid, Span)>, TableFault>
-    ensures same_reference { tx.new.conn.ghost_name ≡ tx.old.conn.ghost_name }
-    ensures found { HasCleanDisk (state S.Store tx.new.conn.now) → IsTrue (state S.Store tx.old.conn.now).in_transaction
-        → IfOk result (λ found. GoesOn (state S.Store tx.old.conn.now) (state S.Store tx.new.conn.now)
-        × ((t : Tables) → Holds (state S.Store tx.old.conn.now).now t → IsUnchanged (state S.Store tx.old.conn.now) (state S.Store tx.new.conn.now)
-        × (found.items ≡ sort_by by_beginning (filter (meets vid low high) t.spans)))) }
+    ensures reads { Reads S.Store tx.old.conn tx.new.conn result Holds (λ t found. found.items ≡ sort_by by_beginning (filter (meets vid low high) t.spans)) }
     ensures kind { result ≢ Err TableFault.Foreign }
-    ensures survives { CommitsNothing (state S.Store tx.old.conn.now) (state S.Store tx.new.conn.now) }
 {
     match find_spans(alloc, tx, vid, low, high) {
         Ok(found) => Ok(found),
@@ -76,13 +70,7 @@ fn put_part<S: Alter>(
     vid: Vid,
     part: Option<Span>,
 ) -> Result<(), TableFault>
-    ensures same_reference { tx.new.conn.ghost_name ≡ tx.old.conn.ghost_name }
-    ensures put { HasCleanDisk (state S.Store tx.new.conn.now) → IsTrue (state S.Store tx.old.conn.now).in_transaction → IsTrue (state S.Store tx.old.conn.now).is_open
-        → OnOk result (GoesOn (state S.Store tx.old.conn.now) (state S.Store tx.new.conn.now)
-        × ((t : Tables) → Holds (state S.Store tx.old.conn.now).now t → AreApartFrom (part_of vid part) t.spans
-        → Holds (state S.Store tx.new.conn.now).now (with_spans (t.spans ++ part_of vid part) t))) }
-    ensures kind { result ≢ Err TableFault.Foreign }
-    ensures survives { CommitsNothing (state S.Store tx.old.conn.now) (state S.Store tx.new.conn.now) }
+    ensures writes { WritesTablesOpen S.Store tx.old.conn tx.new.conn result (Puts vid part) }
 {
     match part {
         Some(span) => put_span(tx, vid, span),
@@ -97,11 +85,7 @@ pub(crate) fn reserve_span<S: Alter>(
     vid: Vid,
     span: &Span,
 ) -> Result<(), TableFault>
-    ensures same_reference { tx.new.conn.ghost_name ≡ tx.old.conn.ghost_name }
-    ensures made { HasCleanDisk (state S.Store tx.new.conn.now) → IsTrue (state S.Store tx.old.conn.now).in_transaction
-        → OnOk result (Makes (Change.ReserveSpan vid span.now) (state S.Store tx.old.conn.now) (state S.Store tx.new.conn.now)) }
-    ensures kind { result ≢ Err TableFault.Foreign }
-    ensures survives { CommitsNothing (state S.Store tx.old.conn.now) (state S.Store tx.new.conn.now) }
+    ensures writes { WritesTables S.Store tx.old.conn tx.new.conn result (Makes (Change.ReserveSpan vid span.now)) }
 {
     let low = u32::from(span.first().get()) - 1;
     let high = u32::from(span.last().get()) + 1;
@@ -118,11 +102,7 @@ pub(crate) fn release_span<S: Alter>(
     vid: Vid,
     span: &Span,
 ) -> Result<(), TableFault>
-    ensures same_reference { tx.new.conn.ghost_name ≡ tx.old.conn.ghost_name }
-    ensures made { HasCleanDisk (state S.Store tx.new.conn.now) → IsTrue (state S.Store tx.old.conn.now).in_transaction
-        → OnOk result (Makes (Change.ReleaseSpan vid span.now) (state S.Store tx.old.conn.now) (state S.Store tx.new.conn.now)) }
-    ensures kind { result ≢ Err TableFault.Foreign }
-    ensures survives { CommitsNothing (state S.Store tx.old.conn.now) (state S.Store tx.new.conn.now) }
+    ensures writes { WritesTables S.Store tx.old.conn tx.new.conn result (Makes (Change.ReleaseSpan vid span.now)) }
 {
     let low = u32::from(span.first().get());
     let high = u32::from(span.last().get());

@@ -1,21 +1,9 @@
-use Rattle.std.proofs.Common.{rules}
-use Rattle.sqlite.specs.Held.{state}
-use Rattle.table_laws.proofs.InsideLemmas.{query_goes, query_fails}
-use Rattle.registry_rows.proofs.AnswerLemmas.{fails_to_answer}
-use Rattle.registry_old_rows.proofs.OldTexts.{old_meta_text}
+use Rattle.registry_rows.proofs.StepLemmas.{shows, shows_nothing}
 use Rattle.registry_old_rows.proofs.SecondLemmas.{reads_old_meta}
-use Rattle.registry_old_rows.proofs.WriteLemmas.{answered}
 use Rattle.registry_old_rows.proofs.second.meta_rows.Goals as goal
 
-pub returns-clause-reads : goal.returns-clause-reads
-returns-clause-reads g c =
-    answered (search rules) (search rules) (λ clean inside.
-    let old = state g.S.Store c.args.tx.now.conn.now in
-    let new = state g.S.Store c.query_all.new.self.conn.now in
-    let shown = c.in_ok-query_all.ensures.ok clean in
-    (query_goes old new inside _ _ _ shown, λ x has. reads_old_meta x.vid old new _ shown x.tables x.numbers has))
+pub returns : goal.returns
+returns g c = record { reads = shows c.query_all.ensures.same_reference c.query_all.ensures.survives _ _ c.in_ok-query_all.ensures.ok (λ shown x has. reads_old_meta x.vid _ _ _ shown x.tables x.numbers has) }
 
-pub returns-in_err-query_all-clause-reads : goal.returns-in_err-query_all-clause-reads
-returns-in_err-query_all-clause-reads g c =
-    answered (search rules) (search rules) (λ clean inside.
-    fails_to_answer (state g.S.Store c.args.tx.now.conn.now) (state g.S.Store c.query_all.new.self.conn.now) _ c.from_residual.result _ _ c.from_residual.ensures.1 (query_fails (state g.S.Store c.args.tx.now.conn.now) (state g.S.Store c.query_all.new.self.conn.now) inside old_meta_text _ _ (c.in_err-query_all.ensures.err clean)))
+pub returns-in_err-query_all : goal.returns-in_err-query_all
+returns-in_err-query_all g c = record { reads = shows_nothing c.query_all.ensures.same_reference c.query_all.ensures.survives _ _ c.from_residual.ensures.1 c.in_err-query_all.ensures.err }

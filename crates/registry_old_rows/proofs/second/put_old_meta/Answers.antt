@@ -1,14 +1,14 @@
-use Rattle.std.proofs.Common.{sym, arith, rules}
+use Rattle.std.proofs.Common.{sym, arith}
 use Rattle.registry_rows.specs.Rows.{IsMeta}
 use Rattle.registry_rows.specs.declared.meta.Meta.{Meta}
 use Rattle.sqlite.specs.Held.{state}
 use Rattle.registry_old_rows.proofs.SecondLemmas.{puts_old_meta}
-use Rattle.registry_old_rows.proofs.WriteLemmas.{wrote}
+use Rattle.registry_rows.proofs.StepLemmas.{wrote}
 use Rattle.registry_old_rows.proofs.second.put_old_meta.Goals as goal
 
 pub returns : goal.returns
 returns g c = record {
-  writes = wrote (search rules) (search rules) (search rules) (λ clean inside vid.
+  writes = wrote c.execute.ensures.same_reference c.execute.ensures.survives (λ clean inside vid.
       let ran = c.in_ok-execute.ensures.runs clean inside in
       let x : Meta = record { version = c.args.version; vendor = c.args.vendor; name = c.args.name.now } in
       let valid : IsMeta x = record { version = omega arith; vendor = rw (sym c.get.ensures.number) c.get.ensures.valid; name = c.as_str.ensures.valid } in

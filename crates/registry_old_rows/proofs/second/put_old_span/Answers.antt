@@ -1,13 +1,13 @@
-use Rattle.std.proofs.Common.{refl, rules}
+use Rattle.std.proofs.Common.{refl}
 use Rattle.sqlite.specs.Held.{state}
 use Rattle.registry_old_rows.specs.Old.{IsSpanOf}
 use Rattle.registry_old_rows.proofs.SecondLemmas.{puts_old_span}
-use Rattle.registry_old_rows.proofs.WriteLemmas.{wrote}
+use Rattle.registry_rows.proofs.StepLemmas.{wrote}
 use Rattle.registry_old_rows.proofs.second.put_old_span.Goals as goal
 
 pub returns : goal.returns
 returns g c = record {
-  writes = wrote (search rules) (search rules) (search rules) (λ clean inside vid own.
+  writes = wrote c.execute.ensures.same_reference c.execute.ensures.survives (λ clean inside vid own.
       let ran = c.in_ok-execute.ensures.runs clean inside in
       let valid : IsSpanOf vid (vid, c.args.span) = record {
         valid = record { vid = own; span = record { first = rw (c.get.ensures.number, c.first.ensures) at c.get.ensures.valid; last = rw (c.get-2.ensures.number, c.last.ensures.last) at c.get-2.ensures.valid } };

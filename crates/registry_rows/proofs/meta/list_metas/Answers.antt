@@ -1,10 +1,6 @@
-use Rattle.sqlite.specs.Held.{state}
 use Rattle.registry_rows.specs.Rows.{IsMeta, meta_shown}
-use Rattle.registry_rows.proofs.AnswerLemmas.{answers_all}
+use Rattle.registry_rows.proofs.StepLemmas.{reads_all}
 use Rattle.registry_rows.proofs.meta.list_metas.Goals as goal
 
-pub returns-clause-listed : goal.returns-clause-listed
-returns-clause-listed g c clean inside =
-    let read = c.in_ok-rows.ensures.rows clean inside in
-    answers_all IsMeta meta_shown (λ t. t.metas) (state g.S.Store c.args.tx.now.conn.now) (state g.S.Store c.all_rows.new.tx.conn.now) c.in_ok-rows.rows.items read
-    (λ t has. has.rows.metas.valid) (λ all. all.items) c.all_from.result (rw c.deref.ensures.value at c.all_from.ensures)
+pub returns : goal.returns
+returns g c = record { reads = reads_all IsMeta meta_shown (λ t. t.metas) c.in_ok-rows.ensures.reads (λ t has. has.rows.metas.valid) (λ all. all.items) (rw c.deref.ensures.value at c.all_from.ensures) }

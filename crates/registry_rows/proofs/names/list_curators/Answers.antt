@@ -2,12 +2,8 @@ use Rattle.sqlite_keyed.specs.Lists.{sort_by}
 use Rattle.table_laws.proofs.ReadLemmas.{valid_unnumbered}
 use Rattle.registry_rows.specs.Rows.{name_row, by_bytes}
 use Rattle.usbnum_core.specs.Text.{IsSlug}
-use Rattle.sqlite.specs.Held.{state}
-use Rattle.registry_rows.proofs.AnswerLemmas.{answers_all, valid_sorted}
+use Rattle.registry_rows.proofs.StepLemmas.{reads_all, valid_sorted}
 use Rattle.registry_rows.proofs.names.list_curators.Goals as goal
 
-pub returns-clause-listed : goal.returns-clause-listed
-returns-clause-listed g c clean inside =
-    let read = c.in_ok-rows.ensures.rows clean inside in
-    answers_all IsSlug name_row (λ t. sort_by by_bytes t.curators) (state g.S.Store c.args.tx.now.conn.now) (state g.S.Store c.curator_rows.new.tx.conn.now) c.in_ok-rows.rows.items read
-    (λ t has. valid_sorted IsSlug by_bytes t.curators (valid_unnumbered IsSlug name_row _ t.curators has.rows.curators)) (λ all. all.items) c.all_from.result (rw c.deref.ensures.value at c.all_from.ensures)
+pub returns : goal.returns
+returns g c = record { reads = reads_all IsSlug name_row (λ t. sort_by by_bytes t.curators) c.in_ok-rows.ensures.reads (λ t has. valid_sorted IsSlug by_bytes t.curators (valid_unnumbered IsSlug name_row _ t.curators has.rows.curators)) (λ all. all.items) (rw c.deref.ensures.value at c.all_from.ensures) }

@@ -6,26 +6,27 @@ use Rattle.registry_rules.specs.Verdict.{least_for}
 use Rattle.registry_tables.proofs.ReadLemmas.{then_open, fails_open, fails_first, makes}
 use Rattle.registry_tables.proofs.facts.facts_for.Goals as goal
 
-pub returns-clause-reads : goal.returns-clause-reads
+pub returns : goal.returns
 unfolding org_concerned
-returns-clause-reads g c =
-    makes (λ h legal it are.
-    let vendor = (c.founding.ensures h are).vendor in
-    let named = it.0.0.1 in
-    let range = c.numbers_concerned-range.ensures h vendor (c.as_ref-2.ensures.value ∙ named) (c.least_of-least.ensures h are ∙ ap (least_for h) (c.as_ref.ensures.value ∙ named)) in
-    let each = λ (n : Number) (about : concerns h c.args.request.now.order n ≡ true). it.0.1 n (range n about) in
-    c.facts.ensures h are it.0.0.0 named (it.1 ∙ ap (option_and_then (org_of h)) (c.slug_concerned-slug.ensures h vendor (c.as_ref-3.ensures.value ∙ named) each)) each)
-    (then_open (then_open (then_open c.in_ok-kept.ensures.reads c.in_ok-petition.ensures.reads) c.in_ok-holdings.ensures.reads) c.in_ok-org.ensures.reads)
+returns g c =
+    record {
+      reads = makes (λ h legal it are.
+          let vendor = (c.founding.ensures h are).vendor in
+          let named = it.0.0.1 in
+          let range = c.numbers_concerned-range.ensures h vendor (c.as_ref-2.ensures.value ∙ named) (c.least_of-least.ensures h are ∙ ap (least_for h) (c.as_ref.ensures.value ∙ named)) in
+          let each = λ (n : Number) (about : concerns h c.args.request.now.order n ≡ true). it.0.1 n (range n about) in
+          c.facts.ensures h are it.0.0.0 named (it.1 ∙ ap (option_and_then (org_of h)) (c.slug_concerned-slug.ensures h vendor (c.as_ref-3.ensures.value ∙ named) each)) each)
+          (then_open (then_open (then_open c.in_ok-kept.ensures.reads c.in_ok-petition.ensures.reads) c.in_ok-holdings.ensures.reads) c.in_ok-org.ensures.reads);
+    }
 
-pub returns-in_err-kept-clause-reads : goal.returns-in_err-kept-clause-reads
-returns-in_err-kept-clause-reads g c = fails_first (search rules) c.in_err-kept.ensures.reads
+pub returns-in_err-kept : goal.returns-in_err-kept
+returns-in_err-kept g c = record { reads = fails_first (search rules) c.in_err-kept.ensures.reads }
 
-pub returns-in_err-petition-clause-reads : goal.returns-in_err-petition-clause-reads
-returns-in_err-petition-clause-reads g c = fails_open (search rules) c.in_ok-kept.ensures.reads c.in_err-petition.ensures.reads
+pub returns-in_err-petition : goal.returns-in_err-petition
+returns-in_err-petition g c = record { reads = fails_open (search rules) c.in_ok-kept.ensures.reads c.in_err-petition.ensures.reads }
 
-pub returns-in_err-holdings-clause-reads : goal.returns-in_err-holdings-clause-reads
-returns-in_err-holdings-clause-reads g c = fails_open (search rules) (then_open c.in_ok-kept.ensures.reads c.in_ok-petition.ensures.reads) c.in_err-holdings.ensures.reads
+pub returns-in_err-holdings : goal.returns-in_err-holdings
+returns-in_err-holdings g c = record { reads = fails_open (search rules) (then_open c.in_ok-kept.ensures.reads c.in_ok-petition.ensures.reads) c.in_err-holdings.ensures.reads }
 
-pub returns-in_err-org-clause-reads : goal.returns-in_err-org-clause-reads
-returns-in_err-org-clause-reads g c =
-    fails_open (search rules) (then_open (then_open c.in_ok-kept.ensures.reads c.in_ok-petition.ensures.reads) c.in_ok-holdings.ensures.reads) c.in_err-org.ensures.reads
+pub returns-in_err-org : goal.returns-in_err-org
+returns-in_err-org g c = record { reads = fails_open (search rules) (then_open (then_open c.in_ok-kept.ensures.reads c.in_ok-petition.ensures.reads) c.in_ok-holdings.ensures.reads) c.in_err-org.ensures.reads }

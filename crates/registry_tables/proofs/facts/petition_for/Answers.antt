@@ -1,10 +1,7 @@
-use Rattle.sqlite.specs.Held.{state}
-use Rattle.registry_tables.proofs.FactLemmas.{grant_found}
+use Rattle.registry_tables.proofs.FactLemmas.{grant_names}
+use Rattle.std.proofs.Common.{sym, ◌∙◌}
+use Rattle.registry_tables.proofs.ReadLemmas.{opened, reads_as}
 use Rattle.registry_tables.proofs.facts.petition_for.Goals as goal
 
-pub returns-in-Grant-clause-reads : goal.returns-in-Grant-clause-reads
-returns-in-Grant-clause-reads g c = record {
-  found = λ clean inside is_open.
-      grant_found (state g.S.Store c.args.tx.now.conn.now) (state g.S.Store c.petition_at.new.tx.conn.now) c.args.order.now c.in-Grant.it c.in-Grant.is c.petition_at.result (c.petition_at.ensures.reads.found clean inside);
-  survives = c.petition_at.ensures.reads.survives;
-}
+pub returns-in-Grant : goal.returns-in-Grant
+returns-in-Grant g c = record { reads = opened (reads_as (λ h found legal is. is ∙ sym (grant_names h c.args.order.now c.in-Grant.it c.in-Grant.is)) c.petition_at.ensures.reads) }

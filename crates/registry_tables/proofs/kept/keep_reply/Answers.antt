@@ -1,11 +1,10 @@
 use Rattle.sqlite.specs.Held.{state}
-use Rattle.registry_rows.proofs.AnswerLemmas.{change_made, on_ok}
 use Rattle.registry_tables.proofs.KeptLemmas.{kept_now}
+use Rattle.registry_tables.proofs.WriteLemmas.{done_as}
 use Rattle.registry_tables.proofs.kept.keep_reply.Goals as goal
 
 pub returns-in-Ok-clause-rows : goal.returns-in-Ok-clause-rows
 returns-in-Ok-clause-rows g c clean inside =
     let old = state g.S.Store c.args.tx.now.conn.now in
     let new = state g.S.Store c.put_kept.new.tx.conn.now in
-    on_ok c.put_kept.result _ _ (λ made h deed legal keeps had. kept_now h deed legal c.args.request.now c.args.reply.now keeps c.in-Ok.order c.in-Ok.ensures old new made.1 had)
-    (change_made old new c.put_kept.result _ (c.put_kept.ensures.put clean inside))
+    done_as c.put_kept.result _ (λ made h deed legal keeps had. kept_now h deed legal c.args.request.now c.args.reply.now keeps c.in-Ok.order c.in-Ok.ensures old new made.1 had) (c.put_kept.ensures.writes.done clean inside)

@@ -1,24 +1,10 @@
-use Rattle.std.proofs.Common.{◌≡◌, IsTrue, subst, rules}
-use Rattle.sqlite.specs.State.{HasCleanDisk}
-use Rattle.sqlite.specs.Held.{state}
-use Rattle.sqlite_keyed.specs.Lists.{sort_by}
-use Rattle.registry_rows.specs.Rows.{by_number}
-use Rattle.registry_tables.specs.Calls.{IsLookUp}
-use Rattle.registry_tables.specs.Lists.{IsNumberList}
-use Rattle.registry_tables.proofs.CallLemmas.{look_up}
-use Rattle.registry_tables.proofs.FindLemmas.{answers_tell}
+use Rattle.std.proofs.Common.{◌≡◌, rules}
 use Rattle.registry_tables.proofs.ListLemmas.{number_list}
+use Rattle.registry_tables.proofs.ReadLemmas.{rows_tell}
+use Rattle.registry_tables.proofs.CallLemmas.{look_up}
 use Rattle.registry_tables.proofs.lists.list_numbers.Goals as goal
 
 pub returns-clause-looked_up : goal.returns-clause-looked_up
 returns-clause-looked_up g c =
-    let old = c.args.conn.now in
-    let begun = c.transaction-tx.result.conn.now in
-    let mid = c.list_entries-numbers.new.tx.conn.now in
-    let end = c.rollback.new.self.0 in
-    let same : end ≡ c.conn-1.given.0 = search rules in
-    let told = λ (clean : HasCleanDisk (state g.S.Store mid)) (inside : IsTrue (state g.S.Store begun).in_transaction).
-    answers_tell (state g.S.Store begun) (state g.S.Store mid) c.list_entries-numbers.result (λ t list. list.items ≡ sort_by by_number t.entries) (λ h list. IsNumberList h list.items) (λ h t legal has had list is. number_list h t.entries had.entries list.items is)
-    (c.list_entries-numbers.ensures.listed clean inside) in
-    subst (λ e. IsLookUp (state g.S.Store old) (state g.S.Store e) c.list_entries-numbers.result (λ h list. IsNumberList h list.items)) same
-    (look_up g.S.Store old begun mid end c.transaction-tx.ensures.begun c.schema-schema.ensures.live (λ h list. IsNumberList h list.items) c.list_entries-numbers.result told c.rollback.ensures.survives c.rollback.ensures.undone c.list_entries-numbers.ensures.survives)
+    let same : c.rollback.new.self.0 ≡ c.conn-1.given.0 = search rules in
+    look_up c.args.conn.now c.transaction-tx.ensures.begun c.schema-schema.ensures.live (rows_tell (λ h t legal has had list is. number_list h t.entries had.entries list.items is) c.list_entries-numbers.ensures.reads) c.rollback.ensures.survives c.rollback.ensures.undone same

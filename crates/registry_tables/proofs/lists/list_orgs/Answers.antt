@@ -1,24 +1,10 @@
-use Rattle.std.proofs.Common.{◌≡◌, IsTrue, subst, rules}
-use Rattle.sqlite.specs.State.{HasCleanDisk}
-use Rattle.sqlite.specs.Held.{state}
-use Rattle.sqlite_keyed.specs.Lists.{sort_by}
-use Rattle.registry_rows.specs.Rows.{by_slug}
-use Rattle.registry_tables.specs.Calls.{IsLookUp}
-use Rattle.registry_tables.specs.Lists.{IsOrgList}
-use Rattle.registry_tables.proofs.CallLemmas.{look_up}
-use Rattle.registry_tables.proofs.FindLemmas.{answers_tell}
+use Rattle.std.proofs.Common.{◌≡◌, rules}
 use Rattle.registry_tables.proofs.ListLemmas.{org_list}
+use Rattle.registry_tables.proofs.ReadLemmas.{rows_tell}
+use Rattle.registry_tables.proofs.CallLemmas.{look_up}
 use Rattle.registry_tables.proofs.lists.list_orgs.Goals as goal
 
 pub returns-clause-looked_up : goal.returns-clause-looked_up
 returns-clause-looked_up g c =
-    let old = c.args.conn.now in
-    let begun = c.transaction-tx.result.conn.now in
-    let mid = c.list_orgs-orgs.new.tx.conn.now in
-    let end = c.rollback.new.self.0 in
-    let same : end ≡ c.conn-1.given.0 = search rules in
-    let told = λ (clean : HasCleanDisk (state g.S.Store mid)) (inside : IsTrue (state g.S.Store begun).in_transaction).
-    answers_tell (state g.S.Store begun) (state g.S.Store mid) c.list_orgs-orgs.result (λ t list. list.items ≡ sort_by by_slug t.orgs) (λ h list. IsOrgList h list.items) (λ h t legal has had list is. org_list h t.orgs had.orgs list.items is)
-    (c.list_orgs-orgs.ensures.listed clean inside) in
-    subst (λ e. IsLookUp (state g.S.Store old) (state g.S.Store e) c.list_orgs-orgs.result (λ h list. IsOrgList h list.items)) same
-    (look_up g.S.Store old begun mid end c.transaction-tx.ensures.begun c.schema-schema.ensures.live (λ h list. IsOrgList h list.items) c.list_orgs-orgs.result told c.rollback.ensures.survives c.rollback.ensures.undone c.list_orgs-orgs.ensures.survives)
+    let same : c.rollback.new.self.0 ≡ c.conn-1.given.0 = search rules in
+    look_up c.args.conn.now c.transaction-tx.ensures.begun c.schema-schema.ensures.live (rows_tell (λ h t legal has had list is. org_list h t.orgs had.orgs list.items is) c.list_orgs-orgs.ensures.reads) c.rollback.ensures.survives c.rollback.ensures.undone same

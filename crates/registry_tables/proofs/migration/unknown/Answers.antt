@@ -1,8 +1,7 @@
-use Rattle.std.proofs.Common.{◌≡◌, IsTrue, sym, subst, arith, refl, rules}
+use Rattle.std.proofs.Common.{IsTrue, sym, subst, arith, refl, rules}
 use Rattle.sqlite.specs.State.{HasCleanDisk}
 use Rattle.sqlite.specs.Held.{state}
 use Rattle.table_laws.specs.Inside.{CommitsNothing}
-use Rattle.registry_tables.proofs.CallLemmas.{quiet_all}
 use Rattle.registry_tables.proofs.migration.unknown.Goals as goal
 
 pub returns-in-Ok-clause-open : goal.returns-in-Ok-clause-open
@@ -13,5 +12,5 @@ returns-in-Ok-clause-open g c clean foreign =
     let ends : CommitsNothing (state g.S.Store mid) (state g.S.Store end) = search rules in
     let early : HasCleanDisk (state g.S.Store mid) = omega (arith, clean, ends.clean) in
     let inside : IsTrue (state g.S.Store begun).in_transaction = subst (λ b. IsTrue (state g.S.Store b).in_transaction) (sym c.transaction-tx.ensures.begun) refl in
-    let goes = c.in-Ok.ensures.answered early inside in
+    let goes = c.in-Ok.ensures.writes.done early inside in
     subst (λ b. IsTrue (state g.S.Store b).is_open) c.transaction-tx.ensures.begun goes.was_open

@@ -1,8 +1,6 @@
 use Rattle.std.proofs.Common.{◌≡◌, OnOk, subst, rules}
 use Rattle.sqlite.specs.State.{HasCleanDisk}
 use Rattle.sqlite.specs.Held.{state}
-use Rattle.registry_rules.specs.TotalsOf.{AreTotalsOf}
-use Rattle.registry_tables.specs.Calls.{IsLookUp}
 use Rattle.registry_tables.specs.Version.{SaysNewest}
 use Rattle.registry_tables.proofs.NewestLemmas.{newest_all}
 use Rattle.registry_tables.proofs.CallLemmas.{look_up}
@@ -10,13 +8,8 @@ use Rattle.registry_tables.proofs.opening.totals.Goals as goal
 
 pub returns-clause-looked_up : goal.returns-clause-looked_up
 returns-clause-looked_up g c =
-    let old = c.args.conn.now in
-    let begun = c.transaction-tx.result.conn.now in
-    let mid = c.totals_in-totals.new.tx.conn.now in
-    let end = c.rollback.new.self.0 in
-    let same : end ≡ c.conn-1.given.0 = search rules in
-    subst (λ e. IsLookUp (state g.S.Store old) (state g.S.Store e) c.totals_in-totals.result AreTotalsOf) same
-    (look_up g.S.Store old begun mid end c.transaction-tx.ensures.begun c.schema-schema.ensures.live AreTotalsOf c.totals_in-totals.result c.totals_in-totals.ensures.reads.found c.rollback.ensures.survives c.rollback.ensures.undone c.totals_in-totals.ensures.reads.survives)
+    let same : c.rollback.new.self.0 ≡ c.conn-1.given.0 = search rules in
+    look_up c.args.conn.now c.transaction-tx.ensures.begun c.schema-schema.ensures.live c.totals_in-totals.ensures.reads c.rollback.ensures.survives c.rollback.ensures.undone same
 
 pub returns-clause-newest : goal.returns-clause-newest
 returns-clause-newest g c =

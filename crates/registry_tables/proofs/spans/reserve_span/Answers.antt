@@ -1,30 +1,35 @@
 use Rattle.std.proofs.Common.{◌≡◌, ◌+◌, ◌-◌, subst, arith, rules}
 use Rattle.sqlite.specs.State.{HasCleanDisk}
 use Rattle.sqlite.specs.Held.{state}
-use Rattle.registry_rows.proofs.AnswerLemmas.{on_ok}
-use Rattle.registry_rules.specs.declared.change.Change.TheVariants.{ReserveSpan}
-use Rattle.registry_tables.specs.Changed.{Makes}
 use Rattle.registry_tables.specs.Reserved.{Reaches}
-use Rattle.registry_tables.proofs.SpanSteps.{Puts, reserves}
+use Rattle.registry_tables.proofs.WriteLemmas.{ok_as}
+use Rattle.registry_tables.proofs.SpanSteps.{reserves}
 use Rattle.registry_tables.proofs.spans.reserve_span.Goals as goal
 
-pub returns-clause-made : goal.returns-clause-made
-returns-clause-made g c clean inside =
-    let s0 = state g.S.Store c.args.tx.now.conn.now in
-    let s1 = state g.S.Store c.spans_meeting.new.tx.conn.now in
-    let s2 = state g.S.Store c.cut_spans.new.tx.conn.now in
-    let s3 = state g.S.Store c.put_part.new.tx.conn.now in
-    let second : HasCleanDisk s2 = omega (arith, c.put_part.ensures.survives.clean) in
-    let first : HasCleanDisk s1 = omega (arith, second, c.cut_spans.ensures.survives.clean) in
-    let span = c.args.span.now in
-    let low = c.from-low.result - 1 in
-    let high = c.from-high.result + 1 in
-    let read = c.in_ok-found.ensures.found first inside in
-    let cut = c.in_ok-cut_spans.ensures.cut second read.0.mode in
-    let same : c.deref.result.now ≡ c.in_ok-found.found.items = search rules in
-    let reach = subst (λ l. Reaches span l c.reach-least.result.0 c.reach-least.result.1) same c.reach-least.ensures in
-    let is_low : low ≡ span.first - 1 = search rules in
-    let is_high : high ≡ span.last + 1 = search rules in
-    on_ok c.put_part.result (Puts s2 s3 c.args.vid c.new.result) (Makes (ReserveSpan c.args.vid span) s0 s3)
-    (reserves s0 s1 s2 c.args.vid low high c.in_ok-found.found.items read cut span c.reach-least.result.0 c.reach-least.result.1 reach s3 is_low is_high c.new.result c.new.ensures.valid c.new.ensures.ends)
-    (c.put_part.ensures.put clean cut.0.mode cut.0.is_open)
+pub returns : goal.returns
+returns g c = record {
+  writes = record {
+    same_reference = search rules;
+    fault = search rules;
+    survives = search rules;
+    done = λ clean inside.
+        let s0 = state g.S.Store c.args.tx.now.conn.now in
+        let s1 = state g.S.Store c.spans_meeting.new.tx.conn.now in
+        let s2 = state g.S.Store c.cut_spans.new.tx.conn.now in
+        let s3 = state g.S.Store c.put_part.new.tx.conn.now in
+        let second : HasCleanDisk s2 = omega (arith, c.put_part.ensures.writes.survives.clean) in
+        let first : HasCleanDisk s1 = omega (arith, second, c.cut_spans.ensures.writes.survives.clean) in
+        let span = c.args.span.now in
+        let low = c.from-low.result - 1 in
+        let high = c.from-high.result + 1 in
+        let read = c.in_ok-found.ensures.reads.told first inside in
+        let cut = c.in_ok-cut_spans.ensures.writes.done second read.0.mode in
+        let same : c.deref.result.now ≡ c.in_ok-found.found.items = search rules in
+        let reach = subst (λ l. Reaches span l c.reach-least.result.0 c.reach-least.result.1) same c.reach-least.ensures in
+        let is_low : low ≡ span.first - 1 = search rules in
+        let is_high : high ≡ span.last + 1 = search rules in
+        ok_as c.put_part.result
+        (reserves s0 s1 s2 c.args.vid low high c.in_ok-found.found.items read cut span c.reach-least.result.0 c.reach-least.result.1 reach s3 is_low is_high c.new.result c.new.ensures.valid c.new.ensures.ends)
+        (c.put_part.ensures.writes.done clean cut.0.mode cut.0.is_open);
+  };
+}

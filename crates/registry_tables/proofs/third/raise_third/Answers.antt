@@ -11,7 +11,7 @@ returns-in_err-meta-clause-raised g c clean inside =
     let old = state g.S.Store c.args.tx.now.conn.now in
     let new = state g.S.Store c.old_meta.new.tx.conn.now in
     let is : c.from_residual.result ≡ Err c.in_err-meta.field-0.0 = search rules in
-    subst (λ r. Raises 2 old new r) (sym is) (third_refused old new c.in_err-meta.field-0.0 (c.in_err-meta.ensures.told clean inside))
+    subst (λ r. Raises 2 old new r) (sym is) (third_refused old new c.in_err-meta.field-0.0 (c.in_err-meta.ensures.reads.told clean inside))
 
 pub returns-clause-raised : goal.returns-clause-raised
 returns-clause-raised g c clean inside =
@@ -21,13 +21,13 @@ returns-clause-raised g c clean inside =
     let s3 = state g.S.Store c.move_rows.new.tx.conn.now in
     let s4 = state g.S.Store c.put_vendor.new.tx.conn.now in
     let s5 = state g.S.Store c.put_meta.new.tx.conn.now in
-    let c4 : HasCleanDisk s4 = omega (arith, c.put_meta.ensures.survives.clean) in
-    let c3 : HasCleanDisk s3 = omega (arith, c.put_vendor.ensures.survives.clean) in
-    let c2 : HasCleanDisk s2 = omega (arith, c.move_rows.ensures.survives.clean) in
+    let c4 : HasCleanDisk s4 = omega (arith, c.put_meta.ensures.writes.survives.clean) in
+    let c3 : HasCleanDisk s3 = omega (arith, c.put_vendor.ensures.writes.survives.clean) in
+    let c2 : HasCleanDisk s2 = omega (arith, c.move_rows.ensures.writes.survives.clean) in
     let c1 : HasCleanDisk s1 = omega (arith, c.add_third.ensures.survives.clean) in
-    let one = c.in_ok-meta.ensures.told c1 inside in
+    let one = c.in_ok-meta.ensures.reads.told c1 inside in
     let two = c.in_ok-add_third.ensures.made c2 one.0.mode in
-    let three = c.in_ok-move_rows.ensures.moved c3 two.0.mode in
-    let four = c.in_ok-put_vendor.ensures.put c4 three.0.mode in
-    let five = c.in_ok-put_meta.ensures.put clean four.0.mode in
+    let three = c.in_ok-move_rows.ensures.writes.done c3 two.0.mode in
+    let four = c.in_ok-put_vendor.ensures.writes.done c4 three.0.mode in
+    let five = c.in_ok-put_meta.ensures.writes.done clean four.0.mode in
     (goes_then a s4 s5 (goes_then a s3 s4 (goes_then a s2 s3 (goes_then a s1 s2 one.0 two.0) three.0) four.0) five.0, third_raised a s1 s2 s3 s4 s5 c.in_ok-meta.meta one.1 two.1 three.1 four.1 five.1)

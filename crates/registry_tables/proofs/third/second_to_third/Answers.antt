@@ -1,27 +1,21 @@
-use Rattle.std.proofs.Common.{◌≡◌, Err, OnOk, arith, rules, subst}
-use Rattle.sqlite.specs.State.{HasCleanDisk, Survives}
+use Rattle.std.proofs.Common.{◌≡◌, Err, arith, rules, subst}
+use Rattle.sqlite.specs.State.{HasCleanDisk}
 use Rattle.sqlite.specs.Held.{state}
 use Rattle.table_laws.specs.Inside.{CommitsNothing}
 use Rattle.registry_schema.specs.declared.fault.TableFault.TheVariants.{Foreign}
-use Rattle.registry_tables.specs.Raising.{Raises, CommitsStep, IsMadeBy}
+use Rattle.registry_tables.specs.Raising.{Raises}
 use Rattle.registry_tables.proofs.StepLemmas.{step_survives, step_made, step_foreign}
 use Rattle.registry_tables.proofs.third.second_to_third.Goals as goal
 
 pub returns-clause-made : goal.returns-clause-made
 returns-clause-made g c =
-    let old = c.args.conn.now in
-    let end = c.commit.new.tx.0 in
-    let same : end ≡ c.conn-2-1.given.0 = search rules in
-    subst (λ e. HasCleanDisk (state g.S.Store e) → OnOk c.commit.result (IsMadeBy (CommitsStep 2 (state g.S.Store old)) (state g.S.Store e))) same
-    (step_made g.S.Store 2 old c.transaction-tx.result.conn.now c.raise_third.new.tx.conn.now c.transaction-tx.ensures.begun c.schema-schema.ensures.live c.in_ok-raise_third.ensures.raised c.raise_third.ensures.survives end c.commit.ensures.survives c.commit.result c.commit.ensures.ok)
+    let same : c.commit.new.tx.0 ≡ c.conn-2-1.given.0 = search rules in
+    step_made g.S.Store 2 c.args.conn.now c.transaction-tx.result.conn.now c.raise_third.new.tx.conn.now c.transaction-tx.ensures.begun c.schema-schema.ensures.live c.in_ok-raise_third.ensures.raised c.raise_third.ensures.survives c.commit.new.tx.0 c.conn-2-1.given.0 c.commit.ensures.survives same c.commit.result c.commit.ensures.ok
 
 pub returns-clause-survives : goal.returns-clause-survives
 returns-clause-survives g c =
-    let old = c.args.conn.now in
-    let end = c.commit.new.tx.0 in
-    let same : end ≡ c.conn-2-1.given.0 = search rules in
-    subst (λ e. Survives (state g.S.Store old) (state g.S.Store e) (CommitsStep 2 (state g.S.Store old))) same
-    (step_survives g.S.Store 2 old c.transaction-tx.result.conn.now c.raise_third.new.tx.conn.now c.transaction-tx.ensures.begun c.schema-schema.ensures.live c.in_ok-raise_third.ensures.raised c.raise_third.ensures.survives end c.commit.ensures.survives)
+    let same : c.commit.new.tx.0 ≡ c.conn-2-1.given.0 = search rules in
+    step_survives g.S.Store 2 c.args.conn.now c.transaction-tx.result.conn.now c.raise_third.new.tx.conn.now c.transaction-tx.ensures.begun c.schema-schema.ensures.live c.in_ok-raise_third.ensures.raised c.raise_third.ensures.survives c.commit.new.tx.0 c.conn-2-1.given.0 c.commit.ensures.survives same
 
 pub returns-in_err-raise_third-clause-foreign : goal.returns-in_err-raise_third-clause-foreign
 returns-in_err-raise_third-clause-foreign g c clean foreign =

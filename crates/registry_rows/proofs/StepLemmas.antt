@@ -1,0 +1,102 @@
+-- From what a statement did or showed to what a call does within a transaction.
+use Rattle.std.proofs.Common.{◌≡◌, ◌≢◌, ◌⊎◌, sym, subst, Bool, true, false, cond, ℕ, IsTrue, List, [], ◌∷◌, map, filter, find, slice_get, Option, Result, Ok, Err, inl, MatchResult, Vec, Global, Ordering, is_gt, ◌∙◌}
+use Rattle.std.specs.Prelude.{IsErrAnd}
+use Rattle.std.specs.Borrow.{MutBor}
+use Rattle.std.specs.List.{AllByRecursion}
+use Rattle.std.proofs.lemmas.Result.{err_from_is_err_and}
+use Rattle.sqlite_trees.specs.declared.store.Store.{Ghosts}
+use Rattle.sqlite_keyed.specs.Lists.{insert_sorted, sort_by}
+use Rattle.sqlite_keyed.proofs.ListLemmas.{all-filter, slice_get-filter}
+use Rattle.sqlite.specs.Effect.{Database}
+use Rattle.sqlite.specs.Held.{Held, state}
+use Rattle.sqlite.specs.Order.{Row}
+use Rattle.sqlite.specs.declared.error.Error.{Error}
+use Rattle.sqlite.specs.State.{State, HasCleanDisk, IsUnchanged, Shown, FailsToQuery, IsTooLate, Executes, ExecutesInside}
+use Rattle.table_laws.specs.Inside.{CommitsNothing, GoesOn}
+use Rattle.table_laws.proofs.InsideLemmas.{query_goes, query_fails}
+use Rattle.registry_schema.specs.Faults.{IsFaultOf}
+use Rattle.registry_schema.specs.declared.fault.TableFault.{TableFault}
+use Rattle.registry_schema.specs.declared.fault.TableFault.TheVariants.{Foreign}
+use Rattle.registry_rows.specs.Steps.{Decodes, Tells, Changes, Writes, Reads, ReadsRows}
+use Rattle.registry_rows.specs.Tables.{Tables, Holds}
+
+module _ {S : Type 0} {g : Ghosts S} {old new : MutBor (Held S)} (same : new.ghost_name ≡ old.ghost_name) (quiet : CommitsNothing (state g old.now) (state g new.now)) where
+  -- a statement that was executed
+  pub wrote : {A : Type 0} {a : A} {Does : State → State → Type 0} → (HasCleanDisk (state g new.now) → IsTrue (state g old.now).in_transaction → Does (state g old.now) (state g new.now)) → Writes g old new (Ok a) Does
+  wrote done = record { same_reference = same; done = done; fault = λ never. absurd cc; survives = quiet }
+
+  -- one that changed the tables
+  pub changed : {A : Type 0} {a : A} (sql : List ℕ) (params : Row) (count : ℕ) {after : Tables → Tables}
+      → (HasCleanDisk (state g new.now) → IsTrue (state g old.now).in_transaction → ExecutesInside 0 sql params (state g old.now) (state g new.now) (Ok count))
+      → (Executes sql params (state g old.now) (state g new.now) (Ok count) → (t : Tables) → Holds (state g old.now).now t → Holds (state g new.now).now (after t)) → Writes g old new (Ok a) (Changes after)
+  changed sql params count runs after = wrote (λ clean inside. (let ran = runs clean inside in (ran.1, after ran.0)))
+
+  -- a query that showed rows, and one that failed
+  module _ {X : Type 0} {Is : Database → X → Type 0} {shown : X → List Row} (sql : List ℕ) (params : Row) where
+    pub shows : {rows : Vec Row Global} → (HasCleanDisk (state g new.now) → Shown sql params (state g old.now) (state g new.now) rows.items)
+        → (Shown sql params (state g old.now) (state g new.now) rows.items → (x : X) → Is (state g old.now).now x → IsUnchanged (state g old.now) (state g new.now) × (rows.items ≡ shown x)) → ReadsRows g old new (Ok rows) Is shown
+    shows {rows} ok means = record {
+      reads = record { same_reference = same; told = λ clean inside. (query_goes (state g old.now) (state g new.now) inside sql params rows.items (ok clean), means (ok clean)); survives = quiet };
+      fault = λ never. absurd cc;
+    }
+
+    pub shows_nothing : {result : Result (Vec Row Global) TableFault} {error : Error} → IsErrAnd result (IsFaultOf error)
+        → (HasCleanDisk (state g new.now) → FailsToQuery sql params (state g old.now) (state g new.now) error ⊎ IsTooLate sql params (state g old.now) (state g new.now) error) → ReadsRows g old new result Is shown
+    shows_nothing {result} {error} of err =
+        let failed = err_from_is_err_and result of in
+        subst (λ r. ReadsRows g old new r Is shown) (sym failed.1) (record {
+          reads = record { same_reference = same; told = λ clean inside. (λ foreign. absurd (failed.2.1 foreign), query_fails (state g old.now) (state g new.now) inside sql params error (err clean)); survives = quiet };
+          fault = λ foreign. absurd (failed.2.1 cc);
+        })
+
+-- ---- the values that rows store
+
+module _ {V X : Type 0} (IsValid : V → Type 0) (show : V → Row) (old new : State) (Held : X → Type 0) (rows : List Row) (pick : X → List V)
+    (read : GoesOn old new × ((x : X) → Held x → IsUnchanged old new × (rows ≡ map show (pick x)))) (valid : (x : X) → Held x → AllByRecursion IsValid (pick x)) where
+  tells_first : (result : Result (Option V) TableFault) → ((values : List V) → AllByRecursion IsValid values → rows ≡ map show values → Decodes result (slice_get values 0))
+      → Tells old new Held result (λ x found. found ≡ slice_get (pick x) 0)
+  tells_first (Ok found) decodes = (read.0, λ x has. (let h = read.1 x has in (h.0, decodes (pick x) (valid x has) h.1)))
+  tells_first (Err fault) decodes = (λ foreign. (read.0, λ x has. decodes (pick x) (valid x has) (read.1 x has).1 foreign), inl read.0)
+
+  tells_all : {A : Type 0} (items : A → List V) (result : Result A TableFault)
+      → ((values : List V) → AllByRecursion IsValid values → rows ≡ map show values → MatchResult result (λ all. items all ≡ values) (λ fault. fault ≢ Foreign))
+      → Tells old new Held result (λ x all. items all ≡ pick x)
+  tells_all items (Ok all) decodes = (read.0, λ x has. (let h = read.1 x has in (h.0, decodes (pick x) (valid x has) h.1)))
+  tells_all items (Err fault) decodes = (λ foreign. (read.0, λ x has. decodes (pick x) (valid x has) (read.1 x has).1 foreign), inl read.0)
+
+-- a result that satisfies one relation satisfies a weaker one
+pub tells_as : {A X : Type 0} (old new : State) (Held : X → Type 0) (Says Also : X → A → Type 0) (result : Result A TableFault) → ((x : X) (a : A) → Says x a → Also x a) → Tells old new Held result Says → Tells old new Held result Also
+tells_as old new Held Says Also (Ok a) means h = (h.0, λ x has. (let it = h.1 x has in (it.0, means x a it.1)))
+tells_as old new Held Says Also (Err e) means h = h
+
+module _ {S : Type 0} {g : Ghosts S} {old new : MutBor (Held S)} {V X : Type 0} (IsValid : V → Type 0) (show : V → Row) {Is : Database → X → Type 0} {rows : Vec Row Global} where
+  -- all rows read as all values
+  pub reads_all : (pick : X → List V) → ReadsRows g old new (Ok rows) Is (λ x. map show (pick x)) → ((x : X) → Is (state g old.now).now x → AllByRecursion IsValid (pick x)) → {A : Type 0} (items : A → List V) {result : Result A TableFault}
+      → ((values : List V) → AllByRecursion IsValid values → rows.items ≡ map show values → MatchResult result (λ all. items all ≡ values) (λ fault. fault ≢ Foreign)) → Reads g old new result Is (λ x all. items all ≡ pick x)
+  reads_all pick read valid {A} items {result} decodes =
+      record { same_reference = read.reads.same_reference; told = λ clean inside. tells_all IsValid show (state g old.now) (state g new.now) (Is (state g old.now).now) rows.items pick (read.reads.told clean inside) valid items result decodes; survives = read.reads.survives }
+
+  -- the first of them reads as the value that the test finds
+  pub reads_first : (test : V → Bool) (all : X → List V) → ReadsRows g old new (Ok rows) Is (λ x. map show (filter test (all x))) → ((x : X) → Is (state g old.now).now x → AllByRecursion IsValid (all x)) → {result : Result (Option V) TableFault}
+      → ((values : List V) → AllByRecursion IsValid values → rows.items ≡ map show values → Decodes result (slice_get values 0)) → Reads g old new result Is (λ x found. found ≡ find test (all x))
+  reads_first test all read valid {result} decodes = record {
+    same_reference = read.reads.same_reference;
+    told = λ clean inside. tells_as (state g old.now) (state g new.now) (Is (state g old.now).now) (λ x found. found ≡ slice_get (filter test (all x)) 0) (λ x found. found ≡ find test (all x)) result (λ x found is. is ∙ slice_get-filter test (all x)) (tells_first IsValid show (state g old.now) (state g new.now) (Is (state g old.now).now) rows.items (λ x. filter test (all x)) (read.reads.told clean inside) (λ x has. all-filter IsValid test (all x) (valid x has)) result decodes);
+    survives = read.reads.survives;
+  }
+
+-- one read as another
+pub reads_by : {S : Type 0} {g : Ghosts S} {old new : MutBor (Held S)} {A B X Y : Type 0} {r : Result A TableFault} {s : Result B TableFault} {Is : Database → X → Type 0} {Are : Database → Y → Type 0} {Says : X → A → Type 0} {Also : Y → B → Type 0}
+    → (Tells (state g old.now) (state g new.now) (Is (state g old.now).now) r Says → Tells (state g old.now) (state g new.now) (Are (state g old.now).now) s Also) → Reads g old new r Is Says → Reads g old new s Are Also
+reads_by retell read = record { same_reference = read.same_reference; told = λ clean inside. retell (read.told clean inside); survives = read.survives }
+
+-- ---- values picked from valid ones are valid
+
+module _ {X : Type 0} (IsValid : X → Type 0) where
+  inserted : (cmp : X → X → Ordering) (new : X) (values : List X) → IsValid new → AllByRecursion IsValid values → AllByRecursion IsValid (insert_sorted cmp new values)
+  inserted cmp new [] h all = (h, tt)
+  inserted cmp new (x ∷ xs) h all = elim (is_gt (cmp new x)) as (λ b. AllByRecursion IsValid (cond b (x ∷ insert_sorted cmp new xs) (new ∷ x ∷ xs))) [ true ↦ (all.0, inserted cmp new xs h all.1) | false ↦ (h, all) ]
+
+  pub valid_sorted : (cmp : X → X → Ordering) (values : List X) → AllByRecursion IsValid values → AllByRecursion IsValid (sort_by cmp values)
+  valid_sorted cmp [] all = tt
+  valid_sorted cmp (x ∷ xs) all = inserted cmp x (sort_by cmp xs) all.0 (valid_sorted cmp xs all.1)
