@@ -29,7 +29,7 @@ use Rattle.registry_rules.proofs.TakenLemmas.{taken_more, same_test, reserves_ta
 use Rattle.registry_rules.proofs.ChangeLemmas.{leads_to}
 use Rattle.registry_rules.specs.declared.deed.Deed.{Deed}
 use Rattle.registry_rules.specs.declared.deed.Act.{Act}
-use Rattle.registry_rules.specs.declared.deed.Act.TheVariants.{Enrolled, OrgAmended, Asked, Granted, Declined, Withdrawn, CardAmended, Returned, Reserved, Released, Imported, VendorAdded, LicenceAdded}
+use Rattle.registry_rules.specs.declared.deed.Act.TheVariants.{Enrolled, Asked, Granted, Declined, Withdrawn, Reserved, Released, Imported, VendorAdded, LicenceAdded}
 use Rattle.registry_rules.specs.declared.founding.Founding.{Founding}
 use Rattle.registry_rules.specs.declared.item.Item.{Item}
 use Rattle.registry_rules.specs.declared.item.Tally.{Tally}
@@ -161,7 +161,7 @@ only_open h deed old new keeps same opened s = subst (λ t. IsSummary (with_deed
   nothing = s.nothing;
 })
 
--- an amendment or a return: no total changes
+-- any other act, as an amendment or a return: no total changes
 no_total : (h : History) (deed : Deed) (old new : Totals) → KeepsTotals h deed → ((slug : List ℕ) → open_count h slug ≡ open_count (with_deed h deed) slug)
     → new ≡ old → IsSummary h old → IsSummary (with_deed h deed) new
 no_total h deed old new keeps as_before is s =
@@ -283,23 +283,19 @@ licence_more h caller key order licence old new after is s =
 carries_by : (h : History) (caller key : List ℕ) (order : Order) (act : Act) (old new : Totals) → Legal h → Legal (with_deed h (the_deed caller key order act)) → Follows h caller act
     → LeadsTo (act_changes act) h (with_deed h (the_deed caller key order act)) → Carries old new act → IsSummary h old → IsSummary (with_deed h (the_deed caller key order act)) new
 carries_by h caller key order (Enrolled org) old new legal after can leads is s = enrolled_more h caller key order org old new can is s
-carries_by h caller key order (OrgAmended org) old new legal after can leads is s = no_total h (the_deed caller key order (OrgAmended org)) old new
-    (record { licence = refl; vendor = refl; orgs = refl; petitions = refl; taken = λ n. refl; reserved = λ n. refl }) (λ slug. refl) is s
 carries_by h caller key order (Asked id petition) old new legal after can leads is s = asked_more h caller key order id petition old new can leads is s
 carries_by h caller key order (Granted id petition name) old new legal after can leads is s = granted_more h caller key order id petition name old is.0 new can leads is.1 is.2 s
 carries_by h caller key order (Declined id petition) old new legal after can leads is s = closed_less h (the_deed caller key order (Declined id petition)) id petition StateDeclined old new
     (record { licence = refl; vendor = refl; orgs = refl; petitions = refl; taken = λ n. refl; reserved = λ n. refl }) can refl leads.petitions is s
 carries_by h caller key order (Withdrawn id petition) old new legal after can leads is s = closed_less h (the_deed caller key order (Withdrawn id petition)) id petition StateWithdrawn old new
     (record { licence = refl; vendor = refl; orgs = refl; petitions = refl; taken = λ n. refl; reserved = λ n. refl }) can refl leads.petitions is s
-carries_by h caller key order (CardAmended name card) old new legal after can leads is s = no_total h (the_deed caller key order (CardAmended name card)) old new
-    (record { licence = refl; vendor = refl; orgs = refl; petitions = refl; taken = λ n. refl; reserved = λ n. refl }) (λ slug. refl) is s
-carries_by h caller key order (Returned name) old new legal after can leads is s = no_total h (the_deed caller key order (Returned name)) old new
-    (record { licence = refl; vendor = refl; orgs = refl; petitions = refl; taken = λ n. refl; reserved = λ n. refl }) (λ slug. refl) is s
 carries_by h caller key order (Reserved name) old new legal after can leads is s = reserved_more h caller key order name old new is s
 carries_by h caller key order (Released name) old new legal after can leads is s = released_less h caller key order name old new legal can is s
 carries_by h caller key order (Imported vid org fresh tally) old new legal after can leads is s = imported_more h caller key order vid org fresh tally old new can is s
 carries_by h caller key order (VendorAdded vid name) old new legal after can leads is s = vendor_more h caller key order vid name old new is s
 carries_by h caller key order (LicenceAdded licence) old new legal after can leads is s = licence_more h caller key order licence old new after is s
+carries_by h caller key order _ old new legal after can leads is s = no_total h _ old new
+    (record { licence = refl; vendor = refl; orgs = refl; petitions = refl; taken = λ n. refl; reserved = λ n. refl }) (λ slug. refl) is s
 
 -- totals that are updated with a new deed are those of the history with the deed
 pub carries : (h : History) (request : Request) (deed : Deed) (old new : Totals) → Legal h → verdict h request ≡ New deed → Carries old new deed.act

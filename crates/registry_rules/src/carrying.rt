@@ -29,9 +29,6 @@ pub(crate) fn carry_act(totals: &mut Totals, act: &Act) -> Result<(), NoMemory>
         }
         Act::Declined { id: _, petition } => closed(totals, &petition.org),
         Act::Withdrawn { id: _, petition } => closed(totals, &petition.org),
-        Act::OrgAmended(_) | Act::CardAmended { name: _, card: _ } | Act::Returned { name: _ } => {
-            Ok(())
-        }
         Act::Reserved { name } => reserved(totals, name.vid, &name.span),
         Act::Released { name } => released(totals, name.vid, &name.span),
         Act::Imported {
@@ -42,6 +39,7 @@ pub(crate) fn carry_act(totals: &mut Totals, act: &Act) -> Result<(), NoMemory>
         } => imported(totals, *vid, fresh),
         Act::VendorAdded { vendor, name } => vendor_added(totals, *vendor, name),
         Act::LicenceAdded { licence } => licence_added(totals, licence),
+        _ => Ok(()),
     }
 }
 
