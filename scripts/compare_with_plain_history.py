@@ -165,15 +165,9 @@ class Chance:
     def number(self):
         return f"{self.dice.randint(1, 9):04x}"
 
-    def wanted(self):
-        fields = {}
-        for field in plain_history.OPTIONAL["ask"]:
-            fields |= self.one_of({field: self.number()}, {}, {})
-        return fields
-
     def vendor(self):
-        """Returns a vendor that the registry has, one that it may have, one that it never has, or none."""
-        return self.one_of({"vendor": "1209"}, {"vendor": "cafe"}, {"vendor": "beef"}, *[{}] * 5)
+        """Returns a vendor that the registry has, one that it may have, or one that it never has."""
+        return self.one_of("1209", *["cafe"] * 3, "beef")
 
     def org(self):
         return self.one_of("acme", "bolt", "coil")
@@ -181,33 +175,42 @@ class Chance:
     def title(self):
         return self.one_of("MIT", "Apache-2.0", "CERN-OHL-S-2.0", "Blinker")
 
-    def described(self):
-        return {"org": self.org(), "title": self.title(), "site": LINK}
+    def licence(self):
+        return self.one_of("Zlib", *["MIT"] * 8, self.title())
 
-    def terms(self):
-        return {"title": self.title(), "licence": self.one_of("Zlib", *["MIT"] * 4, "Apache-2.0"), "site": LINK, "source": LINK}
+    def site(self):
+        return LINK
+
+    source = site
+
+    def petition(self):
+        return self.dice.randint(1, 40)
+
+    def list(self):
+        lines = [f"\t{self.dice.randint(0, 13):04x}  {self.one_of('', self.title(), self.title())}\n" for _ in range(self.dice.randint(0, 3))]
+        return "{}  Vendor\n" + "".join(lines)
+
+    def value(self, field):
+        """Returns a value of the field of an order. A field that is not named here is a title."""
+        return getattr(self, field, self.title)()
 
     def span(self):
         first = self.dice.randint(1, 9)
-        return {"first": f"{first:04x}", "last": f"{first + self.dice.randint(0, 2):04x}", **self.vendor()}
+        return {"first": f"{first:04x}", "last": f"{first + self.dice.randint(0, 2):04x}"}
 
-    def listed(self):
-        vendor = self.vendor()
-        lines = [f"\t{self.dice.randint(0, 13):04x}  {self.one_of('', self.title(), self.title())}\n" for _ in range(self.dice.randint(0, 3))]
-        return {"org": self.org(), **vendor, "list": f"{vendor.get('vendor', '1209')}  Vendor\n" + "".join(lines)}
-
-    def petition(self):
-        return {"petition": self.dice.randint(1, 40)}
+    def fields(self, order):
+        """Returns the fields of an order, and leaves some of the optional ones out."""
+        named = [it for it in plain_history.FIELDS[order] if not plain_history.is_optional(order, it) or self.one_of(True, False, False)]
+        return {it: self.value(it) for it in named}
 
     def request(self):
-        order, fields = self.one_of(
-            ("enrol", self.described()), ("amend-org", self.described()), *[("grant", self.petition())] * 2,
-            ("grant", self.petition() | {"number": self.number()}), ("decline", self.petition()), ("withdraw", self.petition()),
-            *[("ask", {"org": self.org(), **self.wanted(), **self.terms(), **self.vendor()})] * 4,
-            ("amend", {"number": self.number(), **self.terms(), **self.vendor()}), ("return", {"number": self.number(), **self.vendor()}),
-            ("reserve", self.span()), ("release", self.span()), ("import", self.listed()),
-            ("add-vendor", {"vendor": self.one_of("1209", *["cafe"] * 3), "name": self.title()}), ("add-licence", {"licence": self.title()}),
-        )
+        # Petitions are asked for and granted more often than other orders come.
+        order = self.one_of(*plain_history.FIELDS, *["ask"] * 3, *["grant"] * 2)
+        fields = self.fields(order)
+        if "first" in fields:
+            fields |= self.span()
+        if "list" in fields:
+            fields["list"] = fields["list"].format(fields.get("vendor", "1209"))
         # Ann, who is the curator, comes twice as often as each of the others.
         return request(self.one_of("ann", "ann", "bob", "cora"), f"k{self.dice.randint(0, 999)}", order, **fields)
 

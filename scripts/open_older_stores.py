@@ -191,8 +191,8 @@ def examples(stores):
 class OneVendor(Chance):
     """Random requests that the older schemas know."""
 
-    def vendor(self):
-        return {}
+    def fields(self, order):
+        return {name: value for name, value in super().fields(order).items() if name != "vendor"}
 
     def request(self):
         while (made := super().request())["order"] in ("add-vendor", "add-licence"):

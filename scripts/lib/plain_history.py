@@ -13,14 +13,14 @@ REFUSALS = {
     14: "TooManyOpen", 15: "RangeOwned", 16: "RangeFixed", 17: "RangeNotReserved", 18: "Full", 19: "ImportTooLong",
     33: "VendorTaken", 34: "NoVendor", 35: "LicenceTaken",
 }
-# The fields of an order in its canonical form. The vendor of an import comes before its items, each of which is a field.
+# The fields of an order in the sequence of its canonical form. Each item of a list is a field there.
 FIELDS = {
     "enrol": ("org", "title", "site"), "amend-org": ("org", "title", "site"),
     "ask": ("org", "number", "title", "licence", "site", "source", "vendor"), "grant": ("petition", "number"),
     "decline": ("petition",), "withdraw": ("petition",),
     "amend": ("number", "title", "licence", "site", "source", "vendor"), "return": ("number", "vendor"),
     "reserve": ("first", "last", "vendor"), "release": ("first", "last", "vendor"),
-    "import": ("org", "vendor", "items"), "add-vendor": ("vendor", "name"), "add-licence": ("licence",),
+    "import": ("org", "vendor", "list"), "add-vendor": ("vendor", "name"), "add-licence": ("licence",),
 }
 # The product IDs that an order may leave out: `-` in its canonical form.
 OPTIONAL = {"ask": ("number",), "grant": ("number",)}
@@ -32,6 +32,11 @@ TERMS = ("title", "licence", "site", "source")
 
 class Refused(Exception):
     """A failed check: the refusal's number, and its detail if it has one."""
+
+
+def is_optional(order, field):
+    """Returns whether the order may leave the field out."""
+    return field in OPTIONAL.get(order, ()) or (field == "vendor" and order != "add-vendor")
 
 
 def check(passes, number, detail=None):
@@ -144,7 +149,7 @@ class History:
         """Returns the order's canonical form, as in the table `kept`."""
         texts = [request["order"]]
         for field in FIELDS[request["order"]]:
-            if field == "items":
+            if field == "list":
                 texts += [f"{pid:04x}={title}" for pid, title in items(request["list"])]
             elif field in OPTIONAL.get(request["order"], ()):
                 texts.append(request.get(field) or "-")
