@@ -2,47 +2,13 @@
 
 ghost use Rattle.std.specs.Prelude.{◌≡◌, Result, IfOk};
 ghost use Rattle.registry_rules.specs.FactsOf.{AreFactsOf};
-ghost use Rattle.registry_rules.specs.Gives.{Gives};
 ghost use Rattle.registry_rules.specs.History.{History};
-ghost use Rattle.registry_rules.specs.OnFacts.{outcome_on};
 ghost use Rattle.registry_rules.specs.Verdict.{verdict, verdict_by, deed_for};
 
-use crate::importing::import;
-use crate::order_checks::{
-    add_licence, add_vendor, amend, amend_org, ask, decline, enrol, give_back, grant, withdraw,
-};
-use crate::span_checks::{release, reserve};
-use crate::{
-    Act, Deed, Facts, KeptReply, Order, Refusal, Rejection, Request, Verdict, request_bytes,
-};
+use crate::order_checks::act_of;
+use crate::{Act, Deed, Facts, KeptReply, Refusal, Rejection, Request, Verdict, request_bytes};
 use std::alloc::{AllocError, Global};
-use usbnum_core::{NoMemory, Slug};
-
-// Checks the order and returns its act.
-fn act_on(
-    alloc: Global,
-    facts: &Facts<'_>,
-    caller: &Slug,
-    order: &Order,
-) -> Result<Act, Rejection<Refusal>>
-    ensures { Gives result (outcome_on facts.now caller.now order.now) }
-{
-    match order {
-        Order::Enrol(it) => enrol(facts, caller, it),
-        Order::AmendOrg(it) => amend_org(facts, caller, it),
-        Order::Ask(it) => ask(facts, caller, it),
-        Order::Grant(it) => grant(facts, caller, it),
-        Order::Decline(it) => decline(facts, caller, it),
-        Order::Withdraw(it) => withdraw(facts, caller, it),
-        Order::Amend(it) => amend(facts, caller, it),
-        Order::Return(it) => give_back(facts, caller, it),
-        Order::Reserve(it) => reserve(facts, caller, it),
-        Order::Release(it) => release(facts, caller, it),
-        Order::Import(it) => import(alloc, facts, caller, it),
-        Order::AddVendor(it) => add_vendor(facts, caller, it),
-        Order::AddLicence(it) => add_licence(facts, caller, it),
-    }
-}
+use usbnum_core::NoMemory;
 
 fn deed_of(request: &Request, act: Act) -> Result<Deed, AllocError>
     ensures { IfOk result (λ deed. deed ≡ deed_for request.now act) }
@@ -92,7 +58,7 @@ pub fn judge(alloc: Global, facts: &Facts<'_>, request: &Request) -> Result<Verd
     if let Some(kept) = &facts.kept {
         return repeated(alloc, kept, request);
     }
-    match act_on(alloc, facts, &request.caller, &request.order) {
+    match act_of(alloc, facts, &request.caller, &request.order) {
         Ok(act) => Ok(Verdict::New(deed_of(request, act)?)),
         Err(Rejection::Refused(refusal)) => Ok(Verdict::Refused(refusal)),
         Err(Rejection::NoMemory) => Err(NoMemory),

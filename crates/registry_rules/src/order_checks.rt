@@ -10,12 +10,41 @@ use crate::checks::{
     check_curator, check_held, check_keeper, check_known_keeper, check_licence, check_number,
     check_petition, check_vendor, check_wanted, number_name,
 };
+use crate::importing::import;
 use crate::limits::{MOST_LICENCES, MOST_OPEN, MOST_ORGS, MOST_PETITIONS, MOST_VENDORS};
+use crate::span_checks::{release, reserve};
 use crate::{
-    Act, AddLicence, AddVendor, Amend, AmendOrg, Ask, Card, Decline, Enrol, Facts, Grant, Org,
-    Petition, PetitionState, Refusal, Rejection, Return, Withdraw,
+    Act, AddLicence, AddVendor, Amend, AmendOrg, Ask, Card, Decline, Enrol, Facts, Grant, Order,
+    Org, Petition, PetitionState, Refusal, Rejection, Return, Withdraw,
 };
+use std::alloc::Global;
 use usbnum_core::{Number, Slug, Vid};
+
+/// Checks the order, and returns its act.
+pub(crate) fn act_of(
+    alloc: Global,
+    facts: &Facts<'_>,
+    caller: &Slug,
+    order: &Order,
+) -> Result<Act, Rejection<Refusal>>
+    ensures { Gives result (outcome_on facts.now caller.now order.now) }
+{
+    match order {
+        Order::Enrol(it) => enrol(facts, caller, it),
+        Order::AmendOrg(it) => amend_org(facts, caller, it),
+        Order::Ask(it) => ask(facts, caller, it),
+        Order::Grant(it) => grant(facts, caller, it),
+        Order::Decline(it) => decline(facts, caller, it),
+        Order::Withdraw(it) => withdraw(facts, caller, it),
+        Order::Amend(it) => amend(facts, caller, it),
+        Order::Return(it) => give_back(facts, caller, it),
+        Order::Reserve(it) => reserve(facts, caller, it),
+        Order::Release(it) => release(facts, caller, it),
+        Order::Import(it) => import(alloc, facts, caller, it),
+        Order::AddVendor(it) => add_vendor(facts, caller, it),
+        Order::AddLicence(it) => add_licence(facts, caller, it),
+    }
+}
 
 #[tactic(auto, unfolding(crate::specs::OnFacts::outcome_on))]
 pub(crate) fn enrol(facts: &Facts<'_>, caller: &Slug, it: &Enrol) -> Result<Act, Rejection<Refusal>>
