@@ -16,7 +16,7 @@ use crate::acting::response_to;
 use crate::fault::{DeskFault, fault_of, unavailable_of};
 use crate::kept::Kept;
 use byte_streams::{Broken, Sink, Source};
-use registry_http::{InputFault, Response, read_message, write_response, write_unavailable};
+use registry_http::{MessageFault, Response, read_message, write_response, write_unavailable};
 use registry_store::{Fault, Registry};
 use sqlite::Alter;
 use std::alloc::Global;
@@ -124,8 +124,8 @@ pub(crate) fn serve_message<R: Source, W: Sink, S: Alter>(
             kept.keep(said, done);
             Ok(exchange)
         }
-        Err(InputFault::Broken) => Err(Broken),
-        Err(InputFault::NoMemory) => {
+        Err(MessageFault::Broken) => Err(Broken),
+        Err(MessageFault::NoMemory) => {
             kept.clear();
             Ok(give_up(sink, DeskFault::NoMemory))
         }

@@ -7,14 +7,14 @@ use Rattle.std.proofs.lemmas.Bool.{ltb-true}
 use Rattle.std.proofs.lemmas.Str.{IsUtf8-from_ascii}
 use Rattle.registry_http.specs.Routes.{is_ascii}
 
-both : (a b : Bool) → (a && b) ≡ true → (a ≡ true) × (b ≡ true)
-both true b e = (refl, e)
-both false b e = absurd cc
+both_true : (a b : Bool) → (a && b) ≡ true → (a ≡ true) × (b ≡ true)
+both_true true b e = (refl, e)
+both_true false b e = absurd cc
 
-pub is_ascii_from_small : (bytes : List ℕ) → list_all is_ascii bytes ≡ true → IsAscii bytes
-is_ascii_from_small [] e i = omega arith
-is_ascii_from_small (b ∷ bytes) e zero = ltb-true b 128 (both (is_ascii b) (list_all is_ascii bytes) e).0
-is_ascii_from_small (b ∷ bytes) e (suc i) = is_ascii_from_small bytes (both (is_ascii b) (list_all is_ascii bytes) e).1 i
+pub is_ascii_by_test : (bytes : List ℕ) → list_all is_ascii bytes ≡ true → IsAscii bytes
+is_ascii_by_test [] e i = omega arith
+is_ascii_by_test (b ∷ bytes) e zero = ltb-true b 128 (both_true (is_ascii b) (list_all is_ascii bytes) e).0
+is_ascii_by_test (b ∷ bytes) e (suc i) = is_ascii_by_test bytes (both_true (is_ascii b) (list_all is_ascii bytes) e).1 i
 
-pub is_utf8_from_small : (bytes : List ℕ) → list_all is_ascii bytes ≡ true → IsUtf8 bytes
-is_utf8_from_small bytes e = IsUtf8-from_ascii bytes (is_ascii_from_small bytes e)
+pub is_utf8_by_test : (bytes : List ℕ) → list_all is_ascii bytes ≡ true → IsUtf8 bytes
+is_utf8_by_test bytes e = IsUtf8-from_ascii bytes (is_ascii_by_test bytes e)

@@ -21,7 +21,7 @@ use Rattle.registry_wire.specs.declared.refusal.WireRefusal.TheVariants.{BadList
 use Rattle.registry_http.specs.declared.refusal.HttpRefusal.{HttpRefusal}
 use Rattle.registry_http.specs.Heads.{HasHead}
 use Rattle.registry_http.specs.Bodies.{body_in}
-use Rattle.registry_http.specs.Reading.{head_in, head_of}
+use Rattle.registry_http.specs.Reading.{head_in, head_reading}
 use Rattle.registry_http.specs.Messages.{ListSays, WholeBodySays, BodySays, HeadSays, Says, as_message}
 use Rattle.registry_http.specs.declared.route.Endpoint.{Endpoint}
 use Rattle.registry_http.specs.declared.route.Endpoint.TheVariants as endpoints
@@ -30,57 +30,57 @@ use Rattle.registry_http.specs.declared.reading.Head.TheVariants as heads
 use Rattle.registry_http.specs.declared.message.Message.{Message}
 
 -- a source may give something
-pub gives_some : (o : Option (List ℕ)) → (rest : List ℕ) × MayGive o rest
-gives_some None = ([], tt)
-gives_some (Some known) = (known, refl)
+pub may_give_some : (o : Option (List ℕ)) → (rest : List ℕ) × MayGive o rest
+may_give_some None = ([], tt)
+may_give_some (Some known) = (known, refl)
 
 -- the bytes that a source gave, and those that it may give then
-pub gives_after : (a b : Option (List ℕ)) (x rest : List ℕ) → Consumes a b x → MayGive b rest → MayGive a (x ++ rest)
-gives_after None b x rest took may = tt
-gives_after (Some xs) None x rest took may = absurd took
-gives_after (Some xs) (Some ys) x rest took may = ap (λ (t : List ℕ). x ++ t) may ∙ sym took
+pub may_give_after : (a b : Option (List ℕ)) (x rest : List ℕ) → Consumes a b x → MayGive b rest → MayGive a (x ++ rest)
+may_give_after None b x rest took may = tt
+may_give_after (Some xs) None x rest took may = absurd took
+may_give_after (Some xs) (Some ys) x rest took may = ap (λ (t : List ℕ). x ++ t) may ∙ sym took
 
 -- the refusal of a faulty line
 abbrev pub bad_list : ℕ → Why → Result Request WireRefusal
 bad_list n why = Err (BadList (record { line = n; why = why }))
 
-one_list : (founding : ℕ) (caller key org : List ℕ) (vendor : Option ℕ) (body : List ℕ) (a b : Result Request WireRefusal)
+list_says_one_thing : (founding : ℕ) (caller key org : List ℕ) (vendor : Option ℕ) (body : List ℕ) (a b : Result Request WireRefusal)
     → ListSays founding caller key org vendor body a → ListSays founding caller key org vendor body b → a ≡ b
-one_list founding caller key org vendor body a b (inl x) (inl y) =
+list_says_one_thing founding caller key org vendor body a b (inl x) (inl y) =
     x.2 ∙ (ap (λ (list : List TopEntry). Ok (import_of caller key org founding vendor list)) (one_spelt (lines body) x.0 y.0 x.1 y.1) ∙ sym y.2)
-one_list founding caller key org vendor body a b (inl x) (inr y) = absurd (not_both_at_once (lines body) x.0 y.0 y.1 x.1 y.2)
-one_list founding caller key org vendor body a b (inr x) (inl y) = absurd (not_both_at_once (lines body) y.0 x.0 x.1 y.1 x.2)
-one_list founding caller key org vendor body a b (inr x) (inr y) =
+list_says_one_thing founding caller key org vendor body a b (inl x) (inr y) = absurd (not_both_at_once (lines body) x.0 y.0 y.1 x.1 y.2)
+list_says_one_thing founding caller key org vendor body a b (inr x) (inl y) = absurd (not_both_at_once (lines body) y.0 x.0 x.1 y.1 x.2)
+list_says_one_thing founding caller key org vendor body a b (inr x) (inr y) =
     let same = fault_is_one (lines body) x.0 y.0 x.1 y.1 (lines_inner body) x.2 y.2 in
     x.3 ∙ (ap (λ (n : ℕ). bad_list n x.1) same.0 ∙ (ap (λ (why : Why). bad_list y.0 why) same.1 ∙ sym y.3))
 
-one_whole_body : (founding : ℕ) (endpoint : Endpoint) (caller key body : List ℕ) (a b : Result Request WireRefusal)
+whole_body_says_one_thing : (founding : ℕ) (endpoint : Endpoint) (caller key body : List ℕ) (a b : Result Request WireRefusal)
     → WholeBodySays founding endpoint caller key body a → WholeBodySays founding endpoint caller key body b → a ≡ b
-one_whole_body founding endpoints.Commands caller key body a b x y = x ∙ sym y
-one_whole_body founding (endpoints.Imports org vendor) caller key body a b x y = one_list founding caller key org vendor body a b x y
+whole_body_says_one_thing founding endpoints.Commands caller key body a b x y = x ∙ sym y
+whole_body_says_one_thing founding (endpoints.Imports org vendor) caller key body a b x y = list_says_one_thing founding caller key org vendor body a b x y
 
-one_body : (founding : ℕ) (endpoint : Endpoint) (caller key : List ℕ) (body : Result (List ℕ) WireRefusal) (a b : Result Request WireRefusal)
+body_says_one_thing : (founding : ℕ) (endpoint : Endpoint) (caller key : List ℕ) (body : Result (List ℕ) WireRefusal) (a b : Result Request WireRefusal)
     → BodySays founding endpoint caller key body a → BodySays founding endpoint caller key body b → a ≡ b
-one_body founding endpoint caller key (Err refusal) a b x y = x ∙ sym y
-one_body founding endpoint caller key (Ok body) a b x y = one_whole_body founding endpoint caller key body a b x y
+body_says_one_thing founding endpoint caller key (Err refusal) a b x y = x ∙ sym y
+body_says_one_thing founding endpoint caller key (Ok body) a b x y = whole_body_says_one_thing founding endpoint caller key body a b x y
 
-one_head : (founding : ℕ) (head_says : Result Head HttpRefusal) (rest : List ℕ) (a b : Result Message HttpRefusal) → HeadSays founding head_says rest a → HeadSays founding head_says rest b → a ≡ b
-one_head founding (Err refusal) rest a b x y = x ∙ sym y
-one_head founding (Ok (heads.Query query)) rest a b x y = x ∙ sym y
-one_head founding (Ok (heads.Order order)) rest a b x y =
-    x.2 ∙ (ap as_message (one_body founding order.endpoint order.caller order.key (body_in order.length rest) x.0 y.0 x.1 y.1) ∙ sym y.2)
+head_says_one_thing : (founding : ℕ) (head_says : Result Head HttpRefusal) (rest : List ℕ) (a b : Result Message HttpRefusal) → HeadSays founding head_says rest a → HeadSays founding head_says rest b → a ≡ b
+head_says_one_thing founding (Err refusal) rest a b x y = x ∙ sym y
+head_says_one_thing founding (Ok (heads.Query query)) rest a b x y = x ∙ sym y
+head_says_one_thing founding (Ok (heads.Order order)) rest a b x y =
+    x.2 ∙ (ap as_message (body_says_one_thing founding order.endpoint order.caller order.key (body_in order.length rest) x.0 y.0 x.1 y.1) ∙ sym y.2)
 
-pub one_thing : (founding : ℕ) (bytes : List ℕ) (a b : Result Message HttpRefusal) → Says founding bytes a → Says founding bytes b → a ≡ b
-one_thing founding bytes a b (inl x) (inl y) = x.1 ∙ sym y.1
-one_thing founding bytes a b (inl x) (inr y) = absurd (x.0 y.0 y.1 y.2)
-one_thing founding bytes a b (inr x) (inl y) = absurd (y.0 x.0 x.1 x.2)
-one_thing founding bytes a b (inr x) (inr y) =
+pub message_says_one_thing : (founding : ℕ) (bytes : List ℕ) (a b : Result Message HttpRefusal) → Says founding bytes a → Says founding bytes b → a ≡ b
+message_says_one_thing founding bytes a b (inl x) (inl y) = x.1 ∙ sym y.1
+message_says_one_thing founding bytes a b (inl x) (inr y) = absurd (x.0 y.0 y.1 y.2)
+message_says_one_thing founding bytes a b (inr x) (inl y) = absurd (y.0 x.0 x.1 x.2)
+message_says_one_thing founding bytes a b (inr x) (inr y) =
     let same = request_unique bytes x.0 y.0 x.1 y.1 x.2.reads y.2.reads in
-    let head_says = subst (λ (h : RequestHead). HeadSays founding (head_of h) x.1 a) same.0 x.3 in
-    one_head founding (head_of y.0) y.1 a b (subst (λ (rest : List ℕ). HeadSays founding (head_of y.0) rest a) same.1 head_says) y.3
+    let head_says = subst (λ (h : RequestHead). HeadSays founding (head_reading h) x.1 a) same.0 x.3 in
+    head_says_one_thing founding (head_reading y.0) y.1 a b (subst (λ (rest : List ℕ). HeadSays founding (head_reading y.0) rest a) same.1 head_says) y.3
 
 head_at_spans : (buf : List ℕ) (spans : List HeaderSpan) (r : RequestSpans) (h : RequestHead) → IsRequestAt buf spans r h
-    → head_in (span_bytes buf r.method) (span_bytes buf r.path) (map (header_bytes buf) (take r.headers spans)) ≡ head_of h
+    → head_in (span_bytes buf r.method) (span_bytes buf r.path) (map (header_bytes buf) (take r.headers spans)) ≡ head_reading h
 head_at_spans buf spans r h at = rw (at.method, at.path, at.fields) refl
 
 -- from the head and all bytes after it to the whole message
@@ -91,7 +91,7 @@ pub says_after_head : {E : Type 0} (a b : Option (List ℕ)) (founding : ℕ) (b
 says_after_head a b founding buf spans r h (Err e) has at took ok = tt
 says_after_head a b founding buf spans r h (Ok said) has at took ok = (
   buf ++ ok.0,
-  gives_after a b buf ok.0 took ok.1,
+  may_give_after a b buf ok.0 took ok.1,
   inr (
     h,
     drop r.len buf ++ ok.0,

@@ -23,7 +23,7 @@ use Rattle.registry_http.specs.declared.refusal.HttpRefusal.{HttpRefusal}
 use Rattle.registry_http.specs.declared.refusal.HttpRefusal.TheVariants.{Wire}
 use Rattle.registry_http.specs.Heads.{HasHead, HasNoHead}
 use Rattle.registry_http.specs.Bodies.{body_in}
-use Rattle.registry_http.specs.Reading.{head_of}
+use Rattle.registry_http.specs.Reading.{head_reading}
 use Rattle.registry_http.specs.declared.route.Endpoint.{Endpoint}
 use Rattle.registry_http.specs.declared.route.Endpoint.TheVariants as endpoints
 use Rattle.registry_http.specs.declared.reading.Head.{Head}
@@ -62,4 +62,4 @@ HeadSays founding (Ok (heads.Order order)) rest said =
 abbrev pub Says : ℕ → List ℕ → Result Message HttpRefusal → Type 0
 Says founding bytes said =
     (HasNoHead bytes × (said ≡ Err (Wire BadHead)))
-    ⊎ ((head : RequestHead) × (rest : List ℕ) × HasHead bytes head rest × HeadSays founding (head_of head) rest said)
+    ⊎ ((head : RequestHead) × (rest : List ℕ) × HasHead bytes head rest × HeadSays founding (head_reading head) rest said)

@@ -3,11 +3,12 @@ use Rattle.std.specs.Prelude.{ℕ, List, map, bytes_eq, codes, nat_le, Bool, Opt
 use Rattle.std.specs.List.{list_any}
 use Rattle.httparse.specs.Grammar.{RequestHead}
 use Rattle.httparse.specs.Spans.{name_and_value}
-use Rattle.registry_http.specs.Refusals.{◌>>=◌, present}
+use Rattle.registry_rules.specs.Checks.{◌>>=◌}
+use Rattle.registry_http.specs.Refusals.{found_or}
 use Rattle.registry_wire.specs.Names.{header_name}
 use Rattle.registry_wire.specs.Kinds.{slug_of, key_of}
 use Rattle.registry_http.specs.Limits.{most_command, most_list}
-use Rattle.registry_http.specs.Fields.{is_named, values_of, only, length_of}
+use Rattle.registry_http.specs.Fields.{is_same_name, values_of, only, length_of}
 use Rattle.registry_http.specs.Routes.{route_of}
 use Rattle.registry_wire.specs.declared.refusal.WireRefusal.TheVariants.{NoRoute, BadLength, TooLarge, BadHeader}
 use Rattle.registry_http.specs.declared.refusal.HttpRefusal.{HttpRefusal}
@@ -27,7 +28,7 @@ Fields = List (List ℕ × List ℕ)
 
 -- whether a field has this name
 abbrev pub has_field : List ℕ → Fields → Bool
-has_field name fields = list_any (λ field. is_named name field.0) fields
+has_field name fields = list_any (λ field. is_same_name name field.0) fields
 
 -- the body's length: no transfer-encoding, exactly one content-length, and its value is 1 to 10 digits
 abbrev pub length_in : Fields → Option ℕ
@@ -38,9 +39,9 @@ abbrev pub header_in : Header → Fields → Option (List ℕ)
 header_in header fields = only (values_of (header_name header) fields)
 
 -- the most bytes that a body may have
-abbrev pub limit_of : Endpoint → ℕ
-limit_of endpoints.Commands = most_command
-limit_of (endpoints.Imports org vendor) = most_list
+abbrev pub body_limit : Endpoint → ℕ
+body_limit endpoints.Commands = most_command
+body_limit (endpoints.Imports org vendor) = most_list
 
 abbrev pub within : ℕ → ℕ → Result ℕ HttpRefusal
 within most length = if nat_le length most then Ok length else Err (Wire TooLarge)
@@ -48,10 +49,10 @@ within most length = if nat_le length most then Ok length else Err (Wire TooLarg
 -- an order: checks its length (21, 22), then its caller, then its key (26)
 unfoldable pub order_head : Endpoint → Fields → Result Head HttpRefusal
 order_head endpoint fields = do
-  wanted ← present BadLength (length_in fields)
-  length ← within (limit_of endpoint) wanted
-  caller ← present (BadHeader Caller) (option_and_then slug_of (header_in Caller fields))
-  key ← present (BadHeader Key) (option_and_then key_of (header_in Key fields))
+  wanted ← found_or BadLength (length_in fields)
+  length ← within (body_limit endpoint) wanted
+  caller ← found_or (BadHeader Caller) (option_and_then slug_of (header_in Caller fields))
+  key ← found_or (BadHeader Key) (option_and_then key_of (header_in Key fields))
   Ok (heads.Order (record { endpoint = endpoint; length = length; caller = caller; key = key }))
 
 unfoldable pub head_for : Route → List ℕ → Fields → Result Head HttpRefusal
@@ -61,9 +62,9 @@ head_for (Post endpoint) method fields = if bytes_eq method (codes "POST") then 
 -- checks the path (24), then the method (25), then the parts of an order
 unfoldable pub head_in : List ℕ → List ℕ → Fields → Result Head HttpRefusal
 head_in method target fields = do
-  route ← present NoRoute (route_of target)
+  route ← found_or NoRoute (route_of target)
   head_for route method fields
 
 -- the query or order that a head asks for, or its first fault
-abbrev pub head_of : RequestHead → Result Head HttpRefusal
-head_of head = head_in head.method head.target (map name_and_value head.fields)
+abbrev pub head_reading : RequestHead → Result Head HttpRefusal
+head_reading head = head_in head.method head.target (map name_and_value head.fields)

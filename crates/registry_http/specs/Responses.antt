@@ -3,19 +3,18 @@ use Rattle.std.specs.Prelude.{ℕ, ◌≡◌, ◌⊎◌, List, [], ◌∷◌, �
 use Rattle.http.specs.StatusCode.{reason_phrase}
 use Rattle.serde_json.specs.Written.{compact_text}
 use Rattle.registry_rules.specs.declared.verdict.Reply.{Reply}
-use Rattle.registry_wire.specs.Replies.{reply_data, refusal_data}
+use Rattle.registry_wire.specs.Replies.{reply_data, refusal_data, refused_data}
 use Rattle.registry_wire.specs.declared.refusal.WireRefusal.TheVariants as refusals
 use Rattle.registry_http.specs.declared.refusal.Allow.{Allow}
 use Rattle.registry_http.specs.declared.refusal.Allow.TheVariants.{Get, Post}
 use Rattle.registry_http.specs.declared.refusal.HttpRefusal.{HttpRefusal}
-use Rattle.registry_http.specs.declared.refusal.HttpRefusal.TheVariants.{Wire}
+use Rattle.registry_http.specs.declared.refusal.HttpRefusal.TheVariants.{Wire, WrongMethod}
 use Rattle.registry_http.specs.declared.response.Response.{Response}
 use Rattle.registry_http.specs.declared.response.ContentType.{ContentType}
 use Rattle.registry_http.specs.declared.response.ContentType.TheVariants.{Json, Text}
 use Rattle.registry_http.specs.declared.unavailable.Unavailable.{Unavailable}
 use Rattle.registry_http.specs.declared.unavailable.Unavailable.TheVariants.{StoreFault, NoMemory}
-use Rattle.registry_http.specs.Refusals.{wire_refusal, allow_of}
-use Rattle.registry_http.specs.Statuses.{status_of, reply_status}
+use Rattle.registry_http.specs.Statuses.{wire_status, reply_status}
 
 -- ---- the head
 
@@ -47,14 +46,14 @@ with_allow text None = text
 with_allow text (Some allow) = with_field text (codes "allow") (allow_text allow)
 
 -- the head of a response whose body has `count` bytes
-unfoldable pub head_text : ℕ → ContentType → ℕ → Option Allow → List ℕ
-head_text status content_type count allow =
+unfoldable pub head_lines : ℕ → ContentType → ℕ → Option Allow → List ℕ
+head_lines status content_type count allow =
     with_field (with_allow (with_field (with_field (status_line status) (codes "content-type") (content_type_text content_type)) (codes "content-length") (decimal count)) allow) (codes "connection") (codes "close") ++ crlf
 
 -- ---- the whole
 
 abbrev pub response_head : Response → List ℕ
-response_head response = head_text response.status response.content_type (length response.body) response.allow
+response_head response = head_lines response.status response.content_type (length response.body) response.allow
 
 unfoldable pub response_bytes : Response → List ℕ
 response_bytes response = response_head response ++ response.body
@@ -67,9 +66,13 @@ json_response status allow text = record { status = status; content_type = Json;
 unfoldable pub reply_response : Reply → Response
 reply_response reply = json_response (reply_status reply) None (compact_text (reply_data reply))
 
+unfoldable pub wrong_method_json : List ℕ
+wrong_method_json = compact_text (refused_data 25 (codes "WrongMethod") None)
+
 -- the response to a message that is refused before the registry is asked
 unfoldable pub refusal_response : HttpRefusal → Response
-refusal_response refusal = json_response (status_of (wire_refusal refusal)) (allow_of refusal) (compact_text (refusal_data (wire_refusal refusal)))
+refusal_response (Wire refusal) = json_response (wire_status refusal) None (compact_text (refusal_data refusal))
+refusal_response (WrongMethod allow) = json_response 405 (Some allow) wrong_method_json
 
 -- a list or a report
 unfoldable pub text_response : List ℕ → Response

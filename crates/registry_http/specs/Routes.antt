@@ -69,8 +69,8 @@ starts_with_zero (b ∷ bytes) = b == 48
 abbrev pub below_2_32 : ℕ → Option ℕ
 below_2_32 n = if nat_lt n 4294967296 then Some n else None
 
-unfoldable pub petition_of : List ℕ → Option ℕ
-petition_of text = if starts_with_zero text then None else option_and_then below_2_32 (length_of text)
+unfoldable pub petition_written : List ℕ → Option ℕ
+petition_written text = if starts_with_zero text then None else option_and_then below_2_32 (length_of text)
 
 unfoldable pub report_of : List ℕ → Option Report
 report_of name =
@@ -95,7 +95,7 @@ unfoldable pub org_route : Option (List ℕ) → Option Route
 org_route part = option_map (λ org. Get (queries.Org org)) (option_and_then slug_of part)
 
 unfoldable pub petition_route : Option (List ℕ) → Option Route
-petition_route part = option_map (λ id. Get (queries.Petition id)) (option_and_then petition_of part)
+petition_route part = option_map (λ id. Get (queries.Petition id)) (option_and_then petition_written part)
 
 unfoldable pub report_route : Option (List ℕ) → Option Route
 report_route part = option_map (λ report. Get (queries.Report report)) (option_and_then report_of part)
@@ -119,8 +119,8 @@ abbrev pub route_at : List ℕ → RouteOf Template → Option Route
 route_at path template = route_for template.value (first_two (parts_of path template)).0 (first_two (parts_of path template)).1
 
 -- the route of a path, if it is served
-unfoldable pub found_in : List ℕ → Option Route
-found_in path = option_and_then (route_at path) (first templates path)
+unfoldable pub route_of_path : List ℕ → Option Route
+route_of_path path = option_and_then (route_at path) (first templates path)
 
 abbrev pub is_ascii : ℕ → Bool
 is_ascii b = nat_lt b 128
@@ -140,4 +140,4 @@ ascii_path path = if list_all is_ascii path then Some path else None
 
 -- the route of a target; served paths have only ASCII bytes
 unfoldable pub route_of : List ℕ → Option Route
-route_of target = option_and_then found_in (ascii_path (path_of target))
+route_of target = option_and_then route_of_path (ascii_path (path_of target))

@@ -5,23 +5,22 @@ use Rattle.registry_rules.specs.declared.refusal.Refusal.TheVariants as rules
 use Rattle.registry_rules.specs.declared.verdict.Reply.{Reply}
 use Rattle.registry_rules.specs.declared.verdict.Reply.TheVariants.{Done, Refused}
 use Rattle.registry_wire.specs.declared.refusal.WireRefusal.{WireRefusal}
-use Rattle.registry_wire.specs.declared.refusal.WireRefusal.TheVariants.{BadHead, BadLength, TooLarge, ShortBody, NoRoute, WrongMethod, BadHeader, BadJson, BadField, BadList, StoreFault, NoMemory, BadFounding}
+use Rattle.registry_wire.specs.declared.refusal.WireRefusal.TheVariants.{BadHead, BadLength, TooLarge, ShortBody, NoRoute, BadHeader, BadJson, BadField, BadList, StoreFault, NoMemory, BadFounding}
 
 -- the status of a refusal before the rules
-abbrev pub status_of : WireRefusal → ℕ
-status_of BadHead = 400
-status_of BadLength = 411
-status_of TooLarge = 413
-status_of ShortBody = 400
-status_of NoRoute = 404
-status_of WrongMethod = 405
-status_of (BadHeader header) = 400
-status_of BadJson = 400
-status_of (BadField field) = 422
-status_of (BadList fault) = 422
-status_of StoreFault = 503
-status_of NoMemory = 503
-status_of (BadFounding fault) = 422
+abbrev pub wire_status : WireRefusal → ℕ
+wire_status BadHead = 400
+wire_status BadLength = 411
+wire_status TooLarge = 413
+wire_status ShortBody = 400
+wire_status NoRoute = 404
+wire_status (BadHeader header) = 400
+wire_status BadJson = 400
+wire_status (BadField field) = 422
+wire_status (BadList fault) = 422
+wire_status StoreFault = 503
+wire_status NoMemory = 503
+wire_status (BadFounding fault) = 422
 
 -- the status of a refusal by the rules: 409, except for these
 abbrev pub rule_status : Refusal → ℕ

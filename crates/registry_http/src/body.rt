@@ -4,9 +4,9 @@ ghost use Rattle.std.specs.Prelude.{Err, ◌≡◌, ◌≤◌, ◌<◌, ◌+◌,
 ghost use Rattle.std.specs.Io.KnownBytes.{Consumes, IsAtEnd};
 ghost use Rattle.byte_streams.specs.Streams.{HasFailed, MayGive};
 ghost use Rattle.usbids_text.specs.Readers.{WasFed};
-ghost use Rattle.registry_http.specs.Bodies.{IsHeld, IsFed};
+ghost use Rattle.registry_http.specs.Bodies.{IsBuffered, IsFed};
 
-use crate::head::{InputFault, take_more};
+use crate::head::{MessageFault, take_at_most};
 use byte_streams::{Broken, Source};
 use usbids_text::Reader;
 
@@ -16,16 +16,16 @@ fn read_up_to<R: Source>(
     source: &mut R,
     buffer: &mut Vec<u8>,
     wanted: usize,
-) -> Result<bool, InputFault>
+) -> Result<bool, MessageFault>
     ensures ok { IfOk result (λ whole. (more : List ℕ) × (buffer.new.items ≡ buffer.old.items ++ more)
         × Consumes (R.remaining source.old) (R.remaining source.new) more
         × (whole ≡ nat_le wanted (length buffer.new.items)) × (whole ≡ false → IsAtEnd (R.remaining source.new))) }
     ensures kept { OnOk result (R.failures source.new ≡ R.failures source.old) }
-    ensures short { result ≡ Err InputFault.NoMemory → R.failures source.new ≡ R.failures source.old }
-    ensures broken { result ≡ Err InputFault.Broken → HasFailed (R.failures source.old) (R.failures source.new) }
+    ensures short { result ≡ Err MessageFault.NoMemory → R.failures source.new ≡ R.failures source.old }
+    ensures broken { result ≡ Err MessageFault.Broken → HasFailed (R.failures source.old) (R.failures source.new) }
 {
     while buffer.len() < wanted {
-        let count = take_more(source, buffer, wanted - buffer.len())?;
+        let count = take_at_most(source, buffer, wanted - buffer.len())?;
         if count == 0 {
             return Ok(false);
         }
@@ -40,15 +40,15 @@ pub(crate) fn read_body<R: Source>(
     buffer: &mut Vec<u8>,
     start: usize,
     count: usize,
-) -> Result<bool, InputFault>
+) -> Result<bool, MessageFault>
     requires within { start ≤ length buffer.old.items }
     requires front { start ≤ 8192 }
     requires small { count < 4294967296 }
     ensures ok { IfOk result (λ whole. (rest : List ℕ) × MayGive (R.remaining source.old) rest
-        × IsHeld whole buffer.new.items start count (drop start buffer.old.items ++ rest)) }
+        × IsBuffered whole buffer.new.items start count (drop start buffer.old.items ++ rest)) }
     ensures kept { OnOk result (R.failures source.new ≡ R.failures source.old) }
-    ensures short { result ≡ Err InputFault.NoMemory → R.failures source.new ≡ R.failures source.old }
-    ensures broken { result ≡ Err InputFault.Broken → HasFailed (R.failures source.old) (R.failures source.new) }
+    ensures short { result ≡ Err MessageFault.NoMemory → R.failures source.new ≡ R.failures source.old }
+    ensures broken { result ≡ Err MessageFault.Broken → HasFailed (R.failures source.old) (R.failures source.new) }
 {
     read_up_to(source, buffer, start.saturating_add(count))
 }
@@ -59,14 +59,14 @@ fn feed_more<R: Source>(
     source: &mut R,
     reader: &mut Reader,
     most: usize,
-) -> Result<usize, InputFault>
+) -> Result<usize, MessageFault>
     requires { 0 < most }
     ensures ok { IfOk result (λ n. (more : List ℕ) × (length more ≡ n) × (n ≤ most)
         × Consumes (R.remaining source.old) (R.remaining source.new) more × (n ≡ 0 → IsAtEnd (R.remaining source.new))
         × ((t : List ℕ) → WasFed reader.old t → WasFed reader.new (t ++ more))) }
     ensures kept { OnOk result (R.failures source.new ≡ R.failures source.old) }
-    ensures short { result ≡ Err InputFault.NoMemory → R.failures source.new ≡ R.failures source.old }
-    ensures broken { result ≡ Err InputFault.Broken → HasFailed (R.failures source.old) (R.failures source.new) }
+    ensures short { result ≡ Err MessageFault.NoMemory → R.failures source.new ≡ R.failures source.old }
+    ensures broken { result ≡ Err MessageFault.Broken → HasFailed (R.failures source.old) (R.failures source.new) }
 {
     let mut chunk = [0u8; 4096];
     let room = most.min(chunk.len());
@@ -75,7 +75,7 @@ fn feed_more<R: Source>(
             let _ = reader.feed(&chunk[..count]);
             Ok(count)
         }
-        Err(Broken) => Err(InputFault::Broken),
+        Err(Broken) => Err(MessageFault::Broken),
     }
 }
 
@@ -85,13 +85,13 @@ fn feed_from<R: Source>(
     source: &mut R,
     reader: &mut Reader,
     wanted: usize,
-) -> Result<bool, InputFault>
+) -> Result<bool, MessageFault>
     ensures ok { IfOk result (λ whole. (more : List ℕ) × Consumes (R.remaining source.old) (R.remaining source.new) more
         × (length more ≤ wanted) × (whole ≡ nat_le wanted (length more)) × (whole ≡ false → IsAtEnd (R.remaining source.new))
         × ((t : List ℕ) → WasFed reader.old t → WasFed reader.new (t ++ more))) }
     ensures kept { OnOk result (R.failures source.new ≡ R.failures source.old) }
-    ensures short { result ≡ Err InputFault.NoMemory → R.failures source.new ≡ R.failures source.old }
-    ensures broken { result ≡ Err InputFault.Broken → HasFailed (R.failures source.old) (R.failures source.new) }
+    ensures short { result ≡ Err MessageFault.NoMemory → R.failures source.new ≡ R.failures source.old }
+    ensures broken { result ≡ Err MessageFault.Broken → HasFailed (R.failures source.old) (R.failures source.new) }
 {
     let mut left = wanted;
     while left > 0 {
@@ -111,12 +111,12 @@ pub(crate) fn feed_body<R: Source>(
     reader: &mut Reader,
     come: &[u8],
     count: usize,
-) -> Result<bool, InputFault>
+) -> Result<bool, MessageFault>
     requires { WasFed reader.old [] }
     ensures ok { IfOk result (λ whole. (rest : List ℕ) × MayGive (R.remaining source.old) rest × IsFed whole reader.new count (come.now ++ rest)) }
     ensures kept { OnOk result (R.failures source.new ≡ R.failures source.old) }
-    ensures short { result ≡ Err InputFault.NoMemory → R.failures source.new ≡ R.failures source.old }
-    ensures broken { result ≡ Err InputFault.Broken → HasFailed (R.failures source.old) (R.failures source.new) }
+    ensures short { result ≡ Err MessageFault.NoMemory → R.failures source.new ≡ R.failures source.old }
+    ensures broken { result ≡ Err MessageFault.Broken → HasFailed (R.failures source.old) (R.failures source.new) }
 {
     let first = come.len().min(count);
     let _ = reader.feed(&come[..first]);

@@ -2,13 +2,13 @@
 
 ghost use Rattle.std.specs.Prelude.{◌≡◌, ◌≤◌, true, All, length, map, option_copied};
 ghost use Rattle.httparse.specs.Spans.{IsHeaderWithin, header_bytes};
-ghost use Rattle.registry_http.specs.Fields.{is_named, values_of, only, length_of, number_from, is_digit};
+ghost use Rattle.registry_http.specs.Fields.{is_same_name, values_of, only, length_of, decimal_from, is_digit};
 ghost use Rattle.std.specs.List.{list_all, list_any};
 
 use httparse::spans::HeaderSpan;
 
-fn is_named(name: &[u8], other: &[u8]) -> bool
-    ensures { result ≡ is_named name.now other.now }
+fn is_same_name(name: &[u8], other: &[u8]) -> bool
+    ensures { result ≡ is_same_name name.now other.now }
 {
     other.eq_ignore_ascii_case(name)
 }
@@ -25,7 +25,7 @@ pub(crate) fn only_value<'b>(
 {
     let mut found: Option<&[u8]> = None;
     for span in spans {
-        if is_named(name, span.name.of(buffer)) {
+        if is_same_name(name, span.name.of(buffer)) {
             if found.is_some() {
                 return None;
             }
@@ -38,10 +38,10 @@ pub(crate) fn only_value<'b>(
 /// Returns whether a field has this name.
 pub(crate) fn has_field(buffer: &[u8], spans: &[HeaderSpan], name: &[u8]) -> bool
     requires { All (IsHeaderWithin (length buffer.now)) spans.now }
-    ensures { result ≡ list_any (λ field. is_named name.now field.0) (map (header_bytes buffer.now) spans.now) }
+    ensures { result ≡ list_any (λ field. is_same_name name.now field.0) (map (header_bytes buffer.now) spans.now) }
 {
     for span in spans {
-        if is_named(name, span.name.of(buffer)) {
+        if is_same_name(name, span.name.of(buffer)) {
             return true;
         }
     }
@@ -64,7 +64,7 @@ fn are_digits(bytes: &[u8]) -> bool
 fn number_of(digits: &[u8]) -> u64
     requires few { length digits.now ≤ 10 }
     requires digits { list_all is_digit digits.now ≡ true }
-    ensures { result ≡ number_from 0 digits.now }
+    ensures { result ≡ decimal_from 0 digits.now }
 {
     let mut number = 0;
     for b in digits {

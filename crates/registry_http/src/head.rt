@@ -7,7 +7,7 @@ ghost use Rattle.httparse.specs.Grammar.{RequestHead};
 ghost use Rattle.byte_streams.specs.Streams.{MayGive, HasFailed};
 ghost use Rattle.registry_http.specs.Heads.{HasHead, HasNoHead};
 ghost use Rattle.registry_http.specs.HeadEnds.{IfWhole, OnMissing};
-ghost use Rattle.registry_http.specs.Refusals.{input_fault_text};
+ghost use Rattle.registry_http.specs.Refusals.{message_fault_text};
 
 use byte_streams::{Broken, Source};
 use httparse::Status;
@@ -29,7 +29,7 @@ pub(crate) enum HeadEnd {
 
 /// The reason why a message could not be read.
 #[derive(Clone, Copy, Debug, PartialEq, Eq)]
-pub enum InputFault {
+pub enum MessageFault {
     /// The source failed.
     Broken,
     /// Out of memory.
@@ -37,41 +37,41 @@ pub enum InputFault {
 }
 
 /// The fault in a few words.
-impl fmt::Display for InputFault {
-    ghost output = { λ fault. Some (input_fault_text fault) };
+impl fmt::Display for MessageFault {
+    ghost output = { λ fault. Some (message_fault_text fault) };
 
     fn fmt<W: fmt::Write>(&self, f: &mut fmt::Formatter<W>) -> fmt::Result {
         f.write_str(match self {
-            InputFault::Broken => "the source failed",
-            InputFault::NoMemory => "out of memory",
+            MessageFault::Broken => "the source failed",
+            MessageFault::NoMemory => "out of memory",
         })
     }
 }
 
-impl Error for InputFault {}
+impl Error for MessageFault {}
 
 /// Appends at most `most` further bytes of the source to the buffer, and returns their number,
 /// which is 0 only at the end.
-pub(crate) fn take_more<R: Source>(
+pub(crate) fn take_at_most<R: Source>(
     source: &mut R,
     buffer: &mut Vec<u8>,
     most: usize,
-) -> Result<usize, InputFault>
+) -> Result<usize, MessageFault>
     requires { 0 < most }
     ensures ok { IfOk result (λ n. (more : List ℕ) × (buffer.new.items ≡ buffer.old.items ++ more) × (length more ≡ n) × (n ≤ most)
         × Consumes (R.remaining source.old) (R.remaining source.new) more × (n ≡ 0 → IsAtEnd (R.remaining source.new))
         × (R.failures source.new ≡ R.failures source.old)) }
-    ensures short { result ≡ Err InputFault.NoMemory → R.failures source.new ≡ R.failures source.old }
-    ensures broken { result ≡ Err InputFault.Broken → HasFailed (R.failures source.old) (R.failures source.new) }
+    ensures short { result ≡ Err MessageFault.NoMemory → R.failures source.new ≡ R.failures source.old }
+    ensures broken { result ≡ Err MessageFault.Broken → HasFailed (R.failures source.old) (R.failures source.new) }
 {
     let mut chunk = [0u8; 2048];
     let room = most.min(chunk.len());
     match source.take(&mut chunk[..room]) {
         Ok(count) => match buffer.extend_from_slice(&chunk[..count]) {
             Ok(()) => Ok(count),
-            Err(_) => Err(InputFault::NoMemory),
+            Err(_) => Err(MessageFault::NoMemory),
         },
-        Err(Broken) => Err(InputFault::Broken),
+        Err(Broken) => Err(MessageFault::Broken),
     }
 }
 
@@ -81,7 +81,7 @@ pub(crate) fn read_head<R: Source>(
     source: &mut R,
     buffer: &mut Vec<u8>,
     spans: &mut [HeaderSpan],
-) -> Result<HeadEnd, InputFault>
+) -> Result<HeadEnd, MessageFault>
     requires fresh { buffer.old.items ≡ [] }
     requires room { length spans.old ≡ 64 }
     ensures whole { IfOk result (λ end. IfWhole end (λ r. (h : RequestHead)
@@ -89,11 +89,11 @@ pub(crate) fn read_head<R: Source>(
         × Consumes (R.remaining source.old) (R.remaining source.new) buffer.new.items)) }
     ensures missing { IfOk result (λ end. OnMissing end ((bytes : List ℕ) × MayGive (R.remaining source.old) bytes × HasNoHead bytes)) }
     ensures kept { OnOk result (R.failures source.new ≡ R.failures source.old) }
-    ensures short { result ≡ Err InputFault.NoMemory → R.failures source.new ≡ R.failures source.old }
-    ensures broken { result ≡ Err InputFault.Broken → HasFailed (R.failures source.old) (R.failures source.new) }
+    ensures short { result ≡ Err MessageFault.NoMemory → R.failures source.new ≡ R.failures source.old }
+    ensures broken { result ≡ Err MessageFault.Broken → HasFailed (R.failures source.old) (R.failures source.new) }
 {
     while buffer.len() < MOST_HEAD {
-        let count = take_more(source, buffer, MOST_HEAD - buffer.len())?;
+        let count = take_at_most(source, buffer, MOST_HEAD - buffer.len())?;
         if count == 0 {
             return Ok(HeadEnd::Missing);
         }

@@ -9,7 +9,6 @@ mod message;
 mod parts;
 mod reading;
 mod refusal;
-mod rejection;
 mod resources;
 mod response;
 mod response_head;
@@ -19,7 +18,7 @@ mod status;
 mod unavailable;
 mod write;
 
-pub use head::InputFault;
+pub use head::MessageFault;
 pub use message::{Message, read_message, says_one_thing};
 pub use refusal::{Allow, HttpRefusal};
 pub use resources::{number_response, org_response, petition_response};

@@ -14,14 +14,13 @@ ghost use Rattle.registry_http.specs.declared.message.Message.{Message};
 ghost use Rattle.registry_http.specs.declared.refusal.HttpRefusal.{HttpRefusal};
 
 use crate::body::{feed_body, read_body};
-use crate::head::{HeadEnd, InputFault, read_head};
+use crate::head::{HeadEnd, MessageFault, read_head};
 use crate::reading::{Head, OrderHead, head_in};
 use crate::refusal::HttpRefusal;
-use crate::rejection::Rejection;
 use crate::route::{Endpoint, Query};
 use byte_streams::Source;
 use httparse::spans::{EMPTY_HEADER_SPAN, HeaderSpan, RequestSpans};
-use registry_rules::Request;
+use registry_rules::{Rejection, Request};
 use registry_wire::{WireRefusal, import_request, request_from_json};
 use std::alloc::Global;
 use usbids_text::Reader;
@@ -42,13 +41,13 @@ fn command_in(
     caller: Slug,
     key: Key,
     body: &[u8],
-) -> Result<Result<Request, WireRefusal>, InputFault>
+) -> Result<Result<Request, WireRefusal>, MessageFault>
     ensures ok { IfOk result (λ said. said ≡ body_reading caller key body.now) }
-    ensures kind { result ≡ Err InputFault.Broken → ⊥ }
+    ensures kind { result ≡ Err MessageFault.Broken → ⊥ }
 {
     match request_from_json(alloc, caller, key, body) {
         Ok(said) => Ok(said),
-        Err(NoMemory) => Err(InputFault::NoMemory),
+        Err(NoMemory) => Err(MessageFault::NoMemory),
     }
 }
 
@@ -62,9 +61,9 @@ fn import_in(
     vendor: Option<Vid>,
     reader: Reader,
     whole: bool,
-) -> Result<Result<Request, WireRefusal>, InputFault>
+) -> Result<Result<Request, WireRefusal>, MessageFault>
     ensures ok { IfOk result (λ said. (count : ℕ) (rest : List ℕ) → IsFed whole reader count rest → BodySays founding (endpoints.Imports org vendor) caller key (body_in count rest) said) }
-    ensures kind { result ≡ Err InputFault.Broken → ⊥ }
+    ensures kind { result ≡ Err MessageFault.Broken → ⊥ }
 {
     if !whole {
         return Ok(Err(WireRefusal::ShortBody));
@@ -72,10 +71,10 @@ fn import_in(
     match reader.finish() {
         Ok(list) => match import_request(alloc, caller, key, org, founding, vendor, &list) {
             Ok(request) => Ok(Ok(request)),
-            Err(NoMemory) => Err(InputFault::NoMemory),
+            Err(NoMemory) => Err(MessageFault::NoMemory),
         },
         Err(usbids_text::ReadFault::Line(fault)) => Ok(Err(WireRefusal::BadList(fault))),
-        Err(usbids_text::ReadFault::NoMemory) => Err(InputFault::NoMemory),
+        Err(usbids_text::ReadFault::NoMemory) => Err(MessageFault::NoMemory),
     }
 }
 
@@ -91,11 +90,11 @@ fn read_import<R: Source>(
     key: Key,
     org: Slug,
     vendor: Option<Vid>,
-) -> Result<Result<Request, WireRefusal>, InputFault>
+) -> Result<Result<Request, WireRefusal>, MessageFault>
     ensures ok { IfOk result (λ said. (rest : List ℕ) × MayGive (R.remaining source.old) rest × BodySays founding (endpoints.Imports org vendor) caller key (body_in count (come.now ++ rest)) said) }
     ensures kept { OnOk result (R.failures source.new ≡ R.failures source.old) }
-    ensures short { result ≡ Err InputFault.NoMemory → R.failures source.new ≡ R.failures source.old }
-    ensures broken { result ≡ Err InputFault.Broken → HasFailed (R.failures source.old) (R.failures source.new) }
+    ensures short { result ≡ Err MessageFault.NoMemory → R.failures source.new ≡ R.failures source.old }
+    ensures broken { result ≡ Err MessageFault.Broken → HasFailed (R.failures source.old) (R.failures source.new) }
 {
     let mut reader = Reader::new(alloc);
     match feed_body(source, &mut reader, come, count) {
@@ -113,14 +112,14 @@ fn read_command<R: Source>(
     count: usize,
     caller: Slug,
     key: Key,
-) -> Result<Result<Request, WireRefusal>, InputFault>
+) -> Result<Result<Request, WireRefusal>, MessageFault>
     requires within { start ≤ length buffer.old.items }
     requires front { start ≤ 8192 }
     requires small { count < 4294967296 }
     ensures ok { IfOk result (λ said. (rest : List ℕ) × MayGive (R.remaining source.old) rest × ((founding : ℕ) → BodySays founding endpoints.Commands caller key (body_in count (drop start buffer.old.items ++ rest)) said)) }
     ensures kept { OnOk result (R.failures source.new ≡ R.failures source.old) }
-    ensures short { result ≡ Err InputFault.NoMemory → R.failures source.new ≡ R.failures source.old }
-    ensures broken { result ≡ Err InputFault.Broken → HasFailed (R.failures source.old) (R.failures source.new) }
+    ensures short { result ≡ Err MessageFault.NoMemory → R.failures source.new ≡ R.failures source.old }
+    ensures broken { result ≡ Err MessageFault.Broken → HasFailed (R.failures source.old) (R.failures source.new) }
 {
     match read_body(source, buffer, start, count) {
         Ok(true) => command_in(alloc, caller, key, &buffer[start..start + count]),
@@ -137,14 +136,14 @@ fn read_order<R: Source>(
     start: usize,
     founding: Vid,
     order: OrderHead,
-) -> Result<Result<Request, WireRefusal>, InputFault>
+) -> Result<Result<Request, WireRefusal>, MessageFault>
     requires within { start ≤ length buffer.old.items }
     requires front { start ≤ 8192 }
     ensures ok { IfOk result (λ said. (rest : List ℕ) × MayGive (R.remaining source.old) rest
         × BodySays founding order.endpoint order.caller order.key (body_in order.length (drop start buffer.old.items ++ rest)) said) }
     ensures kept { OnOk result (R.failures source.new ≡ R.failures source.old) }
-    ensures short { result ≡ Err InputFault.NoMemory → R.failures source.new ≡ R.failures source.old }
-    ensures broken { result ≡ Err InputFault.Broken → HasFailed (R.failures source.old) (R.failures source.new) }
+    ensures short { result ≡ Err MessageFault.NoMemory → R.failures source.new ≡ R.failures source.old }
+    ensures broken { result ≡ Err MessageFault.Broken → HasFailed (R.failures source.old) (R.failures source.new) }
 {
     let OrderHead {
         endpoint,
@@ -176,10 +175,10 @@ fn head_at(
     buffer: &[u8],
     spans: &[HeaderSpan],
     head: RequestSpans,
-) -> Result<Result<Head, HttpRefusal>, InputFault>
+) -> Result<Result<Head, HttpRefusal>, MessageFault>
     requires { IsRequestWithin buffer.now spans.now head }
     ensures ok { IfOk result (λ call. call ≡ head_in (span_bytes buffer.now head.method) (span_bytes buffer.now head.path) (map (header_bytes buffer.now) (take head.headers spans.now))) }
-    ensures kind { result ≡ Err InputFault.Broken → ⊥ }
+    ensures kind { result ≡ Err MessageFault.Broken → ⊥ }
 {
     match head_in(
         alloc,
@@ -190,7 +189,7 @@ fn head_at(
     ) {
         Ok(call) => Ok(Ok(call)),
         Err(Rejection::Refused(refusal)) => Ok(Err(refusal)),
-        Err(Rejection::OutOfMemory) => Err(InputFault::NoMemory),
+        Err(Rejection::NoMemory) => Err(MessageFault::NoMemory),
     }
 }
 
@@ -202,13 +201,13 @@ fn read_rest<R: Source>(
     start: usize,
     founding: Vid,
     call: Head,
-) -> Result<Result<Message, HttpRefusal>, InputFault>
+) -> Result<Result<Message, HttpRefusal>, MessageFault>
     requires within { start ≤ length buffer.old.items }
     requires front { start ≤ 8192 }
     ensures ok { IfOk result (λ said. (rest : List ℕ) × MayGive (R.remaining source.old) rest × HeadSays founding (Ok call) (drop start buffer.old.items ++ rest) said) }
     ensures kept { OnOk result (R.failures source.new ≡ R.failures source.old) }
-    ensures short { result ≡ Err InputFault.NoMemory → R.failures source.new ≡ R.failures source.old }
-    ensures broken { result ≡ Err InputFault.Broken → HasFailed (R.failures source.old) (R.failures source.new) }
+    ensures short { result ≡ Err MessageFault.NoMemory → R.failures source.new ≡ R.failures source.old }
+    ensures broken { result ≡ Err MessageFault.Broken → HasFailed (R.failures source.old) (R.failures source.new) }
 {
     match call {
         Head::Query(query) => Ok(Ok(Message::Query(query))),
@@ -228,14 +227,14 @@ fn read_after_head<R: Source>(
     spans: &[HeaderSpan],
     head: RequestSpans,
     founding: Vid,
-) -> Result<Result<Message, HttpRefusal>, InputFault>
+) -> Result<Result<Message, HttpRefusal>, MessageFault>
     requires within { IsRequestWithin buffer.old.items spans.now head }
     requires front { head.len ≤ 8192 }
     ensures ok { IfOk result (λ said. (rest : List ℕ) × MayGive (R.remaining source.old) rest
         × HeadSays founding (head_in (span_bytes buffer.old.items head.method) (span_bytes buffer.old.items head.path) (map (header_bytes buffer.old.items) (take head.headers spans.now))) (drop head.len buffer.old.items ++ rest) said) }
     ensures kept { OnOk result (R.failures source.new ≡ R.failures source.old) }
-    ensures short { result ≡ Err InputFault.NoMemory → R.failures source.new ≡ R.failures source.old }
-    ensures broken { result ≡ Err InputFault.Broken → HasFailed (R.failures source.old) (R.failures source.new) }
+    ensures short { result ≡ Err MessageFault.NoMemory → R.failures source.new ≡ R.failures source.old }
+    ensures broken { result ≡ Err MessageFault.Broken → HasFailed (R.failures source.old) (R.failures source.new) }
 {
     match head_at(alloc, buffer, spans, head) {
         Ok(Ok(call)) => read_rest(alloc, source, buffer, head.len, founding, call),
@@ -257,11 +256,11 @@ pub fn read_message<R: Source>(
     alloc: Global,
     source: &mut R,
     founding: Vid,
-) -> Result<Result<Message, HttpRefusal>, InputFault>
+) -> Result<Result<Message, HttpRefusal>, MessageFault>
     ensures ok { IfOk result (λ said. (bytes : List ℕ) × MayGive (R.remaining source.old) bytes × Says founding bytes said) }
     ensures kept { OnOk result (R.failures source.new ≡ R.failures source.old) }
-    ensures short { result ≡ Err InputFault.NoMemory → R.failures source.new ≡ R.failures source.old }
-    ensures broken { result ≡ Err InputFault.Broken → HasFailed (R.failures source.old) (R.failures source.new) }
+    ensures short { result ≡ Err MessageFault.NoMemory → R.failures source.new ≡ R.failures source.old }
+    ensures broken { result ≡ Err MessageFault.Broken → HasFailed (R.failures source.old) (R.failures source.new) }
 {
     let mut buffer = Vec::new(alloc);
     let mut spans = [EMPTY_HEADER_SPAN; 64];

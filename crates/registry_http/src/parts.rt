@@ -2,7 +2,7 @@
 
 ghost use Rattle.std.specs.Prelude.{◌≡◌, IfOk, option_copied};
 ghost use Rattle.registry_wire.specs.Kinds.{slug_of};
-ghost use Rattle.registry_http.specs.Routes.{starts_with_zero, petition_of, report_of, number_route, vendor_number_route, import_route, vendor_import_route, org_route, petition_route, report_route};
+ghost use Rattle.registry_http.specs.Routes.{starts_with_zero, petition_written, report_of, number_route, vendor_number_route, import_route, vendor_import_route, org_route, petition_route, report_route};
 
 use crate::fields::length_of;
 use crate::route::{Endpoint, Query, Report, Route};
@@ -23,9 +23,9 @@ fn starts_with_zero(text: &[u8]) -> bool
     matches!(text, [b'0', ..])
 }
 
-#[tactic(auto, unfolding(crate::specs::Routes::petition_of))]
-fn petition_of(text: &[u8]) -> Option<u32>
-    ensures { result ≡ petition_of text.now }
+#[tactic(auto, unfolding(crate::specs::Routes::petition_written))]
+fn petition_written(text: &[u8]) -> Option<u32>
+    ensures { result ≡ petition_written text.now }
 {
     if starts_with_zero(text) {
         return None;
@@ -81,7 +81,7 @@ pub(crate) fn vendor_number_route(vendor: Option<&str>, pid: Option<&str>) -> Op
 pub(crate) fn petition_route(id: Option<&str>) -> Option<Route>
     ensures { result ≡ petition_route (option_copied id.entry) }
 {
-    let id = petition_of(id?.as_bytes())?;
+    let id = petition_written(id?.as_bytes())?;
     Some(Route::Get(Query::Petition(id)))
 }
 

@@ -2,19 +2,20 @@
 
 ghost use Rattle.std.specs.Prelude.{◌≡◌, All, IfOk, length, map, option_and_then, bytes_eq};
 ghost use Rattle.httparse.specs.Spans.{IsHeaderWithin, header_bytes};
-ghost use Rattle.registry_http.specs.Refusals.{present, Gives};
+ghost use Rattle.registry_rules.specs.Gives.{Gives};
+ghost use Rattle.registry_http.specs.Refusals.{found_or};
 ghost use Rattle.registry_wire.specs.Kinds.{slug_of, key_of};
-ghost use Rattle.registry_http.specs.Reading.{length_in, header_in, limit_of, within, order_head, head_for, head_in};
+ghost use Rattle.registry_http.specs.Reading.{length_in, header_in, body_limit, within, order_head, head_for, head_in};
 ghost use Rattle.registry_wire.specs.declared.refusal.WireRefusal.TheVariants as refusals;
 ghost use Rattle.registry_wire.specs.declared.refusal.Header.TheVariants as headers;
 
 use crate::fields::{has_field, length_of, only_value};
 use crate::parts::slug_of;
 use crate::refusal::{Allow, HttpRefusal};
-use crate::rejection::Rejection;
 use crate::route::{Endpoint, Query, Route};
 use crate::routes::route_of;
 use httparse::spans::HeaderSpan;
+use registry_rules::Rejection;
 use registry_wire::{Header, WireRefusal};
 use std::alloc::Global;
 use usbnum_core::{Key, NoMemory, Slug};
@@ -49,8 +50,8 @@ fn length_in(buffer: &[u8], spans: &[HeaderSpan]) -> Option<u64>
     length_of(only_value(buffer, spans, b"content-length")?)
 }
 
-fn limit_of(endpoint: &Endpoint) -> u32
-    ensures { result ≡ limit_of endpoint.now }
+fn body_limit(endpoint: &Endpoint) -> u32
+    ensures { result ≡ body_limit endpoint.now }
 {
     match endpoint {
         Endpoint::Commands => 16_384,
@@ -58,7 +59,7 @@ fn limit_of(endpoint: &Endpoint) -> u32
     }
 }
 
-fn within(most: u32, length: u64) -> Result<u32, Rejection>
+fn within(most: u32, length: u64) -> Result<u32, Rejection<HttpRefusal>>
     ensures { Gives result (within most length) }
 {
     if length <= u64::from(most) {
@@ -68,9 +69,9 @@ fn within(most: u32, length: u64) -> Result<u32, Rejection>
     }
 }
 
-fn length_at(buffer: &[u8], spans: &[HeaderSpan]) -> Result<u64, Rejection>
+fn length_at(buffer: &[u8], spans: &[HeaderSpan]) -> Result<u64, Rejection<HttpRefusal>>
     requires { All (IsHeaderWithin (length buffer.now)) spans.now }
-    ensures { Gives result (present refusals.BadLength (length_in (map (header_bytes buffer.now) spans.now))) }
+    ensures { Gives result (found_or refusals.BadLength (length_in (map (header_bytes buffer.now) spans.now))) }
 {
     match length_in(buffer, spans) {
         Some(length) => Ok(length),
@@ -78,9 +79,13 @@ fn length_at(buffer: &[u8], spans: &[HeaderSpan]) -> Result<u64, Rejection>
     }
 }
 
-fn caller_at(alloc: Global, buffer: &[u8], spans: &[HeaderSpan]) -> Result<Slug, Rejection>
+fn caller_at(
+    alloc: Global,
+    buffer: &[u8],
+    spans: &[HeaderSpan],
+) -> Result<Slug, Rejection<HttpRefusal>>
     requires { All (IsHeaderWithin (length buffer.now)) spans.now }
-    ensures { Gives result (present (refusals.BadHeader headers.Caller) (option_and_then slug_of (header_in headers.Caller (map (header_bytes buffer.now) spans.now)))) }
+    ensures { Gives result (found_or (refusals.BadHeader headers.Caller) (option_and_then slug_of (header_in headers.Caller (map (header_bytes buffer.now) spans.now)))) }
 {
     let Some(text) = only_value(buffer, spans, Header::Caller.name().as_bytes()) else {
         return Err(Rejection::Refused(HttpRefusal::Wire(WireRefusal::BadHeader(Header::Caller))));
@@ -99,9 +104,9 @@ fn key_of(alloc: Global, text: &[u8]) -> Result<Option<Key>, NoMemory>
     Key::new(alloc, text)
 }
 
-fn key_at(alloc: Global, buffer: &[u8], spans: &[HeaderSpan]) -> Result<Key, Rejection>
+fn key_at(alloc: Global, buffer: &[u8], spans: &[HeaderSpan]) -> Result<Key, Rejection<HttpRefusal>>
     requires { All (IsHeaderWithin (length buffer.now)) spans.now }
-    ensures { Gives result (present (refusals.BadHeader headers.Key) (option_and_then key_of (header_in headers.Key (map (header_bytes buffer.now) spans.now)))) }
+    ensures { Gives result (found_or (refusals.BadHeader headers.Key) (option_and_then key_of (header_in headers.Key (map (header_bytes buffer.now) spans.now)))) }
 {
     let Some(text) = only_value(buffer, spans, Header::Key.name().as_bytes()) else {
         return Err(Rejection::Refused(HttpRefusal::Wire(WireRefusal::BadHeader(Header::Key))));
@@ -118,12 +123,12 @@ fn order_head(
     endpoint: Endpoint,
     buffer: &[u8],
     spans: &[HeaderSpan],
-) -> Result<Head, Rejection>
+) -> Result<Head, Rejection<HttpRefusal>>
     requires { All (IsHeaderWithin (length buffer.now)) spans.now }
     ensures { Gives result (order_head endpoint (map (header_bytes buffer.now) spans.now)) }
 {
     let wanted = length_at(buffer, spans)?;
-    let length = within(limit_of(&endpoint), wanted)?;
+    let length = within(body_limit(&endpoint), wanted)?;
     let caller = caller_at(alloc, buffer, spans)?;
     let key = key_at(alloc, buffer, spans)?;
     Ok(Head::Order(OrderHead {
@@ -147,7 +152,7 @@ fn head_for(
     method: &[u8],
     buffer: &[u8],
     spans: &[HeaderSpan],
-) -> Result<Head, Rejection>
+) -> Result<Head, Rejection<HttpRefusal>>
     requires { All (IsHeaderWithin (length buffer.now)) spans.now }
     ensures { Gives result (head_for route method.now (map (header_bytes buffer.now) spans.now)) }
 {
@@ -177,7 +182,7 @@ pub(crate) fn head_in(
     target: &[u8],
     buffer: &[u8],
     spans: &[HeaderSpan],
-) -> Result<Head, Rejection>
+) -> Result<Head, Rejection<HttpRefusal>>
     requires { All (IsHeaderWithin (length buffer.now)) spans.now }
     ensures { Gives result (head_in method.now target.now (map (header_bytes buffer.now) spans.now)) }
 {

@@ -1,8 +1,7 @@
 //! The reasons why a message is refused before the registry is asked.
 
 ghost use Rattle.std.specs.Prelude.{Some};
-ghost use Rattle.registry_wire.specs.Replies.{refusal_text};
-ghost use Rattle.registry_http.specs.Refusals.{wire_refusal};
+ghost use Rattle.registry_http.specs.Refusals.{http_refusal_text};
 
 use registry_wire::WireRefusal;
 use std::error::Error;
@@ -20,43 +19,21 @@ pub enum Allow {
 /// The reasons why a message is refused before the registry is asked.
 #[derive(Clone, Copy, Debug, PartialEq, Eq)]
 pub enum HttpRefusal {
-    /// A refusal without further details.
+    /// A refusal whose response has no field `allow`.
     Wire(WireRefusal),
-    /// The path is served only with this method.
+    /// The path is served only with this method, which the field `allow` names.
     WrongMethod(Allow),
 }
 
-impl HttpRefusal {
-    ghost use Rattle.std.specs.Prelude.{◌≡◌};
-    ghost use Rattle.registry_http.specs.Refusals.{wire_refusal, allow_of};
-
-    /// Returns the refusal for the response.
-    pub(crate) fn wire(self) -> WireRefusal
-        ensures { result ≡ wire_refusal self }
-    {
-        match self {
-            HttpRefusal::Wire(refusal) => refusal,
-            HttpRefusal::WrongMethod(_) => WireRefusal::WrongMethod,
-        }
-    }
-
-    /// Returns the allowed method, if the message has a wrong one.
-    pub(crate) fn allow(self) -> Option<Allow>
-        ensures { result ≡ allow_of self }
-    {
-        match self {
-            HttpRefusal::Wire(_) => None,
-            HttpRefusal::WrongMethod(allow) => Some(allow),
-        }
-    }
-}
-
-/// The text of its `WireRefusal`.
+/// The text of its `WireRefusal`, or `WrongMethod`.
 impl fmt::Display for HttpRefusal {
-    ghost output = { λ refusal. Some (refusal_text (wire_refusal refusal)) };
+    ghost output = { λ refusal. Some (http_refusal_text refusal) };
 
     fn fmt<W: fmt::Write>(&self, f: &mut fmt::Formatter<W>) -> fmt::Result {
-        write!(f, "{}", self.wire())
+        match self {
+            HttpRefusal::Wire(refusal) => write!(f, "{refusal}"),
+            HttpRefusal::WrongMethod(_) => f.write_str("WrongMethod"),
+        }
     }
 }
 

@@ -1,10 +1,10 @@
 //! Responses: a reply, a refusal, or a text.
 
 ghost use Rattle.std.specs.Prelude.{◌≡◌, IfOk, string_bytes};
-ghost use Rattle.registry_http.specs.Responses.{json_response, reply_response, refusal_response, text_response};
+ghost use Rattle.registry_http.specs.Responses.{json_response, reply_response, wrong_method_json, refusal_response, text_response};
 
 use crate::refusal::{Allow, HttpRefusal};
-use crate::status::{reply_status, status_of};
+use crate::status::{reply_status, wire_status};
 use http::StatusCode;
 use registry_rules::Reply;
 use registry_wire::{refusal_json, reply_json};
@@ -90,13 +90,27 @@ pub fn reply_response(alloc: Global, reply: &Reply) -> Result<Response, NoMemory
     json_response(reply_status(reply), None, text)
 }
 
+fn wrong_method_json() -> &'static str
+    ensures { result.now ≡ wrong_method_json }
+{
+    "{\"name\":\"WrongMethod\",\"refused\":25}"
+}
+
 /// Makes the response to a message that is refused before the registry is asked.
 #[tactic(auto, unfolding(crate::specs::Responses::refusal_response))]
 pub fn refusal_response(alloc: Global, refusal: HttpRefusal) -> Result<Response, NoMemory>
     ensures { IfOk result (λ response. response ≡ refusal_response refusal) }
 {
-    let text = refusal_json(alloc, refusal.wire())?;
-    json_response(status_of(refusal.wire()), refusal.allow(), text)
+    match refusal {
+        HttpRefusal::Wire(refusal) => {
+            let text = refusal_json(alloc, refusal)?;
+            json_response(wire_status(refusal), None, text)
+        }
+        HttpRefusal::WrongMethod(allow) => {
+            let text = String::from_str(alloc, wrong_method_json())?;
+            json_response(StatusCode::METHOD_NOT_ALLOWED, Some(allow), text)
+        }
+    }
 }
 
 /// Makes the response with a list or a report, whose bytes are unchanged.

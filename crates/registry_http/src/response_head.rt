@@ -1,7 +1,7 @@
 //! Writes the head of a response as text.
 
 ghost use Rattle.std.specs.Prelude.{◌≡◌, ◌++◌, IfOk, OnOk, decimal, string_bytes};
-ghost use Rattle.registry_http.specs.Responses.{crlf, with_field, with_allow, phrase_of, status_line, content_type_text, allow_text, head_text, response_head};
+ghost use Rattle.registry_http.specs.Responses.{crlf, with_field, with_allow, phrase_of, status_line, content_type_text, allow_text, head_lines, response_head};
 
 use crate::refusal::Allow;
 use crate::response::{ContentType, Response};
@@ -81,15 +81,15 @@ fn digits_of(alloc: Global, number: usize) -> Result<String, NoMemory>
 }
 
 /// Returns the head of a response with a body of `count` bytes.
-#[tactic(auto, unfolding(crate::specs::Responses::head_text))]
-fn head_text(
+#[tactic(auto, unfolding(crate::specs::Responses::head_lines))]
+fn head_lines(
     alloc: Global,
     status: StatusCode,
     content_type: ContentType,
     count: usize,
     allow: Option<Allow>,
 ) -> Result<String, NoMemory>
-    ensures { IfOk result (λ s. string_bytes s ≡ head_text status content_type count allow) }
+    ensures { IfOk result (λ s. string_bytes s ≡ head_lines status content_type count allow) }
 {
     let digits = digits_of(alloc, count)?;
     let mut text = status_line(alloc, status)?;
@@ -105,7 +105,7 @@ fn head_text(
 pub(crate) fn response_head(alloc: Global, response: &Response) -> Result<String, NoMemory>
     ensures { IfOk result (λ s. string_bytes s ≡ response_head response.now) }
 {
-    head_text(
+    head_lines(
         alloc,
         response.status,
         response.content_type,

@@ -4,7 +4,7 @@ ghost use Rattle.std.specs.Prelude.{◌≡◌, ◌≤◌, All, OnOk, IfOk, optio
 ghost use Rattle.std.specs.Str.{IsAscii, IsUtf8};
 ghost use Rattle.std.specs.List.{list_all};
 ghost use Rattle.matchit.specs.Params.{walk};
-ghost use Rattle.registry_http.specs.Routes.{templates, with_template, first_two, is_ascii, path_end, is_question_mark, path_of, ascii_path, route_of, found_in, route_for, NextPart};
+ghost use Rattle.registry_http.specs.Routes.{templates, with_template, first_two, is_ascii, path_end, is_question_mark, path_of, ascii_path, route_of, route_of_path, route_for, NextPart};
 
 use crate::parts::{
     import_route, number_route, org_route, petition_route, report_route, vendor_import_route,
@@ -103,11 +103,15 @@ fn route_for(
 }
 
 /// Returns the route of an ASCII path, if it is served.
-#[tactic(auto, unfolding(crate::specs::Routes::found_in))]
-fn found_in(alloc: Global, router: &Router<Template>, path: &str) -> Result<Option<Route>, NoMemory>
+#[tactic(auto, unfolding(crate::specs::Routes::route_of_path))]
+fn route_of_path(
+    alloc: Global,
+    router: &Router<Template>,
+    path: &str,
+) -> Result<Option<Route>, NoMemory>
     requires whole { router.now ≡ templates }
     requires ascii { IsAscii path.now }
-    ensures { IfOk result (λ found. found ≡ found_in path.now) }
+    ensures { IfOk result (λ found. found ≡ route_of_path path.now) }
 {
     match router.at(path) {
         Ok(found) => {
@@ -169,7 +173,7 @@ pub(crate) fn route_of(alloc: Global, target: &[u8]) -> Result<Option<Route>, No
     match ascii_path(path_of(target)) {
         Some(path) => {
             let router = templates(alloc)?;
-            found_in(alloc, &router, path)
+            route_of_path(alloc, &router, path)
         }
         None => Ok(None),
     }

@@ -1,7 +1,7 @@
 //! The status of a response.
 
 ghost use Rattle.std.specs.Prelude.{◌≡◌};
-ghost use Rattle.registry_http.specs.Statuses.{status_of, rule_status, reply_status};
+ghost use Rattle.registry_http.specs.Statuses.{wire_status, rule_status, reply_status};
 
 use http::StatusCode;
 use registry_rules::{Refusal, Reply};
@@ -30,8 +30,8 @@ pub(crate) fn reply_status(reply: &Reply) -> StatusCode
 }
 
 /// Returns the status of a refusal before the rules.
-pub(crate) fn status_of(refusal: WireRefusal) -> StatusCode
-    ensures { result ≡ status_of refusal }
+pub(crate) fn wire_status(refusal: WireRefusal) -> StatusCode
+    ensures { result ≡ wire_status refusal }
 {
     match refusal {
         WireRefusal::BadHead => StatusCode::BAD_REQUEST,
@@ -39,7 +39,6 @@ pub(crate) fn status_of(refusal: WireRefusal) -> StatusCode
         WireRefusal::TooLarge => StatusCode::PAYLOAD_TOO_LARGE,
         WireRefusal::ShortBody => StatusCode::BAD_REQUEST,
         WireRefusal::NoRoute => StatusCode::NOT_FOUND,
-        WireRefusal::WrongMethod => StatusCode::METHOD_NOT_ALLOWED,
         WireRefusal::BadHeader(_) => StatusCode::BAD_REQUEST,
         WireRefusal::BadJson => StatusCode::BAD_REQUEST,
         WireRefusal::BadField(_) => StatusCode::UNPROCESSABLE_ENTITY,

@@ -4,7 +4,7 @@ use crate::ends::Drip;
 use crate::responses::response_text;
 use byte_streams::{Inlet, Source};
 use registry_http::{
-    HttpRefusal, InputFault, Message, Query, Report, read_message, refusal_response,
+    HttpRefusal, Message, MessageFault, Query, Report, read_message, refusal_response,
 };
 use row_records::canonical;
 use row_texts::{RowFault, text_of};
@@ -52,8 +52,8 @@ fn read<R: Source>(alloc: Global, source: &mut R, founding: Vid) -> Result<Vec<u
     match read_message(alloc, source, founding) {
         Ok(Ok(message)) => said_text(alloc, &message),
         Ok(Err(refusal)) => refusal_text(alloc, refusal),
-        Err(InputFault::Broken) => text_of(alloc, "broken"),
-        Err(InputFault::NoMemory) => Err(RowFault::OutOfMemory),
+        Err(MessageFault::Broken) => text_of(alloc, "broken"),
+        Err(MessageFault::NoMemory) => Err(RowFault::OutOfMemory),
     }
 }
 

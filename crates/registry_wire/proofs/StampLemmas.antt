@@ -46,21 +46,21 @@ moment_back m valid =
 
 -- ---- a text that is read is the written one
 
-opened : {A B : Type 0} (found : Option A) (next : A → Option B) (y : B) → option_and_then next found ≡ Some y → (x : A) × ((found ≡ Some x) × (next x ≡ Some y))
-opened None next y e = absurd cc
-opened (Some x) next y e = (x, (refl, e))
+and_then_is : {A B : Type 0} (found : Option A) (next : A → Option B) (y : B) → option_and_then next found ≡ Some y → (x : A) × ((found ≡ Some x) × (next x ≡ Some y))
+and_then_is None next y e = absurd cc
+and_then_is (Some x) next y e = (x, (refl, e))
 
-mapped : {A B : Type 0} (found : Option A) (f : A → B) (y : B) → option_map f found ≡ Some y → (x : A) × ((found ≡ Some x) × (f x ≡ y))
-mapped None f y e = absurd cc
-mapped (Some x) f y e = (x, (refl, cc))
+map_is : {A B : Type 0} (found : Option A) (f : A → B) (y : B) → option_map f found ≡ Some y → (x : A) × ((found ≡ Some x) × (f x ≡ y))
+map_is None f y e = absurd cc
+map_is (Some x) f y e = (x, (refl, cc))
 
-tested : {A : Type 0} (test : Bool) (found : Option A) (y : A) → cond test found None ≡ Some y → (test ≡ true) × (found ≡ Some y)
-tested true found y e = (refl, e)
-tested false found y e = absurd cc
+cond_is : {A : Type 0} (test : Bool) (found : Option A) (y : A) → cond test found None ≡ Some y → (test ≡ true) × (found ≡ Some y)
+cond_is true found y e = (refl, e)
+cond_is false found y e = absurd cc
 
 digit_is : (byte digit : ℕ) → digit_of byte ≡ Some digit → (byte ≡ 48 + digit) × (digit < 10)
 digit_is byte digit e =
-    let t = tested (nat_le 48 byte && nat_le byte 57) (Some (byte - 48)) digit e in
+    let t = cond_is (nat_le 48 byte && nat_le byte 57) (Some (byte - 48)) digit e in
     let both = and_parts (nat_le 48 byte) (nat_le byte 57) t.0 in
     let same : byte - 48 ≡ digit = let f = t.1 in cc in
     let low : 48 ≤ byte = let l = both.0 in grind (arith, nat_tests) in
@@ -70,8 +70,8 @@ digit_is byte digit e =
 two_is : (a b n : ℕ) → two_of a b ≡ Some n → (a ≡ 48 + n / 10) × (b ≡ 48 + n % 10) × (n < 100)
 unfolding two_of
 two_is a b n e =
-    let o = opened (digit_of a) (λ tens. option_map (λ ones. tens * 10 + ones) (digit_of b)) n e in
-    let m = mapped (digit_of b) (λ ones. o.0 * 10 + ones) n o.1.1 in
+    let o = and_then_is (digit_of a) (λ tens. option_map (λ ones. tens * 10 + ones) (digit_of b)) n e in
+    let m = map_is (digit_of b) (λ ones. o.0 * 10 + ones) n o.1.1 in
     let first = digit_is a o.0 o.1.0 in
     let last = digit_is b m.0 m.1.0 in
     let tens : a ≡ 48 + o.0 = first.0 in
@@ -84,8 +84,8 @@ two_is a b n e =
 four_is : (a b c d n : ℕ) → four_of a b c d ≡ Some n → (a ≡ 48 + n / 1000) × (b ≡ 48 + n / 100 % 10) × (c ≡ 48 + n / 10 % 10) × (d ≡ 48 + n % 10)
 unfolding four_of
 four_is a b c d n e =
-    let o = opened (two_of a b) (λ high. option_map (λ low. high * 100 + low) (two_of c d)) n e in
-    let m = mapped (two_of c d) (λ low. o.0 * 100 + low) n o.1.1 in
+    let o = and_then_is (two_of a b) (λ high. option_map (λ low. high * 100 + low) (two_of c d)) n e in
+    let m = map_is (two_of c d) (λ low. o.0 * 100 + low) n o.1.1 in
     let first = two_is a b o.0 o.1.0 in
     let last = two_is c d m.0 m.1.0 in
     let whole : o.0 * 100 + m.0 ≡ n = m.1.1 in
@@ -102,7 +102,7 @@ four_is a b c d n e =
     (rw thousands a_is, rw high b_is, rw tens c_is, rw ones d_is)
 
 sound_is : (m found : Moment) → sound m ≡ Some found → m ≡ found
-sound_is m found e = let t = tested (is_moment m) (Some m) found e in let f = t.1 in cc
+sound_is m found e = let t = cond_is (is_moment m) (Some m) found e in let f = t.1 in cc
 
 time_same : (m : Moment) (hour minute second a b colon c d other e f : ℕ) → m.hour ≡ hour → m.minute ≡ minute → m.second ≡ second
     → a ≡ 48 + hour / 10 → b ≡ 48 + hour % 10 → colon ≡ 58 → c ≡ 48 + minute / 10 → d ≡ 48 + minute % 10 → other ≡ 58 → e ≡ 48 + second / 10 → f ≡ 48 + second % 10
@@ -119,13 +119,13 @@ date_same m year month day a b c d dash e f other g h space time my mm md mt pa 
 pub moment_at_is : (year month day : ℕ) (time : List ℕ) (m : Moment) → moment_at year month day time ≡ Some m → (m.year ≡ year) × (m.month ≡ month) × (m.day ≡ day) × (time_text m ≡ time)
 unfolding moment_at
 moment_at_is year month day (a ∷ b ∷ colon ∷ c ∷ d ∷ other ∷ e ∷ f ∷ []) m is =
-    let t = tested (colon == 58 && other == 58) _ m is in
+    let t = cond_is (colon == 58 && other == 58) _ m is in
     let ends = and_parts (colon == 58) (other == 58) t.0 in
     let first : colon ≡ 58 = eqb-true colon 58 ends.0 in
     let last : other ≡ 58 = eqb-true other 58 ends.1 in
-    let h = opened (two_of a b) _ m t.1 in
-    let n = opened (two_of c d) _ m h.1.1 in
-    let s = opened (two_of e f) _ m n.1.1 in
+    let h = and_then_is (two_of a b) _ m t.1 in
+    let n = and_then_is (two_of c d) _ m h.1.1 in
+    let s = and_then_is (two_of e f) _ m n.1.1 in
     let made = sound_is _ m s.1.1 in
     let hour : m.hour ≡ h.0 = ap (λ (x : Moment). x.hour) (sym made) in
     let minute : m.minute ≡ n.0 = ap (λ (x : Moment). x.minute) (sym made) in
@@ -143,15 +143,15 @@ moment_at_is year month day _ m is = absurd cc
 pub moment_is : (text : List ℕ) (m : Moment) → moment_of text ≡ Some m → moment_text m ≡ text
 unfolding moment_of
 moment_is (a ∷ b ∷ c ∷ d ∷ dash ∷ e ∷ f ∷ other ∷ g ∷ h ∷ space ∷ time) m is =
-    let t = tested (dash == 45 && other == 45 && space == 32) _ m is in
+    let t = cond_is (dash == 45 && other == 45 && space == 32) _ m is in
     let outer = and_parts (dash == 45 && other == 45) (space == 32) t.0 in
     let inner = and_parts (dash == 45) (other == 45) outer.0 in
     let first : dash ≡ 45 = eqb-true dash 45 inner.0 in
     let second : other ≡ 45 = eqb-true other 45 inner.1 in
     let third : space ≡ 32 = eqb-true space 32 outer.1 in
-    let y = opened (four_of a b c d) _ m t.1 in
-    let n = opened (two_of e f) _ m y.1.1 in
-    let o = opened (two_of g h) _ m n.1.1 in
+    let y = and_then_is (four_of a b c d) _ m t.1 in
+    let n = and_then_is (two_of e f) _ m y.1.1 in
+    let o = and_then_is (two_of g h) _ m n.1.1 in
     let rest = moment_at_is y.0 n.0 o.0 time m o.1.1 in
     let years = four_is a b c d y.0 y.1.0 in
     let months = two_is e f n.0 n.1.0 in

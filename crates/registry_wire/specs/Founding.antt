@@ -14,7 +14,8 @@ use Rattle.registry_wire.specs.declared.refusal.WireRefusal.{WireRefusal}
 use Rattle.registry_wire.specs.declared.refusal.WireRefusal.TheVariants.{BadFounding}
 use Rattle.registry_wire.specs.declared.refusal.FoundingFault.{FoundingFault}
 use Rattle.registry_wire.specs.declared.refusal.FoundingFault.TheVariants.{Toml, Vendor, Name, Curators, Licences, Fixed}
-use Rattle.registry_wire.specs.Gives.{◌>>=◌, present}
+use Rattle.registry_rules.specs.Checks.{◌>>=◌}
+use Rattle.registry_wire.specs.Refusals.{present}
 use Rattle.registry_wire.specs.Names.{fault_name}
 use Rattle.registry_wire.specs.Kinds.{slug_of, title_of}
 use Rattle.registry_wire.specs.Spans.{span_of}
@@ -29,8 +30,8 @@ pub record Listed : Type 0 where
 
 -- ---- one value
 
-abbrev pub number_from : Data → Option ℕ
-number_from found = option_and_then number_of (as_str found)
+abbrev pub id_from : Data → Option ℕ
+id_from found = option_and_then number_of (as_str found)
 
 abbrev pub slug_from : Data → Option (List ℕ)
 slug_from found = option_and_then slug_of (as_str found)
@@ -62,21 +63,21 @@ unfoldable pub one_in : {A : Type 0} → (Data → Option A) → FoundingFault �
 one_in kind key table = present (BadFounding key) (option_and_then kind (value_in key table))
 
 -- the items of an array, if all are of the kind
-unfoldable pub all_of : {A : Type 0} → (Data → Option A) → Items → Option (List A)
-all_of kind no_items = Some []
-all_of kind (item first others) = option_and_then (λ x. option_map (λ xs. x ∷ xs) (all_of kind others)) (kind first)
+unfoldable pub all_of_kind : {A : Type 0} → (Data → Option A) → Items → Option (List A)
+all_of_kind kind no_items = Some []
+all_of_kind kind (item first others) = option_and_then (λ x. option_map (λ xs. x ∷ xs) (all_of_kind kind others)) (kind first)
 
 -- one to `most` items
-abbrev pub counted : {A : Type 0} → ℕ → List A → Option (List A)
-counted most items = if nat_le 1 (length items) && nat_le (length items) most then Some items else None
+abbrev pub one_to : {A : Type 0} → ℕ → List A → Option (List A)
+one_to most items = if nat_le 1 (length items) && nat_le (length items) most then Some items else None
 
 -- an array of one to `most` items of the kind
 unfoldable pub some_in : {A : Type 0} → (Data → Option A) → ℕ → FoundingFault → Members → Result (List A) WireRefusal
-some_in kind most key table = present (BadFounding key) (option_and_then (counted most) (option_and_then (all_of kind) (option_and_then as_array (value_in key table))))
+some_in kind most key table = present (BadFounding key) (option_and_then (one_to most) (option_and_then (all_of_kind kind) (option_and_then as_array (value_in key table))))
 
 abbrev pub spans_if_given : Option Data → Option (List Span)
 spans_if_given None = Some []
-spans_if_given (Some found) = option_and_then (all_of span_from) (as_array found)
+spans_if_given (Some found) = option_and_then (all_of_kind span_from) (as_array found)
 
 -- the fixed spans, empty if the key is absent
 unfoldable pub fixed_in : Members → Result (List Span) WireRefusal
@@ -85,7 +86,7 @@ fixed_in table = present (BadFounding Fixed) (spans_if_given (value_in Fixed tab
 -- the values, in the order in which they are checked
 unfoldable pub listed_in : Members → Result Listed WireRefusal
 listed_in table = do
-  vendor ← one_in number_from Vendor table
+  vendor ← one_in id_from Vendor table
   name ← one_in title_from Name table
   curators ← some_in slug_from most_curators Curators table
   licences ← some_in title_from most_licences Licences table
@@ -114,6 +115,6 @@ pub record Founds (listed : Listed) (founding : Founding) : Type 0 where
   pub fixed : (n : ℕ) → spans_have founding.fixed n ≡ list_any (λ span. span_has span n) listed.fixed
 
 -- the result is the founding with the values that the bytes list, or their first fault
-abbrev pub ReadsAs : Result Founding WireRefusal → Result Listed WireRefusal → Type 0
-ReadsAs (Ok founding) listed = (l : Listed) × (listed ≡ Ok l) × Founds l founding
-ReadsAs (Err refusal) listed = listed ≡ Err refusal
+abbrev pub FoundsAs : Result Founding WireRefusal → Result Listed WireRefusal → Type 0
+FoundsAs (Ok founding) listed = (l : Listed) × (listed ≡ Ok l) × Founds l founding
+FoundsAs (Err refusal) listed = listed ≡ Err refusal

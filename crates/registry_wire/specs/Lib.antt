@@ -1,11 +1,11 @@
 pub mod Decisions
 pub mod Founding
-pub mod Gives
 pub mod Import
 pub mod Kinds
 pub mod Listing
 pub mod Names
 pub mod Reading
+pub mod Refusals
 pub mod Replies
 pub mod Spans
 pub mod Stamps

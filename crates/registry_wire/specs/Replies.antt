@@ -6,53 +6,51 @@ use Rattle.registry_rules.specs.declared.verdict.Reply.TheVariants.{Done, Refuse
 use Rattle.registry_rules.specs.Reply.{refusal_number, refusal_name, refusal_detail, name_and_detail}
 use Rattle.usbids_text.specs.Faults.{line_fault_text}
 use Rattle.registry_wire.specs.declared.refusal.WireRefusal.{WireRefusal}
-use Rattle.registry_wire.specs.declared.refusal.WireRefusal.TheVariants.{BadHead, BadLength, TooLarge, ShortBody, NoRoute, WrongMethod, BadHeader, BadJson, BadField, BadList, StoreFault, NoMemory, BadFounding}
+use Rattle.registry_wire.specs.declared.refusal.WireRefusal.TheVariants.{BadHead, BadLength, TooLarge, ShortBody, NoRoute, BadHeader, BadJson, BadField, BadList, StoreFault, NoMemory, BadFounding}
 use Rattle.registry_wire.specs.Names.{fault_name, header_name}
-use Rattle.registry_wire.specs.Reading as reading
+use Rattle.registry_wire.specs.Reading.{field_name}
 
 -- the number of a refusal
-abbrev pub number_of : WireRefusal → ℕ
-number_of BadHead = 20
-number_of BadLength = 21
-number_of TooLarge = 22
-number_of ShortBody = 23
-number_of NoRoute = 24
-number_of WrongMethod = 25
-number_of (BadHeader header) = 26
-number_of BadJson = 27
-number_of (BadField field) = 28
-number_of (BadList fault) = 29
-number_of StoreFault = 30
-number_of NoMemory = 31
-number_of (BadFounding fault) = 32
+abbrev pub wire_refusal_number : WireRefusal → ℕ
+wire_refusal_number BadHead = 20
+wire_refusal_number BadLength = 21
+wire_refusal_number TooLarge = 22
+wire_refusal_number ShortBody = 23
+wire_refusal_number NoRoute = 24
+wire_refusal_number (BadHeader header) = 26
+wire_refusal_number BadJson = 27
+wire_refusal_number (BadField field) = 28
+wire_refusal_number (BadList fault) = 29
+wire_refusal_number StoreFault = 30
+wire_refusal_number NoMemory = 31
+wire_refusal_number (BadFounding fault) = 32
 
 -- the name of a refusal
-abbrev pub name_of : WireRefusal → List ℕ
-name_of BadHead = codes "BadHead"
-name_of BadLength = codes "BadLength"
-name_of TooLarge = codes "TooLarge"
-name_of ShortBody = codes "ShortBody"
-name_of NoRoute = codes "NoRoute"
-name_of WrongMethod = codes "WrongMethod"
-name_of (BadHeader header) = codes "BadHeader"
-name_of BadJson = codes "BadJson"
-name_of (BadField field) = codes "BadField"
-name_of (BadList fault) = codes "BadList"
-name_of StoreFault = codes "StoreFault"
-name_of NoMemory = codes "NoMemory"
-name_of (BadFounding fault) = codes "BadFounding"
+abbrev pub wire_refusal_name : WireRefusal → List ℕ
+wire_refusal_name BadHead = codes "BadHead"
+wire_refusal_name BadLength = codes "BadLength"
+wire_refusal_name TooLarge = codes "TooLarge"
+wire_refusal_name ShortBody = codes "ShortBody"
+wire_refusal_name NoRoute = codes "NoRoute"
+wire_refusal_name (BadHeader header) = codes "BadHeader"
+wire_refusal_name BadJson = codes "BadJson"
+wire_refusal_name (BadField field) = codes "BadField"
+wire_refusal_name (BadList fault) = codes "BadList"
+wire_refusal_name StoreFault = codes "StoreFault"
+wire_refusal_name NoMemory = codes "NoMemory"
+wire_refusal_name (BadFounding fault) = codes "BadFounding"
 
 -- the name of the bad header or field, the faulty line of a list, or the bad key of a founding file
-abbrev pub detail_of : WireRefusal → Option (List ℕ)
-detail_of (BadHeader header) = Some (header_name header)
-detail_of (BadField field) = Some (reading.name_of field)
-detail_of (BadList fault) = Some (line_fault_text fault)
-detail_of (BadFounding fault) = Some (fault_name fault)
-detail_of _ = None
+abbrev pub wire_refusal_detail : WireRefusal → Option (List ℕ)
+wire_refusal_detail (BadHeader header) = Some (header_name header)
+wire_refusal_detail (BadField field) = Some (field_name field)
+wire_refusal_detail (BadList fault) = Some (line_fault_text fault)
+wire_refusal_detail (BadFounding fault) = Some (fault_name fault)
+wire_refusal_detail _ = None
 
 -- BadJson, or BadField: title
-abbrev pub refusal_text : WireRefusal → List ℕ
-refusal_text refusal = name_and_detail (name_of refusal) (detail_of refusal)
+abbrev pub wire_refusal_text : WireRefusal → List ℕ
+wire_refusal_text refusal = name_and_detail (wire_refusal_name refusal) (wire_refusal_detail refusal)
 
 abbrev pub with_detail : Option (List ℕ) → Members → Members
 with_detail None others = others
@@ -63,7 +61,7 @@ abbrev pub refused_data : ℕ → List ℕ → Option (List ℕ) → Data
 refused_data refused name detail = object (with_detail detail (member (codes "name") (string name) (member (codes "refused") (number (unsigned refused)) no_members)))
 
 abbrev pub refusal_data : WireRefusal → Data
-refusal_data refusal = refused_data (number_of refusal) (name_of refusal) (detail_of refusal)
+refusal_data refusal = refused_data (wire_refusal_number refusal) (wire_refusal_name refusal) (wire_refusal_detail refusal)
 
 -- {"done":TEXT}, or the refusal
 abbrev pub reply_data : Reply → Data

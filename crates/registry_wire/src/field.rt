@@ -35,11 +35,11 @@ pub enum Field {
 
 impl Field {
     ghost use Rattle.std.specs.Prelude.{◌≡◌};
-    ghost use Rattle.registry_wire.specs.Reading.{name_of};
+    ghost use Rattle.registry_wire.specs.Reading.{field_name};
 
     /// Returns the field's name in JSON.
     pub fn name(self) -> &'static str
-        ensures { result.now ≡ name_of self }
+        ensures { result.now ≡ field_name self }
     {
         match self {
             Field::Caller => "caller",

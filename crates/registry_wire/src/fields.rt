@@ -4,20 +4,21 @@ ghost use Rattle.std.specs.Prelude.{◌≡◌, option_copied, option_map, option
 ghost use Rattle.usbnum_core.specs.Number.{number_of};
 ghost use Rattle.serde_json.specs.View.{view};
 ghost use Rattle.serde_json.specs.Find.{as_str};
-ghost use Rattle.registry_wire.specs.Gives.{Gives};
-ghost use Rattle.registry_wire.specs.Reading.{wanted, text_in, given_in, slug_in, key_in, title_in, link_in, number_in, optional_number_in, petition_of, whole_in, petition_in, span_in, kind_in};
+ghost use Rattle.registry_rules.specs.Gives.{Gives};
+ghost use Rattle.registry_wire.specs.Reading.{wanted, text_in, given_in, slug_in, key_in, title_in, link_in, number_in, optional_number_in, petition_number, whole_in, petition_in, span_in, kind_in};
 
-use crate::kind::{Kind, kind_of};
+use crate::kind::{Kind, kind_named};
 use crate::link::link_of;
-use crate::rejection::{Rejection, present};
+use crate::present::present;
 use crate::span::span_of;
 use crate::{Field, WireRefusal};
+use registry_rules::Rejection;
 use serde_json::Value;
 use std::alloc::Global;
 use usbnum_core::{Key, Link, Pid, Slug, Span, Title, Vid, parse_pid, parse_vid};
 
 // The value of a field, or the refusal that the field is bad.
-fn wanted<T>(field: Field, found: Option<T>) -> Result<T, Rejection>
+fn wanted<T>(field: Field, found: Option<T>) -> Result<T, Rejection<WireRefusal>>
     ensures { Gives result (wanted field found) }
 {
     present(WireRefusal::BadField(field), found)
@@ -34,7 +35,11 @@ fn text_at(value: &Value, field: Field) -> Option<&str>
 }
 
 #[tactic(auto, unfolding(crate::specs::Reading::slug_in, crate::specs::Kinds::slug_of))]
-pub(crate) fn slug_at(alloc: Global, value: &Value, field: Field) -> Result<Slug, Rejection>
+pub(crate) fn slug_at(
+    alloc: Global,
+    value: &Value,
+    field: Field,
+) -> Result<Slug, Rejection<WireRefusal>>
     ensures { Gives result (slug_in field (view value.now)) }
 {
     let Some(text) = text_at(value, field) else {
@@ -44,7 +49,11 @@ pub(crate) fn slug_at(alloc: Global, value: &Value, field: Field) -> Result<Slug
 }
 
 #[tactic(auto, unfolding(crate::specs::Reading::key_in, crate::specs::Kinds::key_of))]
-pub(crate) fn key_at(alloc: Global, value: &Value, field: Field) -> Result<Key, Rejection>
+pub(crate) fn key_at(
+    alloc: Global,
+    value: &Value,
+    field: Field,
+) -> Result<Key, Rejection<WireRefusal>>
     ensures { Gives result (key_in field (view value.now)) }
 {
     let Some(text) = text_at(value, field) else {
@@ -54,7 +63,11 @@ pub(crate) fn key_at(alloc: Global, value: &Value, field: Field) -> Result<Key, 
 }
 
 #[tactic(auto, unfolding(crate::specs::Reading::title_in, crate::specs::Kinds::title_of))]
-pub(crate) fn title_at(alloc: Global, value: &Value, field: Field) -> Result<Title, Rejection>
+pub(crate) fn title_at(
+    alloc: Global,
+    value: &Value,
+    field: Field,
+) -> Result<Title, Rejection<WireRefusal>>
     ensures { Gives result (title_in field (view value.now)) }
 {
     let Some(text) = text_at(value, field) else {
@@ -64,7 +77,11 @@ pub(crate) fn title_at(alloc: Global, value: &Value, field: Field) -> Result<Tit
 }
 
 #[tactic(auto, unfolding(crate::specs::Reading::link_in))]
-pub(crate) fn link_at(alloc: Global, value: &Value, field: Field) -> Result<Link, Rejection>
+pub(crate) fn link_at(
+    alloc: Global,
+    value: &Value,
+    field: Field,
+) -> Result<Link, Rejection<WireRefusal>>
     ensures { Gives result (link_in field (view value.now)) }
 {
     let Some(text) = text_at(value, field) else {
@@ -74,17 +91,17 @@ pub(crate) fn link_at(alloc: Global, value: &Value, field: Field) -> Result<Link
 }
 
 #[tactic(auto, unfolding(crate::specs::Reading::kind_in))]
-pub(crate) fn kind_at(value: &Value) -> Result<Kind, Rejection>
+pub(crate) fn kind_at(value: &Value) -> Result<Kind, Rejection<WireRefusal>>
     ensures { Gives result (kind_in (view value.now)) }
 {
     let Some(text) = text_at(value, Field::Order) else {
         return wanted(Field::Order, None);
     };
-    wanted(Field::Order, kind_of(text))
+    wanted(Field::Order, kind_named(text))
 }
 
 #[tactic(auto, unfolding(crate::specs::Reading::number_in))]
-pub(crate) fn pid_at(value: &Value, field: Field) -> Result<Pid, Rejection>
+pub(crate) fn pid_at(value: &Value, field: Field) -> Result<Pid, Rejection<WireRefusal>>
     ensures { Gives result (number_in field (view value.now)) }
 {
     let Some(text) = text_at(value, field) else {
@@ -94,7 +111,7 @@ pub(crate) fn pid_at(value: &Value, field: Field) -> Result<Pid, Rejection>
 }
 
 #[tactic(auto, unfolding(crate::specs::Reading::number_in))]
-pub(crate) fn vid_at(value: &Value, field: Field) -> Result<Vid, Rejection>
+pub(crate) fn vid_at(value: &Value, field: Field) -> Result<Vid, Rejection<WireRefusal>>
     ensures { Gives result (number_in field (view value.now)) }
 {
     let Some(text) = text_at(value, field) else {
@@ -124,7 +141,10 @@ fn vid_of(value: &Value) -> Option<Vid>
 }
 
 #[tactic(auto, unfolding(crate::specs::Reading::optional_number_in))]
-pub(crate) fn optional_pid_at(value: &Value, field: Field) -> Result<Option<Pid>, Rejection>
+pub(crate) fn optional_pid_at(
+    value: &Value,
+    field: Field,
+) -> Result<Option<Pid>, Rejection<WireRefusal>>
     ensures { Gives result (optional_number_in field (view value.now)) }
 {
     match given_at(value, field) {
@@ -134,7 +154,10 @@ pub(crate) fn optional_pid_at(value: &Value, field: Field) -> Result<Option<Pid>
 }
 
 #[tactic(auto, unfolding(crate::specs::Reading::optional_number_in))]
-pub(crate) fn optional_vid_at(value: &Value, field: Field) -> Result<Option<Vid>, Rejection>
+pub(crate) fn optional_vid_at(
+    value: &Value,
+    field: Field,
+) -> Result<Option<Vid>, Rejection<WireRefusal>>
     ensures { Gives result (optional_number_in field (view value.now)) }
 {
     match given_at(value, field) {
@@ -144,8 +167,8 @@ pub(crate) fn optional_vid_at(value: &Value, field: Field) -> Result<Option<Vid>
 }
 
 // The number of a petition: 1 to 4,294,967,295.
-fn petition_of(number: u64) -> Option<u32>
-    ensures { result ≡ petition_of number }
+fn petition_number(number: u64) -> Option<u32>
+    ensures { result ≡ petition_number number }
 {
     if 1 <= number && number <= 4_294_967_295 {
         Some(number as u32)
@@ -165,17 +188,17 @@ fn whole_at(value: &Value, field: Field) -> Option<u64>
 }
 
 #[tactic(auto, unfolding(crate::specs::Reading::petition_in))]
-pub(crate) fn petition_at(value: &Value) -> Result<u32, Rejection>
+pub(crate) fn petition_at(value: &Value) -> Result<u32, Rejection<WireRefusal>>
     ensures { Gives result (petition_in (view value.now)) }
 {
     match whole_at(value, Field::Petition) {
-        Some(number) => wanted(Field::Petition, petition_of(number)),
+        Some(number) => wanted(Field::Petition, petition_number(number)),
         None => wanted(Field::Petition, None),
     }
 }
 
 #[tactic(auto, unfolding(crate::specs::Reading::span_in))]
-pub(crate) fn span_at(value: &Value) -> Result<Span, Rejection>
+pub(crate) fn span_at(value: &Value) -> Result<Span, Rejection<WireRefusal>>
     ensures { Gives result (span_in (view value.now)) }
 {
     let first = pid_at(value, Field::First)?;

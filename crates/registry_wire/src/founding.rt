@@ -2,18 +2,18 @@
 
 ghost use Rattle.std.specs.Prelude.{◌≡◌, ◌≤◌, ℕ, length, IfOk, option_map};
 ghost use Rattle.std.specs.List.{list_any};
-ghost use Rattle.toml.specs.Data.{get_member};
 ghost use Rattle.toml.specs.View.{view, table_view};
-ghost use Rattle.registry_wire.specs.Gives.{Gives, GivesSeen};
+ghost use Rattle.registry_rules.specs.Gives.{Gives};
+ghost use Rattle.registry_wire.specs.Refusals.{GivesSeen};
 ghost use Rattle.usbnum_core.specs.Spans.{span_has, spans_have};
-ghost use Rattle.registry_wire.specs.Founding.{value_in, one_in, some_in, fixed_in, listed_in, table_of, founding_listed, Founds, ReadsAs};
+ghost use Rattle.registry_wire.specs.Founding.{value_in, one_in, some_in, fixed_in, listed_in, table_of, founding_listed, Founds, FoundsAs};
 ghost use Rattle.registry_wire.specs.Listing.{seen};
 
-use crate::rejection::{Rejection, present};
-use crate::toml_value::{FromToml, all_of};
+use crate::present::present;
+use crate::toml_value::{FromToml, all_of_kind};
 use crate::{FoundingFault, WireRefusal};
 use registry_rules::limits::{MOST_CURATORS, MOST_LICENCES};
-use registry_rules::{Curators, Founding, Licences};
+use registry_rules::{Curators, Founding, Licences, Rejection};
 use std::alloc::Global;
 use toml::{Table, Value};
 use usbnum_core::{NoMemory, Slug, Span, Spans, Title, Vid};
@@ -36,7 +36,11 @@ fn value_at<'a>(table: &'a Table, key: FoundingFault) -> Option<&'a Value>
 }
 
 #[tactic(auto, unfolding(crate::specs::Founding::one_in))]
-fn one_at<T: FromToml>(alloc: Global, table: &Table, key: FoundingFault) -> Result<T, Rejection>
+fn one_at<T: FromToml>(
+    alloc: Global,
+    table: &Table,
+    key: FoundingFault,
+) -> Result<T, Rejection<WireRefusal>>
     ensures { Gives result (one_in T.kind key (table_view table.now)) }
 {
     let Some(found) = value_at(table, key) else {
@@ -52,7 +56,7 @@ fn some_at<T: FromToml>(
     table: &Table,
     key: FoundingFault,
     most: usize,
-) -> Result<Vec<T>, Rejection>
+) -> Result<Vec<T>, Rejection<WireRefusal>>
     ensures reading { GivesSeen (λ list. list.items) result (some_in T.kind most key (table_view table.now)) }
     ensures counted { IfOk result (λ list. (1 ≤ length list.items) × (length list.items ≤ most)) }
 {
@@ -62,7 +66,7 @@ fn some_at<T: FromToml>(
     let Some(array) = found.as_array() else {
         return Err(Rejection::Refused(WireRefusal::BadFounding(key)));
     };
-    match all_of(alloc, array)? {
+    match all_of_kind(alloc, array)? {
         Some(list) => {
             if list.is_empty() || list.len() > most {
                 return Err(Rejection::Refused(WireRefusal::BadFounding(key)));
@@ -74,7 +78,7 @@ fn some_at<T: FromToml>(
 }
 
 #[tactic(auto, unfolding(crate::specs::Founding::fixed_in))]
-fn fixed_at(alloc: Global, table: &Table) -> Result<Vec<Span>, Rejection>
+fn fixed_at(alloc: Global, table: &Table) -> Result<Vec<Span>, Rejection<WireRefusal>>
     ensures { GivesSeen (λ list. list.items) result (fixed_in (table_view table.now)) }
 {
     let Some(found) = value_at(table, FoundingFault::Fixed) else {
@@ -83,21 +87,21 @@ fn fixed_at(alloc: Global, table: &Table) -> Result<Vec<Span>, Rejection>
     let Some(array) = found.as_array() else {
         return Err(Rejection::Refused(WireRefusal::BadFounding(FoundingFault::Fixed)));
     };
-    match all_of(alloc, array)? {
+    match all_of_kind(alloc, array)? {
         Some(list) => Ok(list),
         None => Err(Rejection::Refused(WireRefusal::BadFounding(FoundingFault::Fixed))),
     }
 }
 
 #[tactic(auto, unfolding(crate::specs::Founding::table_of))]
-fn table_of(alloc: Global, bytes: &[u8]) -> Result<Table, Rejection>
+fn table_of(alloc: Global, bytes: &[u8]) -> Result<Table, Rejection<WireRefusal>>
     ensures { GivesSeen table_view result (table_of bytes.now) }
 {
     match toml::table_from_slice(alloc, bytes) {
         Ok(table) => Ok(table),
         Err(error) => {
             if error.is_memory() {
-                Err(Rejection::OutOfMemory)
+                Err(Rejection::NoMemory)
             } else {
                 Err(Rejection::Refused(WireRefusal::BadFounding(FoundingFault::Toml)))
             }
@@ -106,7 +110,7 @@ fn table_of(alloc: Global, bytes: &[u8]) -> Result<Table, Rejection>
 }
 
 #[tactic(auto, unfolding(crate::specs::Founding::listed_in))]
-fn listing_at(alloc: Global, table: &Table) -> Result<Listing, Rejection>
+fn listing_at(alloc: Global, table: &Table) -> Result<Listing, Rejection<WireRefusal>>
     ensures reading { GivesSeen seen result (listed_in (table_view table.now)) }
     ensures curators { IfOk result (λ listing. (1 ≤ length listing.curators.items) × (length listing.curators.items ≤ MOST_CURATORS)) }
     ensures licences { IfOk result (λ listing. (1 ≤ length listing.licences.items) × (length listing.licences.items ≤ MOST_LICENCES)) }
@@ -126,7 +130,7 @@ fn listing_at(alloc: Global, table: &Table) -> Result<Listing, Rejection>
 }
 
 #[tactic(auto, unfolding(crate::specs::Founding::founding_listed))]
-fn read_listing(alloc: Global, bytes: &[u8]) -> Result<Listing, Rejection>
+fn read_listing(alloc: Global, bytes: &[u8]) -> Result<Listing, Rejection<WireRefusal>>
     ensures reading { GivesSeen seen result (founding_listed bytes.now) }
     ensures curators { IfOk result (λ listing. (1 ≤ length listing.curators.items) × (length listing.curators.items ≤ MOST_CURATORS)) }
     ensures licences { IfOk result (λ listing. (1 ≤ length listing.licences.items) × (length listing.licences.items ≤ MOST_LICENCES)) }
@@ -176,11 +180,11 @@ pub fn founding_from_toml(
     alloc: Global,
     bytes: &[u8],
 ) -> Result<Result<Founding, WireRefusal>, NoMemory>
-    ensures { IfOk result (λ read. ReadsAs read (founding_listed bytes.now)) }
+    ensures { IfOk result (λ read. FoundsAs read (founding_listed bytes.now)) }
 {
     match read_listing(alloc, bytes) {
         Ok(listing) => Ok(Ok(founding_of(alloc, listing)?)),
         Err(Rejection::Refused(refusal)) => Ok(Err(refusal)),
-        Err(Rejection::OutOfMemory) => Err(NoMemory),
+        Err(Rejection::NoMemory) => Err(NoMemory),
     }
 }

@@ -1,7 +1,7 @@
 //! The kinds of order in JSON, by name.
 
 ghost use Rattle.std.specs.Prelude.{◌≡◌};
-ghost use Rattle.registry_wire.specs.Reading.{kind_of};
+ghost use Rattle.registry_wire.specs.Reading.{kind_named};
 
 // The kind of order that the field `order` names.
 #[derive(Clone, Copy, Debug, PartialEq, Eq)]
@@ -21,8 +21,8 @@ pub(crate) enum Kind {
 }
 
 // The kind of order with this name.
-pub(crate) fn kind_of(name: &str) -> Option<Kind>
-    ensures { result ≡ kind_of name.now }
+pub(crate) fn kind_named(name: &str) -> Option<Kind>
+    ensures { result ≡ kind_named name.now }
 {
     match name {
         "enrol" => Some(Kind::Enrol),

@@ -2,7 +2,7 @@
 
 ghost use Rattle.std.specs.Prelude.{◌≡◌, IfOk, Some};
 ghost use Rattle.registry_wire.specs.Names.{fault_name};
-ghost use Rattle.registry_wire.specs.Replies.{refusal_text};
+ghost use Rattle.registry_wire.specs.Replies.{wire_refusal_text};
 
 use crate::Field;
 use registry_rules::ReplyText;
@@ -13,7 +13,7 @@ use usbids_text::LineFault;
 use usbnum_core::NoMemory;
 
 /// The reason why input from outside is not acted on. The refusals of the rules are
-/// `registry_rules::Refusal`.
+/// `registry_rules::Refusal`, and that of a wrong HTTP method is `registry_http::HttpRefusal`.
 #[derive(Clone, Copy, Debug, PartialEq, Eq)]
 pub enum WireRefusal {
     /// An HTTP message has no valid head.
@@ -26,8 +26,6 @@ pub enum WireRefusal {
     ShortBody,
     /// The path is not served.
     NoRoute,
-    /// The path is served, but not with this method.
-    WrongMethod,
     /// The message does not have this header exactly once with a valid value.
     BadHeader(Header),
     /// The bytes are not a JSON object.
@@ -106,11 +104,11 @@ impl FoundingFault {
 
 impl WireRefusal {
     ghost use Rattle.std.specs.Prelude.{◌≡◌, IfOk};
-    ghost use Rattle.registry_wire.specs.Replies.{number_of, name_of, detail_of};
+    ghost use Rattle.registry_wire.specs.Replies.{wire_refusal_number, wire_refusal_name, wire_refusal_detail};
 
     /// Returns the refusal's number.
     pub fn number(self) -> u8
-        ensures { result ≡ number_of self }
+        ensures { result ≡ wire_refusal_number self }
     {
         match self {
             WireRefusal::BadHead => 20,
@@ -118,7 +116,6 @@ impl WireRefusal {
             WireRefusal::TooLarge => 22,
             WireRefusal::ShortBody => 23,
             WireRefusal::NoRoute => 24,
-            WireRefusal::WrongMethod => 25,
             WireRefusal::BadHeader(_) => 26,
             WireRefusal::BadJson => 27,
             WireRefusal::BadField(_) => 28,
@@ -131,7 +128,7 @@ impl WireRefusal {
 
     /// Returns the refusal's name.
     pub fn name(self) -> &'static str
-        ensures { result.now ≡ name_of self }
+        ensures { result.now ≡ wire_refusal_name self }
     {
         match self {
             WireRefusal::BadHead => "BadHead",
@@ -139,7 +136,6 @@ impl WireRefusal {
             WireRefusal::TooLarge => "TooLarge",
             WireRefusal::ShortBody => "ShortBody",
             WireRefusal::NoRoute => "NoRoute",
-            WireRefusal::WrongMethod => "WrongMethod",
             WireRefusal::BadHeader(_) => "BadHeader",
             WireRefusal::BadJson => "BadJson",
             WireRefusal::BadField(_) => "BadField",
@@ -153,7 +149,7 @@ impl WireRefusal {
     /// Returns the subject of the refusal: the name of the bad header or field, the line of a list
     /// with its fault, for example `line 2: NoParent`, or the bad key of a founding file.
     pub fn detail(self, alloc: Global) -> Result<Option<ReplyText>, NoMemory>
-        ensures { IfOk result (λ detail. detail ≡ detail_of self) }
+        ensures { IfOk result (λ detail. detail ≡ wire_refusal_detail self) }
     {
         Ok(match self {
             WireRefusal::BadHeader(header) => Some(text_of(alloc, header.name())?),
@@ -178,7 +174,7 @@ impl Error for FoundingFault {}
 
 /// The name, and after a colon the detail: `BadField: title`.
 impl fmt::Display for WireRefusal {
-    ghost output = { λ refusal. Some (refusal_text refusal) };
+    ghost output = { λ refusal. Some (wire_refusal_text refusal) };
 
     fn fmt<W: fmt::Write>(&self, f: &mut fmt::Formatter<W>) -> fmt::Result {
         let name = self.name();

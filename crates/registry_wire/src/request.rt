@@ -2,21 +2,21 @@
 
 ghost use Rattle.std.specs.Prelude.{◌≡◌, IfOk};
 ghost use Rattle.serde_json.specs.View.{view};
-ghost use Rattle.registry_wire.specs.Gives.{Gives, GivesSeen};
+ghost use Rattle.registry_rules.specs.Gives.{Gives};
+ghost use Rattle.registry_wire.specs.Refusals.{GivesSeen};
 ghost use Rattle.registry_wire.specs.Reading.{object_of, body_reading, line_reading};
 
 use crate::fields::{key_at, slug_at};
 use crate::orders::order_at;
-use crate::rejection::Rejection;
 use crate::{Field, WireRefusal};
-use registry_rules::Request;
+use registry_rules::{Rejection, Request};
 use serde_json::Value;
 use std::alloc::Global;
 use usbnum_core::{Key, NoMemory, Slug};
 
 // Reads the bytes as a JSON object.
 #[tactic(auto, unfolding(crate::specs::Reading::object_of))]
-fn object_of(alloc: Global, bytes: &[u8]) -> Result<Value, Rejection>
+fn object_of(alloc: Global, bytes: &[u8]) -> Result<Value, Rejection<WireRefusal>>
     ensures { GivesSeen view result (object_of bytes.now) }
 {
     match Value::from_slice(alloc, bytes) {
@@ -29,7 +29,7 @@ fn object_of(alloc: Global, bytes: &[u8]) -> Result<Value, Rejection>
         }
         Err(error) => {
             if error.is_memory() {
-                Err(Rejection::OutOfMemory)
+                Err(Rejection::NoMemory)
             } else {
                 Err(Rejection::Refused(WireRefusal::BadJson))
             }
@@ -38,7 +38,7 @@ fn object_of(alloc: Global, bytes: &[u8]) -> Result<Value, Rejection>
 }
 
 #[tactic(auto, unfolding(crate::specs::Reading::line_reading))]
-fn read_line(alloc: Global, bytes: &[u8]) -> Result<Request, Rejection>
+fn read_line(alloc: Global, bytes: &[u8]) -> Result<Request, Rejection<WireRefusal>>
     ensures { Gives result (line_reading bytes.now) }
 {
     let value = object_of(alloc, bytes)?;
@@ -49,7 +49,12 @@ fn read_line(alloc: Global, bytes: &[u8]) -> Result<Request, Rejection>
 }
 
 #[tactic(auto, unfolding(crate::specs::Reading::body_reading))]
-fn read_body(alloc: Global, caller: Slug, key: Key, bytes: &[u8]) -> Result<Request, Rejection>
+fn read_body(
+    alloc: Global,
+    caller: Slug,
+    key: Key,
+    bytes: &[u8],
+) -> Result<Request, Rejection<WireRefusal>>
     ensures { Gives result (body_reading caller key bytes.now) }
 {
     let value = object_of(alloc, bytes)?;
@@ -64,7 +69,7 @@ pub fn line_request(alloc: Global, line: &[u8]) -> Result<Result<Request, WireRe
     match read_line(alloc, line) {
         Ok(request) => Ok(Ok(request)),
         Err(Rejection::Refused(refusal)) => Ok(Err(refusal)),
-        Err(Rejection::OutOfMemory) => Err(NoMemory),
+        Err(Rejection::NoMemory) => Err(NoMemory),
     }
 }
 
@@ -80,6 +85,6 @@ pub fn request_from_json(
     match read_body(alloc, caller, key, body) {
         Ok(request) => Ok(Ok(request)),
         Err(Rejection::Refused(refusal)) => Ok(Err(refusal)),
-        Err(Rejection::OutOfMemory) => Err(NoMemory),
+        Err(Rejection::NoMemory) => Err(NoMemory),
     }
 }

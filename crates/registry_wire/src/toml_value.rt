@@ -2,7 +2,7 @@
 
 ghost use Rattle.std.specs.Prelude.{◌≡◌, IfOk, option_map};
 ghost use Rattle.toml.specs.View.{view, items_view};
-ghost use Rattle.registry_wire.specs.Founding.{number_from, slug_from, title_from, span_from, span_after, span_written, all_of};
+ghost use Rattle.registry_wire.specs.Founding.{id_from, slug_from, title_from, span_from, span_after, span_written, all_of_kind};
 
 use crate::span::span_of;
 use std::alloc::Global;
@@ -21,7 +21,7 @@ pub(crate) trait FromToml: Drop {
 }
 
 impl FromToml for Vid {
-    ghost kind = { number_from };
+    ghost kind = { id_from };
 
     fn read(_alloc: Global, value: &Value) -> Result<Option<Vid>, NoMemory> {
         match value.as_str() {
@@ -89,11 +89,11 @@ impl FromToml for Span {
 }
 
 // The values of an array, if all are of the kind.
-pub(crate) fn all_of<T: FromToml>(
+pub(crate) fn all_of_kind<T: FromToml>(
     alloc: Global,
     values: &[Value],
 ) -> Result<Option<Vec<T>>, NoMemory>
-    ensures { IfOk result (λ found. option_map (λ list. list.items) found ≡ all_of T.kind (items_view values.now)) }
+    ensures { IfOk result (λ found. option_map (λ list. list.items) found ≡ all_of_kind T.kind (items_view values.now)) }
 {
     let mut list = Vec::new(alloc);
     for value in values {

@@ -45,7 +45,6 @@ fn wire_refusal(number: u32) -> Result<WireRefusal, RowFault> {
         22 => WireRefusal::TooLarge,
         23 => WireRefusal::ShortBody,
         24 => WireRefusal::NoRoute,
-        25 => WireRefusal::WrongMethod,
         26 => WireRefusal::BadHeader(Header::Caller),
         126 => WireRefusal::BadHeader(Header::Key),
         27 => WireRefusal::BadJson,

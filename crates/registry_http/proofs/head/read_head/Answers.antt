@@ -1,6 +1,5 @@
-use Rattle.std.proofs.Common.{◌++◌, length, refl, ap, arith}
+use Rattle.std.proofs.Common.{◌++◌, length, refl, ap, arith, length-append}
 use Rattle.std.specs.Io.KnownBytes.{Consumes}
-use Rattle.std.proofs.Common.{length-append}
 use Rattle.byte_streams.proofs.StreamLemmas.{consumes_none, consumes_then, all_of}
 use Rattle.registry_http.proofs.HeadLemmas.{has_no_request_nil, no_head_overflow, no_head_full, whole_head}
 use Rattle.registry_http.proofs.head.read_head.Goals as goal
@@ -16,9 +15,9 @@ loop-source-init g c = record {
 pub returns-in-Ok-Complete-clause-whole : goal.returns-in-Ok-Complete-clause-whole
 returns-in-Ok-Complete-clause-whole g c =
     let more = c.in_ok-count.ensures.ok in
-    let buf = c.take_more.new.buffer.items in
+    let buf = c.take_at_most.new.buffer.items in
     let read = c.loop-source.invariant.read in
-    let taken : Consumes (g.R.Source.remaining c.args.source.now) (g.R.Source.remaining c.take_more.new.source) buf = rw more.1 (consumes_then _ _ _ _ more.0 read more.4) in
+    let taken : Consumes (g.R.Source.remaining c.args.source.now) (g.R.Source.remaining c.take_at_most.new.source) buf = rw more.1 (consumes_then _ _ _ _ more.0 read more.4) in
     let at = rw (c.in-Ok-Complete.field-0-is, c.deref.ensures.value) at c.in-Ok-Complete.ensures.complete in
     let within = rw (c.in-Ok-Complete.field-0-is, c.deref.ensures.value) at c.in-Ok-Complete.ensures.within in
     (at.0, whole_head buf _ _ at.0 (omega (arith, length-append c.loop-source.buffer.items more.0, ap length more.1, more.2, more.3)) (omega arith) within at.1, at.1, within, taken)
@@ -26,8 +25,8 @@ returns-in-Ok-Complete-clause-whole g c =
 pub returns-in-Err-clause-missing : goal.returns-in-Err-clause-missing
 returns-in-Err-clause-missing g c =
     let more = c.in_ok-count.ensures.ok in
-    let buf = c.take_more.new.buffer.items in
-    let taken : Consumes (g.R.Source.remaining c.args.source.now) (g.R.Source.remaining c.take_more.new.source) buf = rw more.1 (consumes_then _ _ _ _ more.0 c.loop-source.invariant.read more.4) in
+    let buf = c.take_at_most.new.buffer.items in
+    let taken : Consumes (g.R.Source.remaining c.args.source.now) (g.R.Source.remaining c.take_at_most.new.source) buf = rw more.1 (consumes_then _ _ _ _ more.0 c.loop-source.invariant.read more.4) in
     let all = all_of _ _ buf taken in
     let over = rw c.deref.ensures.value at c.in-Err.ensures.no_room in
     (buf ++ all.0, all.1, no_head_overflow buf all.0 (length c.loop-source.spans) (omega arith) over)

@@ -1,8 +1,8 @@
 use Rattle.std.proofs.Common.{◌≡◌, ◌+◌, Some, None, sym, ◌∙◌, arith, drop, ap}
 use Rattle.toml.specs.View.{view, items_view}
-use Rattle.registry_wire.specs.Founding.{all_of}
-use Rattle.registry_wire.proofs.ItemLemmas.{with_front, items_step, all_more, all_none, all_end}
-use Rattle.registry_wire.proofs.toml_value.all_of.Goals as goal
+use Rattle.registry_wire.specs.Founding.{all_of_kind}
+use Rattle.registry_wire.proofs.ItemLemmas.{with_front, items_step, all_of_kind_more, all_of_kind_none, all_of_kind_end}
+use Rattle.registry_wire.proofs.toml_value.all_of_kind.Goals as goal
 
 pub returns-in-None : goal.returns-in-None
 returns-in-None g c =
@@ -12,8 +12,8 @@ returns-in-None g c =
     let front = c.loop-value.list.items in
     let value = c.value-item.result in
     let read : None ≡ kind (view value) = sym c.in-None.is ∙ c.in_ok-read.ensures in
-    sym (all_none kind front (view value) (items_view (drop (i + 1) values)) read)
-    ∙ (sym (ap (λ items. with_front front (all_of kind items)) (items_step values i value c.loop-value-test.true c.value-item.is)) ∙ c.loop-value.invariant)
+    sym (all_of_kind_none kind front (view value) (items_view (drop (i + 1) values)) read)
+    ∙ (sym (ap (λ items. with_front front (all_of_kind kind items)) (items_step values i value c.loop-value-test.true c.value-item.is)) ∙ c.loop-value.invariant)
 
 pub loop-value-preserved : goal.loop-value-preserved
 loop-value-preserved g c =
@@ -24,8 +24,8 @@ loop-value-preserved g c =
     let value = c.value-item.result in
     let read : Some c.in-Some.read ≡ kind (view value) = sym c.in-Some.is ∙ c.in_ok-read.ensures in
     rw c.in_ok-push-in-Some.ensures.items
-    (sym (all_more kind front c.in-Some.read (view value) (items_view (drop (i + 1) values)) read)
-    ∙ (sym (ap (λ items. with_front front (all_of kind items)) (items_step values i value c.loop-value-test.true c.value-item.is)) ∙ c.loop-value.invariant))
+    (sym (all_of_kind_more kind front c.in-Some.read (view value) (items_view (drop (i + 1) values)) read)
+    ∙ (sym (ap (λ items. with_front front (all_of_kind kind items)) (items_step values i value c.loop-value-test.true c.value-item.is)) ∙ c.loop-value.invariant))
 
 pub returns : goal.returns
-returns g c = sym (all_end g.T.FromToml.kind c.loop-value.list.items c.args.values.now c.loop-value.value-index (omega arith)) ∙ c.loop-value.invariant
+returns g c = sym (all_of_kind_end g.T.FromToml.kind c.loop-value.list.items c.args.values.now c.loop-value.value-index (omega arith)) ∙ c.loop-value.invariant
