@@ -6,5 +6,4 @@ pub mod LineLemmas
 pub mod ReopenLemmas
 pub mod ClosingLemmas
 pub mod ReplyLemmas
-pub mod ReportLemmas
 pub mod ShownLemmas

@@ -7,7 +7,7 @@ use Rattle.registry_http.specs.declared.response.Response.{Response}
 use Rattle.registry_http.specs.declared.refusal.HttpRefusal.{HttpRefusal}
 use Rattle.registry_http.specs.declared.route.Query.{Query}
 use Rattle.registry_http.specs.declared.route.Query.TheVariants as queries
-use Rattle.registry_http.specs.declared.route.Report.TheVariants as reports
+use Rattle.registry_reports.specs.declared.kinds.ReportKind.TheVariants as reports
 use Rattle.registry_http.specs.declared.message.Message.{Message}
 use Rattle.registry_http.specs.declared.message.Message.TheVariants as messages
 use Rattle.registry_http.specs.Messages.{Says}

@@ -25,11 +25,11 @@ use Rattle.registry_reports.proofs.UniqueLemmas.{list_is_one, one}
 use Rattle.registry_tables.specs.Lists.{IsPetitionList, IsVendorList}
 use Rattle.registry_tables.proofs.AscendLemmas.{one_order}
 use Rattle.registry_tables.proofs.ViewLemmas.{same_bytes}
-use Rattle.registry_commands.specs.Reports.{HasReserved, IsCensus, IsHoldersReport, IsPetitionsReport}
+use Rattle.registry_views.specs.Reports.{HasReserved, IsCensus, IsHoldersReport, IsPetitionsReport}
 use Rattle.registry_http.specs.declared.response.Response.{Response}
 use Rattle.registry_http.specs.declared.route.Query.TheVariants as queries
 use Rattle.registry_http.specs.declared.route.Query.{Query}
-use Rattle.registry_http.specs.declared.route.Report.TheVariants as reports
+use Rattle.registry_reports.specs.declared.kinds.ReportKind.TheVariants as reports
 use Rattle.registry_http.specs.declared.message.Message.TheVariants as messages
 use Rattle.registry_http.specs.Responses.{text_response}
 use Rattle.usbids_text.specs.Entries.{TopEntry}

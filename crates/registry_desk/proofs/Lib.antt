@@ -2,6 +2,7 @@ pub mod AskLemmas
 pub mod KeptLemmas
 pub mod LawLemmas
 pub mod OnceLemmas
+pub mod QueryLemmas
 pub mod ReopenLemmas
 pub mod ServeLemmas
 pub mod ServerLemmas

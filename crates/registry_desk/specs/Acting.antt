@@ -1,6 +1,7 @@
 -- The response to a message over a history, and the history after it.
-use Rattle.std.specs.Prelude.{◌≡◌, ◌⊎◌, ⊤, Some, None, Result, Ok, Err, ℕ, List, if◌then◌else◌}
+use Rattle.std.specs.Prelude.{◌≡◌, ◌⊎◌, ⊤, true, Some, None, Result, Ok, Err, IfOk, IfErr, ℕ, List, if◌then◌else◌}
 use Rattle.sqlite.specs.Store.{Ghosts}
+use Rattle.sqlite.specs.State.{HasCleanDisk}
 use Rattle.usbids_text.specs.Entries.{TopEntry}
 use Rattle.usbids_text.specs.Writing.{written}
 use Rattle.registry_rules.specs.History.{History}
@@ -11,19 +12,17 @@ use Rattle.registry_rules.specs.Run.{after_one, reply_to}
 use Rattle.registry_rules.specs.declared.refusal.Refusal.TheVariants.{NoVendor}
 use Rattle.registry_rules.specs.declared.verdict.Reply.TheVariants.{Refused}
 use Rattle.registry_reports.specs.History.{IsListing}
+use Rattle.registry_reports.specs.declared.kinds.ReportKind.{ReportKind}
 use Rattle.registry_tables.specs.Rows.{newest}
 use Rattle.registry_store.specs.declared.fault.Fault.TheVariants as faults
 use Rattle.registry_store.specs.declared.registry.Registry.{Registry as TheRegistry}
-use Rattle.registry_store.specs.Promise.{Leaves, Represents, poisoned_by, state_of}
-use Rattle.registry_commands.specs.Reports.{IsReport}
-use Rattle.registry_commands.specs.declared.reporting.ReportKind.{ReportKind}
-use Rattle.registry_commands.specs.declared.reporting.ReportKind.TheVariants as kinds
+use Rattle.registry_store.specs.Promise.{Leaves, Represents, is_poisoned, poisoned_by, state_of}
+use Rattle.registry_store.specs.Queries.{IsLeft}
+use Rattle.registry_views.specs.Reports.{IsReport}
 use Rattle.registry_http.specs.declared.response.Response.{Response}
 use Rattle.registry_http.specs.declared.refusal.HttpRefusal.{HttpRefusal}
 use Rattle.registry_http.specs.declared.route.Query.{Query}
 use Rattle.registry_http.specs.declared.route.Query.TheVariants as queries
-use Rattle.registry_http.specs.declared.route.Report.{Report}
-use Rattle.registry_http.specs.declared.route.Report.TheVariants as reports
 use Rattle.registry_http.specs.declared.message.Message.{Message}
 use Rattle.registry_http.specs.declared.message.Message.TheVariants as messages
 use Rattle.registry_http.specs.Responses.{refusal_response, reply_response, text_response}
@@ -40,13 +39,9 @@ vendor_number_at h vid pid =
 abbrev pub IsListResponse : History → Response → Type 0
 IsListResponse h response = (doc : List TopEntry) × IsListing h doc × (response ≡ text_response (written doc None))
 
-abbrev pub kind_of : Report → ReportKind
-kind_of reports.Census = kinds.Census
-kind_of reports.Holders = kinds.Holders
-kind_of reports.Petitions = kinds.Petitions
-
-abbrev pub IsReportResponse : History → Report → Response → Type 0
-IsReportResponse h report response = (text : List ℕ) × IsReport (kind_of report) h text × (response ≡ text_response text)
+-- the response has the report of this kind
+abbrev pub IsReportResponse : History → ReportKind → Response → Type 0
+IsReportResponse h kind response = (text : List ℕ) × IsReport kind h text × (response ≡ text_response text)
 
 -- the response to a query; a number without a vendor is one of the founding vendor
 abbrev pub IsQueryResponse : History → Query → Response → Type 0
@@ -56,7 +51,7 @@ IsQueryResponse h (queries.Number None pid) response =
 IsQueryResponse h (queries.Number (Some vid) pid) response = response ≡ vendor_number_at h vid pid
 IsQueryResponse h (queries.Org org) response = response ≡ org_response (org_of h org)
 IsQueryResponse h (queries.Petition id) response = response ≡ petition_response h.founding.vendor id (petition_of h id)
-IsQueryResponse h (queries.Report report) response = IsReportResponse h report response
+IsQueryResponse h (queries.Report kind) response = IsReportResponse h kind response
 
 -- the response to what a message says, over a history
 abbrev pub IsResponse : History → Result Message HttpRefusal → Response → Type 0
@@ -78,6 +73,16 @@ IsOfSoundRegistry (Registry faults.NoMemory) = ⊤
 IsOfSoundRegistry (Registry faults.Foreign) = ⊥
 IsOfSoundRegistry (Registry faults.Taken) = ⊥
 IsOfSoundRegistry (Registry faults.Poisoned) = ⊥
+
+module _ {S : Type 0} {g : Ghosts S} (it new : TheRegistry S g) where
+  -- A query over HTTP: over a clean disk the response is that of each history that the registry represented, and a fault is
+  -- one that a sound registry may have. A poisoned registry gives Poisoned and stays the same value, and no other gives that.
+  pub record IsAsked (result : Result Response DeskFault) (Is : History → Response → Type 0) : Type 0 where
+    pub when_poisoned : is_poisoned it ≡ true → (result ≡ Err (Registry faults.Poisoned)) × (new ≡ it)
+    pub only_poisoned : result ≡ Err (Registry faults.Poisoned) → is_poisoned it ≡ true
+    pub answered : (h : History) → Represents it h → HasCleanDisk (state_of new) → IfOk result (Is h)
+    pub kind : (h : History) → Represents it h → HasCleanDisk (state_of new) → IfErr result IsOfSoundRegistry
+    pub left : IsLeft it new
 
 -- one of the two histories
 abbrev pub IsEither : History → History → History → Type 0

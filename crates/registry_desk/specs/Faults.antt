@@ -2,8 +2,6 @@
 use Rattle.std.specs.Prelude.{ℕ, List, codes, Option, Some, None}
 use Rattle.registry_store.specs.declared.fault.Fault.{Fault}
 use Rattle.registry_store.specs.declared.fault.Fault.TheVariants as faults
-use Rattle.registry_commands.specs.declared.messages.Failure.{Failure}
-use Rattle.registry_commands.specs.declared.messages.Failure.TheVariants as failures
 use Rattle.registry_http.specs.declared.unavailable.Unavailable.{Unavailable}
 use Rattle.registry_http.specs.declared.unavailable.Unavailable.TheVariants as unavailable
 use Rattle.registry_store.specs.Faults as store_faults
@@ -28,14 +26,10 @@ abbrev pub fault_of : DeskFault → Option Fault
 fault_of (Registry fault) = Some fault
 fault_of NoMemory = None
 
--- the fault for a failure of a list or a report, which have no input and no output that could fail
-abbrev pub failed_by : Failure → DeskFault
-failed_by failures.Memory = NoMemory
-failed_by failures.Store = Registry faults.Store
-failed_by failures.File = Registry faults.Store
-failed_by failures.Foreign = Registry faults.Foreign
-failed_by failures.Taken = Registry faults.Taken
-failed_by failures.Poisoned = Registry faults.Poisoned
+-- the fault for one of a list or a report: memory that runs out for it is no fault of the registry
+abbrev pub failed_by : Fault → DeskFault
+failed_by faults.NoMemory = NoMemory
+failed_by fault = Registry fault
 
 -- why a connection is given up
 abbrev pub peer_fault_text : PeerFault → List ℕ

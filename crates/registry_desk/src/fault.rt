@@ -4,7 +4,6 @@ ghost use Rattle.std.specs.Prelude.{◌≡◌};
 ghost use Rattle.registry_desk.specs.declared.fault.DeskFault.TheVariants.{Registry, NoMemory as OutOfMemory};
 ghost use Rattle.registry_desk.specs.Faults.{unavailable_of, fault_of, failed_by};
 
-use registry_commands::Failure;
 use registry_http::Unavailable;
 use registry_store::Fault;
 use usbnum_core::NoMemory;
@@ -58,16 +57,13 @@ pub(crate) fn fault_of(fault: DeskFault) -> Option<Fault>
     }
 }
 
-/// Returns the fault for a failure of a list or a report.
-pub(crate) fn failed_by(failure: Failure) -> DeskFault
-    ensures { result ≡ failed_by failure }
+/// Returns the fault for one of a list or a report. Memory that runs out for it is no fault of the
+/// registry, and does not end a server.
+pub(crate) fn failed_by(fault: Fault) -> DeskFault
+    ensures { result ≡ failed_by fault }
 {
-    match failure {
-        Failure::Memory => DeskFault::NoMemory,
-        Failure::Store => DeskFault::Registry(Fault::Store),
-        Failure::File => DeskFault::Registry(Fault::Store),
-        Failure::Foreign => DeskFault::Registry(Fault::Foreign),
-        Failure::Taken => DeskFault::Registry(Fault::Taken),
-        Failure::Poisoned => DeskFault::Registry(Fault::Poisoned),
+    match fault {
+        Fault::NoMemory => DeskFault::NoMemory,
+        fault => DeskFault::Registry(fault),
     }
 }

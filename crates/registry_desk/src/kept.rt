@@ -4,7 +4,8 @@ ghost use Rattle.std.specs.Prelude.{◌≡◌, None, Some};
 ghost use Rattle.registry_desk.specs.Kept.{kept_after, no_texts, text_for, with_text};
 
 use crate::fault::DeskFault;
-use registry_http::{HttpRefusal, Message, Query, Report, Response};
+use registry_http::{HttpRefusal, Message, Query, Response};
+use registry_reports::ReportKind;
 
 /// The last list and the last report of each kind, each as its whole response.
 #[derive(Drop)]
@@ -35,9 +36,9 @@ impl Kept {
     {
         match query {
             Query::List => self.list.take(),
-            Query::Report(Report::Census) => self.census.take(),
-            Query::Report(Report::Holders) => self.holders.take(),
-            Query::Report(Report::Petitions) => self.petitions.take(),
+            Query::Report(ReportKind::Census) => self.census.take(),
+            Query::Report(ReportKind::Holders) => self.holders.take(),
+            Query::Report(ReportKind::Petitions) => self.petitions.take(),
             Query::Number { .. } | Query::Org(_) | Query::Petition(_) => None,
         }
     }
@@ -48,9 +49,9 @@ impl Kept {
     {
         match query {
             Query::List => self.list = Some(response),
-            Query::Report(Report::Census) => self.census = Some(response),
-            Query::Report(Report::Holders) => self.holders = Some(response),
-            Query::Report(Report::Petitions) => self.petitions = Some(response),
+            Query::Report(ReportKind::Census) => self.census = Some(response),
+            Query::Report(ReportKind::Holders) => self.holders = Some(response),
+            Query::Report(ReportKind::Petitions) => self.petitions = Some(response),
             Query::Number { .. } | Query::Org(_) | Query::Petition(_) => {}
         }
     }

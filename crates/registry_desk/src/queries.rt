@@ -1,31 +1,27 @@
 //! Returns the responses to queries, with one function for each kind.
 
-ghost use Rattle.std.specs.Prelude.{◌≡◌, true, None, Err, IfOk, IfErr};
-ghost use Rattle.sqlite.specs.State.{HasCleanDisk};
+ghost use Rattle.std.specs.Prelude.{◌≡◌, None, IfOk, IfErr};
 ghost use Rattle.usbids_text.specs.Writing.{written};
-ghost use Rattle.registry_rules.specs.History.{History};
 ghost use Rattle.registry_rules.specs.Number.{number};
-ghost use Rattle.registry_rules.specs.Query.{is_reserved, has_vendor, org_of, petition_of};
+ghost use Rattle.registry_rules.specs.Query.{is_reserved, org_of, petition_of};
 ghost use Rattle.registry_rules.specs.Records.{entry_of};
 ghost use Rattle.registry_rules.specs.declared.verdict.Reply.TheVariants as replies;
 ghost use Rattle.registry_rules.specs.declared.refusal.Refusal.TheVariants as rule_refusals;
-ghost use Rattle.registry_store.specs.Promise.{Represents, is_poisoned, state_of};
-ghost use Rattle.registry_store.specs.declared.fault.Fault.TheVariants as faults;
-ghost use Rattle.registry_store.specs.Queries.{IsLeft};
 ghost use Rattle.registry_http.specs.Responses.{reply_response, text_response};
 ghost use Rattle.registry_http.specs.Resources.{number_response, org_response, petition_response};
 ghost use Rattle.registry_desk.specs.declared.fault.DeskFault.TheVariants as desk_faults;
-ghost use Rattle.registry_desk.specs.Acting.{IsListResponse, IsQueryResponse, IsReportResponse, IsOfSoundRegistry, kind_of, vendor_number_at};
+ghost use Rattle.registry_desk.specs.Acting.{IsAsked, IsListResponse, IsQueryResponse, IsReportResponse, vendor_number_at};
 
 use crate::fault::{DeskFault, failed_by};
 use byte_streams::Outlet;
-use registry_commands::{ReportKind, document_of, report_of};
 use registry_http::{
-    Query, Report, Response, number_response, org_response, petition_response, reply_response,
+    Query, Response, number_response, org_response, petition_response, reply_response,
     text_response,
 };
+use registry_reports::ReportKind;
 use registry_rules::{Refusal, Reply};
 use registry_store::Registry;
+use registry_views::{document_of, report_of};
 use sqlite::Alter;
 use std::alloc::Global;
 use usbids_text::{Document, WriteFault, write};
@@ -39,11 +35,7 @@ fn ask_number<S: Alter>(
     vid: Vid,
     pid: Pid,
 ) -> Result<Response, DeskFault>
-    ensures answered { (h : History) → Represents registry.old h → HasCleanDisk (state_of registry.new) → IfOk result (λ response. response ≡ number_response vendor pid (is_reserved h (number vid pid)) (entry_of h (number vid pid))) }
-    ensures kind { (h : History) → Represents registry.old h → HasCleanDisk (state_of registry.new) → IfErr result IsOfSoundRegistry }
-    ensures left { IsLeft registry.old registry.new }
-    ensures only_poisoned { result ≡ Err (desk_faults.Registry faults.Poisoned) → is_poisoned registry.old ≡ true }
-    ensures when_poisoned { is_poisoned registry.old ≡ true → (result ≡ Err (desk_faults.Registry faults.Poisoned)) × (registry.new ≡ registry.old) }
+    ensures { IsAsked registry.old registry.new result (λ h response. response ≡ number_response vendor pid (is_reserved h (number vid pid)) (entry_of h (number vid pid))) }
 {
     let reserved = registry.is_reserved(Number { vid, pid })?;
     let entry = registry.entry(Number { vid, pid })?;
@@ -65,11 +57,7 @@ fn ask_vendor_number<S: Alter>(
     vid: Vid,
     pid: Pid,
 ) -> Result<Response, DeskFault>
-    ensures answered { (h : History) → Represents registry.old h → HasCleanDisk (state_of registry.new) → IfOk result (λ response. response ≡ vendor_number_at h vid pid) }
-    ensures kind { (h : History) → Represents registry.old h → HasCleanDisk (state_of registry.new) → IfErr result IsOfSoundRegistry }
-    ensures left { IsLeft registry.old registry.new }
-    ensures only_poisoned { result ≡ Err (desk_faults.Registry faults.Poisoned) → is_poisoned registry.old ≡ true }
-    ensures when_poisoned { is_poisoned registry.old ≡ true → (result ≡ Err (desk_faults.Registry faults.Poisoned)) × (registry.new ≡ registry.old) }
+    ensures { IsAsked registry.old registry.new result (λ h response. response ≡ vendor_number_at h vid pid) }
 {
     if registry.has_vendor(vid)? {
         ask_number(alloc, registry, Some(vid), vid, pid)
@@ -84,11 +72,7 @@ fn ask_org<S: Alter>(
     registry: &mut Registry<S>,
     slug: &Slug,
 ) -> Result<Response, DeskFault>
-    ensures answered { (h : History) → Represents registry.old h → HasCleanDisk (state_of registry.new) → IfOk result (λ response. response ≡ org_response (org_of h slug.now)) }
-    ensures kind { (h : History) → Represents registry.old h → HasCleanDisk (state_of registry.new) → IfErr result IsOfSoundRegistry }
-    ensures left { IsLeft registry.old registry.new }
-    ensures only_poisoned { result ≡ Err (desk_faults.Registry faults.Poisoned) → is_poisoned registry.old ≡ true }
-    ensures when_poisoned { is_poisoned registry.old ≡ true → (result ≡ Err (desk_faults.Registry faults.Poisoned)) × (registry.new ≡ registry.old) }
+    ensures { IsAsked registry.old registry.new result (λ h response. response ≡ org_response (org_of h slug.now)) }
 {
     let org = registry.org(slug)?;
     Ok(org_response(alloc, org.as_ref())?)
@@ -100,11 +84,7 @@ fn ask_petition<S: Alter>(
     registry: &mut Registry<S>,
     id: u32,
 ) -> Result<Response, DeskFault>
-    ensures answered { (h : History) → Represents registry.old h → HasCleanDisk (state_of registry.new) → IfOk result (λ response. response ≡ petition_response h.founding.vendor id (petition_of h id)) }
-    ensures kind { (h : History) → Represents registry.old h → HasCleanDisk (state_of registry.new) → IfErr result IsOfSoundRegistry }
-    ensures left { IsLeft registry.old registry.new }
-    ensures only_poisoned { result ≡ Err (desk_faults.Registry faults.Poisoned) → is_poisoned registry.old ≡ true }
-    ensures when_poisoned { is_poisoned registry.old ≡ true → (result ≡ Err (desk_faults.Registry faults.Poisoned)) × (registry.new ≡ registry.old) }
+    ensures { IsAsked registry.old registry.new result (λ h response. response ≡ petition_response h.founding.vendor id (petition_of h id)) }
 {
     let founding = registry.founding().vendor;
     let petition = registry.petition(id)?;
@@ -125,25 +105,11 @@ fn list_response(alloc: Global, document: &Document) -> Result<Response, DeskFau
 
 /// Returns the response with the list of the held numbers.
 fn ask_list<S: Alter>(alloc: Global, registry: &mut Registry<S>) -> Result<Response, DeskFault>
-    ensures answered { (h : History) → Represents registry.old h → HasCleanDisk (state_of registry.new) → IfOk result (IsListResponse h) }
-    ensures kind { (h : History) → Represents registry.old h → HasCleanDisk (state_of registry.new) → IfErr result IsOfSoundRegistry }
-    ensures left { IsLeft registry.old registry.new }
-    ensures only_poisoned { result ≡ Err (desk_faults.Registry faults.Poisoned) → is_poisoned registry.old ≡ true }
-    ensures when_poisoned { is_poisoned registry.old ≡ true → (result ≡ Err (desk_faults.Registry faults.Poisoned)) × (registry.new ≡ registry.old) }
+    ensures { IsAsked registry.old registry.new result (λ h response. IsListResponse h response) }
 {
     match document_of(alloc, registry) {
         Ok(document) => list_response(alloc, &document),
-        Err(failure) => Err(failed_by(failure)),
-    }
-}
-
-fn kind_of(report: Report) -> ReportKind
-    ensures { result ≡ kind_of report }
-{
-    match report {
-        Report::Census => ReportKind::Census,
-        Report::Holders => ReportKind::Holders,
-        Report::Petitions => ReportKind::Petitions,
+        Err(fault) => Err(failed_by(fault)),
     }
 }
 
@@ -151,17 +117,13 @@ fn kind_of(report: Report) -> ReportKind
 fn ask_report<S: Alter>(
     alloc: Global,
     registry: &mut Registry<S>,
-    report: Report,
+    kind: ReportKind,
 ) -> Result<Response, DeskFault>
-    ensures answered { (h : History) → Represents registry.old h → HasCleanDisk (state_of registry.new) → IfOk result (IsReportResponse h report) }
-    ensures kind { (h : History) → Represents registry.old h → HasCleanDisk (state_of registry.new) → IfErr result IsOfSoundRegistry }
-    ensures left { IsLeft registry.old registry.new }
-    ensures only_poisoned { result ≡ Err (desk_faults.Registry faults.Poisoned) → is_poisoned registry.old ≡ true }
-    ensures when_poisoned { is_poisoned registry.old ≡ true → (result ≡ Err (desk_faults.Registry faults.Poisoned)) × (registry.new ≡ registry.old) }
+    ensures { IsAsked registry.old registry.new result (λ h response. IsReportResponse h kind response) }
 {
-    match report_of(alloc, registry, kind_of(report)) {
+    match report_of(alloc, registry, kind) {
         Ok(text) => Ok(text_response(text.into_bytes())),
-        Err(failure) => Err(failed_by(failure)),
+        Err(fault) => Err(failed_by(fault)),
     }
 }
 
@@ -171,11 +133,7 @@ pub(crate) fn ask<S: Alter>(
     registry: &mut Registry<S>,
     query: &Query,
 ) -> Result<Response, DeskFault>
-    ensures answered { (h : History) → Represents registry.old h → HasCleanDisk (state_of registry.new) → IfOk result (IsQueryResponse h query.now) }
-    ensures kind { (h : History) → Represents registry.old h → HasCleanDisk (state_of registry.new) → IfErr result IsOfSoundRegistry }
-    ensures left { IsLeft registry.old registry.new }
-    ensures only_poisoned { result ≡ Err (desk_faults.Registry faults.Poisoned) → is_poisoned registry.old ≡ true }
-    ensures when_poisoned { is_poisoned registry.old ≡ true → (result ≡ Err (desk_faults.Registry faults.Poisoned)) × (registry.new ≡ registry.old) }
+    ensures { IsAsked registry.old registry.new result (λ h response. IsQueryResponse h query.now response) }
 {
     match query {
         Query::Number { vendor, pid } => match vendor {
@@ -188,6 +146,6 @@ pub(crate) fn ask<S: Alter>(
         Query::List => ask_list(alloc, registry),
         Query::Org(slug) => ask_org(alloc, registry, slug),
         Query::Petition(id) => ask_petition(alloc, registry, *id),
-        Query::Report(report) => ask_report(alloc, registry, *report),
+        Query::Report(kind) => ask_report(alloc, registry, *kind),
     }
 }

@@ -11,10 +11,9 @@ use Rattle.matchit.specs.declared.error.InsertError.{InsertError}
 use Rattle.usbnum_core.specs.Number.{number_of}
 use Rattle.registry_http.specs.Fields.{length_of}
 use Rattle.registry_wire.specs.Kinds.{slug_of}
+use Rattle.registry_reports.specs.Kinds.{report_named}
 use Rattle.registry_http.specs.declared.routes.Template.{Template}
 use Rattle.registry_http.specs.declared.routes.Template.TheVariants as at
-use Rattle.registry_http.specs.declared.route.Report.{Report}
-use Rattle.registry_http.specs.declared.route.Report.TheVariants as reports
 use Rattle.registry_http.specs.declared.route.Query.TheVariants as queries
 use Rattle.registry_http.specs.declared.route.Endpoint.TheVariants as endpoints
 use Rattle.registry_http.specs.declared.route.Route.{Route}
@@ -72,13 +71,6 @@ below_2_32 n = if nat_lt n 4294967296 then Some n else None
 unfoldable pub petition_written : List ℕ → Option ℕ
 petition_written text = if starts_with_zero text then None else option_and_then below_2_32 (length_of text)
 
-unfoldable pub report_of : List ℕ → Option Report
-report_of name =
-    if bytes_eq name (codes "census") then Some reports.Census
-    else if bytes_eq name (codes "holders") then Some reports.Holders
-    else if bytes_eq name (codes "petitions") then Some reports.Petitions
-    else None
-
 unfoldable pub number_route : Option (List ℕ) → Option Route
 number_route part = option_map (λ pid. Get (queries.Number None pid)) (option_and_then number_of part)
 
@@ -98,7 +90,7 @@ unfoldable pub petition_route : Option (List ℕ) → Option Route
 petition_route part = option_map (λ id. Get (queries.Petition id)) (option_and_then petition_written part)
 
 unfoldable pub report_route : Option (List ℕ) → Option Route
-report_route part = option_map (λ report. Get (queries.Report report)) (option_and_then report_of part)
+report_route part = option_map (λ report. Get (queries.Report report)) (option_and_then report_named part)
 
 -- the route of a path with this template and these parts
 abbrev pub route_for : Template → Option (List ℕ) → Option (List ℕ) → Option Route

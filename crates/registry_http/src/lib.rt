@@ -23,6 +23,6 @@ pub use message::{Message, read_message, says_one_thing};
 pub use refusal::{Allow, HttpRefusal};
 pub use resources::{number_response, org_response, petition_response};
 pub use response::{Body, ContentType, Response, refusal_response, reply_response, text_response};
-pub use route::{Query, Report};
+pub use route::Query;
 pub use unavailable::Unavailable;
 pub use write::{write_response, write_unavailable};

@@ -2,10 +2,11 @@
 
 ghost use Rattle.std.specs.Prelude.{◌≡◌, IfOk, option_copied};
 ghost use Rattle.registry_wire.specs.Kinds.{slug_of};
-ghost use Rattle.registry_http.specs.Routes.{starts_with_zero, petition_written, report_of, number_route, vendor_number_route, import_route, vendor_import_route, org_route, petition_route, report_route};
+ghost use Rattle.registry_http.specs.Routes.{starts_with_zero, petition_written, number_route, vendor_number_route, import_route, vendor_import_route, org_route, petition_route, report_route};
 
 use crate::fields::length_of;
-use crate::route::{Endpoint, Query, Report, Route};
+use crate::route::{Endpoint, Query, Route};
+use registry_reports::report_named;
 use std::alloc::Global;
 use usbnum_core::{NoMemory, Slug, parse_pid, parse_vid};
 
@@ -42,21 +43,6 @@ fn petition_written(text: &[u8]) -> Option<u32>
     }
 }
 
-#[tactic(auto, unfolding(crate::specs::Routes::report_of))]
-fn report_of(name: &str) -> Option<Report>
-    ensures { result ≡ report_of name.now }
-{
-    if name == "census" {
-        Some(Report::Census)
-    } else if name == "holders" {
-        Some(Report::Holders)
-    } else if name == "petitions" {
-        Some(Report::Petitions)
-    } else {
-        None
-    }
-}
-
 #[tactic(auto, unfolding(crate::specs::Routes::number_route))]
 pub(crate) fn number_route(pid: Option<&str>) -> Option<Route>
     ensures { result ≡ number_route (option_copied pid.entry) }
@@ -89,7 +75,7 @@ pub(crate) fn petition_route(id: Option<&str>) -> Option<Route>
 pub(crate) fn report_route(name: Option<&str>) -> Option<Route>
     ensures { result ≡ report_route (option_copied name.entry) }
 {
-    let report = report_of(name?)?;
+    let report = report_named(name?)?;
     Some(Route::Get(Query::Report(report)))
 }
 

@@ -1,17 +1,7 @@
 //! Routes: the query or endpoint of a path.
 
+use registry_reports::ReportKind;
 use usbnum_core::{Pid, Slug, Vid};
-
-/// A report, by its name.
-#[derive(Clone, Copy, Debug, PartialEq, Eq)]
-pub enum Report {
-    /// How many numbers of each vendor are free, reserved, held and returned.
-    Census,
-    /// How many numbers each organisation holds, and how many it returned.
-    Holders,
-    /// The open petitions.
-    Petitions,
-}
 
 /// A query to the registry, which does not change it.
 #[derive(Drop)]
@@ -25,7 +15,7 @@ pub enum Query {
     /// The petition with this number.
     Petition(u32),
     /// A report on the whole registry.
-    Report(Report),
+    Report(ReportKind),
 }
 
 /// The endpoint to which an order is sent.

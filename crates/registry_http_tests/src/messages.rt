@@ -3,9 +3,8 @@
 use crate::ends::Drip;
 use crate::responses::response_text;
 use byte_streams::{Inlet, Source};
-use registry_http::{
-    HttpRefusal, Message, MessageFault, Query, Report, read_message, refusal_response,
-};
+use registry_http::{HttpRefusal, Message, MessageFault, Query, read_message, refusal_response};
+use registry_reports::ReportKind;
 use row_records::canonical;
 use row_texts::{RowFault, text_of};
 use std::alloc::Global;
@@ -18,11 +17,11 @@ fn number_text(alloc: Global, vendor: Option<Vid>, pid: Pid) -> Result<Vec<u8>, 
     }
 }
 
-fn report_text(alloc: Global, report: Report) -> Result<Vec<u8>, RowFault> {
+fn report_text(alloc: Global, report: ReportKind) -> Result<Vec<u8>, RowFault> {
     match report {
-        Report::Census => text_of(alloc, "census"),
-        Report::Holders => text_of(alloc, "holders"),
-        Report::Petitions => text_of(alloc, "petitions"),
+        ReportKind::Census => text_of(alloc, "census"),
+        ReportKind::Holders => text_of(alloc, "holders"),
+        ReportKind::Petitions => text_of(alloc, "petitions"),
     }
 }
 

@@ -32,8 +32,8 @@ use Rattle.registry_arguments.specs.declared.command.Command.{Command}
 use Rattle.registry_arguments.specs.declared.command.Command.TheVariants as command
 use Rattle.registry_commands.specs.Failures.{IsOfMemory, IsOfOutput}
 use Rattle.registry_commands.specs.declared.arguments.BadArgument.{BadArgument}
-use Rattle.registry_commands.specs.declared.reporting.ReportKind.{ReportKind}
-use Rattle.registry_commands.specs.Reports.{report_named}
+use Rattle.registry_reports.specs.declared.kinds.ReportKind.{ReportKind}
+use Rattle.registry_reports.specs.Kinds.{report_named}
 use Rattle.registry_desk.specs.declared.server.Connections as connections
 use Rattle.registry_desk.specs.declared.server.ServerStop.{ServerStop}
 use Rattle.registry_desk.specs.declared.server.ServerStop.TheVariants as stops

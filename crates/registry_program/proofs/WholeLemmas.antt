@@ -27,10 +27,10 @@ use Rattle.registry_arguments.specs.declared.command.Command.TheVariants as comm
 use Rattle.registry_commands.specs.declared.arguments.BadArgument.{BadArgument}
 use Rattle.registry_commands.specs.declared.importing.Import.{Import}
 use Rattle.registry_commands.specs.declared.messages.Failure.{Failure}
-use Rattle.registry_commands.specs.declared.reporting.ReportKind.{ReportKind}
+use Rattle.registry_reports.specs.declared.kinds.ReportKind.{ReportKind}
 use Rattle.registry_commands.specs.Failures.{ErrorOutput, IsOfClosing, IsOfStore, PrintsFailure}
 use Rattle.registry_commands.specs.Found.{IsFoundedBy}
-use Rattle.registry_commands.specs.Reports.{report_named}
+use Rattle.registry_reports.specs.Kinds.{report_named}
 use Rattle.registry_commands.proofs.FailureLemmas.{of_store, tells_more}
 use Rattle.registry_commands.proofs.ApplyLemmas.{applied_endures}
 use Rattle.registry_desk.specs.declared.server.Connections as connections

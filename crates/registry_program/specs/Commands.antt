@@ -19,7 +19,7 @@ use Rattle.registry_commands.specs.declared.arguments.BadArgument.TheVariants.{N
 use Rattle.registry_commands.specs.declared.importing.Import.{Import}
 use Rattle.registry_commands.specs.declared.messages.Failure.{Failure}
 use Rattle.registry_commands.specs.declared.messages.Failure.TheVariants.{Memory}
-use Rattle.registry_commands.specs.declared.reporting.ReportKind.{ReportKind}
+use Rattle.registry_reports.specs.declared.kinds.ReportKind.{ReportKind}
 use Rattle.registry_commands.specs.Apply.{IsApplied, IsUnread}
 use Rattle.registry_commands.specs.Failures.{IsOfInput, IsOfOutput, IsTooLong, Prints, PrintsFailure}
 use Rattle.registry_commands.specs.Found.{IsFoundedBy}

@@ -6,7 +6,7 @@ use Rattle.byte_streams.specs.declared.streams.Source as source
 use Rattle.usbnum_core.specs.Number.{code_of, number_of}
 use Rattle.registry_arguments.specs.declared.command.Command.{Command}
 use Rattle.registry_arguments.specs.declared.command.Command.TheVariants as command
-use Rattle.registry_commands.specs.Reports.{report_named}
+use Rattle.registry_reports.specs.Kinds.{report_named}
 use Rattle.registry_desk.specs.declared.server.Connections as connections
 use Rattle.registry_program.specs.declared.host.Host as host
 use Rattle.registry_program.specs.Commands.{Applies, Exports, Founds, Imports, LooksUp, ReportsAs, Tries}

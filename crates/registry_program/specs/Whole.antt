@@ -29,13 +29,14 @@ use Rattle.registry_commands.specs.declared.arguments.BadArgument.TheVariants.{N
 use Rattle.registry_commands.specs.declared.importing.Import.{Import}
 use Rattle.registry_commands.specs.declared.messages.Failure.{Failure}
 use Rattle.registry_commands.specs.declared.messages.Failure.TheVariants.{Memory}
-use Rattle.registry_commands.specs.declared.reporting.ReportKind.{ReportKind}
+use Rattle.registry_reports.specs.declared.kinds.ReportKind.{ReportKind}
 use Rattle.registry_commands.specs.Apply.{lines_between}
 use Rattle.registry_commands.specs.Failures.{IsOfStore, PrintsFailure}
 use Rattle.registry_commands.specs.Imports.{AreOfImport, IsFirstBad, request_of, status_of}
 use Rattle.registry_commands.specs.Lines.{requests_in}
 use Rattle.registry_commands.specs.Messages.{reply_line}
-use Rattle.registry_commands.specs.Reports.{IsReport, report_named}
+use Rattle.registry_reports.specs.Kinds.{report_named}
+use Rattle.registry_views.specs.Reports.{IsReport}
 use Rattle.registry_desk.specs.declared.server.Connections as connections
 use Rattle.registry_desk.specs.Server.{HaveVisited, IsLeftAfter, Visit}
 use Rattle.registry_program.specs.declared.host.Host as host

@@ -2,16 +2,15 @@
 
 ghost use Rattle.std.specs.Prelude.{option_copied};
 ghost use Rattle.usbnum_core.specs.Number.{code_of, number_of};
-ghost use Rattle.registry_commands.specs.Reports.{report_named};
+ghost use Rattle.registry_reports.specs.Kinds.{report_named};
 ghost use Rattle.registry_program.specs.Commands.{Exports, IsStampOf, LooksUp, ReportsAs};
 ghost use Rattle.registry_program.specs.Outputs.{ends_of};
 
 use crate::host::Host;
 use crate::stores::{close_registry, open_registry};
 use byte_streams::Sink;
-use registry_commands::{
-    BadArgument, export, fail, look_up, reject_argument, report, report_named,
-};
+use registry_commands::{BadArgument, export, fail, look_up, reject_argument, report};
+use registry_reports::report_named;
 use registry_wire::stamp_from_text;
 use std::alloc::Global;
 use usbids_text::Stamp;

@@ -6,3 +6,4 @@ pub mod Census
 pub mod History
 pub mod Tallies
 pub mod Holders
+pub mod Kinds

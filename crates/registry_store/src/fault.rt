@@ -2,10 +2,12 @@
 
 ghost use Rattle.std.specs.Prelude.{◌≡◌, ◌≢◌, ◌↔◌, Some};
 ghost use Rattle.registry_store.specs.Faults.{fault_text};
+ghost use Rattle.registry_store.specs.declared.fault.Fault.TheVariants.{NoMemory as OutOfMemory};
 
 use registry_tables::TableFault;
 use std::error::Error;
 use std::fmt;
+use usbnum_core::NoMemory;
 
 /// Why a call of a registry fails.
 #[derive(Clone, Copy, Debug, Drop, PartialEq, Eq)]
@@ -39,6 +41,14 @@ impl fmt::Display for Fault {
 }
 
 impl Error for Fault {}
+
+impl From<NoMemory> for Fault {
+    ghost from_gives = { λ _ fault. fault ≡ OutOfMemory };
+
+    fn from(_error: NoMemory) -> Fault {
+        Fault::NoMemory
+    }
+}
 
 /// Maps a fault of the tables to a fault of the registry.
 pub(crate) fn fault_of(fault: TableFault) -> Fault

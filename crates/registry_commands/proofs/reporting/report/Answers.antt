@@ -1,7 +1,9 @@
-use Rattle.std.proofs.Common.{◌≡◌, inl, inr, refl}
+use Rattle.std.proofs.Common.{◌≡◌, ◌∙◌, inl, inr, refl, ap}
 use Rattle.std.specs.String.{string_bytes}
-use Rattle.registry_commands.specs.declared.messages.Failure.TheVariants.{Poisoned}
+use Rattle.registry_store.specs.declared.fault.Fault.TheVariants.{Poisoned}
+use Rattle.registry_commands.specs.Messages.{failure_of}
 use Rattle.registry_commands.proofs.ApplyLemmas.{keeps_same}
+use Rattle.registry_commands.proofs.ShownLemmas.{of_query}
 use Rattle.registry_commands.proofs.reporting.report.Goals as goal
 
 pub returns-in-Ok : goal.returns-in-Ok
@@ -14,9 +16,9 @@ returns-in-Ok g c = record {
 pub returns-in-Err : goal.returns-in-Err
 returns-in-Err g c = record {
   left = c.in-Err.ensures.left;
-  shown = inr (c.fail.ensures.status, keeps_same _, (c.in-Err.failure, c.in-Err.ensures.failure, c.fail.ensures.told));
+  shown = inr (c.fail.ensures.status, keeps_same _, (c.failure_of.result, rw c.failure_of.ensures (of_query c.in-Err.fault c.in-Err.ensures), c.fail.ensures.told));
   poisoned = λ e.
       let failed = c.in-Err.ensures.when_poisoned e in
-      let spent : c.in-Err.failure ≡ Poisoned = cc failed.0 in
-      (c.fail.ensures.status, failed.1, refl, (c.in-Err.failure, spent, c.fail.ensures.told));
+      let spent : c.in-Err.fault ≡ Poisoned = cc failed.0 in
+      (c.fail.ensures.status, failed.1, refl, (c.failure_of.result, c.failure_of.ensures ∙ ap failure_of spent, c.fail.ensures.told));
 }

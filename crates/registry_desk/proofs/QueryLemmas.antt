@@ -1,0 +1,70 @@
+-- The response to a query, by what the registry found.
+use Rattle.std.proofs.Common.{◌≡◌, Result, Ok, Err, ◌⊎◌, inl, inr, refl, sym, ap, subst}
+use Rattle.std.specs.Prelude.{IfOk, IfErr}
+use Rattle.sqlite.specs.Store.{Ghosts}
+use Rattle.registry_rules.specs.History.{History}
+use Rattle.registry_store.specs.declared.fault.Fault.{Fault}
+use Rattle.registry_store.specs.declared.fault.Fault.TheVariants as faults
+use Rattle.registry_store.specs.declared.registry.Registry.{Registry as TheRegistry}
+use Rattle.registry_store.specs.Promise.{Represents}
+use Rattle.registry_store.specs.Queries.{IsQuery}
+use Rattle.registry_http.specs.declared.response.Response.{Response}
+use Rattle.registry_desk.specs.declared.fault.DeskFault.{DeskFault}
+use Rattle.registry_desk.specs.declared.fault.DeskFault.TheVariants.{NoMemory, Registry}
+use Rattle.registry_desk.specs.Acting.{IsAsked, IsOfSoundRegistry}
+use Rattle.registry_desk.specs.Faults.{failed_by}
+
+module _ {S : Type 0} {g : Ghosts S} {it new : TheRegistry S g} {A : Type 0} {Is : History → A → Type 0} {To : History → Response → Type 0} where
+  -- a response is made of what was found
+  pub answers : {found : A} {response : Response} → IsQuery it new (Ok found) Is → ((h : History) → Represents it h → Is h found → To h response) → IsAsked it new (Ok response) To
+  answers {found} {response} q make = record {
+    when_poisoned = λ is. let failed = q.when_poisoned is in absurd (cc failed.0);
+    only_poisoned = λ never. absurd cc;
+    answered = λ h stands clean. make h stands (q.answered h stands clean);
+    kind = λ h stands clean. tt;
+    left = q.left;
+  }
+
+  -- memory runs out for it
+  pub lacks_memory : {found : A} → IsQuery it new (Ok found) Is → IsAsked it new (Err NoMemory) To
+  lacks_memory {found} q = record {
+    when_poisoned = λ is. let failed = q.when_poisoned is in absurd (cc failed.0);
+    only_poisoned = λ never. absurd cc;
+    answered = λ h stands clean. tt;
+    kind = λ h stands clean. tt;
+    left = q.left;
+  }
+
+  -- one or the other
+  pub told : {found : A} (result : Result Response DeskFault) → IsQuery it new (Ok found) Is → IfErr result (λ fault. fault ≡ NoMemory)
+      → ((h : History) → Represents it h → Is h found → IfOk result (To h)) → IsAsked it new result To
+  told {found} (Ok response) q err make = answers q make
+  told {found} (Err fault) q err make = subst (λ (f : DeskFault). IsAsked it new (Err f) To) (sym err) (lacks_memory q)
+
+  of_sound : (e : Fault) → (e ≡ faults.Store) ⊎ (e ≡ faults.NoMemory) → IsOfSoundRegistry (Registry e)
+  of_sound e (inl is) = subst (λ (f : Fault). IsOfSoundRegistry (Registry f)) (sym is) tt
+  of_sound e (inr is) = subst (λ (f : Fault). IsOfSoundRegistry (Registry f)) (sym is) tt
+
+  -- the fault of a query
+  pub failed : {e : Fault} → IsQuery it new (Err e) Is → IsAsked it new (Err (Registry e)) To
+  failed {e} q = record {
+    when_poisoned = λ is. let spent = q.when_poisoned is in let same : e ≡ faults.Poisoned = cc spent.0 in (ap (λ (f : Fault). Err (Registry f)) same, spent.1);
+    only_poisoned = λ is. let same : e ≡ faults.Poisoned = cc is in q.only_poisoned (ap Err same);
+    answered = λ h stands clean. tt;
+    kind = λ h stands clean. of_sound e (q.kind h stands clean);
+    left = q.left;
+  }
+
+  -- and that of a list or a report
+  pub failed_view : (e : Fault) → IsQuery it new (Err e) Is → IsAsked it new (Err (failed_by e)) To
+  failed_view faults.Store q = failed q
+  failed_view faults.NoMemory q = record {
+    when_poisoned = λ is. let spent = q.when_poisoned is in absurd (cc spent.0);
+    only_poisoned = λ never. absurd cc;
+    answered = λ h stands clean. tt;
+    kind = λ h stands clean. tt;
+    left = q.left;
+  }
+  failed_view faults.Foreign q = failed q
+  failed_view faults.Taken q = failed q
+  failed_view faults.Poisoned q = failed q
