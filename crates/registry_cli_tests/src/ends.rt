@@ -3,7 +3,7 @@
 use crate::texts::add_bytes;
 use byte_streams::{Inlet, Outlet, Source};
 use registry_commands::apply_lines;
-use registry_desk::{PeerFault, serve_one};
+use registry_desk::serve_one;
 use registry_store::Registry;
 use sqlite::Alter;
 use std::alloc::Global;
@@ -83,9 +83,9 @@ pub fn add_response<R: Source, S: Alter>(
 ) -> bool {
     let mut sink = narrowed(alloc, most);
     let told = match serve_one(alloc, source, &mut sink, registry) {
-        Ok(_) => "",
-        Err(PeerFault::Read) => "Read:",
-        Err(PeerFault::Write) => "Write:",
+        Ok(served) if served.status.is_ok() => "",
+        Ok(_) => "Write:",
+        Err(_) => "Read:",
     };
     text.push_str(told).is_ok() && add_taken(sink, text)
 }

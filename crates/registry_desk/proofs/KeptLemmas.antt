@@ -15,7 +15,7 @@ use Rattle.registry_http.proofs.MessageLemmas.{one_thing}
 use Rattle.registry_desk.specs.declared.fault.DeskFault.{DeskFault}
 use Rattle.registry_desk.specs.declared.fault.DeskFault.TheVariants.{NoMemory, Registry}
 use Rattle.registry_desk.specs.declared.kept.Kept.{Kept}
-use Rattle.registry_desk.specs.declared.serve.Exchange.{Exchange}
+use Rattle.registry_desk.specs.declared.serve.Served.{Served}
 use Rattle.registry_desk.specs.Acting.{IsQueryResponse, IsResponse, IsEither, after_message}
 use Rattle.registry_desk.specs.Serving.{IsNext}
 use Rattle.registry_desk.specs.Kept.{no_texts, text_for, with_text, kept_beside, kept_after, AreTextsOf, AreTextsAfter, AreTextsAfterVisit}
@@ -103,8 +103,8 @@ none_after kept mid new (Ok response) (Ok (messages.Query query)) beside after n
 none_after kept mid new (Ok response) (Ok (messages.Request request)) beside after none away = after
 
 -- the history after a connection is one that its bytes lead to
-pub texts_after_visit : (h : History) (bytes text : List ℕ) (exchange : Exchange) (kept : Kept) → AreTextsAfter h bytes kept → AreTextsAfterVisit h (record { bytes = bytes; text = text; end = Ok exchange }) kept
-texts_after_visit h bytes text exchange kept are = λ next turn. elim turn [
+pub texts_after_visit : (h : History) (bytes text : List ℕ) (served : Served) (kept : Kept) → AreTextsAfter h bytes kept → AreTextsAfterVisit h (record { bytes = bytes; text = text; end = Ok served }) kept
+texts_after_visit h bytes text served kept are = λ next turn. elim turn [
   | inl it ↦ are next (inr (it.said, it.says, it.next_is, λ other. absurd (other refl)))
   | inr it ↦ are next it.next_is
 ]

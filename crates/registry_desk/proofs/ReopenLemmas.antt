@@ -2,6 +2,7 @@
 use Rattle.std.proofs.Common.{◌≡◌, ◌⊎◌, ℕ, inl, inr, List, [], ◌∷◌, ◌++◌, Option, Some, None, refl, sym, subst, ◌∙◌}
 use Rattle.std.specs.Prelude.{◌≢◌, Result, Ok, Err, IfOk, IfSome}
 use Rattle.std.proofs.Math.Logic.{∥∥₁_map}
+use Rattle.std.specs.Result.{result_ok}
 use Rattle.sqlite.specs.Store.{Ghosts}
 use Rattle.sqlite.specs.State.{HasCleanDisk}
 use Rattle.byte_streams.specs.declared.streams.Broken.{Broken}
@@ -19,11 +20,12 @@ use Rattle.registry_http.specs.declared.message.Message.{Message}
 use Rattle.registry_http.specs.declared.message.Message.TheVariants as messages
 use Rattle.registry_desk.specs.declared.fault.DeskFault.{DeskFault}
 use Rattle.registry_desk.specs.declared.fault.DeskFault.TheVariants.{NoMemory, Registry}
-use Rattle.registry_desk.specs.declared.serve.Exchange.{Exchange}
+use Rattle.registry_desk.specs.declared.serve.Served.{Served}
 use Rattle.registry_desk.specs.Acting.{after_message}
 use Rattle.registry_desk.specs.Serving.{IsNext}
-use Rattle.registry_desk.specs.Server.{Visit, IsTurn, Turns, EndsServing, IsLeftAfter, IsSentWith, IsAnsweredWhole, IsAfterMessage, HoldsAnswered, LeavesAnswered, status_in}
+use Rattle.registry_desk.specs.Server.{Visit, IsTurn, Turns, EndsServing, IsLeftAfter, IsSentWith, IsAnsweredWhole, IsAfterMessage, HoldsAnswered, LeavesAnswered}
 use Rattle.registry_desk.specs.Reopened.{IsReopenedAfterServing}
+use Rattle.registry_desk.proofs.ServerLemmas.{in_part}
 
 -- ---- a history stays legal
 
@@ -36,9 +38,9 @@ legal_next : (h : History) (bytes : List ℕ) (fault : DeskFault) (next : Histor
 legal_next h bytes fault next legal (inl same) = subst Legal (sym same.1) legal
 legal_next h bytes fault next legal (inr it) = subst Legal (sym it.2) (legal_after_message h it.0 legal)
 
-legal_turn_at : (h next : History) (bytes text : List ℕ) (end : Result Exchange Broken) → Legal h → IsTurn h (record { bytes = bytes; text = text; end = end }) next → Legal next
-legal_turn_at h next bytes text (Ok exchange) legal (inl it) = subst Legal (sym it.next_is) (legal_after_message h it.said legal)
-legal_turn_at h next bytes text (Ok exchange) legal (inr it) = legal_next h bytes NoMemory next legal it.next_is
+legal_turn_at : (h next : History) (bytes text : List ℕ) (end : Result Served Broken) → Legal h → IsTurn h (record { bytes = bytes; text = text; end = end }) next → Legal next
+legal_turn_at h next bytes text (Ok served) legal (inl it) = subst Legal (sym it.next_is) (legal_after_message h it.said legal)
+legal_turn_at h next bytes text (Ok served) legal (inr it) = legal_next h bytes NoMemory next legal it.next_is
 legal_turn_at h next bytes text (Err broken) legal same = subst Legal (sym same) legal
 
 legal_turn : (h next : History) (visit : Visit) → Legal h → IsTurn h visit next → Legal next
@@ -65,23 +67,7 @@ module _ {S : Type 0} {g : Ghosts S} where
   opened last it h visits (Some fault) legal ends opens clean =
       let before = legal_turns h ends.middle ends.before legal ends.turns in
       let after = legal_next ends.middle ends.last.bytes (Registry fault) ends.halted.next before ends.halted.next_is in
-      ∥∥₁_map (opens ends.middle ends.halted.next before after (λ _. ends.halted.left.leaves) clean) (λ found. (
-        found.0,
-        inr (record {
-          before = ends.before;
-          last = ends.last;
-          all = ends.all;
-          middle = ends.middle;
-          turns = ends.turns;
-          fault = fault;
-          text_is = ends.halted.text_is;
-          status_is = ends.halted.status_is;
-          next = ends.halted.next;
-          next_is = ends.halted.next_is;
-          is = found.1;
-        }),
-        found.2,
-      ))
+      ∥∥₁_map (opens ends.middle ends.halted.next before after (λ _. ends.halted.left.leaves) clean) (λ found. (found.0, inr (in_part last h visits fault ends found.0 found.1), found.2))
 
   abbrev MayOpen : TheRegistry S g → Option (TheRegistry S g) → Type 0
   MayOpen last it = (h next : History) → Legal h → Legal next → (HasCleanDisk (state_of last) → Leaves newest (state_of last) (IsEither h next))
@@ -96,12 +82,12 @@ module _ {S : Type 0} {g : Ghosts S} where
 
 -- ---- what a crash leaves holds what was answered
 
-sent_short : (sent : Result ℕ Broken) → IfOk sent (λ s. s ≡ 503) → (status : ℕ) → status_in sent ≡ Some status → status ≢ 503 → ⊥
+sent_short : (sent : Result ℕ Broken) → IfOk sent (λ s. s ≡ 503) → (status : ℕ) → result_ok sent ≡ Some status → status ≢ 503 → ⊥
 sent_short (Ok s) is status same other = let here : s ≡ status = cc in other (sym here ∙ is)
 sent_short (Err broken) is status same other = absurd cc
 
-not_whole : (bytes text : List ℕ) (end : Result Exchange Broken) → IsSentWith end 503 → ¬ IsAnsweredWhole (record { bytes = bytes; text = text; end = end })
-not_whole bytes text (Ok exchange) is = λ whole. sent_short exchange.sent is whole.0 whole.1 whole.2
+not_whole : (bytes text : List ℕ) (end : Result Served Broken) → IsSentWith end 503 → ¬ IsAnsweredWhole (record { bytes = bytes; text = text; end = end })
+not_whole bytes text (Ok served) is = λ whole. sent_short served.status is whole.0 whole.1 whole.2
 not_whole bytes text (Err broken) is = absurd is
 
 abbrev Held : History → Visit → History → Type 0
@@ -111,10 +97,10 @@ held_next : (h next : History) (visit : Visit) (fault : DeskFault) → IsNext h 
 held_next h next visit fault (inl same) is = inr (same.1, not_whole visit.bytes visit.text visit.end is)
 held_next h next visit fault (inr it) is = inl (it.0, it.1, it.2)
 
-held_turn_at : (h next : History) (bytes text : List ℕ) (end : Result Exchange Broken) → IsTurn h (record { bytes = bytes; text = text; end = end }) next
+held_turn_at : (h next : History) (bytes text : List ℕ) (end : Result Served Broken) → IsTurn h (record { bytes = bytes; text = text; end = end }) next
     → Held h (record { bytes = bytes; text = text; end = end }) next
-held_turn_at h next bytes text (Ok exchange) (inl it) = inl (it.said, it.says, it.next_is)
-held_turn_at h next bytes text (Ok exchange) (inr it) = held_next h next (record { bytes = bytes; text = text; end = Ok exchange }) NoMemory it.next_is it.status_is
+held_turn_at h next bytes text (Ok served) (inl it) = inl (it.said, it.says, it.next_is)
+held_turn_at h next bytes text (Ok served) (inr it) = held_next h next (record { bytes = bytes; text = text; end = Ok served }) NoMemory it.next_is it.status_is
 held_turn_at h next bytes text (Err broken) same = inr (same, λ whole. let none = whole.1 in absurd cc)
 
 held_turns : (h next : History) (visits : List Visit) → Turns h visits next → HoldsAnswered h visits next

@@ -1,27 +1,30 @@
 -- Serving one connection after another.
 use Rattle.std.proofs.Common.{◌≡◌, ◌⊎◌, inl, inr, ℕ, ◌+◌, ◌<◌, ◌≤◌, List, [], ◌∷◌, ◌++◌, length, refl, sym, ap, subst, ◌∙◌, arith, length-append}
-use Rattle.std.specs.Prelude.{true, Option, Some, None, Result, Ok, Err, OnOk, IfOk}
+use Rattle.std.specs.Prelude.{true, Option, Some, None, Result, Ok, Err, OnOk, OnErr, IfOk}
 use Rattle.sqlite.specs.Store.{Ghosts}
 use Rattle.sqlite.specs.State.{HasCleanDisk}
+use Rattle.byte_streams.specs.declared.streams.Broken.{Broken}
+use Rattle.byte_streams.specs.Streams.{HasFailed, MayGive}
 use Rattle.registry_rules.specs.History.{History}
 use Rattle.registry_store.specs.declared.fault.Fault.{Fault}
 use Rattle.registry_store.specs.declared.registry.Registry.{Registry as TheRegistry}
 use Rattle.registry_tables.specs.Rows.{newest}
 use Rattle.registry_store.specs.Promise.{Represents, Leaves, is_poisoned, state_of}
+use Rattle.registry_http.specs.declared.response.Response.{Response}
 use Rattle.registry_http.specs.Responses.{response_bytes, unavailable_response}
 use Rattle.registry_desk.specs.declared.fault.DeskFault.{DeskFault}
 use Rattle.registry_desk.specs.declared.fault.DeskFault.TheVariants.{NoMemory, Registry}
 use Rattle.registry_desk.specs.declared.serve.Served.{Served}
-use Rattle.registry_desk.specs.declared.serve.Exchange.{Exchange}
-use Rattle.registry_desk.specs.Faults.{fault_of, unavailable_of}
-use Rattle.registry_desk.specs.Acting.{after_message, IsOfSoundRegistry, IsLeftAt}
-use Rattle.registry_desk.specs.Serving.{IsNext, IsOfServed, IsServed}
+use Rattle.registry_desk.specs.Faults.{registry_fault, unavailable_of}
+use Rattle.registry_desk.specs.Acting.{after_message, IsEither, IsOfSoundRegistry, IsLeftAt}
+use Rattle.registry_desk.specs.Serving.{IsNext, IsServed, IsTurnedAway, Sends}
 use Rattle.registry_desk.specs.declared.server.ServerStop.{ServerStop}
 use Rattle.registry_desk.specs.declared.server.ServerStop.TheVariants as stops
-use Rattle.registry_desk.specs.Server.{Visit, IsVisit, IsTurnedAwayAt, AreTurnedAway, HaveVisited, IsTurn, Turns, RepresentsAfter, IsStoppedServing, EndsVisit, EndsServing, IsLeftAfter, EndsAt, IfVisited, fault_in}
+use Rattle.registry_desk.specs.Server.{Visit, IsRead, IsVisit, IsTurnedAwayAt, IsWritten, AreTurnedAway, HaveVisited, IsTurn, Turns, RepresentsAfter, IsServedInPart, IsStoppedServing, EndsVisit, EndsServing, IsLeftAfter, EndsAt, IfVisited, fault_behind, fault_in, status_of}
 use Rattle.registry_desk.specs.declared.kept.Kept.{Kept}
-use Rattle.registry_desk.specs.Kept.{AreTextsAfterVisit, AreTextsOf, no_texts}
-use Rattle.registry_desk.proofs.KeptLemmas.{none_are}
+use Rattle.registry_desk.specs.Kept.{AreTextsAfter, AreTextsAfterVisit, AreTextsOf, no_texts}
+use Rattle.registry_desk.proofs.KeptLemmas.{none_are, texts_after_visit}
+use Rattle.registry_desk.proofs.ServeLemmas.{status_503}
 
 -- one more connection
 pub visited_more : {C R W : Type 0} (opens : C → C → R → W → Type 0) (closes : C → C → R → W → Option ℕ → Type 0) (remaining : R → Option (List ℕ)) (reads_failed : R → ℕ) (contents : W → Option (List ℕ)) (writes_failed : W → ℕ)
@@ -45,40 +48,30 @@ turns_more h middle next (first ∷ visits) visit before one = (before.0, before
 
 module _ {S : Type 0} {g : Ghosts S} where
   -- serving a message for which memory ran out, by the history that the registry represents
-  short_turn : (new : TheRegistry S g) (h : History) (bytes text : List ℕ) (exchange : Exchange) (next : History)
-      → text ≡ response_bytes (unavailable_response (unavailable_of NoMemory)) → IfOk exchange.sent (λ status. status ≡ 503) → IsNext h bytes NoMemory next → Represents new h ⊎ Represents new next
-      → EndsVisit new h (record { bytes = bytes; text = text; end = Ok exchange }) None
-  short_turn new h bytes text exchange next text_is status_is next_is (inl stands) = (h, inr (record { text_is = text_is; status_is = status_is; next_is = inl (refl, refl) }), stands)
-  short_turn new h bytes text exchange next text_is status_is next_is (inr stands) = (next, inr (record { text_is = text_is; status_is = status_is; next_is = next_is }), stands)
+  short_turn : (new : TheRegistry S g) (h : History) (bytes text : List ℕ) (served : Served) (next : History)
+      → text ≡ response_bytes (unavailable_response (unavailable_of NoMemory)) → IfOk served.status (λ sent. sent ≡ 503) → IsNext h bytes NoMemory next → Represents new h ⊎ Represents new next
+      → EndsVisit new h (record { bytes = bytes; text = text; end = Ok served }) None
+  short_turn new h bytes text served next text_is status_is next_is (inl stands) = (h, inr (record { text_is = text_is; status_is = status_is; next_is = inl (refl, refl) }), stands)
+  short_turn new h bytes text served next text_is status_is next_is (inr stands) = (next, inr (record { text_is = text_is; status_is = status_is; next_is = next_is }), stands)
 
-  given_up_visit : (new : TheRegistry S g) (h : History) (bytes text : List ℕ) (exchange : Exchange) (fault : DeskFault) (next : History)
-      → IsOfSoundRegistry fault → text ≡ response_bytes (unavailable_response (unavailable_of fault)) → IfOk exchange.sent (λ status. status ≡ 503)
-      → IsNext h bytes fault next → IsLeftAt fault new h next
-      → EndsVisit new h (record { bytes = bytes; text = text; end = Ok exchange }) (fault_of fault)
-  given_up_visit new h bytes text exchange NoMemory next kind text_is status_is next_is left = short_turn new h bytes text exchange next text_is status_is next_is left.ends
-  given_up_visit new h bytes text exchange (Registry fault) next kind text_is status_is next_is left =
+  given_up_visit : (new : TheRegistry S g) (h : History) (bytes text : List ℕ) (served : Served) (why : DeskFault) (next : History)
+      → IsOfSoundRegistry why → text ≡ response_bytes (unavailable_response (unavailable_of why)) → IfOk served.status (λ sent. sent ≡ 503)
+      → IsNext h bytes why next → IsLeftAt why new h next
+      → EndsVisit new h (record { bytes = bytes; text = text; end = Ok served }) (registry_fault why)
+  given_up_visit new h bytes text served NoMemory next kind text_is status_is next_is left = short_turn new h bytes text served next text_is status_is next_is left.ends
+  given_up_visit new h bytes text served (Registry fault) next kind text_is status_is next_is left =
       record { kind = kind; text_is = text_is; status_is = status_is; next = next; next_is = next_is; left = left }
 
   -- serving a message is a visit
-  pub served_visit : (new : TheRegistry S g) (h : History) (bytes text : List ℕ) (exchange : Exchange) (served : Served) → IsOfServed exchange served
-      → IsServed new h bytes text served → EndsVisit new h (record { bytes = bytes; text = text; end = Ok exchange }) exchange.fault
-  served_visit new h bytes text exchange served same (inl it) =
-      subst (λ (f : Option Fault). EndsVisit new h (record { bytes = bytes; text = text; end = Ok exchange }) f) (sym (same.fault ∙ ap (λ (s : Served). s.fault) it.served_is)) (
-        after_message h it.said,
-        inl (record {
-          said = it.said;
-          says = it.says;
-          response = it.response;
-          is = it.is;
-          text_is = it.text_is;
-          status_is = subst (λ (s : Served). IfOk exchange.sent (λ status. status ≡ s.status)) it.served_is same.status;
-          next_is = refl;
-        }),
-        it.represents,
-      )
-  served_visit new h bytes text exchange served same (inr it) =
-      subst (λ (f : Option Fault). EndsVisit new h (record { bytes = bytes; text = text; end = Ok exchange }) f) (sym (same.fault ∙ ap (λ (s : Served). s.fault) it.served_is))
-      (given_up_visit new h bytes text exchange it.fault it.next it.kind it.text_is (subst (λ (s : Served). IfOk exchange.sent (λ status. status ≡ s.status)) it.served_is same.status) it.next_is it.left)
+  served_visit : (new : TheRegistry S g) (h : History) (bytes : List ℕ) (response : Response) (served : Served) → IfOk served.status (λ sent. sent ≡ response.status)
+      → IsServed new h bytes response served.fault → EndsVisit new h (record { bytes = bytes; text = response_bytes response; end = Ok served }) served.fault
+  served_visit new h bytes response served sent (inl it) =
+      subst (λ (f : Option Fault). EndsVisit new h (record { bytes = bytes; text = response_bytes response; end = Ok served }) f) (sym it.no_fault)
+      (after_message h it.said, inl (record { said = it.said; says = it.says; response = response; is = it.is; text_is = refl; status_is = sent; next_is = refl }), it.represents)
+  served_visit new h bytes response served sent (inr it) =
+      let unavailable = ap (λ (r : Response). r.status) it.response_is ∙ status_503 (unavailable_of it.why) in
+      subst (λ (f : Option Fault). EndsVisit new h (record { bytes = bytes; text = response_bytes response; end = Ok served }) f) (sym it.fault_is)
+      (given_up_visit new h bytes (response_bytes response) served it.why it.next it.kind (ap response_bytes it.response_is) (subst (λ (n : ℕ). IfOk served.status (λ sent. sent ≡ n)) unavailable sent) it.next_is it.left)
 
   -- the registry represents the history after these connections, and the texts that are kept are of it
   abbrev pub RepresentsBeside : TheRegistry S g → Kept → History → List Visit → Type 0
@@ -100,6 +93,22 @@ module _ {S : Type 0} {g : Ghosts S} where
   halted_more mid new kept h visits visit fault before one =
       record { before = visits; last = visit; all = refl; middle = before.0; turns = before.1; halted = one before.0 before.2 before.3 }
 
+  -- after such a fault these connections were served in part
+  pub in_part : (it : TheRegistry S g) (h : History) (visits : List Visit) (fault : Fault) (ends : IsStoppedServing it h visits fault) (x : History) → IsEither ends.middle ends.halted.next x → IsServedInPart h visits x
+  in_part it h visits fault ends x is = record {
+    before = ends.before;
+    last = ends.last;
+    all = ends.all;
+    middle = ends.middle;
+    turns = ends.turns;
+    fault = fault;
+    text_is = ends.halted.text_is;
+    status_is = ends.halted.status_is;
+    next = ends.halted.next;
+    next_is = ends.halted.next_is;
+    is = is;
+  }
+
   -- what a crash leaves then
   pub with_crash : (it : TheRegistry S g) (h : History) (visits : List Visit) (fault : Option Fault) → EndsServing it h visits fault → HasCleanDisk (state_of it)
       → EndsServing it h visits fault × Leaves newest (state_of it) (IsLeftAfter h visits)
@@ -109,28 +118,31 @@ module _ {S : Type 0} {g : Ghosts S} where
   )
   with_crash it h visits (Some fault) ends clean = (
     ends,
-    λ db may.
-        let left = ends.halted.left.leaves db may in (
-          left.0,
-          inr (record {
-            before = ends.before;
-            last = ends.last;
-            all = ends.all;
-            middle = ends.middle;
-            turns = ends.turns;
-            fault = fault;
-            text_is = ends.halted.text_is;
-            status_is = ends.halted.status_is;
-            next = ends.halted.next;
-            next_is = ends.halted.next_is;
-            is = left.1;
-          }),
-          left.2,
-        ),
+    λ db may. let left = ends.halted.left.leaves db may in (left.0, inr (in_part it h visits fault ends left.0 left.1), left.2),
   )
 
 pub length_more : (visits : List Visit) (visit : Visit) (n : ℕ) → length visits ≡ n → length (visits ++ visit ∷ []) ≡ n + 1
 length_more visits visit n is = length-append visits (visit ∷ []) ∙ ap (λ (k : ℕ). k + 1) is
+
+module _ {C R W : Type 0} (opens : C → C → R → W → Type 0) (closes : C → C → R → W → Option ℕ → Type 0) (remaining : R → Option (List ℕ)) (reads_failed : R → ℕ) (contents : W → Option (List ℕ)) (writes_failed : W → ℕ) where
+  -- a connection was opened, this was served, and it was closed
+  visit_with : (old opened new : C) (reader reader_new : R) (writer writer_new : W) (visit : Visit) (status : Option ℕ)
+      → opens old opened reader writer → closes opened new reader_new writer_new status → status ≡ status_of visit.end → MayGive (remaining reader) visit.bytes
+      → IsRead reads_failed reader reader_new visit → IsWritten contents writes_failed writer writer_new visit → IsVisit opens closes remaining reads_failed contents writes_failed old new visit
+  visit_with old opened new reader reader_new writer writer_new visit status opens_with closes_with status_is gives read written = record {
+    opened = opened;
+    reader = reader;
+    reader_new = reader_new;
+    writer = writer;
+    writer_new = writer_new;
+    opens_with = opens_with;
+    gives = gives;
+    read = read;
+    written = written;
+    status = status;
+    status_is = status_is;
+    closes_with = closes_with;
+  }
 
 module _ {S C R W : Type 0} {g : Ghosts S} (opens : C → C → R → W → Type 0) (closes : C → C → R → W → Option ℕ → Type 0) (remaining : R → Option (List ℕ)) (reads_failed : R → ℕ) (contents : W → Option (List ℕ)) (writes_failed : W → ℕ) (fails : C → C → Type 0) where
   abbrev Ends : C → C → TheRegistry S g → TheRegistry S g → ℕ → Result (Unit {0}) ServerStop → Type 0
@@ -140,6 +152,38 @@ module _ {S C R W : Type 0} {g : Ghosts S} (opens : C → C → R → W → Type
       × (length visits ≤ count) × OnOk result (length visits ≡ count)
       × ((h : History) → Represents first h → HasCleanDisk (state_of last) → EndsServing last h visits (fault_in result) × Leaves newest (state_of last) (IsLeftAfter h visits))
       × (is_poisoned first ≡ true → AreTurnedAway visits (fault_in result) × (last ≡ first))
+
+  -- a message was served between the opening and the closing of a connection
+  pub visit_of : (old opened new : C) (reader reader_new : R) (writer writer_new : W) (mid last : TheRegistry S g) (kept kept_new : Kept) (served : Result Served Broken) (status : Option ℕ) (fault : Option Fault) (bytes : List ℕ)
+      → opens old opened reader writer → closes opened new reader_new writer_new status → status ≡ status_of served → fault ≡ fault_behind served → MayGive (remaining reader) bytes
+      → IfOk served (λ served. (response : Response) × Sends contents writes_failed writer writer_new response served.status
+      × ((h : History) → Represents mid h → HasCleanDisk (state_of last) → AreTextsOf h kept → IsServed last h bytes response served.fault × AreTextsAfter h bytes kept_new)
+      × (is_poisoned mid ≡ true → kept ≡ no_texts → IsTurnedAway bytes response served.fault × (last ≡ mid) × (kept_new ≡ no_texts)))
+      → OnErr served (HasFailed (reads_failed reader) (reads_failed reader_new) × (writer_new ≡ writer) × (last ≡ mid) × (kept_new ≡ kept))
+      → OnOk served (reads_failed reader_new ≡ reads_failed reader)
+      → (visit : Visit)
+      × IsVisit opens closes remaining reads_failed contents writes_failed old new visit
+      × ((h : History) → Represents mid h → HasCleanDisk (state_of last) → AreTextsOf h kept → EndsVisit last h visit fault × AreTextsAfterVisit h visit kept_new)
+      × (is_poisoned mid ≡ true → kept ≡ no_texts → IsTurnedAwayAt visit fault × (last ≡ mid) × (kept_new ≡ no_texts))
+  visit_of old opened new reader reader_new writer writer_new mid last kept kept_new (Ok served) status fault bytes opens_with closes_with status_is fault_is gives said failed came =
+      let visit : Visit = record { bytes = bytes; text = response_bytes said.0; end = Ok served } in (
+        visit,
+        visit_with opens closes remaining reads_failed contents writes_failed old opened new reader reader_new writer writer_new visit status opens_with closes_with status_is gives came (said.0, refl, said.1),
+        λ h stands clean of.
+            let both = said.2 h stands clean of in
+            (subst (λ (f : Option Fault). EndsVisit last h visit f) (sym fault_is) (served_visit last h bytes said.0 served said.1.1 both.0), texts_after_visit h bytes visit.text served kept_new both.1),
+        λ poisoned none. let away = said.3 poisoned none in ((said.0, refl, said.1.1, away.0, fault_is), away.1, away.2),
+      )
+  visit_of old opened new reader reader_new writer writer_new mid last kept kept_new (Err broken) status fault bytes opens_with closes_with status_is fault_is gives said failed came =
+      let visit : Visit = record { bytes = bytes; text = []; end = Err broken } in (
+        visit,
+        visit_with opens closes remaining reads_failed contents writes_failed old opened new reader reader_new writer writer_new visit status opens_with closes_with status_is gives failed.0 failed.1,
+        λ h stands clean of. (
+          subst (λ (f : Option Fault). EndsVisit last h visit f) (sym fault_is) (h, refl, subst (λ (r : TheRegistry S g). Represents r h) (sym failed.2) stands),
+          λ next same. subst (λ (k : Kept). AreTextsOf next k) (sym failed.3) (subst (λ (x : History). AreTextsOf x kept) (sym same) of),
+        ),
+        λ poisoned none. (fault_is, failed.2, failed.3 ∙ none),
+      )
 
   -- one connection came beside texts that are kept, with this result
   abbrev pub CameBeside : C → C → TheRegistry S g → TheRegistry S g → Kept → Kept → Result (Unit {0}) ServerStop → Type 0

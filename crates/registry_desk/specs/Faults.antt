@@ -5,8 +5,6 @@ use Rattle.registry_store.specs.declared.fault.Fault.TheVariants as faults
 use Rattle.registry_http.specs.declared.unavailable.Unavailable.{Unavailable}
 use Rattle.registry_http.specs.declared.unavailable.Unavailable.TheVariants as unavailable
 use Rattle.registry_store.specs.Faults as store_faults
-use Rattle.registry_desk.specs.declared.serve.PeerFault.{PeerFault}
-use Rattle.registry_desk.specs.declared.serve.PeerFault.TheVariants as peers
 use Rattle.registry_desk.specs.declared.server.ServerStop.{ServerStop}
 use Rattle.registry_desk.specs.declared.server.ServerStop.TheVariants as stops
 use Rattle.registry_desk.specs.declared.fault.DeskFault.{DeskFault}
@@ -22,19 +20,14 @@ unavailable_of (Registry faults.Taken) = unavailable.StoreFault
 unavailable_of (Registry faults.Poisoned) = unavailable.StoreFault
 
 -- the fault of the registry behind this one
-abbrev pub fault_of : DeskFault → Option Fault
-fault_of (Registry fault) = Some fault
-fault_of NoMemory = None
+abbrev pub registry_fault : DeskFault → Option Fault
+registry_fault (Registry fault) = Some fault
+registry_fault NoMemory = None
 
 -- the fault for one of a list or a report: memory that runs out for it is no fault of the registry
 abbrev pub failed_by : Fault → DeskFault
 failed_by faults.NoMemory = NoMemory
 failed_by fault = Registry fault
-
--- why a connection is given up
-abbrev pub peer_fault_text : PeerFault → List ℕ
-peer_fault_text peers.Read = codes "the message could not be read"
-peer_fault_text peers.Write = codes "the response could not be written"
 
 -- why a server stops
 abbrev pub server_stop_text : ServerStop → List ℕ

@@ -4,8 +4,9 @@
 -- of connections differ: one whose reader failed has no message, and one that got refusal 31 because memory ran out has a
 -- message that may have been acted on.
 use Rattle.std.specs.Prelude.{◌≡◌, ◌≢◌, ◌⊎◌, ⊤, ℕ, List, [], ◌∷◌, ◌++◌, Option, Some, None, Result, Ok, Err, IfOk}
+use Rattle.std.specs.Result.{result_ok}
 use Rattle.sqlite.specs.Store.{Ghosts}
-use Rattle.byte_streams.specs.Streams.{HasFailed, MayGive, Writes}
+use Rattle.byte_streams.specs.Streams.{HasFailed, MayGive}
 use Rattle.registry_rules.specs.History.{History}
 use Rattle.registry_store.specs.declared.fault.Fault.{Fault}
 use Rattle.registry_store.specs.declared.registry.Registry.{Registry as TheRegistry}
@@ -17,56 +18,52 @@ use Rattle.registry_http.specs.Responses.{response_bytes, unavailable_response}
 use Rattle.registry_http.specs.Messages.{Says}
 use Rattle.byte_streams.specs.declared.streams.Broken.{Broken}
 use Rattle.registry_desk.specs.declared.fault.DeskFault.TheVariants.{Registry, NoMemory}
-use Rattle.registry_desk.specs.declared.serve.Exchange.{Exchange}
 use Rattle.registry_desk.specs.declared.serve.Served.{Served}
 use Rattle.registry_desk.specs.declared.server.ServerStop.{ServerStop}
 use Rattle.registry_desk.specs.declared.server.ServerStop.TheVariants as stops
 use Rattle.registry_desk.specs.Faults.{unavailable_of}
 use Rattle.registry_desk.specs.Acting.{IsResponse, after_message, IsOfSoundRegistry, IsEither, IsLeftAt}
-use Rattle.registry_desk.specs.Serving.{IsNext, IsOfServed, IsTurnedAway}
+use Rattle.registry_desk.specs.Serving.{IsNext, IsTurnedAway, Sends}
 
 -- ---- connections
 
--- one connection: all bytes that its reader would give, the text that was to be written for them, and how serving it ended;
--- an error means that its reader failed
+-- one connection: all bytes that its reader would give, the text that was to be written for them, and what was served; an
+-- error means that its reader failed
 pub record Visit : Type 0 where
   pub bytes : List ℕ
   pub text : List ℕ
-  pub end : Result Exchange Broken
+  pub end : Result Served Broken
 
 -- the status of the response, if it was written whole
-abbrev pub status_in : Result ℕ Broken → Option ℕ
-status_in (Ok status) = Some status
-status_in (Err broken) = None
-
-abbrev pub status_of : Result Exchange Broken → Option ℕ
-status_of (Ok exchange) = status_in exchange.sent
+abbrev pub status_of : Result Served Broken → Option ℕ
+status_of (Ok served) = result_ok served.status
 status_of (Err broken) = None
 
--- the text is a response, with this status if all of it was written
-abbrev pub IsSentAs : List ℕ → Result ℕ Broken → Type 0
-IsSentAs text sent = (response : Response) × (text ≡ response_bytes response) × IfOk sent (λ status. status ≡ response.status)
+-- the fault of the registry behind the response
+abbrev pub fault_behind : Result Served Broken → Option Fault
+fault_behind (Ok served) = served.fault
+fault_behind (Err broken) = None
 
--- all of the text was written, or the writer failed, and the text is a response with this status; nothing was written if the
--- reader failed
+-- The text is a response, and it was written: all of it, with its status, or the writer failed. Nothing was written if the
+-- reader failed.
 abbrev pub IsWritten : {W : Type 0} → (W → Option (List ℕ)) → (W → ℕ) → W → W → Visit → Type 0
 IsWritten contents failures old new visit = WrittenAt visit.end
   where
-    WrittenAt : Result Exchange Broken → Type 0
-    WrittenAt (Ok exchange) = Writes (contents old) (contents new) (failures old) (failures new) exchange.sent visit.text × IsSentAs visit.text exchange.sent
+    WrittenAt : Result Served Broken → Type 0
+    WrittenAt (Ok served) = (response : Response) × (visit.text ≡ response_bytes response) × Sends contents failures old new response served.status
     WrittenAt (Err broken) = new ≡ old
 
 -- a message came, and its reader did not fail; or the reader failed
 abbrev pub IsRead : {R : Type 0} → (R → ℕ) → R → R → Visit → Type 0
 IsRead failures old new visit = ReadAt visit.end
   where
-    ReadAt : Result Exchange Broken → Type 0
-    ReadAt (Ok exchange) = failures new ≡ failures old
+    ReadAt : Result Served Broken → Type 0
+    ReadAt (Ok served) = failures new ≡ failures old
     ReadAt (Err broken) = HasFailed (failures old) (failures new)
 
 -- a message came, and if its response was written whole, it has this status
-abbrev pub IsSentWith : Result Exchange Broken → ℕ → Type 0
-IsSentWith (Ok exchange) status = IfOk exchange.sent (λ sent. sent ≡ status)
+abbrev pub IsSentWith : Result Served Broken → ℕ → Type 0
+IsSentWith (Ok served) status = IfOk served.status (λ sent. sent ≡ status)
 IsSentWith (Err broken) status = ⊥
 
 module _ {C R W : Type 0} (opens : C → C → R → W → Type 0) (closes : C → C → R → W → Option ℕ → Type 0) (remaining : R → Option (List ℕ)) (reads_failed : R → ℕ) (contents : W → Option (List ℕ)) (writes_failed : W → ℕ) where
@@ -95,8 +92,8 @@ module _ {C R W : Type 0} (opens : C → C → R → W → Type 0) (closes : C �
 abbrev pub IsTurnedAwayAt : Visit → Option Fault → Type 0
 IsTurnedAwayAt visit fault = TurnedAt visit.end
   where
-    TurnedAt : Result Exchange Broken → Type 0
-    TurnedAt (Ok exchange) = (served : Served) × IsTurnedAway visit.bytes visit.text served × IsOfServed exchange served × (fault ≡ served.fault)
+    TurnedAt : Result Served Broken → Type 0
+    TurnedAt (Ok served) = (response : Response) × (visit.text ≡ response_bytes response) × IfOk served.status (λ sent. sent ≡ response.status) × IsTurnedAway visit.bytes response served.fault × (fault ≡ served.fault)
     TurnedAt (Err broken) = fault ≡ None
 
 -- Each of these connections was turned away, without a fault of the registry; the last one may have this fault.
@@ -127,8 +124,8 @@ pub record IsShort (h : History) (visit : Visit) (next : History) : Type 0 where
 abbrev pub IsTurn : History → Visit → History → Type 0
 IsTurn h visit next = TurnAt visit.end
   where
-    TurnAt : Result Exchange Broken → Type 0
-    TurnAt (Ok exchange) = IsResponded h visit next ⊎ IsShort h visit next
+    TurnAt : Result Served Broken → Type 0
+    TurnAt (Ok served) = IsResponded h visit next ⊎ IsShort h visit next
     TurnAt (Err broken) = next ≡ h
 
 -- connections lead from the first history to the last, one after another

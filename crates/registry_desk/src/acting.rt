@@ -22,7 +22,7 @@ use sqlite::Alter;
 use std::alloc::Global;
 
 /// Acts on an order, and returns the response.
-fn act_on<S: Alter>(
+fn respond_to_order<S: Alter>(
     alloc: Global,
     registry: &mut Registry<S>,
     request: &Request,
@@ -89,7 +89,7 @@ pub(crate) fn response_to<S: Alter>(
 {
     match said {
         Ok(Message::Query(query)) => take_or_ask(alloc, registry, kept, query),
-        Ok(Message::Request(request)) => act_on(alloc, registry, request),
+        Ok(Message::Request(request)) => respond_to_order(alloc, registry, request),
         Err(refusal) => refuse(alloc, *refusal),
     }
 }

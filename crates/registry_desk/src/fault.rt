@@ -2,7 +2,7 @@
 
 ghost use Rattle.std.specs.Prelude.{◌≡◌};
 ghost use Rattle.registry_desk.specs.declared.fault.DeskFault.TheVariants.{Registry, NoMemory as OutOfMemory};
-ghost use Rattle.registry_desk.specs.Faults.{unavailable_of, fault_of, failed_by};
+ghost use Rattle.registry_desk.specs.Faults.{unavailable_of, registry_fault, failed_by};
 
 use registry_http::Unavailable;
 use registry_store::Fault;
@@ -48,8 +48,8 @@ pub(crate) fn unavailable_of(fault: DeskFault) -> Unavailable
 }
 
 /// Returns the fault of the registry behind this one, if any.
-pub(crate) fn fault_of(fault: DeskFault) -> Option<Fault>
-    ensures { result ≡ fault_of fault }
+pub(crate) fn registry_fault(fault: DeskFault) -> Option<Fault>
+    ensures { result ≡ registry_fault fault }
 {
     match fault {
         DeskFault::Registry(fault) => Some(fault),

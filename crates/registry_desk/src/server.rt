@@ -2,16 +2,15 @@
 
 ghost use Rattle.std.specs.Prelude.{◌≡◌, ◌≤◌, true, ℕ, List, Option, Some, length, IfOk, IfErr, OnOk, Err};
 ghost use Rattle.sqlite.specs.State.{HasCleanDisk};
-ghost use Rattle.byte_streams.specs.Streams.{MayGive};
 ghost use Rattle.registry_rules.specs.History.{History};
 ghost use Rattle.registry_tables.specs.Rows.{newest};
 ghost use Rattle.registry_store.specs.Promise.{Represents, Endures, Leaves, is_poisoned, state_of};
 ghost use Rattle.registry_desk.specs.Faults.{server_stop_text};
-ghost use Rattle.registry_desk.specs.Server.{Visit, IsVisit, IsRead, IsTurnedAwayAt, AreTurnedAway, IsWritten, HaveVisited, EndsVisit, EndsServing, IsLeftAfter, EndsAt, IfVisited, fault_in, status_in, status_of};
+ghost use Rattle.registry_desk.specs.Server.{Visit, IsVisit, IsTurnedAwayAt, AreTurnedAway, HaveVisited, EndsVisit, EndsServing, IsLeftAfter, EndsAt, IfVisited, fault_behind, fault_in, status_of};
 ghost use Rattle.registry_desk.specs.Kept.{AreTextsAfterVisit, AreTextsOf, no_texts};
 
 use crate::kept::Kept;
-use crate::serve::serve_message;
+use crate::serve::{Served, serve_message};
 use byte_streams::{Broken, Sink, Source};
 use registry_store::{Fault, Registry};
 use sqlite::Alter;
@@ -77,48 +76,23 @@ impl fmt::Display for ServerStop {
 
 impl Error for ServerStop {}
 
-/// The result of serving one connection: the registry's fault, if any, and the status if a
-/// response was written whole.
-#[derive(Clone, Copy, Debug, Drop, PartialEq, Eq)]
-struct Outcome {
-    fault: Option<Fault>,
-    status: Option<u16>,
-}
-
-fn status_in(sent: Result<u16, Broken>) -> Option<u16>
-    ensures { result ≡ status_in sent }
+/// Returns the status of the response, if it was written whole.
+fn status_of(served: Result<Served, Broken>) -> Option<u16>
+    ensures { result ≡ status_of served }
 {
-    match sent {
-        Ok(status) => Some(status),
+    match served {
+        Ok(served) => served.status.ok(),
         Err(Broken) => None,
     }
 }
 
-/// Serves the message of one connection.
-fn serve_between<R: Source, W: Sink, S: Alter>(
-    alloc: Global,
-    reader: &mut R,
-    writer: &mut W,
-    registry: &mut Registry<S>,
-    kept: &mut Kept,
-) -> Outcome
-    ensures served { (visit : Visit) × MayGive (R.remaining reader.old) visit.bytes
-        × IsRead R.failures reader.old reader.new visit
-        × IsWritten W.contents W.failures writer.old writer.new visit
-        × (result.status ≡ status_of visit.end)
-        × ((h : History) → Represents registry.old h → HasCleanDisk (state_of registry.new) → AreTextsOf h kept.old → EndsVisit registry.new h visit result.fault × AreTextsAfterVisit h visit kept.new)
-        × (is_poisoned registry.old ≡ true → kept.old ≡ no_texts → IsTurnedAwayAt visit result.fault × (registry.new ≡ registry.old) × (kept.new ≡ no_texts)) }
-    ensures endures { Endures (state_of registry.old) (state_of registry.new) }
+/// Returns the registry's fault behind the response, if any.
+fn fault_behind(served: Result<Served, Broken>) -> Option<Fault>
+    ensures { result ≡ fault_behind served }
 {
-    match serve_message(alloc, reader, writer, registry, kept) {
-        Ok(exchange) => Outcome {
-            fault: exchange.fault,
-            status: status_in(exchange.sent),
-        },
-        Err(Broken) => Outcome {
-            fault: None,
-            status: None,
-        },
+    match served {
+        Ok(served) => served.fault,
+        Err(Broken) => None,
     }
 }
 
@@ -140,9 +114,9 @@ fn serve_beside<C: Connections, S: Alter>(
     match connections.open() {
         Ok(ends) => {
             let (mut reader, mut writer) = ends;
-            let outcome = serve_between(alloc, &mut reader, &mut writer, registry, kept);
-            connections.close(reader, writer, outcome.status);
-            match outcome.fault {
+            let served = serve_message(alloc, &mut reader, &mut writer, registry, kept);
+            connections.close(reader, writer, status_of(served));
+            match fault_behind(served) {
                 None => Ok(()),
                 Some(fault) => Err(ServerStop::Registry(fault)),
             }

@@ -3,7 +3,7 @@ use Rattle.std.proofs.Common.{◌≡◌, ◌⊎◌, inl, inr, ℕ, ◌+◌, ◌�
 use Rattle.std.specs.Prelude.{◌≢◌, Result, Ok, Err}
 use Rattle.std.proofs.lemmas.Bool.{cases_lt}
 use Rattle.std.proofs.lemmas.List.{take_all}
-use Rattle.std.specs.Io.KnownBytes.{Appends}
+use Rattle.std.specs.Io.KnownBytes.{Appends, Keeps}
 use Rattle.sqlite.specs.State.{HasCleanDisk}
 use Rattle.sqlite.specs.Store.{Ghosts}
 use Rattle.usbids_text.specs.Entries.{TopEntry}
@@ -29,14 +29,15 @@ use Rattle.registry_commands.specs.Failures.{ErrorOutput}
 use Rattle.registry_commands.specs.Imports.{IsImportOf, IsImported, status_of}
 use Rattle.registry_commands.specs.Messages.{reply_line, reply_lines}
 use Rattle.registry_commands.proofs.ApplyLemmas.{keeps_same, no_beginning, still}
-use Rattle.registry_desk.specs.Server.{EndsServing, IsServedInPart, IsStoppedServing, Visit}
+use Rattle.registry_desk.specs.Server.{EndsServing, Visit}
+use Rattle.registry_desk.proofs.ServerLemmas.{in_part}
 use Rattle.registry_program.specs.Whole.{AreLeftAfter, IsAfterImport, IsAfterLines, Stays}
 
 pub zero_or : (n : ℕ) → (n ≡ 0) ⊎ (n ≢ 0)
 zero_or n = elim (cases_lt 0 n) [ inl more ↦ inr (λ zero. omega (arith, more, zero)) | inr none ↦ inl (omega (arith, none)) ]
 
-pub one_of : (h x : History) → IsEither h h x → x ≡ h
-one_of h x is = elim is [ inl e ↦ e | inr e ↦ e ]
+pub same_of_either : (h x : History) → IsEither h h x → x ≡ h
+same_of_either h x is = elim is [ inl e ↦ e | inr e ↦ e ]
 
 -- ---- what a registry leaves
 
@@ -45,11 +46,11 @@ module _ {S : Type 0} {g : Ghosts S} where
   abbrev pub LeavesSome : Registry S g → (History → History → Type 0) → Type 0
   LeavesSome it After = (x : History) × (y : History) × After x y × Leaves newest (state_of it) (IsEither x y)
 
-  pub only : (it : Registry S g) (h : History) → Represents it h → HasCleanDisk (state_of it) → Leaves newest (state_of it) (IsEither h h)
-  only it h stands clean = leaves_weaker newest (state_of it) (λ x. x ≡ h) (IsEither h h) (λ x e. inl e) (stands.at.left clean)
+  pub leaves_itself : (it : Registry S g) (h : History) → Represents it h → HasCleanDisk (state_of it) → Leaves newest (state_of it) (IsEither h h)
+  leaves_itself it h stands clean = leaves_weaker newest (state_of it) (λ x. x ≡ h) (IsEither h h) (λ x e. inl e) (stands.at.left clean)
 
   pub stayed : (it new : Registry S g) (h : History) → new ≡ it → Represents it h → HasCleanDisk (state_of new) → LeavesSome new (Stays h)
-  stayed it new h same stands clean = (h, h, (refl, refl), only new h (subst (λ (x : Registry S g). Represents x h) (sym same) stands) clean)
+  stayed it new h same stands clean = (h, h, (refl, refl), leaves_itself new h (subst (λ (x : Registry S g). Represents x h) (sym same) stands) clean)
 
   -- ---- request lines
 
@@ -60,9 +61,9 @@ module _ {S : Type 0} {g : Ghosts S} where
     | inr none ↦ inl (subst (Represents it) (e ∙ ap (after h) (take_all (n + 1) rs (omega (arith, none)) ∙ sym (take_all n rs none))) stands)
   ]
 
-  ran : (OfInput OfOutput : Failure → Type 0) (it new : Registry S g) (rs : List Request) (a : ℕ) (out out_new : Option (List ℕ)) (errors : ErrorOutput) (status : ℕ) → a ≤ length rs
+  run_leaves : (OfInput OfOutput : Failure → Type 0) (it new : Registry S g) (rs : List Request) (a : ℕ) (out out_new : Option (List ℕ)) (errors : ErrorOutput) (status : ℕ) → a ≤ length rs
       → IsRun OfInput OfOutput it new rs a out out_new errors status → (h : History) → HasAnswered it h rs a → HasCleanDisk (state_of new) → LeavesSome new (IsAfterLines h rs a out out_new status)
-  ran OfInput OfOutput it new rs a out out_new errors status within run h at clean = elim run.statuses [
+  run_leaves OfInput OfOutput it new rs a out out_new errors status within run h at clean = elim run.statuses [
     | inl zero ↦
         let through = run.through zero h at clean in
         let n = length rs in
@@ -86,39 +87,21 @@ module _ {S : Type 0} {g : Ghosts S} where
         let stopped = run.stopped one h at clean in
         let n = stopped.0 in
         let gained = stopped.1.gained in
+        let next = after h (take (n + 1) rs) in
+        let so_far : (x : History) → ((x ≡ after h (take n rs)) × Keeps gained.0 out_new) ⊎ (x ≡ next) → IsAfterLines h rs a out out_new status x next = λ x last. record {
+          n = n;
+          from = stopped.1.from;
+          within = stopped.1.within;
+          whole = λ zero. absurd (omega (arith, one, zero));
+          middle = gained.0;
+          gained = gained.1;
+          begun = gained.2;
+          next = refl;
+          last = last;
+        } in
         elim gained.3 [
-          | inl kept ↦ (
-            after h (take n rs),
-            after h (take (n + 1) rs),
-            record {
-              n = n;
-              from = stopped.1.from;
-              within = stopped.1.within;
-              whole = λ zero. absurd (omega (arith, one, zero));
-              middle = gained.0;
-              gained = gained.1;
-              begun = gained.2;
-              next = refl;
-              last = inl (refl, kept);
-            },
-            stopped.1.leaves,
-          )
-          | inr stands ↦ (
-            after h (take (n + 1) rs),
-            after h (take (n + 1) rs),
-            record {
-              n = n;
-              from = stopped.1.from;
-              within = stopped.1.within;
-              whole = λ zero. absurd (omega (arith, one, zero));
-              middle = gained.0;
-              gained = gained.1;
-              begun = gained.2;
-              next = refl;
-              last = inr refl;
-            },
-            only new (after h (take (n + 1) rs)) stands clean,
-          )
+          | inl kept ↦ (after h (take n rs), next, so_far (after h (take n rs)) (inl (refl, kept)), stopped.1.leaves)
+          | inr stands ↦ (next, next, so_far next (inr refl), leaves_itself new next stands clean)
         ]
   ]
 
@@ -129,7 +112,7 @@ module _ {S : Type 0} {g : Ghosts S} where
   applied OfInput OfOutput it new (Ok read) a out out_new errors status is h rs parsed within at clean =
       let same : read ≡ rs = cc parsed in
       let run = subst (λ (x : List Request). IsApplied OfInput OfOutput it new (Ok x) a out out_new errors status) same is in
-      ran OfInput OfOutput it new rs a out out_new errors status within (run.1 within) h at clean
+      run_leaves OfInput OfOutput it new rs a out out_new errors status within (run.1 within) h at clean
 
   pub unacted : (OfInput OfOutput : Failure → Type 0) (it new : Registry S g) (read : Result (List Request) BadLine) (a : ℕ) (out out_new : Option (List ℕ)) (errors : ErrorOutput) (status : ℕ)
       → IsApplied OfInput OfOutput it new read a out out_new errors status → ((rs : List Request) → read ≡ Ok rs → length rs < a) → new ≡ it
@@ -161,7 +144,7 @@ module _ {S : Type 0} {g : Ghosts S} where
           y_is = refl;
           replied = λ _. (refl, gives.status_is ∙ ap status_of both.0, subst (λ (reply : Reply). Appends out out_new (reply_line reply)) both.0 gives.gained);
         }),
-        only new (after_one h r) both.1 clean,
+        leaves_itself new (after_one h r) both.1 clean,
       )
       | inr failed ↦ (
         h,
@@ -206,26 +189,11 @@ module _ {S : Type 0} {g : Ghosts S} where
 
   -- ---- connections
 
-  cut_short : (it : Registry S g) (h : History) (visits : List Visit) (fault : Fault) (ends : IsStoppedServing it h visits fault) (x : History) → IsEither ends.middle ends.halted.next x → IsServedInPart h visits x
-  cut_short it h visits fault ends x is = record {
-    before = ends.before;
-    last = ends.last;
-    all = ends.all;
-    middle = ends.middle;
-    turns = ends.turns;
-    fault = fault;
-    text_is = ends.halted.text_is;
-    status_is = ends.halted.status_is;
-    next = ends.halted.next;
-    next_is = ends.halted.next_is;
-    is = is;
-  }
-
   pub served : (it : Registry S g) (h : History) (visits : List Visit) (fault : Option Fault) → EndsServing it h visits fault → HasCleanDisk (state_of it) → LeavesSome it (AreLeftAfter visits h)
-  served it h visits None ends clean = (ends.0, ends.0, (inl ends.1, inl ends.1), only it ends.0 ends.2 clean)
+  served it h visits None ends clean = (ends.0, ends.0, (inl ends.1, inl ends.1), leaves_itself it ends.0 ends.2 clean)
   served it h visits (Some fault) ends clean = (
     ends.middle,
     ends.halted.next,
-    (inr (cut_short it h visits fault ends ends.middle (inl refl)), inr (cut_short it h visits fault ends ends.halted.next (inr refl))),
+    (inr (in_part it h visits fault ends ends.middle (inl refl)), inr (in_part it h visits fault ends ends.halted.next (inr refl))),
     ends.halted.left.leaves,
   )

@@ -1,6 +1,6 @@
 -- The exit status of each command is 0, 1 or 2.
-use Rattle.std.proofs.Common.{◌≡◌, ◌⊎◌, inl, inr, ℕ, ◌<◌, ◌≤◌, List, length, refl, ◌∙◌, arith}
-use Rattle.std.specs.Prelude.{◌≢◌, Option, Some, None, Result, Ok, Err, MatchResult}
+use Rattle.std.proofs.Common.{◌≡◌, ◌⊎◌, inl, inr, ℕ, List, length, refl, ◌∙◌, arith}
+use Rattle.std.specs.Prelude.{◌≢◌, Option, Some, None, Result, Ok, Err}
 use Rattle.std.proofs.lemmas.Bool.{cases_lt}
 use Rattle.sqlite.specs.Store.{Ghosts}
 use Rattle.sqlite.specs.Held.{Held}
@@ -17,12 +17,12 @@ use Rattle.registry_store.specs.declared.registry.Registry.{Registry}
 use Rattle.registry_commands.specs.declared.importing.Import.{Import}
 use Rattle.registry_commands.specs.declared.lines.BadLine.{BadLine}
 use Rattle.registry_commands.specs.declared.messages.Failure.{Failure}
-use Rattle.registry_commands.specs.Apply.{IsApplied, IsRejected, IsRun}
+use Rattle.registry_commands.specs.Apply.{IsApplied, IsRejected}
 use Rattle.registry_commands.specs.Failures.{ErrorOutput}
 use Rattle.registry_commands.specs.Found.{IsFoundedBy}
 use Rattle.registry_commands.specs.Imports.{IsActedOn, IsImportOf, IsImported, status_of}
 use Rattle.registry_commands.specs.LookUp.{IsAnswered, IsLookedUp, IsMatched, IsRefused}
-use Rattle.registry_commands.specs.Printed.{IsPrinted, IsUnprinted}
+use Rattle.registry_commands.specs.Printed.{IsPrinted}
 use Rattle.registry_commands.specs.Trial.{IsTrialOf}
 use Rattle.sqlite_disk.specs.declared.Disk as disk
 use Rattle.sqlite.specs.Files.{over_files}
@@ -30,7 +30,7 @@ use Rattle.byte_streams.specs.declared.streams.Sink as sink
 use Rattle.byte_streams.specs.declared.streams.Source as source
 use Rattle.registry_arguments.specs.declared.command.Command.{Command}
 use Rattle.registry_arguments.specs.declared.command.Command.TheVariants as command
-use Rattle.registry_commands.specs.Failures.{IsOfMemory, IsOfOutput}
+use Rattle.registry_commands.specs.Failures.{IsOfOutput}
 use Rattle.registry_commands.specs.declared.arguments.BadArgument.{BadArgument}
 use Rattle.registry_reports.specs.declared.kinds.ReportKind.{ReportKind}
 use Rattle.registry_reports.specs.Kinds.{report_named}
@@ -40,7 +40,6 @@ use Rattle.registry_desk.specs.declared.server.ServerStop.TheVariants as stops
 use Rattle.usbids_text.specs.Moments.{Moment}
 use Rattle.usbnum_core.specs.Number.{code_of, number_of}
 use Rattle.usbnum_core.specs.declared.error.NoMemory.{NoMemory as OutOfMemory}
-use Rattle.sqlite_store.specs.declared.store.FileStore.{FileStore}
 use Rattle.registry_program.specs.declared.host.Host as host
 use Rattle.registry_program.specs.Commands.{ActsOnFile, ExportsAs, Founds, ImportsAs, ImportsFile, LooksUp, ReportsAs, WritesList, WritesReport}
 use Rattle.registry_program.specs.Outputs.{Ends}

@@ -10,7 +10,6 @@ use Rattle.sqlite.specs.Held.{Held}
 use Rattle.sqlite.specs.State.{HasCleanDisk}
 use Rattle.byte_streams.specs.declared.streams.Sink as sink
 use Rattle.byte_streams.specs.declared.streams.Source as source
-use Rattle.byte_streams.specs.Streams.{MayGive}
 use Rattle.usbids_text.specs.Moments.{Moment}
 use Rattle.usbnum_core.specs.declared.error.NoMemory.{NoMemory}
 use Rattle.registry_rules.specs.History.{History, founded}
@@ -19,6 +18,7 @@ use Rattle.registry_tables.specs.Rows.{newest}
 use Rattle.registry_wire.specs.Founding.{Listed, founding_listed}
 use Rattle.registry_wire.specs.declared.refusal.WireRefusal.{WireRefusal}
 use Rattle.registry_store.specs.Promise.{Leaves, Represents, connection_of, state_of}
+use Rattle.registry_store.specs.Queries.{IsLeft}
 use Rattle.registry_store.specs.Reopen.{FilesHoldEither, IsEither, IsUncopied}
 use Rattle.registry_store.proofs.CrashLemmas.{closed_clean, in_newest}
 use Rattle.registry_store.proofs.RunLemmas.{leaves_weaker}
@@ -41,14 +41,14 @@ use Rattle.registry_program.specs.Outputs.{Ends, Sunk, between}
 use Rattle.registry_program.specs.Performing.{Performs}
 use Rattle.registry_program.specs.Serving.{Serves, ServesOn, limit_of}
 use Rattle.registry_program.specs.Stores.{IsClosed, IsOver, Runs, TheRegistry}
-use Rattle.registry_program.specs.Whole.{AppliesWholly, AreLeftAfter, ExportsWhollyAs, FoundsWholly, IfOver, ImportsWhollyAs, IsAfterImport, IsAfterLines, IsAppliedTo, IsCarriedOn, IsFoundedWholly, IsImportedTo, IsListed, IsReportedOn, IsServedTo, IsUnread, IsWhole, ReportsWholly, ServesWholly, Stays, LeadsTo}
-use Rattle.registry_program.proofs.LeavesLemmas.{zero_or, one_of, LeavesSome, only, stayed, at_place, applied, unacted, LeavesImport, imported, import_endures, served}
+use Rattle.registry_program.specs.Whole.{AppliesWholly, AreLeftAfter, ExportsWhollyAs, FoundsWholly, IfOver, ImportsWhollyAs, IsAfterImport, IsAfterLines, IsAppliedTo, IsCarriedOn, IsFoundedWholly, IsImportedTo, IsListed, IsReadFrom, IsReportedOn, IsServedTo, IsUnread, IsWhole, ReportsWholly, ServesWholly, Stays, LeadsTo}
+use Rattle.registry_program.proofs.LeavesLemmas.{zero_or, same_of_either, LeavesSome, leaves_itself, stayed, at_place, applied, unacted, LeavesImport, imported, import_endures, served}
 
 module _ {H F I : Type 0} (m : host.Ghosts H F I) (d : disk.Ghosts F) where
   -- unless closing failed, the status is the one before
-  closing : (conn : Held (FileStore F d)) (files : Files F) (errors errors_new : Sunk) (before status : ℕ) → IsClosed m d conn files errors errors_new before status
+  kept_unless_failed : (conn : Held (FileStore F d)) (files : Files F) (errors errors_new : Sunk) (before status : ℕ) → IsClosed m d conn files errors errors_new before status
       → ((status ≡ 1) × PrintsFailure IsOfStore (between errors errors_new)) ⊎ (status ≡ before)
-  closing conn files errors errors_new before status is = elim (zero_or before) [
+  kept_unless_failed conn files errors errors_new before status is = elim (zero_or before) [
     | inl zero ↦ elim (is.well zero) [
       | inl same ↦ inr (same.0 ∙ sym zero)
       | inr failed ↦ inl (failed.0, tells_more (IsOfClosing (IsUncopied conn files)) IsOfStore (between errors errors_new) (of_store (IsUncopied conn files)) failed.1)
@@ -60,7 +60,7 @@ module _ {H F I : Type 0} (m : host.Ghosts H F I) (d : disk.Ghosts F) where
       → ((over : IsOver m d old new path ends Does) → ends.status ≡ over.before → P) → Runs m d old new path ends Does → IfOver m d old new path ends P
   runs_whole old new path ends Does P follows run = elim run [
     | inl not ↦ inl not
-    | inr over ↦ elim (closing (connection_of over.after) over.closes.files over.errors ends.errors_new over.before ends.status over.closes.closed) [
+    | inr over ↦ elim (kept_unless_failed (connection_of over.after) over.closes.files over.errors ends.errors_new over.before ends.status over.closes.closed) [
       | inl failed ↦ inr (inl (over.errors, failed.0, failed.1))
       | inr same ↦ inr (inr (follows over same))
     ]
@@ -69,10 +69,10 @@ module _ {H F I : Type 0} (m : host.Ghosts H F I) (d : disk.Ghosts F) where
   module _ (old new : H) (path : List ℕ) (ends : Ends) (Does : H → H → TheRegistry m d → TheRegistry m d → Ends → Type 0)
       (over : IsOver m d old new path ends Does) (same : ends.status ≡ over.before) (endures : HasCleanDisk (state_of over.after) → HasCleanDisk (state_of over.it)) where
     -- the closed files hold what the registry left
-    turns : (h next : History) (After : History → History → Type 0)
+    files_lead_to : (h next : History) (After : History → History → Type 0)
         → ((x : History) → IsEither h next x → Represents over.it x → HasCleanDisk (state_of over.after) → LeavesSome over.after After)
         → LeadsTo m d old path over.closes.files h next After
-    turns h next After does legal legal_next from held honest =
+    files_lead_to h next After does legal legal_next from held honest =
         let clean : HasCleanDisk (state_of over.after) = closed_clean (connection_of over.after) over.closes.files over.closes.closed.closed honest in
         let found = over.takes.resumes.represents from h next legal legal_next (λ _. subst (λ i. FilesHoldEither from i h next) (sym over.takes.opens.found) held) (endures clean) in
         ∥∥₁_map found (λ it.
@@ -85,7 +85,7 @@ module _ {H F I : Type 0} (m : host.Ghosts H F I) (d : disk.Ghosts F) where
       done = over.done;
       files = over.closes.files;
       lets_go = over.closes.lets_go;
-      holds = λ h. turns h h (After h) (λ x is stands clean. does h (subst (Represents over.it) (one_of h x is) stands) clean);
+      holds = λ h. files_lead_to h h (After h) (λ x is stands clean. does h (subst (Represents over.it) (same_of_either h x is) stands) clean);
     }
 
   unread : (old new : H) (path : List ℕ) (ends : Ends) (Does : H → H → TheRegistry m d → TheRegistry m d → Ends → Type 0)
@@ -96,37 +96,32 @@ module _ {H F I : Type 0} (m : host.Ghosts H F I) (d : disk.Ghosts F) where
     carried old new path ends Does over same (λ clean. subst (λ (x : TheRegistry m d). HasCleanDisk (state_of x)) kept clean) Stays (λ h stands clean. stayed over.it over.after h kept stands clean),
   )
 
+  -- a command that only shows something of the history, and only at status 0
+  show_whole : (old new : H) (path : List ℕ) (ends : Ends) (Does : H → H → TheRegistry m d → TheRegistry m d → Ends → Type 0) (Shown : History → Type 0)
+      → ((over : IsOver m d old new path ends Does) → IsLeft over.it over.after × ((h : History) → Represents over.it h → HasCleanDisk (state_of over.after) → over.before ≡ 0 → Shown h))
+      → Runs m d old new path ends Does → IfOver m d old new path ends (IsCarriedOn m d old new path (λ h x y. Stays h x y × (ends.status ≡ 0 → Shown h)))
+  show_whole old new path ends Does Shown shows = runs_whole old new path ends Does (IsCarriedOn m d old new path (λ h x y. Stays h x y × (ends.status ≡ 0 → Shown h))) (λ over same.
+      let left = (shows over).0 in
+      carried old new path ends Does over same (λ clean. omega (arith, left.survives.clean, clean)) (λ h x y. Stays h x y × (ends.status ≡ 0 → Shown h))
+      (λ h stands clean. (h, h, ((refl, refl), λ zero. (shows over).1 h stands clean (sym same ∙ zero)), leaves_itself over.after h (left.stays h stands) clean)))
+
   list_whole : (old new : H) (path : List ℕ) (stamp : Option Moment) (ends : Ends) → Runs m d old new path ends (WritesList stamp) → IfOver m d old new path ends (IsCarriedOn m d old new path (IsListed stamp ends))
-  list_whole old new path stamp ends = runs_whole old new path ends (WritesList stamp) (IsCarriedOn m d old new path (IsListed stamp ends)) (λ over same.
-      let is = over.does.1 in
-      carried old new path ends (WritesList stamp) over same (λ clean. omega (arith, is.left.survives.clean, clean)) (IsListed stamp ends) (λ h stands clean. (
-        h,
-        h,
-        (
-          (refl, refl),
-          λ zero. let was : over.before ≡ 0 = sym same ∙ zero in elim is.shown [
-            | inl all ↦ (all.0, all.1 h stands clean, all.2, elim all.3 [ inl whole ↦ whole.1 | inr cut ↦ absurd (omega (arith, cut.0, was)) ])
-            | inr none ↦ absurd (omega (arith, none.0, was))
-          ],
-        ),
-        only over.after h (is.left.stays h stands) clean,
-      )))
+  list_whole old new path stamp ends = show_whole old new path ends (WritesList stamp) _ (λ over. let is = over.does.1 in (
+    is.left,
+    λ h stands clean zero. elim is.shown [
+      | inl all ↦ (all.0, all.1 h stands clean, all.2, elim all.3 [ inl whole ↦ whole.1 | inr cut ↦ absurd (omega (arith, cut.0, zero)) ])
+      | inr none ↦ absurd (omega (arith, none.0, zero))
+    ],
+  ))
 
   report_whole : (old new : H) (path : List ℕ) (name : ReportKind) (ends : Ends) → Runs m d old new path ends (WritesReport name) → IfOver m d old new path ends (IsCarriedOn m d old new path (IsReportedOn name ends))
-  report_whole old new path name ends = runs_whole old new path ends (WritesReport name) (IsCarriedOn m d old new path (IsReportedOn name ends)) (λ over same.
-      let is = over.does.1 in
-      carried old new path ends (WritesReport name) over same (λ clean. omega (arith, is.left.survives.clean, clean)) (IsReportedOn name ends) (λ h stands clean. (
-        h,
-        h,
-        (
-          (refl, refl),
-          λ zero. let was : over.before ≡ 0 = sym same ∙ zero in elim is.shown [
-            | inl all ↦ (all.0, all.1 h stands clean, elim all.2 [ inl whole ↦ whole.1 | inr cut ↦ absurd (omega (arith, cut.0, was)) ])
-            | inr none ↦ absurd (omega (arith, none.0, was))
-          ],
-        ),
-        only over.after h (is.left.stays h stands) clean,
-      )))
+  report_whole old new path name ends = show_whole old new path ends (WritesReport name) _ (λ over. let is = over.does.1 in (
+    is.left,
+    λ h stands clean zero. elim is.shown [
+      | inl all ↦ (all.0, all.1 h stands clean, elim all.2 [ inl whole ↦ whole.1 | inr cut ↦ absurd (omega (arith, cut.0, zero)) ])
+      | inr none ↦ absurd (omega (arith, none.0, zero))
+    ],
+  ))
 
   module _ (s : source.Ghosts I) where
     apply_whole : (old new : H) (path file : List ℕ) (a : ℕ) (ends : Ends) → Applies m d s old new path file a ends → AppliesWholly m d s old new path file a ends
@@ -134,22 +129,18 @@ module _ {H F I : Type 0} (m : host.Ghosts H F I) (d : disk.Ghosts F) where
       | inl read ↦
           let earlier : HasCleanDisk (state_of over.after) → HasCleanDisk (state_of over.it) = λ clean. omega (arith, (applied_endures _ _ over.it over.after _ a _ _ _ over.before read.3.2).clean, clean) in
           inl (record {
-            reading = over.opened;
-            read = over.done;
-            input = read.0;
-            reads = read.2;
             bytes = read.3.0;
-            gives = read.3.1;
+            read = record { reading = over.opened; read = over.done; input = read.0; reads = read.2; gives = read.3.1 };
             done = over.done;
             files = over.closes.files;
             lets_go = over.closes.lets_go;
             holds = λ h rs parsed within.
-                turns old new path ends (ActsOnFile m s file a) over same earlier (after h (take a rs)) (after h (take (a + 1) rs)) (IsAfterLines h rs a ends.out.contents ends.out_new.contents ends.status)
+                files_lead_to old new path ends (ActsOnFile m s file a) over same earlier (after h (take a rs)) (after h (take (a + 1) rs)) (IsAfterLines h rs a ends.out.contents ends.out_new.contents ends.status)
                 (λ x is stands clean. subst (λ (n : ℕ). LeavesSome over.after (IsAfterLines h rs a ends.out.contents ends.out_new.contents n)) (sym same)
                 (applied _ _ over.it over.after _ a _ _ _ over.before read.3.2 h rs parsed within (at_place over.it h rs a x is stands) clean));
             stays = λ none h.
-                turns old new path ends (ActsOnFile m s file a) over same earlier h h (Stays h)
-                (λ x is stands clean. stayed over.it over.after h (unacted _ _ over.it over.after _ a _ _ _ over.before read.3.2 none) (subst (Represents over.it) (one_of h x is) stands) clean);
+                files_lead_to old new path ends (ActsOnFile m s file a) over same earlier h h (Stays h)
+                (λ x is stands clean. stayed over.it over.after h (unacted _ _ over.it over.after _ a _ _ _ over.before read.3.2 none) (subst (Represents over.it) (same_of_either h x is) stands) clean);
           })
       | inr not ↦ inr (unread old new path ends (ActsOnFile m s file a) over same not.2.0 not.2.1.1 not.2.1.0)
     ])
@@ -160,12 +151,8 @@ module _ {H F I : Type 0} (m : host.Ghosts H F I) (d : disk.Ghosts F) where
       | inl read ↦
           let earlier : HasCleanDisk (state_of over.after) → HasCleanDisk (state_of over.it) = λ clean. omega (arith, (import_endures _ _ over.it over.after import _ _ _ _ over.before read.3.2).clean, clean) in
           inl (record {
-            reading = over.opened;
-            read = over.done;
-            input = read.0;
-            reads = read.2;
             bytes = read.3.0;
-            gives = read.3.1;
+            read = record { reading = over.opened; read = over.done; input = read.0; reads = read.2; gives = read.3.1 };
             carried = carried old new path ends (ImportsFile m s list import) over same earlier
                 (λ h x y. Stays h x y ⊎ IsAfterImport read.3.0 import ends.out.contents ends.out_new.contents ends.status h x y)
                 (λ h stands clean. subst (λ (n : ℕ). LeavesImport over.after read.3.0 import ends.out.contents ends.out_new.contents n h) (sym same)
@@ -190,21 +177,17 @@ module _ {H F I : Type 0} (m : host.Ghosts H F I) (d : disk.Ghosts F) where
     -- the founding file was read, on this connection, and the status is 0
     founded_by : (done new : H) (founding bytes : List ℕ) (OfInput : Failure → Type 0) (conn last : Held (FileStore F d)) (files : Files F) (errors : ErrorOutput) (e e_new : Sunk) (before status : ℕ)
         (read : Result Listed WireRefusal) → founding_listed bytes ≡ read → IsFoundedBy over_files OfInput conn last read errors before → IsClosed m d last files e e_new before status → before ≡ 0 → status ≡ 0
-        → (reading here : H) (input : I) → m.reads reading here founding input → MayGive (s.remaining input) bytes → m.lets_go done new files → IsFoundedWholly m d s new founding
-    founded_by done new founding bytes OfInput conn last files errors e e_new before status (Err refusal) listed is closed zero well reading here input reads gives lets_go =
+        → IsReadFrom m d s founding bytes → m.lets_go done new files → IsFoundedWholly m d s new founding
+    founded_by done new founding bytes OfInput conn last files errors e e_new before status (Err refusal) listed is closed zero well from lets_go =
         elim is.1 [ inl said ↦ absurd (omega (arith, said.0, zero)) | inr failure ↦ absurd (omega (arith, failure.0, zero)) ]
-    founded_by done new founding bytes OfInput conn last files errors e e_new before status (Ok all) listed is closed zero well reading here input reads gives lets_go = elim is [
+    founded_by done new founding bytes OfInput conn last files errors e e_new before status (Ok all) listed is closed zero well from lets_go = elim is [
       | inl failure ↦ absurd (omega (arith, failure.1, zero))
       | inr tried ↦ elim tried.2.ends [
         | inl ended ↦
             let h = founded tried.0 in
             record {
-              reading = reading;
-              read = here;
-              input = input;
-              reads = reads;
               bytes = bytes;
-              gives = gives;
+              read = from;
               listed = all;
               is_listed = listed;
               origin = tried.0;
@@ -229,7 +212,7 @@ module _ {H F I : Type 0} (m : host.Ghosts H F I) (d : disk.Ghosts F) where
           let zero : on.before ≡ 0 = elim (zero_or on.before) [ inl zero ↦ zero | inr other ↦ absurd (other (sym (on.closes.closed.kept other).0 ∙ well)) ] in
           elim on.founds [
             | inl read ↦ founded_by on.done new founding read.3.0 _ on.conn on.last on.closes.files _ on.errors ends.errors_new on.before ends.status (founding_listed read.3.0) refl read.3.2 on.closes.closed zero well
-                on.opened on.done read.0 read.2 read.3.1 on.closes.lets_go
+                (record { reading = on.opened; read = on.done; input = read.0; reads = read.2; gives = read.3.1 }) on.closes.lets_go
             | inr not ↦ absurd (omega (arith, not.2.1, zero))
           ]
     ]

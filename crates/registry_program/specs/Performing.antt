@@ -1,5 +1,5 @@
 -- What the program does by its command.
-use Rattle.std.specs.Prelude.{◌≡◌, ℕ, List, Option}
+use Rattle.std.specs.Prelude.{◌≡◌, ℕ, List}
 use Rattle.sqlite_disk.specs.declared.Disk as disk
 use Rattle.byte_streams.specs.declared.streams.Sink as sink
 use Rattle.byte_streams.specs.declared.streams.Source as source

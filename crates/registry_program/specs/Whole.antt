@@ -118,15 +118,19 @@ module _ {H F I : Type 0} (m : host.Ghosts H F I) (d : disk.Ghosts F) where
   IfOver old new path ends P = ((failure : Failure) × IsMissed m d old new path failure × IsFailure failure ends) ⊎ FailsToClose ends ⊎ P
 
   module _ (s : source.Ghosts I) where
-    -- The lines came from the file at the second path. The store's files held the history after the first `answered` requests of
-    -- these lines, or after one more, as an earlier run may have left them.
-    pub record IsAppliedTo (old new : H) (path file : List ℕ) (answered : ℕ) (ends : Ends) : Type 0 where
+    -- the file at a path was opened, and these are all bytes that it would give
+    pub record IsReadFrom (path bytes : List ℕ) : Type 0 where
       pub reading : H
       pub read : H
       pub input : I
-      pub reads : m.reads reading read file input
-      pub bytes : List ℕ
+      pub reads : m.reads reading read path input
       pub gives : MayGive (s.remaining input) bytes
+
+    -- The lines came from the file at the second path. The store's files held the history after the first `answered` requests of
+    -- these lines, or after one more, as an earlier run may have left them.
+    pub record IsAppliedTo (old new : H) (path file : List ℕ) (answered : ℕ) (ends : Ends) : Type 0 where
+      pub bytes : List ℕ
+      pub read : IsReadFrom file bytes
       pub done : H
       pub files : Files F
       pub lets_go : m.lets_go done new files
@@ -140,12 +144,8 @@ module _ {H F I : Type 0} (m : host.Ghosts H F I) (d : disk.Ghosts F) where
 
     -- the list came from the file at the second path
     pub record IsImportedTo (old new : H) (path file : List ℕ) (import : Import) (ends : Ends) : Type 0 where
-      pub reading : H
-      pub read : H
-      pub input : I
-      pub reads : m.reads reading read file input
       pub bytes : List ℕ
-      pub gives : MayGive (s.remaining input) bytes
+      pub read : IsReadFrom file bytes
       pub carried : IsCarriedOn old new path (λ h x y. Stays h x y ⊎ IsAfterImport bytes import ends.out.contents ends.out_new.contents ends.status h x y)
 
     abbrev pub ImportsWhollyAs : H → H → List ℕ → List ℕ → Result (Result Import BadArgument) NoMemory → Ends → Type 0
@@ -161,12 +161,8 @@ module _ {H F I : Type 0} (m : host.Ghosts H F I) (d : disk.Ghosts F) where
 
     -- the founding file came from the second path, and the closed files hold the new registry
     pub record IsFoundedWholly (new : H) (founding : List ℕ) : Type 0 where
-      pub reading : H
-      pub read : H
-      pub input : I
-      pub reads : m.reads reading read founding input
       pub bytes : List ℕ
-      pub gives : MayGive (s.remaining input) bytes
+      pub read : IsReadFrom founding bytes
       pub listed : Listed
       pub is_listed : founding_listed bytes ≡ Ok listed
       pub origin : Founding

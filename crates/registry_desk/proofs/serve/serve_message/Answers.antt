@@ -1,42 +1,44 @@
-use Rattle.std.proofs.Common.{inr, ℕ, refl, subst}
+use Rattle.std.proofs.Common.{inr, inl, ℕ, refl, subst}
 use Rattle.registry_http.specs.Messages.{Says}
-use Rattle.registry_http.specs.Responses.{response_bytes, unavailable_response}
+use Rattle.registry_http.specs.Responses.{unavailable_response}
 use Rattle.registry_http.proofs.MessageLemmas.{gives_some}
 use Rattle.registry_desk.specs.declared.fault.DeskFault.TheVariants.{NoMemory}
 use Rattle.registry_desk.specs.Faults.{unavailable_of}
-use Rattle.registry_desk.specs.Serving.{given_up}
 use Rattle.registry_desk.proofs.KeptLemmas.{none_after, none_are, only_done, texts_after}
-use Rattle.registry_desk.proofs.ServeLemmas.{away_early, given_up_text, served_early, served_then, told_text, turned_away}
+use Rattle.registry_desk.proofs.ServeLemmas.{served_early, served_then, tells_poisoned, turned_away}
 use Rattle.registry_desk.proofs.serve.serve_message.Goals as goal
 
 pub returns-in-Ok-clause-served : goal.returns-in-Ok-clause-served
 returns-in-Ok-clause-served g c =
     let says = c.in-Ok.ensures.ok in
-    let told = c.send-exchange.ensures.told in
+    let fault = c.send-served.result.fault in
+    let told = c.send-served.ensures in
     let acted = c.response_to-done.ensures in (
       says.0,
       says.1,
       (
         told.0,
-        told.1,
-        told.3,
-        told.4,
-        told_text c.response_to-done.result told.0 told.1 told.2,
+        told.2,
         λ h stands clean of.
             let here = subst (λ (founding : ℕ). Says founding says.0 c.in-Ok.said) (c.founding.ensures h stands).vendor says.2 in
             let answered = acted.answered h stands clean of in (
-              served_then c.response_to-done.new.registry h says.0 told.0 told.1 c.in-Ok.said c.response_to-done.result here clean answered (acted.left h stands clean) acted.asked told.2,
+              served_then c.response_to-done.new.registry h says.0 told.0 fault c.in-Ok.said c.response_to-done.result here clean answered (acted.left h stands clean) acted.asked told.1,
               texts_after _ h says.0 c.args.kept.now c.response_to-done.new.kept c.keep.new.self c.response_to-done.result c.in-Ok.said acted.beside c.keep.ensures here of answered,
             ),
         λ poisoned none.
             let away = acted.when_poisoned poisoned none in
-            let turned = turned_away c.args.registry.now c.response_to-done.new.registry c.in-Ok.said c.response_to-done.result told.0 told.1 acted.refused away told.2 in (
+            let turned = turned_away c.args.registry.now c.response_to-done.new.registry c.in-Ok.said c.response_to-done.result told.0 fault acted.refused away told.1 in (
               inr (_, c.in-Ok.said, says.2, turned.0),
               turned.1,
               none_after c.args.kept.now c.response_to-done.new.kept c.keep.new.self c.response_to-done.result c.in-Ok.said acted.beside c.keep.ensures none (only_done _ _ c.in-Ok.said away),
             ),
       ),
     )
+
+pub returns-in-Ok-clause-poisoned : goal.returns-in-Ok-clause-poisoned
+returns-in-Ok-clause-poisoned g c = λ poisoned.
+    let told = c.send-served.ensures in
+    c.response_to-done.ensures.only_poisoned (tells_poisoned c.response_to-done.result told.0 c.send-served.result.fault told.1 poisoned)
 
 pub returns-in-Err-Broken-clause-served : goal.returns-in-Err-Broken-clause-served
 returns-in-Err-Broken-clause-served g c =
@@ -45,16 +47,14 @@ returns-in-Err-Broken-clause-served g c =
 
 pub returns-in-Err-NoMemory-clause-served : goal.returns-in-Err-NoMemory-clause-served
 returns-in-Err-NoMemory-clause-served g c =
-    let all = gives_some (g.R.Source.remaining c.args.source.now) in (
+    let all = gives_some (g.R.Source.remaining c.args.source.now) in
+    let given = c.give_up.ensures in (
       all.0,
       all.1,
       (
-        response_bytes (unavailable_response (unavailable_of NoMemory)),
-        given_up NoMemory,
-        c.give_up.ensures.writes,
-        c.give_up.ensures.told,
-        given_up_text NoMemory,
-        λ h stands clean of. (served_early c.args.registry.now h all.0 stands clean, λ next next_is. none_are next c.clear.new.self c.clear.ensures),
-        λ poisoned none. (away_early all.0, refl {a = c.args.registry.now}, c.clear.ensures),
+        unavailable_response (unavailable_of NoMemory),
+        given.sent,
+        λ h stands clean of. (served_early c.args.registry.now h all.0 c.give_up.result.fault given.fault stands clean, λ next next_is. none_are next c.clear.new.self c.clear.ensures),
+        λ poisoned none. (inl (refl, given.fault), refl {a = c.args.registry.now}, c.clear.ensures),
       ),
     )
