@@ -41,30 +41,38 @@ use Rattle.registry_program.specs.Outputs.{Ends, Sunk, between}
 use Rattle.registry_program.specs.Performing.{Performs}
 use Rattle.registry_program.specs.Serving.{Serves, ServesOn, limit_of}
 use Rattle.registry_program.specs.Stores.{IsClosed, IsOver, Runs, TheRegistry}
-use Rattle.registry_program.specs.Whole.{AppliesWholly, AreLeftAfter, ExportsWhollyAs, FoundsWholly, IfOver, ImportsWhollyAs, IsAfterImport, IsAfterLines, IsAppliedTo, IsCarriedOn, IsFoundedWholly, IsImportedTo, IsListed, IsReadFrom, IsReportedOn, IsServedTo, IsUnread, IsWhole, ReportsWholly, ServesWholly, Stays, LeadsTo}
+use Rattle.registry_program.specs.Whole.{AppliesWholly, AreLeftAfter, ExportsWhollyAs, FoundsWholly, ImportsWhollyAs, IsAfterImport, IsAfterLines, IsAppliedTo, IsCarriedOn, IsFoundedWholly, IsImportedTo, IsListed, IsReadFrom, IsReportedOn, IsServedTo, IsUnbegun, IsUsed, IsWhole, LeadsTo, ReportsWholly, ServesWholly, Stays, UnlessStopped}
 use Rattle.registry_program.proofs.LeavesLemmas.{zero_or, same_of_either, LeavesSome, leaves_itself, stayed, at_place, applied, unacted, LeavesImport, imported, import_endures, served}
 
 module _ {H F I : Type 0} (m : host.Ghosts H F I) (d : disk.Ghosts F) where
-  -- unless closing failed, the status is the one before
+  -- unless closing failed after status 0, the status is the one before
   kept_unless_failed : (conn : Held (FileStore F d)) (files : Files F) (errors errors_new : Sunk) (before status : ℕ) → IsClosed m d conn files errors errors_new before status
-      → ((status ≡ 1) × PrintsFailure IsOfStore (between errors errors_new)) ⊎ (status ≡ before)
+      → ((before ≡ 0) × (status ≡ 1)) ⊎ (status ≡ before)
   kept_unless_failed conn files errors errors_new before status is = elim (zero_or before) [
-    | inl zero ↦ elim (is.well zero) [
-      | inl same ↦ inr (same.0 ∙ sym zero)
-      | inr failed ↦ inl (failed.0, tells_more (IsOfClosing (IsUncopied conn files)) IsOfStore (between errors errors_new) (of_store (IsUncopied conn files)) failed.1)
-    ]
+    | inl zero ↦ elim (is.well zero) [ inl same ↦ inr (same.0 ∙ sym zero) | inr failed ↦ inl (zero, failed.0) ]
     | inr other ↦ inr (is.kept other).0
   ]
 
   runs_whole : (old new : H) (path : List ℕ) (ends : Ends) (Does : H → H → TheRegistry m d → TheRegistry m d → Ends → Type 0) (P : Type 0)
-      → ((over : IsOver m d old new path ends Does) → ends.status ≡ over.before → P) → Runs m d old new path ends Does → IfOver m d old new path ends P
+      → ((over : IsOver m d old new path ends Does) → ends.status ≡ over.before → P) → Runs m d old new path ends Does → UnlessStopped m d old new path ends Does P
   runs_whole old new path ends Does P follows run = elim run [
     | inl not ↦ inl not
     | inr over ↦ elim (kept_unless_failed (connection_of over.after) over.closes.files over.errors ends.errors_new over.before ends.status over.closes.closed) [
-      | inl failed ↦ inr (inl (over.errors, failed.0, failed.1))
+      | inl failed ↦ inr (inl (over, failed.0, failed.1))
       | inr same ↦ inr (inr (follows over same))
     ]
   ]
+
+  -- the store was opened and closed
+  used : (old new : H) (path : List ℕ) (ends : Ends) (Does : H → H → TheRegistry m d → TheRegistry m d → Ends → Type 0) (over : IsOver m d old new path ends Does)
+      → IsUsed m d old new path false over.closes.files
+  used old new path ends Does over = record {
+    opened = over.opened;
+    first = over.takes.files;
+    opens = over.takes.opens;
+    done = over.done;
+    lets_go = over.closes.lets_go;
+  }
 
   module _ (old new : H) (path : List ℕ) (ends : Ends) (Does : H → H → TheRegistry m d → TheRegistry m d → Ends → Type 0)
       (over : IsOver m d old new path ends Does) (same : ends.status ≡ over.before) (endures : HasCleanDisk (state_of over.after) → HasCleanDisk (state_of over.it)) where
@@ -82,14 +90,13 @@ module _ {H F I : Type 0} (m : host.Ghosts H F I) (d : disk.Ghosts F) where
     carried : (After : History → History → History → Type 0)
         → ((h : History) → Represents over.it h → HasCleanDisk (state_of over.after) → LeavesSome over.after (After h)) → IsCarriedOn m d old new path After
     carried After does = record {
-      done = over.done;
       files = over.closes.files;
-      lets_go = over.closes.lets_go;
+      used = used old new path ends Does over;
       holds = λ h. files_lead_to h h (After h) (λ x is stands clean. does h (subst (Represents over.it) (same_of_either h x is) stands) clean);
     }
 
   unread : (old new : H) (path : List ℕ) (ends : Ends) (Does : H → H → TheRegistry m d → TheRegistry m d → Ends → Type 0)
-      (over : IsOver m d old new path ends Does) → ends.status ≡ over.before → over.after ≡ over.it → over.before ≡ 1 → ends.out_new ≡ ends.out → IsUnread m d old new path ends
+      (over : IsOver m d old new path ends Does) → ends.status ≡ over.before → over.after ≡ over.it → over.before ≡ 1 → ends.out_new ≡ ends.out → IsUnbegun m d old new path ends
   unread old new path ends Does over same kept one silent = (
     same ∙ one,
     silent,
@@ -99,13 +106,13 @@ module _ {H F I : Type 0} (m : host.Ghosts H F I) (d : disk.Ghosts F) where
   -- a command that only shows something of the history, and only at status 0
   show_whole : (old new : H) (path : List ℕ) (ends : Ends) (Does : H → H → TheRegistry m d → TheRegistry m d → Ends → Type 0) (Shown : History → Type 0)
       → ((over : IsOver m d old new path ends Does) → IsLeft over.it over.after × ((h : History) → Represents over.it h → HasCleanDisk (state_of over.after) → over.before ≡ 0 → Shown h))
-      → Runs m d old new path ends Does → IfOver m d old new path ends (IsCarriedOn m d old new path (λ h x y. Stays h x y × (ends.status ≡ 0 → Shown h)))
+      → Runs m d old new path ends Does → UnlessStopped m d old new path ends Does (IsCarriedOn m d old new path (λ h x y. Stays h x y × (ends.status ≡ 0 → Shown h)))
   show_whole old new path ends Does Shown shows = runs_whole old new path ends Does (IsCarriedOn m d old new path (λ h x y. Stays h x y × (ends.status ≡ 0 → Shown h))) (λ over same.
       let left = (shows over).0 in
       carried old new path ends Does over same (λ clean. omega (arith, left.survives.clean, clean)) (λ h x y. Stays h x y × (ends.status ≡ 0 → Shown h))
       (λ h stands clean. (h, h, ((refl, refl), λ zero. (shows over).1 h stands clean (sym same ∙ zero)), leaves_itself over.after h (left.stays h stands) clean)))
 
-  list_whole : (old new : H) (path : List ℕ) (stamp : Option Moment) (ends : Ends) → Runs m d old new path ends (WritesList stamp) → IfOver m d old new path ends (IsCarriedOn m d old new path (IsListed stamp ends))
+  list_whole : (old new : H) (path : List ℕ) (stamp : Option Moment) (ends : Ends) → Runs m d old new path ends (WritesList stamp) → UnlessStopped m d old new path ends (WritesList stamp) (IsCarriedOn m d old new path (IsListed stamp ends))
   list_whole old new path stamp ends = show_whole old new path ends (WritesList stamp) _ (λ over. let is = over.does.1 in (
     is.left,
     λ h stands clean zero. elim is.shown [
@@ -114,7 +121,7 @@ module _ {H F I : Type 0} (m : host.Ghosts H F I) (d : disk.Ghosts F) where
     ],
   ))
 
-  report_whole : (old new : H) (path : List ℕ) (name : ReportKind) (ends : Ends) → Runs m d old new path ends (WritesReport name) → IfOver m d old new path ends (IsCarriedOn m d old new path (IsReportedOn name ends))
+  report_whole : (old new : H) (path : List ℕ) (name : ReportKind) (ends : Ends) → Runs m d old new path ends (WritesReport name) → UnlessStopped m d old new path ends (WritesReport name) (IsCarriedOn m d old new path (IsReportedOn name ends))
   report_whole old new path name ends = show_whole old new path ends (WritesReport name) _ (λ over. let is = over.does.1 in (
     is.left,
     λ h stands clean zero. elim is.shown [
@@ -125,15 +132,14 @@ module _ {H F I : Type 0} (m : host.Ghosts H F I) (d : disk.Ghosts F) where
 
   module _ (s : source.Ghosts I) where
     apply_whole : (old new : H) (path file : List ℕ) (a : ℕ) (ends : Ends) → Applies m d s old new path file a ends → AppliesWholly m d s old new path file a ends
-    apply_whole old new path file a ends = runs_whole old new path ends (ActsOnFile m s file a) (IsAppliedTo m d s old new path file a ends ⊎ IsUnread m d old new path ends) (λ over same. elim over.does [
+    apply_whole old new path file a ends = runs_whole old new path ends (ActsOnFile m s file a) (IsAppliedTo m d s old new path file a ends ⊎ IsUnbegun m d old new path ends) (λ over same. elim over.does [
       | inl read ↦
           let earlier : HasCleanDisk (state_of over.after) → HasCleanDisk (state_of over.it) = λ clean. omega (arith, (applied_endures _ _ over.it over.after _ a _ _ _ over.before read.3.2).clean, clean) in
           inl (record {
             bytes = read.3.0;
             read = record { reading = over.opened; read = over.done; input = read.0; reads = read.2; gives = read.3.1 };
-            done = over.done;
             files = over.closes.files;
-            lets_go = over.closes.lets_go;
+            used = used old new path ends (ActsOnFile m s file a) over;
             holds = λ h rs parsed within.
                 files_lead_to old new path ends (ActsOnFile m s file a) over same earlier (after h (take a rs)) (after h (take (a + 1) rs)) (IsAfterLines h rs a ends.out.contents ends.out_new.contents ends.status)
                 (λ x is stands clean. subst (λ (n : ℕ). LeavesSome over.after (IsAfterLines h rs a ends.out.contents ends.out_new.contents n)) (sym same)
@@ -146,8 +152,8 @@ module _ {H F I : Type 0} (m : host.Ghosts H F I) (d : disk.Ghosts F) where
     ])
 
     import_whole : (old new : H) (path list : List ℕ) (import : Import) (ends : Ends) → Runs m d old new path ends (ImportsFile m s list import)
-        → IfOver m d old new path ends (IsImportedTo m d s old new path list import ends ⊎ IsUnread m d old new path ends)
-    import_whole old new path list import ends = runs_whole old new path ends (ImportsFile m s list import) (IsImportedTo m d s old new path list import ends ⊎ IsUnread m d old new path ends) (λ over same. elim over.does [
+        → UnlessStopped m d old new path ends (ImportsFile m s list import) (IsImportedTo m d s old new path list import ends ⊎ IsUnbegun m d old new path ends)
+    import_whole old new path list import ends = runs_whole old new path ends (ImportsFile m s list import) (IsImportedTo m d s old new path list import ends ⊎ IsUnbegun m d old new path ends) (λ over same. elim over.does [
       | inl read ↦
           let earlier : HasCleanDisk (state_of over.after) → HasCleanDisk (state_of over.it) = λ clean. omega (arith, (import_endures _ _ over.it over.after import _ _ _ _ over.before read.3.2).clean, clean) in
           inl (record {
@@ -175,12 +181,12 @@ module _ {H F I : Type 0} (m : host.Ghosts H F I) (d : disk.Ghosts F) where
     reports_whole old new path None ends is = is
 
     -- the founding file was read, on this connection, and the status is 0
-    founded_by : (done new : H) (founding bytes : List ℕ) (OfInput : Failure → Type 0) (conn last : Held (FileStore F d)) (files : Files F) (errors : ErrorOutput) (e e_new : Sunk) (before status : ℕ)
+    founded_by : (old new : H) (path founding bytes : List ℕ) (OfInput : Failure → Type 0) (conn last : Held (FileStore F d)) (files : Files F) (errors : ErrorOutput) (e e_new : Sunk) (before status : ℕ)
         (read : Result Listed WireRefusal) → founding_listed bytes ≡ read → IsFoundedBy over_files OfInput conn last read errors before → IsClosed m d last files e e_new before status → before ≡ 0 → status ≡ 0
-        → IsReadFrom m d s founding bytes → m.lets_go done new files → IsFoundedWholly m d s new founding
-    founded_by done new founding bytes OfInput conn last files errors e e_new before status (Err refusal) listed is closed zero well from lets_go =
+        → IsReadFrom m d s founding bytes → IsUsed m d old new path true files → IsFoundedWholly m d s old new path founding
+    founded_by old new path founding bytes OfInput conn last files errors e e_new before status (Err refusal) listed is closed zero well from used_as =
         elim is.1 [ inl said ↦ absurd (omega (arith, said.0, zero)) | inr failure ↦ absurd (omega (arith, failure.0, zero)) ]
-    founded_by done new founding bytes OfInput conn last files errors e e_new before status (Ok all) listed is closed zero well from lets_go = elim is [
+    founded_by old new path founding bytes OfInput conn last files errors e e_new before status (Ok all) listed is closed zero well from used_as = elim is [
       | inl failure ↦ absurd (omega (arith, failure.1, zero))
       | inr tried ↦ elim tried.2.ends [
         | inl ended ↦
@@ -192,9 +198,8 @@ module _ {H F I : Type 0} (m : host.Ghosts H F I) (d : disk.Ghosts F) where
               is_listed = listed;
               origin = tried.0;
               founds = tried.1;
-              done = done;
               files = files;
-              lets_go = lets_go;
+              used = used_as;
               holds = λ honest.
                   let clean : HasCleanDisk (file_state last) = closed_clean last files closed.closed honest in
                   let left : Leaves newest (file_state last) (IsEither h h) =
@@ -205,21 +210,22 @@ module _ {H F I : Type 0} (m : host.Ghosts H F I) (d : disk.Ghosts F) where
       ]
     ]
 
-    found_whole : (old new : H) (path founding : List ℕ) (ends : Ends) → Founds m d s old new path founding ends → FoundsWholly m d s new founding ends
+    found_whole : (old new : H) (path founding : List ℕ) (ends : Ends) → Founds m d s old new path founding ends → FoundsWholly m d s old new path founding ends
     found_whole old new path founding ends is well = elim is [
       | inl not ↦ absurd (omega (arith, not.2.1, well))
       | inr on ↦
           let zero : on.before ≡ 0 = elim (zero_or on.before) [ inl zero ↦ zero | inr other ↦ absurd (other (sym (on.closes.closed.kept other).0 ∙ well)) ] in
           elim on.founds [
-            | inl read ↦ founded_by on.done new founding read.3.0 _ on.conn on.last on.closes.files _ on.errors ends.errors_new on.before ends.status (founding_listed read.3.0) refl read.3.2 on.closes.closed zero well
-                (record { reading = on.opened; read = on.done; input = read.0; reads = read.2; gives = read.3.1 }) on.closes.lets_go
+            | inl read ↦ founded_by old new path founding read.3.0 _ on.conn on.last on.closes.files _ on.errors ends.errors_new on.before ends.status (founding_listed read.3.0) refl read.3.2 on.closes.closed zero well
+                (record { reading = on.opened; read = on.done; input = read.0; reads = read.2; gives = read.3.1 })
+                (record { opened = on.opened; first = on.connected.files; opens = on.connected.opens; done = on.done; lets_go = on.closes.lets_go })
             | inr not ↦ absurd (omega (arith, not.2.1, zero))
           ]
     ]
 
     module _ {R W IN : Type 0} (c : connections.Ghosts H R W) (r : source.Ghosts R) (w : sink.Ghosts W) (i : source.Ghosts IN) where
-      serves_whole : (old new : H) (path : List ℕ) (port limit : ℕ) (ends : Ends) → Serves m d c r w old new path port limit ends → ServesWholly m d c r w old new path port ends
-      serves_whole old new path port limit ends = runs_whole old new path ends (ServesOn m c r w port limit) (IsServedTo m d c r w old new path port ⊎ IsUnread m d old new path ends) (λ over same. elim over.does [
+      serves_whole : (old new : H) (path : List ℕ) (port limit : ℕ) (ends : Ends) → Serves m d c r w old new path port limit ends → ServesWholly m d c r w old new path port limit ends
+      serves_whole old new path port limit ends = runs_whole old new path ends (ServesOn m c r w port limit) (IsServedTo m d c r w old new path port ⊎ IsUnbegun m d old new path ends) (λ over same. elim over.does [
         | inl on ↦
             let all = on.served.served in
             inl (record {

@@ -19,8 +19,9 @@ use Rattle.registry_store.specs.Reopen.{AreClosed, FilesHoldEither, HoldEither, 
 use Rattle.registry_commands.specs.declared.messages.Failure.{Failure}
 use Rattle.registry_commands.specs.declared.messages.Failure.TheVariants.{File, Memory, Poisoned, Store, Taken}
 
--- a failure to open a registry: any but Taken and Poisoned
+-- a failure to open a registry in files that were opened: Store, Memory or Foreign
 abbrev pub IsOfOpening : Failure → Type 0
+IsOfOpening File = ⊥
 IsOfOpening Taken = ⊥
 IsOfOpening Poisoned = ⊥
 IsOfOpening _ = ⊤

@@ -1,6 +1,6 @@
 -- What the files of a store hold after a command, and what the outputs have gained, by the history that the files held before
 -- it.
-use Rattle.std.specs.Prelude.{◌≡◌, ◌≢◌, ◌⊎◌, ◌<◌, ◌≤◌, ◌+◌, ⊤, ℕ, List, length, take, Option, Some, None, Result, Ok, Err, IfOk, MatchResult}
+use Rattle.std.specs.Prelude.{◌≡◌, ◌≢◌, ◌⊎◌, ◌<◌, ◌≤◌, ◌+◌, ⊤, Bool, false, true, ℕ, List, length, take, Option, Some, None, Result, Ok, Err, IfOk, MatchResult}
 use Rattle.std.specs.Io.KnownBytes.{Appends, Keeps}
 use Rattle.sqlite_disk.specs.declared.Disk as disk
 use Rattle.sqlite_disk.specs.declared.Files.{Files}
@@ -31,7 +31,6 @@ use Rattle.registry_commands.specs.declared.messages.Failure.{Failure}
 use Rattle.registry_commands.specs.declared.messages.Failure.TheVariants.{Memory}
 use Rattle.registry_reports.specs.declared.kinds.ReportKind.{ReportKind}
 use Rattle.registry_commands.specs.Apply.{lines_between}
-use Rattle.registry_commands.specs.Failures.{IsOfStore, PrintsFailure}
 use Rattle.registry_commands.specs.Imports.{AreOfImport, IsFirstBad, request_of, status_of}
 use Rattle.registry_commands.specs.Lines.{requests_in}
 use Rattle.registry_commands.specs.Messages.{reply_line}
@@ -40,13 +39,10 @@ use Rattle.registry_views.specs.Reports.{IsReport}
 use Rattle.registry_desk.specs.declared.server.Connections as connections
 use Rattle.registry_desk.specs.Server.{HaveVisited, IsLeftAfter, Visit}
 use Rattle.registry_program.specs.declared.host.Host as host
-use Rattle.registry_program.specs.Commands.{IsStampOf}
-use Rattle.registry_program.specs.Outputs.{Ends, IsFailure, IsRejection, Sunk, between}
-use Rattle.registry_program.specs.Stores.{IsMissed}
-
--- closing a store failed, and the error output says so
-abbrev pub FailsToClose : Ends → Type 0
-FailsToClose ends = (errors : Sunk) × (ends.status ≡ 1) × PrintsFailure IsOfStore (between errors ends.errors_new)
+use Rattle.registry_program.specs.Commands.{ActsOnFile, ImportsFile, IsStampOf, WritesList, WritesReport}
+use Rattle.registry_program.specs.Outputs.{Ends, IsFailure, IsRejection}
+use Rattle.registry_program.specs.Serving.{ServesOn, limit_of}
+use Rattle.registry_program.specs.Stores.{IsMissed, IsOver, Opens, TheRegistry}
 
 -- ---- what a command makes of the history
 
@@ -102,20 +98,32 @@ module _ {H F I : Type 0} (m : host.Ghosts H F I) (d : disk.Ghosts F) where
       Legal h → Legal next → (from : ℕ) → FilesHoldEither from (m.holds old path) h next → AreClean d files.log files.db
       → ∥ ((x : History) × (y : History) × After x y × HoldEither d newest files x y) ∥₁
 
-  -- the store was opened and these files were closed, and for each history that they held this is so
-  pub record IsCarriedOn (old new : H) (path : List ℕ) (After : History → History → History → Type 0) : Type 0 where
+  -- the files of the store at the path were opened, perhaps made, and are these when they are closed
+  pub record IsUsed (old new : H) (path : List ℕ) (may_make : Bool) (files : Files F) : Type 0 where
+    pub opened : H
+    pub first : Files F
+    pub opens : Opens m d old opened path may_make first
     pub done : H
-    pub files : Files F
     pub lets_go : m.lets_go done new files
+
+  -- the store at the path was used, and for each history that its files held this is so
+  pub record IsCarriedOn (old new : H) (path : List ℕ) (After : History → History → History → Type 0) : Type 0 where
+    pub files : Files F
+    pub used : IsUsed old new path false files
     pub holds : (h : History) → LeadsTo old path files h h (After h)
 
-  -- the input could not be opened, or the port, and nothing was done
-  abbrev pub IsUnread : H → H → List ℕ → Ends → Type 0
-  IsUnread old new path ends = (ends.status ≡ 1) × (ends.out_new ≡ ends.out) × IsCarriedOn old new path Stays
+  -- The input could not be opened, or the port not be listened on, and the history is as before. `performs` says what was
+  -- printed.
+  abbrev pub IsUnbegun : H → H → List ℕ → Ends → Type 0
+  IsUnbegun old new path ends = (ends.status ≡ 1) × (ends.out_new ≡ ends.out) × IsCarriedOn old new path Stays
 
-  -- the store could not be opened, or closing it failed, or this
-  abbrev pub IfOver : H → H → List ℕ → Ends → Type 0 → Type 0
-  IfOver old new path ends P = ((failure : Failure) × IsMissed m d old new path failure × IsFailure failure ends) ⊎ FailsToClose ends ⊎ P
+  -- what was done with the store ended with status 0, and closing it then failed
+  abbrev pub EndsUnclosed : H → H → List ℕ → Ends → (H → H → TheRegistry m d → TheRegistry m d → Ends → Type 0) → Type 0
+  EndsUnclosed old new path ends Does = (over : IsOver m d old new path ends Does) × (over.before ≡ 0) × (ends.status ≡ 1)
+
+  -- the store could not be opened, or not be closed after this was done with it, or P holds
+  abbrev pub UnlessStopped : H → H → List ℕ → Ends → (H → H → TheRegistry m d → TheRegistry m d → Ends → Type 0) → Type 0 → Type 0
+  UnlessStopped old new path ends Does P = ((failure : Failure) × IsMissed m d old new path failure × IsFailure failure ends) ⊎ EndsUnclosed old new path ends Does ⊎ P
 
   module _ (s : source.Ghosts I) where
     -- the file at a path was opened, and these are all bytes that it would give
@@ -131,16 +139,15 @@ module _ {H F I : Type 0} (m : host.Ghosts H F I) (d : disk.Ghosts F) where
     pub record IsAppliedTo (old new : H) (path file : List ℕ) (answered : ℕ) (ends : Ends) : Type 0 where
       pub bytes : List ℕ
       pub read : IsReadFrom file bytes
-      pub done : H
       pub files : Files F
-      pub lets_go : m.lets_go done new files
+      pub used : IsUsed old new path false files
       pub holds : (h : History) (rs : List Request) → requests_in bytes ≡ Ok rs → answered ≤ length rs
           → LeadsTo old path files (after h (take answered rs)) (after h (take (answered + 1) rs)) (IsAfterLines h rs answered ends.out.contents ends.out_new.contents ends.status)
       -- otherwise nothing was acted on
       pub stays : ((rs : List Request) → requests_in bytes ≡ Ok rs → length rs < answered) → (h : History) → LeadsTo old path files h h (Stays h)
 
     abbrev pub AppliesWholly : H → H → List ℕ → List ℕ → ℕ → Ends → Type 0
-    AppliesWholly old new path file answered ends = IfOver old new path ends (IsAppliedTo old new path file answered ends ⊎ IsUnread old new path ends)
+    AppliesWholly old new path file answered ends = UnlessStopped old new path ends (ActsOnFile m s file answered) (IsAppliedTo old new path file answered ends ⊎ IsUnbegun old new path ends)
 
     -- the list came from the file at the second path
     pub record IsImportedTo (old new : H) (path file : List ℕ) (import : Import) (ends : Ends) : Type 0 where
@@ -149,7 +156,7 @@ module _ {H F I : Type 0} (m : host.Ghosts H F I) (d : disk.Ghosts F) where
       pub carried : IsCarriedOn old new path (λ h x y. Stays h x y ⊎ IsAfterImport bytes import ends.out.contents ends.out_new.contents ends.status h x y)
 
     abbrev pub ImportsWhollyAs : H → H → List ℕ → List ℕ → Result (Result Import BadArgument) NoMemory → Ends → Type 0
-    ImportsWhollyAs old new path list (Ok (Ok import)) ends = IfOver old new path ends (IsImportedTo old new path list import ends ⊎ IsUnread old new path ends)
+    ImportsWhollyAs old new path list (Ok (Ok import)) ends = UnlessStopped old new path ends (ImportsFile m s list import) (IsImportedTo old new path list import ends ⊎ IsUnbegun old new path ends)
     ImportsWhollyAs old new path list (Ok (Err argument)) ends = (new ≡ old) × IsRejection argument ends
     ImportsWhollyAs old new path list (Err none) ends = (new ≡ old) × IsFailure Memory ends
 
@@ -160,34 +167,34 @@ module _ {H F I : Type 0} (m : host.Ghosts H F I) (d : disk.Ghosts F) where
         × ImportsWhollyAs old new path list asked ends
 
     -- the founding file came from the second path, and the closed files hold the new registry
-    pub record IsFoundedWholly (new : H) (founding : List ℕ) : Type 0 where
+    pub record IsFoundedWholly (old new : H) (path founding : List ℕ) : Type 0 where
       pub bytes : List ℕ
       pub read : IsReadFrom founding bytes
       pub listed : Listed
       pub is_listed : founding_listed bytes ≡ Ok listed
       pub origin : Founding
       pub founds : Founds listed origin
-      pub done : H
       pub files : Files F
-      pub lets_go : m.lets_go done new files
+      pub used : IsUsed old new path true files
       pub holds : AreClean d files.log files.db → HoldEither d newest files (founded origin) (founded origin)
 
-    abbrev pub FoundsWholly : H → List ℕ → Ends → Type 0
-    FoundsWholly new founding ends = ends.status ≡ 0 → IsFoundedWholly new founding
+    -- at status 0; of any other status only `performs` speaks
+    abbrev pub FoundsWholly : H → H → List ℕ → List ℕ → Ends → Type 0
+    FoundsWholly old new path founding ends = ends.status ≡ 0 → IsFoundedWholly old new path founding
 
   abbrev pub ExportsWhollyAs : H → H → List ℕ → Result (Option Moment) BadArgument → Ends → Type 0
-  ExportsWhollyAs old new path (Ok stamp) ends = IfOver old new path ends (IsCarriedOn old new path (IsListed stamp ends))
+  ExportsWhollyAs old new path (Ok stamp) ends = UnlessStopped old new path ends (WritesList stamp) (IsCarriedOn old new path (IsListed stamp ends))
   ExportsWhollyAs old new path (Err argument) ends = (new ≡ old) × IsRejection argument ends
 
   abbrev pub ExportsWholly : H → H → List ℕ → Option (List ℕ) → Ends → Type 0
   ExportsWholly old new path stamp ends = (read : Result (Option Moment) BadArgument) × IsStampOf stamp read × ExportsWhollyAs old new path read ends
 
   abbrev pub ReportsWholly : H → H → List ℕ → Option ReportKind → Ends → Type 0
-  ReportsWholly old new path (Some name) ends = IfOver old new path ends (IsCarriedOn old new path (IsReportedOn name ends))
+  ReportsWholly old new path (Some name) ends = UnlessStopped old new path ends (WritesReport name) (IsCarriedOn old new path (IsReportedOn name ends))
   ReportsWholly old new path None ends = (new ≡ old) × IsRejection Name ends
 
   module _ {R W : Type 0} (c : connections.Ghosts H R W) (r : source.Ghosts R) (w : sink.Ghosts W) where
-    -- these connections came to the port and were served
+    -- these connections came to the port and were served; `performs` has their number
     pub record IsServedTo (old new : H) (path : List ℕ) (port : ℕ) : Type 0 where
       pub before : H
       pub listening : H
@@ -197,17 +204,18 @@ module _ {H F I : Type 0} (m : host.Ghosts H F I) (d : disk.Ghosts F) where
       pub visited : HaveVisited c.opens c.closes r.remaining r.failures w.contents w.failures listening middle visits
       pub carried : IsCarriedOn old new path (AreLeftAfter visits)
 
-    abbrev pub ServesWholly : H → H → List ℕ → ℕ → Ends → Type 0
-    ServesWholly old new path port ends = IfOver old new path ends (IsServedTo old new path port ⊎ IsUnread old new path ends)
+    abbrev pub ServesWholly : H → H → List ℕ → ℕ → ℕ → Ends → Type 0
+    ServesWholly old new path port limit ends = UnlessStopped old new path ends (ServesOn m c r w port limit) (IsServedTo old new path port ⊎ IsUnbegun old new path ends)
 
--- by the command; neither a trial nor a look-up opens a store
+-- What holds from the files before a command to the files after it. A trial and a look-up open no store, so nothing is said of
+-- them.
 abbrev pub IsWhole : {H F I R W : Type 0} → host.Ghosts H F I → disk.Ghosts F → source.Ghosts I → connections.Ghosts H R W → source.Ghosts R → sink.Ghosts W
     → Command (List ℕ) → H → H → Ends → Type 0
 IsWhole m d s c r w command.Trial old new ends = ⊤
-IsWhole m d s c r w (command.Found path founding) old new ends = FoundsWholly m d s new founding ends
+IsWhole m d s c r w (command.Found path founding) old new ends = FoundsWholly m d s old new path founding ends
 IsWhole m d s c r w (command.Apply path file answered) old new ends = AppliesWholly m d s old new path file answered ends
 IsWhole m d s c r w (command.Import path list caller key org vendor) old new ends = ImportsWholly m d s old new path list caller key org vendor ends
-IsWhole m d s c r w (command.Serve path port count) old new ends = ServesWholly m d c r w old new path port ends
+IsWhole m d s c r w (command.Serve path port count) old new ends = ServesWholly m d c r w old new path port (limit_of count) ends
 IsWhole m d s c r w (command.Export path stamp) old new ends = ExportsWholly m d old new path stamp ends
 IsWhole m d s c r w (command.Report path name) old new ends = ReportsWholly m d old new path (report_named name) ends
 IsWhole m d s c r w (command.Lookup list vid pid) old new ends = ⊤
