@@ -40,7 +40,7 @@ pub fn text_over<S: Alter + Drop, C: Calls>(
     let mut registry = found?;
     let mut text = String::new(alloc);
     let whole = calls.add_text(alloc, &mut registry, &mut text);
-    let _conn = registry.close();
+    let _conn = registry.into_connection();
     if whole { Some(text) } else { None }
 }
 

@@ -10,7 +10,7 @@ use Rattle.registry_rules.specs.History.{History}
 use Rattle.registry_reports.specs.History.{IsListing}
 use Rattle.registry_store.specs.declared.registry.Registry.{Registry}
 use Rattle.registry_store.specs.Promise.{Represents, is_poisoned, state_of}
-use Rattle.registry_store.specs.Queries.{IsLeft}
+use Rattle.registry_store.specs.Queries.{IsUntouched}
 use Rattle.registry_commands.specs.declared.messages.Failure.{Failure}
 use Rattle.registry_commands.specs.declared.messages.Failure.TheVariants.{Store, Memory, Foreign, Taken, Poisoned, File}
 use Rattle.registry_commands.specs.Failures.{PrintsFailure, ErrorOutput}
@@ -38,7 +38,7 @@ module _ {S : Type 0} {g : Ghosts S} where
   -- the list of the history is written, whole or in part, and the whole is the text of its document; or nothing is written,
   -- after a failure
   pub record IsExported (OfOutput : Failure → Type 0) (it new : Registry S g) (stamp : Option Moment) (out out_new : Option (List ℕ)) (errors : ErrorOutput) (status : ℕ) : Type 0 where
-    pub left : IsLeft it new
+    pub left : IsUntouched it new
     pub shown : ((doc : List TopEntry) × Gives it new (λ h. IsListing h doc) × IsTextOf (written doc stamp) doc × IsPrinted OfOutput (written doc stamp) out out_new errors status)
         ⊎ IsUnprinted (IsOfReading it new) out out_new errors status
     pub poisoned : is_poisoned it ≡ true → ShowsNothing it new out out_new errors status

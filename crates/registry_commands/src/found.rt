@@ -38,7 +38,7 @@ fn found_with<S: Alter, E: Sink>(
     ensures { IsTriedOn S.Store conn result.1 founding.now (error_output E.contents E.failures errors.old errors.new) result.0 }
 {
     match Registry::found(alloc, conn, founding) {
-        Ok(registry) => (0, registry.close()),
+        Ok(registry) => (0, registry.into_connection()),
         Err((fault, conn)) => (fail(errors, failure_of(fault)), conn),
     }
 }

@@ -37,7 +37,7 @@ pub fn apply_and_open<R: Source, D: Disk + Drop, W: Sink, E: Sink>(
 {
     let mut registry = first;
     let status = apply_lines(alloc, source, answered, &mut registry, output, errors);
-    let (closed, files) = close_store(registry.close(), errors, status);
+    let (closed, files) = close_store(registry.into_connection(), errors, status);
     if closed != status {
         return (closed, None);
     }

@@ -119,6 +119,6 @@ pub fn trial<R: Source, W: Sink, E: Sink>(
         Err(failure) => return fail(errors, failure),
     };
     let status = apply_lines(alloc, source, 0, &mut registry, output, errors);
-    drop(registry.close().into_store());
+    drop(registry.into_connection().into_store());
     status
 }

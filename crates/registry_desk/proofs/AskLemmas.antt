@@ -5,14 +5,14 @@ use Rattle.sqlite.specs.State.{HasCleanDisk}
 use Rattle.registry_rules.specs.History.{History}
 use Rattle.registry_store.specs.declared.registry.Registry.{Registry as TheRegistry}
 use Rattle.registry_store.specs.Promise.{Represents, state_of}
-use Rattle.registry_store.specs.Queries.{IsLeft}
+use Rattle.registry_store.specs.Queries.{IsUntouched}
 use Rattle.registry_desk.specs.declared.fault.DeskFault.{DeskFault}
 use Rattle.registry_desk.specs.declared.fault.DeskFault.TheVariants.{NoMemory, Registry}
 use Rattle.registry_desk.specs.Acting.{EndsAt, IsLeftAt}
 
 module _ {S : Type 0} {g : Ghosts S} where
   -- a registry that is not asked is left as it is
-  pub left_same : (it : TheRegistry S g) → IsLeft it it
+  pub left_same : (it : TheRegistry S g) → IsUntouched it it
   left_same it = record {
     stays = λ h stands. stands;
     poisons_nothing = refl;

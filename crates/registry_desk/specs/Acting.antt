@@ -17,7 +17,7 @@ use Rattle.registry_tables.specs.Rows.{newest}
 use Rattle.registry_store.specs.declared.fault.Fault.TheVariants as faults
 use Rattle.registry_store.specs.declared.registry.Registry.{Registry as TheRegistry}
 use Rattle.registry_store.specs.Promise.{Leaves, Represents, is_poisoned, poisoned_by, state_of}
-use Rattle.registry_store.specs.Queries.{IsLeft}
+use Rattle.registry_store.specs.Queries.{IsUntouched}
 use Rattle.registry_views.specs.Reports.{IsReport}
 use Rattle.registry_http.specs.declared.response.Response.{Response}
 use Rattle.registry_http.specs.declared.refusal.HttpRefusal.{HttpRefusal}
@@ -82,7 +82,7 @@ module _ {S : Type 0} {g : Ghosts S} (it new : TheRegistry S g) where
     pub only_poisoned : result ≡ Err (Registry faults.Poisoned) → is_poisoned it ≡ true
     pub answered : (h : History) → Represents it h → HasCleanDisk (state_of new) → IfOk result (Is h)
     pub kind : (h : History) → Represents it h → HasCleanDisk (state_of new) → IfErr result IsOfSoundRegistry
-    pub left : IsLeft it new
+    pub left : IsUntouched it new
 
 -- one of the two histories
 abbrev pub IsEither : History → History → History → Type 0

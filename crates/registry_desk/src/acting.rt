@@ -7,7 +7,7 @@ ghost use Rattle.registry_rules.specs.Run.{after_one, reply_to};
 ghost use Rattle.registry_store.specs.Promise.{Represents, Endures, is_poisoned, state_of};
 ghost use Rattle.registry_store.specs.declared.fault.Fault.TheVariants as faults;
 ghost use Rattle.registry_desk.specs.declared.fault.DeskFault.TheVariants as desk_faults;
-ghost use Rattle.registry_store.specs.Queries.{IsLeft};
+ghost use Rattle.registry_store.specs.Queries.{IsUntouched};
 ghost use Rattle.registry_http.specs.Responses.{refusal_response, reply_response};
 ghost use Rattle.registry_desk.specs.Acting.{IsQueryResponse, IsResponse, after_message, IsOfSoundRegistry, IsLeftAt};
 ghost use Rattle.registry_desk.specs.Kept.{AreTextsOf, kept_beside, no_texts, with_text};
@@ -48,7 +48,7 @@ fn take_or_ask<S: Alter>(
 ) -> Result<Response, DeskFault>
     ensures answered { (h : History) → Represents registry.old h → HasCleanDisk (state_of registry.new) → AreTextsOf h kept.old → IfOk result (IsQueryResponse h query.now) }
     ensures kind { (h : History) → Represents registry.old h → HasCleanDisk (state_of registry.new) → IfErr result IsOfSoundRegistry }
-    ensures left { IsLeft registry.old registry.new }
+    ensures left { IsUntouched registry.old registry.new }
     ensures only_poisoned { result ≡ Err (desk_faults.Registry faults.Poisoned) → is_poisoned registry.old ≡ true }
     ensures when_poisoned { is_poisoned registry.old ≡ true → kept.old ≡ no_texts → (result ≡ Err (desk_faults.Registry faults.Poisoned)) × (registry.new ≡ registry.old) }
     ensures taken { kept.new ≡ with_text kept.old query.now None }

@@ -41,7 +41,7 @@ use Rattle.usbids_text.specs.Moments.{Moment}
 use Rattle.usbnum_core.specs.Number.{code_of, number_of}
 use Rattle.usbnum_core.specs.declared.error.NoMemory.{NoMemory as OutOfMemory}
 use Rattle.registry_program.specs.declared.host.Host as host
-use Rattle.registry_program.specs.Commands.{ActsOnFile, ExportsAs, Founds, ImportsAs, ImportsFile, LooksUp, ReportsAs, WritesList, WritesReport}
+use Rattle.registry_program.specs.Commands.{ActsOnFile, ExportsAs, FoundsIn, ImportsAs, ImportsFile, LooksUp, ReportsAs, WritesList, WritesReport}
 use Rattle.registry_program.specs.Outputs.{Ends}
 use Rattle.registry_program.specs.Serving.{ServesOn, TellsEnd, limit_of}
 use Rattle.registry_program.specs.Performing.{Performs}
@@ -190,7 +190,7 @@ module _ {H F I : Type 0} (m : host.Ghosts H F I) (d : disk.Ghosts F) (s : sourc
     | inr none ↦ failed ends.status none.0
   ]
 
-  founds_status : (h h_new : H) (path founding : List ℕ) (ends : Ends) → Founds m d s h h_new path founding ends → IsStatus ends.status
+  founds_status : (h h_new : H) (path founding : List ℕ) (ends : Ends) → FoundsIn m d s h h_new path founding ends → IsStatus ends.status
   founds_status h h_new path founding ends is = elim is [
     | inl not ↦ failed ends.status not.2.1
     | inr on ↦

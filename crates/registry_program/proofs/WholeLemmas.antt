@@ -18,7 +18,7 @@ use Rattle.registry_tables.specs.Rows.{newest}
 use Rattle.registry_wire.specs.Founding.{Listed, founding_listed}
 use Rattle.registry_wire.specs.declared.refusal.WireRefusal.{WireRefusal}
 use Rattle.registry_store.specs.Promise.{Leaves, Represents, connection_of, state_of}
-use Rattle.registry_store.specs.Queries.{IsLeft}
+use Rattle.registry_store.specs.Queries.{IsUntouched}
 use Rattle.registry_store.specs.Reopen.{FilesHoldEither, IsEither, IsUncopied}
 use Rattle.registry_store.proofs.CrashLemmas.{closed_clean, in_newest}
 use Rattle.registry_store.proofs.RunLemmas.{leaves_weaker}
@@ -36,7 +36,7 @@ use Rattle.registry_commands.proofs.ApplyLemmas.{applied_endures}
 use Rattle.registry_desk.specs.declared.server.Connections as connections
 use Rattle.registry_desk.specs.Server.{fault_in}
 use Rattle.registry_program.specs.declared.host.Host as host
-use Rattle.registry_program.specs.Commands.{ActsOnFile, Applies, ExportsAs, Founds, ImportsAs, ImportsFile, ReportsAs, WritesList, WritesReport}
+use Rattle.registry_program.specs.Commands.{ActsOnFile, Applies, ExportsAs, FoundsIn, ImportsAs, ImportsFile, ReportsAs, WritesList, WritesReport}
 use Rattle.registry_program.specs.Outputs.{Ends, Sunk, between}
 use Rattle.registry_program.specs.Performing.{Performs}
 use Rattle.registry_program.specs.Serving.{Serves, ServesOn, limit_of}
@@ -105,7 +105,7 @@ module _ {H F I : Type 0} (m : host.Ghosts H F I) (d : disk.Ghosts F) where
 
   -- a command that only shows something of the history, and only at status 0
   show_whole : (old new : H) (path : List ℕ) (ends : Ends) (Does : H → H → TheRegistry m d → TheRegistry m d → Ends → Type 0) (Shown : History → Type 0)
-      → ((over : IsOver m d old new path ends Does) → IsLeft over.it over.after × ((h : History) → Represents over.it h → HasCleanDisk (state_of over.after) → over.before ≡ 0 → Shown h))
+      → ((over : IsOver m d old new path ends Does) → IsUntouched over.it over.after × ((h : History) → Represents over.it h → HasCleanDisk (state_of over.after) → over.before ≡ 0 → Shown h))
       → Runs m d old new path ends Does → UnlessStopped m d old new path ends Does (IsCarriedOn m d old new path (λ h x y. Stays h x y × (ends.status ≡ 0 → Shown h)))
   show_whole old new path ends Does Shown shows = runs_whole old new path ends Does (IsCarriedOn m d old new path (λ h x y. Stays h x y × (ends.status ≡ 0 → Shown h))) (λ over same.
       let left = (shows over).0 in
@@ -210,7 +210,7 @@ module _ {H F I : Type 0} (m : host.Ghosts H F I) (d : disk.Ghosts F) where
       ]
     ]
 
-    found_whole : (old new : H) (path founding : List ℕ) (ends : Ends) → Founds m d s old new path founding ends → FoundsWholly m d s old new path founding ends
+    found_whole : (old new : H) (path founding : List ℕ) (ends : Ends) → FoundsIn m d s old new path founding ends → FoundsWholly m d s old new path founding ends
     found_whole old new path founding ends is well = elim is [
       | inl not ↦ absurd (omega (arith, not.2.1, well))
       | inr on ↦

@@ -138,8 +138,8 @@ module _ {H F I : Type 0} (m : host.Ghosts H F I) (d : disk.Ghosts F) (s : sourc
     pub silent : ends.out_new ≡ ends.out
     pub closes : Closes m d done new last errors ends.errors_new before ends.status
 
-  abbrev pub Founds : H → H → List ℕ → List ℕ → Ends → Type 0
-  Founds old new path founding ends =
+  abbrev pub FoundsIn : H → H → List ℕ → List ℕ → Ends → Type 0
+  FoundsIn old new path founding ends =
       ((failure : Failure) × IsUnconnected m d old new path failure × IsFailure failure ends) ⊎ IsFoundedOn old new path founding ends
 
   -- apply STORE FILE

@@ -9,7 +9,7 @@ use Rattle.registry_arguments.specs.declared.command.Command.TheVariants as comm
 use Rattle.registry_reports.specs.Kinds.{report_named}
 use Rattle.registry_desk.specs.declared.server.Connections as connections
 use Rattle.registry_program.specs.declared.host.Host as host
-use Rattle.registry_program.specs.Commands.{Applies, Exports, Founds, Imports, LooksUp, ReportsAs, Tries}
+use Rattle.registry_program.specs.Commands.{Applies, Exports, FoundsIn, Imports, LooksUp, ReportsAs, Tries}
 use Rattle.registry_program.specs.Outputs.{Ends}
 use Rattle.registry_program.specs.Serving.{Serves, limit_of}
 
@@ -17,7 +17,7 @@ use Rattle.registry_program.specs.Serving.{Serves, limit_of}
 abbrev pub Performs : {H F I R W IN : Type 0} → host.Ghosts H F I → disk.Ghosts F → source.Ghosts I → connections.Ghosts H R W → source.Ghosts R → sink.Ghosts W
     → source.Ghosts IN → Command (List ℕ) → H → H → IN → IN → Ends → Type 0
 Performs m d s c r w i command.Trial old new input input_new ends = (new ≡ old) × Tries i input input_new ends
-Performs m d s c r w i (command.Found path founding) old new input input_new ends = (input_new ≡ input) × Founds m d s old new path founding ends
+Performs m d s c r w i (command.Found path founding) old new input input_new ends = (input_new ≡ input) × FoundsIn m d s old new path founding ends
 Performs m d s c r w i (command.Apply path file answered) old new input input_new ends = (input_new ≡ input) × Applies m d s old new path file answered ends
 Performs m d s c r w i (command.Import path list caller key org vendor) old new input input_new ends =
     (input_new ≡ input) × Imports m d s old new path list caller key org vendor ends

@@ -37,7 +37,7 @@ module _ {H F I : Type 0} (m : host.Ghosts H F I) (d : disk.Ghosts F) where
     pub lets_go : m.lets_go opened new left
 
   -- the store at a path, which must exist, was opened, and this is the registry in its files
-  pub record Takes (old new : H) (path : List ℕ) (it : TheRegistry) : Type 0 where
+  pub record OpensRegistry (old new : H) (path : List ℕ) (it : TheRegistry) : Type 0 where
     pub files : Files F
     pub opens : Opens old new path false files
     pub resumes : Resumes d files it
@@ -76,7 +76,7 @@ module _ {H F I : Type 0} (m : host.Ghosts H F I) (d : disk.Ghosts F) where
   pub record IsOver (old new : H) (path : List ℕ) (ends : Ends) (Does : H → H → TheRegistry → TheRegistry → Ends → Type 0) : Type 0 where
     pub opened : H
     pub it : TheRegistry
-    pub takes : Takes old opened path it
+    pub takes : OpensRegistry old opened path it
     pub done : H
     pub after : TheRegistry
     pub errors : Sunk

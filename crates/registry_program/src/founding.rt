@@ -1,6 +1,6 @@
 //! The command that founds a registry.
 
-ghost use Rattle.registry_program.specs.Commands.{Founds, FoundsBy};
+ghost use Rattle.registry_program.specs.Commands.{FoundsIn, FoundsBy};
 ghost use Rattle.registry_program.specs.Outputs.{silent_ends};
 
 use crate::host::Host;
@@ -35,7 +35,7 @@ pub fn run_found<H: Host, E: Sink>(
     founding: &str,
     errors: &mut E,
 ) -> u8
-    ensures { (out : _) → Founds H.Host H.File.Disk H.Input.Source host.old host.new store.now founding.now
+    ensures { (out : _) → FoundsIn H.Host H.File.Disk H.Input.Source host.old host.new store.now founding.now
         (silent_ends E.Sink out errors.old errors.new result) }
 {
     let conn = match connect(alloc, host, store) {

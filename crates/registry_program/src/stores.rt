@@ -3,7 +3,7 @@
 ghost use Rattle.std.specs.Prelude.{IfOk, IfErr};
 ghost use Rattle.registry_store.specs.Promise.{connection_of};
 ghost use Rattle.registry_program.specs.Outputs.{sunk};
-ghost use Rattle.registry_program.specs.Stores.{Closes, IsConnected, IsMissed, IsUnconnected, Takes};
+ghost use Rattle.registry_program.specs.Stores.{Closes, IsConnected, IsMissed, IsUnconnected, OpensRegistry};
 
 use crate::host::Host;
 use crate::opening::{connect_to, resume};
@@ -23,7 +23,7 @@ pub fn open_registry<H: Host>(
     host: &mut H,
     path: &str,
 ) -> Result<Registry<FileStore<H::File>>, Failure>
-    ensures ok { IfOk result (Takes H.Host H.File.Disk host.old host.new path.now) }
+    ensures ok { IfOk result (OpensRegistry H.Host H.File.Disk host.old host.new path.now) }
     ensures err { IfErr result (IsMissed H.Host H.File.Disk host.old host.new path.now) }
 {
     let (files, options) = match host.open_store(path, false) {
@@ -88,5 +88,5 @@ pub fn close_registry<H: Host, E: Sink>(
 ) -> u8
     ensures { Closes H.Host H.File.Disk host.old host.new (connection_of registry) (sunk E.Sink errors.old) (sunk E.Sink errors.new) status result }
 {
-    close_connection(host, registry.close(), errors, status)
+    close_connection(host, registry.into_connection(), errors, status)
 }

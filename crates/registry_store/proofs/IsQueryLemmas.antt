@@ -11,12 +11,12 @@ use Rattle.registry_store.specs.declared.fault.Fault.{Fault}
 use Rattle.registry_store.specs.declared.fault.Fault.TheVariants as of
 use Rattle.registry_store.specs.declared.registry.Registry.{Registry}
 use Rattle.registry_store.specs.Promise.{Represents, IsLegalWith, is_poisoned, state_of}
-use Rattle.registry_store.specs.Queries.{IsLeft, IsQuery}
+use Rattle.registry_store.specs.Queries.{IsUntouched, IsQuery}
 use Rattle.registry_store.proofs.OpeningLemmas.{still_at, earlier}
 use Rattle.registry_store.proofs.QueryLemmas.{listed, kind_of}
 
 module _ {S : Type 0} {g : Ghosts S} {it new : Registry S g} {A : Type 0} {Is : History → A → Type 0} (sound : is_poisoned it ≡ false) (totals : new.totals ≡ it.totals) (poisoned : is_poisoned new ≡ is_poisoned it) where
-  left : (result : Result A TableFault) → IsLookUp (state_of it) (state_of new) result Is → IsLeft it new
+  left : (result : Result A TableFault) → IsLookUp (state_of it) (state_of new) result Is → IsUntouched it new
   left result looked = record {
     stays = λ h stands. record {
       not_poisoned = poisoned ∙ sound;

@@ -11,7 +11,7 @@ use Rattle.registry_store.specs.Promise.{Represents, is_poisoned, state_of}
 
 module _ {S : Type 0} {g : Ghosts S} (it new : Registry S g) where
   -- the registry still represents each history that it represented, and nothing was committed
-  pub record IsLeft : Type 0 where
+  pub record IsUntouched : Type 0 where
     pub stays : (h : History) → Represents it h → Represents new h
     pub poisons_nothing : is_poisoned new ≡ is_poisoned it
     pub survives : CommitsNothing (state_of it) (state_of new)
@@ -24,4 +24,4 @@ module _ {S : Type 0} {g : Ghosts S} (it new : Registry S g) where
     pub never_taken : result ≢ Err of.Taken
     pub answered : (h : History) → Represents it h → HasCleanDisk (state_of new) → IfOk result (Is h)
     pub kind : (h : History) → Represents it h → HasCleanDisk (state_of new) → IfErr result (λ e. (e ≡ of.Store) ⊎ (e ≡ of.NoMemory))
-    pub left : IsLeft
+    pub left : IsUntouched

@@ -121,7 +121,7 @@ pub fn close_and_open<D: Disk + Drop>(
     ensures represents { (h next : History) → Legal h → Legal next → (HasCleanDisk (state_of registry) → Leaves newest (state_of registry) (IsEither h next))
         → IfSome result (λ it. HasCleanDisk (state_of it) → ∥ ((x : History) × IsEither h next x × Represents it x) ∥₁) }
 {
-    let Closed { files, error } = close_files(registry.close());
+    let Closed { files, error } = close_files(registry.into_connection());
     match error {
         None => open_files(alloc, files, options),
         Some(_) => None,

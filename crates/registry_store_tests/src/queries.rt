@@ -279,7 +279,7 @@ fn ask_and_close<S: Alter + Drop>(
     text: &mut String,
 ) -> Option<Vec<Reply>> {
     let replies = ask(&mut registry, requests, vid, keys, text);
-    let _conn = registry.close();
+    let _conn = registry.into_connection();
     replies
 }
 
@@ -343,7 +343,7 @@ fn acts_on_one_request(rt: HostRuntime) -> Result<(), Fail> {
     let mut registry = found.ok().expect(&rt, "a registry");
     let reply = registry.act(&request).expect(&rt, "a reply");
     let orgs = registry.orgs().expect(&rt, "organisations");
-    let _conn = registry.close();
+    let _conn = registry.into_connection();
     assert!(rt; matches!(&reply, Reply::Done(text) if text.as_str() == "enrolled acme"));
     assert_eq!(rt; orgs.len(), 1);
     Ok(())

@@ -194,7 +194,7 @@ pub fn act_and_close<S: Alter + Drop>(
     seen: &mut Seen,
 ) -> Connection<S> {
     act_in(alloc, &mut registry, visit, seen);
-    registry.close()
+    registry.into_connection()
 }
 
 fn open<S: Alter + Drop>(

@@ -104,13 +104,13 @@ fn go_through<D: Crash + Drop>(
         Way::Leave => leave_and_open(alloc, registry, PLAIN),
         Way::Crash => crash_and_open(alloc, registry, PLAIN),
         Way::CrashUntilOpen => crash_until_open(alloc, registry, PLAIN, 1),
-        Way::Stop => open_again(alloc, abandon(registry).close()),
+        Way::Stop => open_again(alloc, abandon(registry).into_connection()),
         Way::StopOrReturn => open_or_return(alloc, leave(registry)),
         Way::OpenThrough => open_through(alloc, leave(registry), PLAIN, 1),
-        Way::CloseStore => close_store_and_open(alloc, registry.close()),
-        Way::CrashStore => crash_and_open_store(alloc, registry.close(), PLAIN),
-        Way::TakeUp => take_up(alloc, registry.close()),
-        Way::TakeUpOrReturn => take_up_or_none(alloc, registry.close()),
+        Way::CloseStore => close_store_and_open(alloc, registry.into_connection()),
+        Way::CrashStore => crash_and_open_store(alloc, registry.into_connection(), PLAIN),
+        Way::TakeUp => take_up(alloc, registry.into_connection()),
+        Way::TakeUpOrReturn => take_up_or_none(alloc, registry.into_connection()),
     }
 }
 

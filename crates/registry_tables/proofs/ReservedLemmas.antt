@@ -215,17 +215,17 @@ module _ (vid low high : ℕ) (spans found kept : List (ℕ × Span)) (cut : IsC
         go (inl own) = let ends = part.ordered in absurd (omega (arith, own, first, last))
         go (inr any) = let s = last_one any in all_weaker (λ k. AreApart k s.0) (λ k. AreApart k (vid, part)) (right_apart_one part first last s.0 s.1 s.2.met) kept s.2.apart
 
-    abbrev IsLeft : Option Span → Type 0
-    IsLeft left = MatchOption left (span.first ≤ least) (λ part. (part.first ≡ least) × (part.last + 1 ≡ span.first))
+    abbrev IsUntouched : Option Span → Type 0
+    IsUntouched left = MatchOption left (span.first ≤ least) (λ part. (part.first ≡ least) × (part.last + 1 ≡ span.first))
 
     abbrev IsRight : Option Span → Type 0
     IsRight right = MatchOption right (greatest ≤ span.last) (λ part. (part.first ≡ span.last + 1) × (part.last ≡ greatest))
 
-    pub left_beside : (left : Option Span) → IsLeft left → AreApartFrom (part_of vid left) kept
+    pub left_beside : (left : Option Span) → IsUntouched left → AreApartFrom (part_of vid left) kept
     left_beside None is = all_of (λ k. Unit {0}) (λ k. tt) kept
     left_beside (Some part) is = beside_one vid part kept (left_apart_all part is.0 is.1)
 
-    right_of_left : (left right : Option Span) → IsLeft left → IsRight right → AreApartFrom (part_of vid right) (part_of vid left)
+    right_of_left : (left right : Option Span) → IsUntouched left → IsRight right → AreApartFrom (part_of vid right) (part_of vid left)
     right_of_left None right l r = tt
     right_of_left (Some a) None l r = (tt, tt)
     right_of_left (Some a) (Some b) l r = let ends = span.ordered in ((inr (inl (omega (arith, l.1, r.0))), tt), tt)
@@ -234,7 +234,7 @@ module _ (vid low high : ℕ) (spans found kept : List (ℕ × Span)) (cut : IsC
     right_kept None is = all_of (λ k. Unit {0}) (λ k. tt) kept
     right_kept (Some part) is = beside_one vid part kept (right_apart_all part is.0 is.1)
 
-    pub right_beside : (left right : Option Span) → IsLeft left → IsRight right → AreApartFrom (part_of vid right) (kept ++ part_of vid left)
+    pub right_beside : (left right : Option Span) → IsUntouched left → IsRight right → AreApartFrom (part_of vid right) (kept ++ part_of vid left)
     right_beside left right l r = all-append (λ k. AllByRecursion (AreApart k) (part_of vid right)) kept (part_of vid left) (right_kept right r) (right_of_left left right l r)
 
     kept_out : (n : Number) → is_in vid span n ≡ true → list_any (vendor_span_has n) kept ≡ false
@@ -253,7 +253,7 @@ module _ (vid low high : ℕ) (spans found kept : List (ℕ × Span)) (cut : IsC
                 let own = has_is n (vid, span) inside in
                 go own.1 own.2 at.1 at.2 (missed_is vid low high k missed (at.0 ∙ sym own.0))
 
-    left_out : (left : Option Span) → IsLeft left → (n : Number) → is_in vid span n ≡ true → list_any (vendor_span_has n) (part_of vid left) ≡ false
+    left_out : (left : Option Span) → IsUntouched left → (n : Number) → is_in vid span n ≡ true → list_any (vendor_span_has n) (part_of vid left) ≡ false
     left_out None is n inside = refl
     left_out (Some part) is n inside =
         or_from (vendor_span_has n (vid, part)) false
@@ -271,7 +271,7 @@ module _ (vid low high : ℕ) (spans found kept : List (ℕ × Span)) (cut : IsC
         omega (arith, at.1, own.2, is.0))))
         refl
 
-    left_was : (left : Option Span) → IsLeft left → (n : Number) → list_any (vendor_span_has n) (part_of vid left) ≡ true → list_any (vendor_span_has n) found ≡ true
+    left_was : (left : Option Span) → IsUntouched left → (n : Number) → list_any (vendor_span_has n) (part_of vid left) ≡ true → list_any (vendor_span_has n) found ≡ true
     left_was None is n any = absurd cc
     left_was (Some part) is n any =
         let at = has_is n (vid, part) (one_of (vendor_span_has n (vid, part)) any) in
@@ -285,7 +285,7 @@ module _ (vid low high : ℕ) (spans found kept : List (ℕ × Span)) (cut : IsC
         let ends = span.ordered in
         beyond (omega (arith, from_low)) (omega (arith, to_high)) n at.0 (omega (arith, at.1, is.0, reach.below)) (omega (arith, at.2, is.1)) (inr (omega (arith, at.1, is.0)))
 
-    left_has : (left : Option Span) → IsLeft left → (n : Number) → vid ≡ n.vid → least ≤ n.pid → n.pid < span.first → list_any (vendor_span_has n) (part_of vid left) ≡ true
+    left_has : (left : Option Span) → IsUntouched left → (n : Number) → vid ≡ n.vid → least ≤ n.pid → n.pid < span.first → list_any (vendor_span_has n) (part_of vid left) ≡ true
     left_has None is n here a b = absurd (omega (arith, is, a, b))
     left_has (Some part) is n here a b = or_left (vendor_span_has n (vid, part)) false (has_from n (vid, part) here (omega (arith, is.0, a)) (omega (arith, is.1, b)))
 
@@ -293,7 +293,7 @@ module _ (vid low high : ℕ) (spans found kept : List (ℕ × Span)) (cut : IsC
     right_has None is n here a b = absurd (omega (arith, is, a, b))
     right_has (Some part) is n here a b = or_left (vendor_span_has n (vid, part)) false (has_from n (vid, part) here (omega (arith, is.0, a)) (omega (arith, is.1, b)))
 
-    still_has : (left right : Option Span) → IsLeft left → IsRight right → (n : Number) → list_any (vendor_span_has n) found ≡ true → is_in vid span n ≡ false
+    still_has : (left right : Option Span) → IsUntouched left → IsRight right → (n : Number) → list_any (vendor_span_has n) found ≡ true → is_in vid span n ≡ false
         → (list_any (vendor_span_has n) (part_of vid left) ≡ true) ⊎ (list_any (vendor_span_has n) (part_of vid right) ≡ true)
     still_has left right l r n any out = go (aside vid span n out at.0)
       where
@@ -304,7 +304,7 @@ module _ (vid low high : ℕ) (spans found kept : List (ℕ × Span)) (cut : IsC
         go (inl below) = inl (left_has left l n at.0 at.1 below)
         go (inr above) = inr (right_has right r n at.0 above at.2)
 
-    pub parts_each : (left right : Option Span) → IsLeft left → IsRight right → (n : Number)
+    pub parts_each : (left right : Option Span) → IsUntouched left → IsRight right → (n : Number)
         → list_any (vendor_span_has n) ((kept ++ part_of vid left) ++ part_of vid right) ≡ cond (is_in vid span n) false (list_any (vendor_span_has n) spans)
     parts_each left right l r n =
         let has = vendor_span_has n in

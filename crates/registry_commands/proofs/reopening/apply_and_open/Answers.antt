@@ -24,14 +24,14 @@ returns g c =
     let close = c.close_store-closed in (
       bytes,
       run.ensures.1,
-      (run.result, run.new.errors, (run.new.registry, run.ensures.2), subst (λ (n : ℕ). EndsClosing g.E.Sink.contents g.E.Sink.failures run.result run.new.errors close.new.errors n) c.if-closed-status.false (closing_ends g.E.Sink.contents g.E.Sink.failures (IsUncopied c.close.result close.result.1) run.new.errors close.new.errors run.result close.result.0 close.ensures.kept close.ensures.well)),
+      (run.result, run.new.errors, (run.new.registry, run.ensures.2), subst (λ (n : ℕ). EndsClosing g.E.Sink.contents g.E.Sink.failures run.result run.new.errors close.new.errors n) c.if-closed-status.false (closing_ends g.E.Sink.contents g.E.Sink.failures (IsUncopied c.into_connection.result close.result.1) run.new.errors close.new.errors run.result close.result.0 close.ensures.kept close.ensures.well)),
       if_reopened OfInput OfOutput c.args.first run.new.registry (requests_in bytes) c.args.answered (g.W.Sink.contents c.args.output.now) (g.W.Sink.contents run.new.output) told run.result run.ensures.2
           c.open_files.result
           (λ h next legal legal_next leaves.
-          let before = subst (λ x. HasCleanDisk (file_state x) → Leaves newest (file_state x) (IsEither h next)) (sym c.close.ensures) leaves in
-          c.open_files.ensures.represents newest h next legal legal_next (λ honest. (close.ensures.holds c.if-closed-status.false newest h next (in_newest (file_state c.close.result) (IsEither h next) before) honest).now))
+          let before = subst (λ x. HasCleanDisk (file_state x) → Leaves newest (file_state x) (IsEither h next)) (sym c.into_connection.ensures) leaves in
+          c.open_files.ensures.represents newest h next legal legal_next (λ honest. (close.ensures.holds c.if-closed-status.false newest h next (in_newest (file_state c.into_connection.result) (IsEither h next) before) honest).now))
           (IfSome_then c.open_files.result c.open_files.ensures.honest
-          (λ x honest clean. subst (λ y. HasCleanDisk (file_state y)) c.close.ensures (closed_clean c.close.result close.result.1 close.ensures.closed (honest clean)))),
+          (λ x honest clean. subst (λ y. HasCleanDisk (file_state y)) c.into_connection.ensures (closed_clean c.into_connection.result close.result.1 close.ensures.closed (honest clean)))),
     )
 
 pub returns-then-closed-status : goal.returns-then-closed-status
@@ -40,7 +40,7 @@ returns-then-closed-status g c =
     let close = c.close_store-closed in (
       run.ensures.0,
       run.ensures.1,
-      (run.result, run.new.errors, (run.new.registry, run.ensures.2), closing_ends g.E.Sink.contents g.E.Sink.failures (IsUncopied c.close.result close.result.1) run.new.errors close.new.errors run.result close.result.0 close.ensures.kept close.ensures.well),
+      (run.result, run.new.errors, (run.new.registry, run.ensures.2), closing_ends g.E.Sink.contents g.E.Sink.failures (IsUncopied c.into_connection.result close.result.1) run.new.errors close.new.errors run.result close.result.0 close.ensures.kept close.ensures.well),
       tt,
     )
 
@@ -50,7 +50,7 @@ returns-then-not-may_be_used g c =
     let close = c.close_store-closed in (
       run.ensures.0,
       run.ensures.1,
-      (run.result, run.new.errors, (run.new.registry, run.ensures.2), subst (λ (n : ℕ). EndsClosing g.E.Sink.contents g.E.Sink.failures run.result run.new.errors close.new.errors n) c.if-closed-status.false (closing_ends g.E.Sink.contents g.E.Sink.failures (IsUncopied c.close.result close.result.1) run.new.errors close.new.errors run.result close.result.0 close.ensures.kept close.ensures.well)),
+      (run.result, run.new.errors, (run.new.registry, run.ensures.2), subst (λ (n : ℕ). EndsClosing g.E.Sink.contents g.E.Sink.failures run.result run.new.errors close.new.errors n) c.if-closed-status.false (closing_ends g.E.Sink.contents g.E.Sink.failures (IsUncopied c.into_connection.result close.result.1) run.new.errors close.new.errors run.result close.result.0 close.ensures.kept close.ensures.well)),
       tt,
     )
 
