@@ -1,7 +1,7 @@
-use Rattle.registry_tables.proofs.FactLemmas.{grant_names}
-use Rattle.std.proofs.Common.{sym, ◌∙◌}
+use Rattle.std.proofs.Common.{option_and_then, ap, sym, ◌∙◌}
+use Rattle.registry_rules.specs.Query.{petition_of}
 use Rattle.registry_tables.proofs.ReadLemmas.{opened, reads_as}
 use Rattle.registry_tables.proofs.facts.petition_for.Goals as goal
 
-pub returns-in-Grant : goal.returns-in-Grant
-returns-in-Grant g c = record { reads = opened (reads_as (λ h found legal is. is ∙ sym (grant_names h c.args.order.now c.in-Grant.it c.in-Grant.is)) c.petition_at.ensures.reads) }
+pub returns-in-Some : goal.returns-in-Some
+returns-in-Some g c = record { reads = opened (reads_as (λ h found legal is. is ∙ sym (c.petition_concerned.ensures h ∙ ap (option_and_then (petition_of h)) c.in-Some.is)) c.petition_at.ensures.reads) }
