@@ -116,15 +116,25 @@ def requests_in(path):
     return [json.loads(line) for line in content(path).splitlines()]
 
 
+def most_open():
+    """Returns requests of an organisation with the most open petitions, one of which it withdraws, and the replies."""
+    most, refused = plain_history.MOST_OPEN, '{"name":"TooManyOpen","refused":14}'
+    asked = [ask(f"k{number}") for number in range(1, most + 2)]
+    opened = [f'{{"done":"petition {number}"}}' for number in range(1, most + 2)]
+    requests = [enrol("acme"), *asked, request("ann", "w", "withdraw", petition=5), asked[-1]]
+    return requests, ['{"done":"enrolled acme"}', *opened[:-1], refused, '{"done":"withdrawn petition 5"}', opened[-1]]
+
+
 def all_cases():
-    """Returns the name and the requests of each case."""
+    """Returns the name, the requests and the replies of each case."""
     for path in sorted(glob.glob(f"{TOP}/cases/*.requests")):
-        yield os.path.splitext(os.path.basename(path))[0], requests_in(path)
+        replies = content(path.replace(".requests", ".replies")).decode().splitlines()
+        yield os.path.splitext(os.path.basename(path))[0], requests_in(path), replies
+    yield "most_open", *most_open()
 
 
 def cases(room):
-    for name, requests in all_cases():
-        replies = content(f"{TOP}/cases/{name}.replies").decode().splitlines()
+    for name, requests, replies in all_cases():
         room.registry().send(name, requests, replies)
 
 

@@ -203,7 +203,7 @@ class OneVendor(Chance):
 def histories(stores):
     """Returns the cases that the older schemas know, and random requests."""
     known = [it for it in all_cases() if not any("vendor" in asked or asked["order"] == "add-licence" for asked in it[1])]
-    all_histories = [(name, requests, {}) for name, requests in known]
+    all_histories = [(name, requests, {}) for name, requests, _ in known]
     for seed in (1, 2, 3):
         chance = OneVendor(seed)
         made_up = [chance.request() for _ in range(300)]
@@ -303,8 +303,10 @@ def newest(stores):
     for make_store in (found, found_without_sums):
         store = make_store(stores.program, f"{stores.folder}/newest.db")
         replies = apply(stores.program, store, lines)
-        repeats = write(f"{stores.folder}/again.jsonl", "".join(content(lines).decode().splitlines(keepends=True)[:16]))
-        keeps_bytes("repeats", store, [stores.program, "apply", store, repeats], (0, b"".join(replies.splitlines(keepends=True)[:16]), b""))
+        answered = zip(content(lines).splitlines(keepends=True), replies.splitlines(keepends=True), strict=True)
+        accepted = [(line, reply) for line, reply in answered if reply.startswith(b'{"done"')]
+        repeats = write(f"{stores.folder}/again.jsonl", b"".join(line for line, _ in accepted).decode())
+        keeps_bytes("repeats", store, [stores.program, "apply", store, repeats], (0, b"".join(reply for _, reply in accepted), b""))
         for words in views(stores.program, store):
             keeps_bytes("the newest schema", store, words, (0, done(words), b""))
         shown.append((replies, rows_of(store), [done(words) for words in views(stores.program, store)]))

@@ -24,6 +24,7 @@ import sys
 import threading
 import time
 
+from lib.plain_history import MOST_OPEN
 from lib.serving import PATIENCE, TEXT, command, connected, done, exchange, free_port, get, message, post, read_to_end, refusals, refused, response, serving
 from lib.usbreg import apply, done as printed, folder, found, program, rounds, run, tables, write, write_requests
 from stop_and_go_on import kept, look
@@ -123,11 +124,11 @@ def by_rules(desk):
 
 
 def by_limits(desk):
-    """Tries a vendor without free numbers, sixteen open petitions, and 256 vendors."""
+    """Tries a vendor without free numbers, the most open petitions, and 256 vendors."""
     desk.send(asked("r1", "reserve", "cora", first="0012", last="ffff"), done("reserved 0012-ffff"))
-    for number in range(2, 18):
+    for number in range(2, MOST_OPEN + 2):
         desk.send(ask(f"a{number}"), done(f"petition {number}"))
-    desk.refuses_order(14, ask("a18"))
+    desk.refuses_order(14, ask("a1"))
     desk.refuses_order(12, asked("g2", "grant", "cora", petition=2))
     for number in range(1, 256):
         desk.send(asked(f"v{number}", "add-vendor", "cora", vendor=f"{number:04x}", name="Other"), done(f"added vendor {number:04x}"))

@@ -28,6 +28,8 @@ OPEN, GRANTED, DECLINED, WITHDRAWN = range(4)
 STATES = {"grant": GRANTED, "decline": DECLINED, "withdraw": WITHDRAWN}
 CURATORS_ORDERS = {"grant", "decline", "reserve", "release", "import", "add-vendor", "add-licence"}
 TERMS = ("title", "licence", "site", "source")
+# The most open petitions of one organisation.
+MOST_OPEN = 16
 
 
 class Refused(Exception):
@@ -186,7 +188,7 @@ class History:
         self.check_keeper(request, request["org"])
         check(vid in self.vendors(), 34)
         check(request["licence"] in self.licences(), 13)
-        check(len(self.open_petitions(request["org"])) < 16, 14)
+        check(len(self.open_petitions(request["org"])) < MOST_OPEN, 14)
         check(len(self.of_order("ask")) < 1_000_000, 18)
         if request.get("number"):
             self.check_given((vid, int(request["number"], 16)), request["org"])
