@@ -91,21 +91,21 @@ held_by_keeper standing known caller = do
 -- Each kind of order: its checks by their refusals, then its act. `outcome` in Verdict and `outcome_on` in OnFacts supply the
 -- arguments: `known` is the organisation concerned, if it exists; an argument of type ℕ is a count.
 
--- Enrol: 5, 18
+-- Enrol. Refusals: 5, 18
 abbrev pub enrol_checks : Option Org → ℕ → Org → Result Act Refusal
 enrol_checks known orgs org = do
   check (is_none known) OrgTaken
   check (nat_lt orgs most_orgs) Full
   Ok (Enrolled org)
 
--- AmendOrg: 4, 3
+-- AmendOrg. Refusals: 4, 3
 abbrev pub amend_org_checks : Option Org → Slug → Title → Link → Result Act Refusal
 amend_org_checks known caller title site = do
   org ← present known NoOrg
   by_keeper org caller
   Ok (OrgAmended (record org { title = title; site = site }))
 
--- Ask: 4, 3, 34, 13, 14, 18, 8, 9, 10
+-- Ask. Refusals: 4, 3, 34, 13, 14, 18, 8, 9, 10
 abbrev pub ask_checks : Option Org → Bool → Bool → ℕ → ℕ → Option Standing → Slug → Petition → Result Act Refusal
 ask_checks known vendor_there allowed still_open petitions wanted caller petition = do
   org ← present known NoOrg
@@ -117,7 +117,7 @@ ask_checks known vendor_there allowed still_open petitions wanted caller petitio
   wanted_can_be_given wanted petition.org
   Ok (Asked (petitions + 1) petition)
 
--- Grant: 2, 6, 7, 12, 8, 9, 10
+-- Grant. Refusals: 2, 6, 7, 12, 8, 9, 10
 abbrev pub grant_checks : List Slug → VendorId → Option Petition → Option Standing → Slug → PetitionId → Result Act Refusal
 grant_checks curators founding_vendor petition chosen caller id = do
   by_curator curators caller
@@ -126,14 +126,14 @@ grant_checks curators founding_vendor petition chosen caller id = do
   can_be_given standing petition.org
   Ok (Granted id petition (name_of founding_vendor standing.number))
 
--- Decline: 2, 6, 7
+-- Decline. Refusals: 2, 6, 7
 abbrev pub decline_checks : List Slug → Option Petition → Slug → PetitionId → Result Act Refusal
 decline_checks curators petition caller id = do
   by_curator curators caller
   petition ← open_petition petition
   Ok (Declined id petition)
 
--- Withdraw: 6, 3, 7
+-- Withdraw. Refusals: 6, 3, 7
 abbrev pub withdraw_checks : Option Petition → Option Org → Slug → PetitionId → Result Act Refusal
 withdraw_checks petition known caller id = do
   petition ← present petition NoPetition
@@ -141,14 +141,14 @@ withdraw_checks petition known caller id = do
   check (is_open petition.state) PetitionClosed
   Ok (Withdrawn id petition)
 
--- Amend: 11, 3, 13
+-- Amend. Refusals: 11, 3, 13
 abbrev pub amend_checks : VendorId → Standing → Option Org → Bool → Slug → Card → Result Act Refusal
 amend_checks founding_vendor standing known allowed caller card = do
   held_by_keeper standing known caller
   check allowed LicenceUnknown
   Ok (CardAmended (name_of founding_vendor standing.number) card)
 
--- Return: 11, 3
+-- Return. Refusals: 11, 3
 abbrev pub return_checks : VendorId → Standing → Option Org → Slug → Result Act Refusal
 return_checks founding_vendor standing known caller = do
   held_by_keeper standing known caller
@@ -159,7 +159,7 @@ abbrev pub none_owned : VendorId → VendorId → Option ProductId → Result Pa
 none_owned founding_vendor vid None = Ok tt
 none_owned founding_vendor vid (Some pid) = Err (RangeOwned (name_of founding_vendor (number vid pid)))
 
--- Reserve: 2, 34, 16, 15
+-- Reserve. Refusals: 2, 34, 16, 15
 abbrev pub reserve_checks : List Slug → VendorId → Bool → Bool → Option ProductId → Slug → VendorId → Span → Result Act Refusal
 reserve_checks curators founding_vendor vendor_there meets_fixed least_owned caller vid span = do
   by_curator curators caller
@@ -168,7 +168,7 @@ reserve_checks curators founding_vendor vendor_there meets_fixed least_owned cal
   none_owned founding_vendor vid least_owned
   Ok (Reserved (span_name_of founding_vendor vid span))
 
--- Release: 2, 34, 16, 17
+-- Release. Refusals: 2, 34, 16, 17
 abbrev pub release_checks : List Slug → VendorId → Bool → Bool → Bool → Slug → VendorId → Span → Result Act Refusal
 release_checks curators founding_vendor vendor_there meets_fixed all_reserved caller vid span = do
   by_curator curators caller
@@ -177,7 +177,7 @@ release_checks curators founding_vendor vendor_there meets_fixed all_reserved ca
   check all_reserved RangeNotReserved
   Ok (Released (span_name_of founding_vendor vid span))
 
--- Import: 2, 4, 34, 19
+-- Import. Refusals: 2, 4, 34, 19
 abbrev pub import_checks : List Slug → Option Org → Bool → List ItemClass → Slug → VendorId → Slug → List Item → Result Act Refusal
 import_checks curators known vendor_there classes caller vid org items = do
   by_curator curators caller
@@ -186,7 +186,7 @@ import_checks curators known vendor_there classes caller vid org items = do
   check (nat_le (length items) most_items) ImportTooLong
   Ok (Imported vid org (fresh_of classes items) (tally_of classes))
 
--- AddVendor: 2, 33, 18
+-- AddVendor. Refusals: 2, 33, 18
 abbrev pub add_vendor_checks : List Slug → Bool → ℕ → Slug → VendorId → Title → Result Act Refusal
 add_vendor_checks curators vendor_there vendors caller vid name = do
   by_curator curators caller
@@ -194,7 +194,7 @@ add_vendor_checks curators vendor_there vendors caller vid name = do
   check (nat_lt vendors most_vendors) Full
   Ok (VendorAdded vid name)
 
--- AddLicence: 2, 35, 18
+-- AddLicence. Refusals: 2, 35, 18
 abbrev pub add_licence_checks : List Slug → Bool → ℕ → Slug → Licence → Result Act Refusal
 add_licence_checks curators allowed licences caller licence = do
   by_curator curators caller
