@@ -7,8 +7,8 @@ ghost use Rattle.serde_json.specs.Find.{as_str};
 ghost use Rattle.registry_rules.specs.Gives.{Gives};
 ghost use Rattle.registry_wire.specs.Reading.{wanted, text_in, given_in, slug_in, key_in, title_in, link_in, number_in, optional_number_in, petition_number, whole_in, petition_in, span_in, kind_in};
 
-use crate::kind::{Kind, kind_named};
 use crate::link::link_of;
+use crate::orders::{Kind, kind_named};
 use crate::present::present;
 use crate::span::span_of;
 use crate::{Field, WireRefusal};

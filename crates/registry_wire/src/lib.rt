@@ -13,7 +13,6 @@ mod field;
 mod fields;
 mod founding;
 mod import;
-mod kind;
 mod link;
 mod orders;
 mod present;
