@@ -126,9 +126,10 @@ def most_open():
 
 
 def all_cases():
-    """Returns the name, the requests and the replies of each case."""
+    """Returns the name and the requests of each case, and the replies that were written down for it, if any."""
     for path in sorted(glob.glob(f"{TOP}/cases/*.requests")):
-        replies = content(path.replace(".requests", ".replies")).decode().splitlines()
+        given = path.replace(".requests", ".replies")
+        replies = content(given).decode().splitlines() if os.path.exists(given) else None
         yield os.path.splitext(os.path.basename(path))[0], requests_in(path), replies
     yield "most_open", *most_open()
 

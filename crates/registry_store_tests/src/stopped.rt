@@ -116,8 +116,12 @@ fn orders_12_to_15_as_the_log_stops(rt: HostRuntime) -> Result<(), Fail> {
 }
 
 #[test]
-fn orders_15_to_20_as_the_log_stops(rt: HostRuntime) -> Result<(), Fail> {
-    stop_in(&rt, rt.alloc(), run(&EACH_KIND, 15, 20, LOG, 4))
+fn orders_from_15_as_the_log_stops(rt: HostRuntime) -> Result<(), Fail> {
+    stop_in(
+        &rt,
+        rt.alloc(),
+        run(&EACH_KIND, 15, EACH_KIND.len(), LOG, 4),
+    )
 }
 
 #[test]
@@ -165,7 +169,11 @@ fn enrolments_as_the_main_file_stops(rt: HostRuntime) -> Result<(), Fail> {
 
 #[test]
 fn orders_as_the_main_file_stops(rt: HostRuntime) -> Result<(), Fail> {
-    stop_in(&rt, rt.alloc(), run(&EACH_KIND, 0, 20, MAIN_FILE, 1))
+    stop_in(
+        &rt,
+        rt.alloc(),
+        run(&EACH_KIND, 0, EACH_KIND.len(), MAIN_FILE, 1),
+    )
 }
 
 #[test]
@@ -211,7 +219,11 @@ fn an_opening_with_a_part_of_a_commit_as_the_log_stops(rt: HostRuntime) -> Resul
 
 #[test]
 fn an_opening_as_the_log_stops(rt: HostRuntime) -> Result<(), Fail> {
-    stop_in(&rt, rt.alloc(), opening(Start::Closed, 20, LOG, (0, MANY)))
+    stop_in(
+        &rt,
+        rt.alloc(),
+        opening(Start::Closed, EACH_KIND.len(), LOG, (0, MANY)),
+    )
 }
 
 #[test]
@@ -219,7 +231,12 @@ fn an_opening_as_the_main_file_stops(rt: HostRuntime) -> Result<(), Fail> {
     stop_in(
         &rt,
         rt.alloc(),
-        opening(Start::Closed, 20, MAIN_FILE_OF_PROCESS, (0, 41)),
+        opening(
+            Start::Closed,
+            EACH_KIND.len(),
+            MAIN_FILE_OF_PROCESS,
+            (0, 41),
+        ),
     )
 }
 
@@ -228,7 +245,12 @@ fn an_opening_as_the_main_file_stops_later(rt: HostRuntime) -> Result<(), Fail> 
     stop_in(
         &rt,
         rt.alloc(),
-        opening(Start::Closed, 20, MAIN_FILE_OF_PROCESS, (40, MANY)),
+        opening(
+            Start::Closed,
+            EACH_KIND.len(),
+            MAIN_FILE_OF_PROCESS,
+            (40, MANY),
+        ),
     )
 }
 
