@@ -12,12 +12,12 @@ returns-in_err-vendors g c =
 
 pub returns-in_err-numbers : goal.returns-in_err-numbers
 returns-in_err-numbers g c =
-    let p = err_from_is_err_and c.from_residual.result c.from_residual.ensures.1 in
+    let p = err_from_is_err_and c.from_residual-in_err-numbers.result c.from_residual-in_err-numbers.ensures.1 in
     rw (p.1, p.2) (fails (both c.in_ok-vendors.ensures.query c.in_err-numbers.ensures.query))
 
 pub returns-in_err-list_document : goal.returns-in_err-list_document
 returns-in_err-list_document g c =
-    let p = err_from_is_err_and c.from_residual.result c.from_residual.ensures.1 in
+    let p = err_from_is_err_and c.from_residual-in_err-list_document.result c.from_residual-in_err-list_document.ensures.1 in
     rw (p.1, p.2) (lacks_memory (both c.in_ok-vendors.ensures.query c.in_ok-numbers.ensures.query))
 
 pub returns : goal.returns

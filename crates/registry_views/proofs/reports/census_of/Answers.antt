@@ -9,17 +9,17 @@ returns-in_err-vendors g c =
 
 pub returns-in_err-numbers : goal.returns-in_err-numbers
 returns-in_err-numbers g c =
-    let p = err_from_is_err_and c.from_residual.result c.from_residual.ensures.1 in
+    let p = err_from_is_err_and c.from_residual-in_err-numbers.result c.from_residual-in_err-numbers.ensures.1 in
     rw (p.1, p.2) (fails (both c.in_ok-vendors.ensures.query c.in_err-numbers.ensures.query))
 
 pub returns-in_err-pairs : goal.returns-in_err-pairs
 returns-in_err-pairs g c =
-    let p = err_from_is_err_and c.from_residual.result c.from_residual.ensures.1 in
+    let p = err_from_is_err_and c.from_residual-in_err-pairs.result c.from_residual-in_err-pairs.ensures.1 in
     rw (p.1, p.2, c.in_err-pairs.ensures.kind (sound c.in_ok-numbers.ensures.query)) (lacks_memory (both c.in_ok-vendors.ensures.query c.in_ok-numbers.ensures.query))
 
 pub returns-in_err-census : goal.returns-in_err-census
 returns-in_err-census g c =
-    let p = err_from_is_err_and c.from_residual.result c.from_residual.ensures.1 in
+    let p = err_from_is_err_and c.from_residual-in_err-census.result c.from_residual-in_err-census.ensures.1 in
     rw (p.1, p.2) (lacks_memory (both c.in_ok-vendors.ensures.query c.in_ok-numbers.ensures.query))
 
 pub returns : goal.returns

@@ -9,7 +9,7 @@ returns-in_err-numbers g c =
 
 pub returns-in_err-holders : goal.returns-in_err-holders
 returns-in_err-holders g c =
-    let p = err_from_is_err_and c.from_residual.result c.from_residual.ensures.1 in
+    let p = err_from_is_err_and c.from_residual-in_err-holders.result c.from_residual-in_err-holders.ensures.1 in
     rw (p.1, p.2) (lacks_memory c.in_ok-numbers.ensures.query)
 
 pub returns : goal.returns

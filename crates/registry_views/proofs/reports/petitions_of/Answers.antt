@@ -11,7 +11,7 @@ returns-in_err-petitions g c =
 
 pub returns-in_err-open_petitions : goal.returns-in_err-open_petitions
 returns-in_err-open_petitions g c =
-    let p = err_from_is_err_and c.from_residual.result c.from_residual.ensures.1 in
+    let p = err_from_is_err_and c.from_residual-in_err-open_petitions.result c.from_residual-in_err-open_petitions.ensures.1 in
     rw (p.1, p.2) (lacks_memory c.in_ok-petitions.ensures.query)
 
 pub returns : goal.returns
