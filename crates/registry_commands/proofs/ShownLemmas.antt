@@ -1,5 +1,5 @@
 -- The failure of a command that shows something of a registry.
-use Rattle.std.proofs.Common.{◌≡◌, inl, inr, refl, ap}
+use Rattle.std.proofs.Common.{inl, inr, refl}
 use Rattle.std.specs.Prelude.{Err}
 use Rattle.sqlite.specs.Store.{Ghosts}
 use Rattle.registry_rules.specs.History.{History}
