@@ -11,7 +11,7 @@ use Rattle.registry_reports.specs.declared.kinds.ReportKind.TheVariants as repor
 use Rattle.registry_http.specs.declared.message.Message.{Message}
 use Rattle.registry_http.specs.declared.message.Message.TheVariants as messages
 use Rattle.registry_http.specs.Messages.{Says}
-use Rattle.registry_http.proofs.MessageLemmas.{one_thing}
+use Rattle.registry_http.proofs.MessageLemmas.{message_says_one_thing}
 use Rattle.registry_desk.specs.declared.fault.DeskFault.{DeskFault}
 use Rattle.registry_desk.specs.declared.fault.DeskFault.TheVariants.{NoMemory, Registry}
 use Rattle.registry_desk.specs.declared.kept.Kept.{Kept}
@@ -80,7 +80,7 @@ only_response P Q (Err fault) is = tt
 
 either_by : (h x : History) (bytes : List ℕ) (said : Result Message HttpRefusal) → Says h.founding.vendor bytes said → IsNext h bytes NoMemory x → IsEither h (after_message h said) x
 either_by h x bytes said says (inl same) = inl same.1
-either_by h x bytes said says (inr it) = inr (it.2 ∙ ap (after_message h) (one_thing h.founding.vendor bytes it.0 said it.1 says))
+either_by h x bytes said says (inr it) = inr (it.2 ∙ ap (after_message h) (message_says_one_thing h.founding.vendor bytes it.0 said it.1 says))
 
 -- the same by the bytes of the message
 pub texts_after : (Q : Type 0) (h : History) (bytes : List ℕ) (kept mid new : Kept) (done : Result Response DeskFault) (said : Result Message HttpRefusal)

@@ -21,7 +21,7 @@ use Rattle.registry_rules.proofs.OpenLemmas.{count_alike}
 use Rattle.registry_reports.specs.Census.{census_lines, census_of, free_count, held_count, returned_count, reserved_count, holds, listed}
 use Rattle.registry_reports.specs.Holders.{IsHolders, holder_lines}
 use Rattle.registry_reports.specs.Petitions.{petition_lines}
-use Rattle.registry_reports.proofs.UniqueLemmas.{list_is_one, one}
+use Rattle.registry_reports.proofs.UniqueLemmas.{list_is_one, one_list}
 use Rattle.registry_tables.specs.Lists.{IsPetitionList, IsVendorList}
 use Rattle.registry_tables.proofs.AscendLemmas.{one_order}
 use Rattle.registry_tables.proofs.ViewLemmas.{same_bytes}
@@ -102,7 +102,7 @@ one_petitions_text h a b is_a is_b =
 -- ---- responses
 
 one_of_query : (h : History) (query : Query) (a b : Response) → IsQueryResponse h query a → IsQueryResponse h query b → a ≡ b
-one_of_query h queries.List a b is_a is_b = is_a.2 ∙ (ap (λ (doc : List TopEntry). text_response (written doc None)) (one h is_a.0 is_b.0 is_a.1 is_b.1) ∙ sym is_b.2)
+one_of_query h queries.List a b is_a is_b = is_a.2 ∙ (ap (λ (doc : List TopEntry). text_response (written doc None)) (one_list h is_a.0 is_b.0 is_a.1 is_b.1) ∙ sym is_b.2)
 one_of_query h (queries.Number None pid) a b is_a is_b = is_a ∙ sym is_b
 one_of_query h (queries.Number (Some vid) pid) a b is_a is_b = is_a ∙ sym is_b
 one_of_query h (queries.Org org) a b is_a is_b = is_a ∙ sym is_b

@@ -1,18 +1,29 @@
 -- The response to a query, by what the registry found.
 use Rattle.std.proofs.Common.{◌≡◌, Result, Ok, Err, ◌⊎◌, inl, inr, refl, sym, ap, subst}
-use Rattle.std.specs.Prelude.{IfOk, IfErr}
+use Rattle.std.specs.Prelude.{true, IfOk, IfErr}
+use Rattle.std.proofs.lemmas.Result.{IfOk-weaker}
 use Rattle.sqlite.specs.Store.{Ghosts}
 use Rattle.registry_rules.specs.History.{History}
 use Rattle.registry_store.specs.declared.fault.Fault.{Fault}
 use Rattle.registry_store.specs.declared.fault.Fault.TheVariants as faults
 use Rattle.registry_store.specs.declared.registry.Registry.{Registry as TheRegistry}
-use Rattle.registry_store.specs.Promise.{Represents}
+use Rattle.registry_store.specs.Promise.{Represents, is_poisoned}
 use Rattle.registry_store.specs.Queries.{IsQuery}
 use Rattle.registry_http.specs.declared.response.Response.{Response}
 use Rattle.registry_desk.specs.declared.fault.DeskFault.{DeskFault}
 use Rattle.registry_desk.specs.declared.fault.DeskFault.TheVariants.{NoMemory, Registry}
 use Rattle.registry_desk.specs.Acting.{IsAsked, IsOfSoundRegistry}
 use Rattle.registry_desk.specs.Faults.{failed_by}
+use Rattle.registry_desk.proofs.AskLemmas.{left_same}
+
+-- a sound registry may have these faults
+of_sound : (e : Fault) → (e ≡ faults.Store) ⊎ (e ≡ faults.NoMemory) → IsOfSoundRegistry (Registry e)
+of_sound e (inl is) = subst (λ (f : Fault). IsOfSoundRegistry (Registry f)) (sym is) tt
+of_sound e (inr is) = subst (λ (f : Fault). IsOfSoundRegistry (Registry f)) (sym is) tt
+
+-- a result of this type, with a fault
+abbrev failure : (A : Type 0) → Fault → Result A Fault
+failure A e = Err e
 
 module _ {S : Type 0} {g : Ghosts S} {it new : TheRegistry S g} {A : Type 0} {Is : History → A → Type 0} {To : History → Response → Type 0} where
   -- a response is made of what was found
@@ -41,10 +52,6 @@ module _ {S : Type 0} {g : Ghosts S} {it new : TheRegistry S g} {A : Type 0} {Is
   told {found} (Ok response) q err make = answers q make
   told {found} (Err fault) q err make = subst (λ (f : DeskFault). IsAsked it new (Err f) To) (sym err) (lacks_memory q)
 
-  of_sound : (e : Fault) → (e ≡ faults.Store) ⊎ (e ≡ faults.NoMemory) → IsOfSoundRegistry (Registry e)
-  of_sound e (inl is) = subst (λ (f : Fault). IsOfSoundRegistry (Registry f)) (sym is) tt
-  of_sound e (inr is) = subst (λ (f : Fault). IsOfSoundRegistry (Registry f)) (sym is) tt
-
   -- the fault of a query
   pub failed : {e : Fault} → IsQuery it new (Err e) Is → IsAsked it new (Err (Registry e)) To
   failed {e} q = record {
@@ -68,3 +75,46 @@ module _ {S : Type 0} {g : Ghosts S} {it new : TheRegistry S g} {A : Type 0} {Is
   failed_view faults.Foreign q = failed q
   failed_view faults.Taken q = failed q
   failed_view faults.Poisoned q = failed q
+
+module _ {S : Type 0} {g : Ghosts S} {it new : TheRegistry S g} {Is To : History → Response → Type 0} where
+  -- the response is what one that promises more asked for
+  pub asked_as : {result : Result Response DeskFault} → IsAsked it new result Is → ((h : History) → Represents it h → (response : Response) → Is h response → To h response) → IsAsked it new result To
+  asked_as {result} q make = record {
+    when_poisoned = q.when_poisoned;
+    only_poisoned = q.only_poisoned;
+    answered = λ h stands clean. IfOk-weaker result _ _ (make h stands) (q.answered h stands clean);
+    kind = q.kind;
+    left = q.left;
+  }
+
+module _ {S : Type 0} {g : Ghosts S} {it : TheRegistry S g} {To : History → Response → Type 0} where
+  -- the response is made of what the registry has in memory
+  pub told_same : (result : Result Response DeskFault) → (is_poisoned it ≡ true → ⊥) → IfErr result (λ fault. fault ≡ NoMemory)
+      → ((h : History) → Represents it h → IfOk result (To h)) → IsAsked it it result To
+  told_same (Ok response) sound err make = record {
+    when_poisoned = λ is. absurd (sound is);
+    only_poisoned = λ never. absurd cc;
+    answered = λ h stands clean. make h stands;
+    kind = λ h stands clean. tt;
+    left = left_same it;
+  }
+  told_same (Err fault) sound err make = subst (λ (f : DeskFault). IsAsked it it (Err f) To) (sym err) (record {
+    when_poisoned = λ is. absurd (sound is);
+    only_poisoned = λ never. absurd cc;
+    answered = λ h stands clean. tt;
+    kind = λ h stands clean. tt;
+    left = left_same it;
+  })
+
+  -- and the registry has nothing in memory, since it is poisoned
+  pub failed_same : {A : Type 0} {e : Fault} (v : History → A) → is_poisoned it ≡ true → (is_poisoned it ≡ true → failure A e ≡ failure A faults.Poisoned) → ((h : History) → Represents it h → failure A e ≡ Ok (v h))
+      → IsAsked it it (Err (Registry e)) To
+  failed_same {A} {e} v spent fault found =
+      let same : e ≡ faults.Poisoned = cc (fault spent) in
+      record {
+        when_poisoned = λ is. (ap (λ (f : Fault). Err (Registry f)) same, refl);
+        only_poisoned = λ is. spent;
+        answered = λ h stands clean. tt;
+        kind = λ h stands clean. let never = found h stands in absurd (cc never);
+        left = left_same it;
+      }

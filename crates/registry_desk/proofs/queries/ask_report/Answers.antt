@@ -1,3 +1,4 @@
+use Rattle.std.proofs.Common.{rules}
 use Rattle.std.specs.String.{string_bytes}
 use Rattle.registry_desk.proofs.QueryLemmas.{answers, failed_view}
 use Rattle.registry_desk.proofs.queries.ask_report.Goals as goal

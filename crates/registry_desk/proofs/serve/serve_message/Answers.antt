@@ -1,7 +1,7 @@
 use Rattle.std.proofs.Common.{inr, inl, ℕ, refl, subst}
 use Rattle.registry_http.specs.Messages.{Says}
 use Rattle.registry_http.specs.Responses.{unavailable_response}
-use Rattle.registry_http.proofs.MessageLemmas.{gives_some}
+use Rattle.registry_http.proofs.MessageLemmas.{may_give_some}
 use Rattle.registry_desk.specs.declared.fault.DeskFault.TheVariants.{NoMemory}
 use Rattle.registry_desk.specs.Faults.{unavailable_of}
 use Rattle.registry_desk.proofs.KeptLemmas.{none_after, none_are, only_done, texts_after}
@@ -42,12 +42,12 @@ returns-in-Ok-clause-poisoned g c = λ poisoned.
 
 pub returns-in-Err-Broken-clause-served : goal.returns-in-Err-Broken-clause-served
 returns-in-Err-Broken-clause-served g c =
-    let all = gives_some (g.R.Source.remaining c.args.source.now) in
+    let all = may_give_some (g.R.Source.remaining c.args.source.now) in
     (all.0, all.1, tt)
 
 pub returns-in-Err-NoMemory-clause-served : goal.returns-in-Err-NoMemory-clause-served
 returns-in-Err-NoMemory-clause-served g c =
-    let all = gives_some (g.R.Source.remaining c.args.source.now) in
+    let all = may_give_some (g.R.Source.remaining c.args.source.now) in
     let given = c.give_up.ensures in (
       all.0,
       all.1,

@@ -1,0 +1,19 @@
+use Rattle.std.proofs.Common.{refl}
+use Rattle.std.proofs.lemmas.Result.{err_from_is_err_and}
+use Rattle.registry_desk.proofs.QueryLemmas.{answers, failed, lacks_memory}
+use Rattle.registry_desk.proofs.queries.ask_petition.Goals as goal
+
+pub returns-in_err-petition : goal.returns-in_err-petition
+returns-in_err-petition g c =
+    let p = err_from_is_err_and c.from_residual.result c.from_residual.ensures.1 in
+    rw (p.1, p.2) (failed c.in_err-petition.ensures.query)
+
+pub returns-in_err-petition_response : goal.returns-in_err-petition_response
+returns-in_err-petition_response g c =
+    let p = err_from_is_err_and c.from_residual-in_err-petition_response.result c.from_residual-in_err-petition_response.ensures.1 in
+    rw (p.1, p.2) (lacks_memory c.in_ok-petition.ensures.query)
+
+pub returns : goal.returns
+returns g c = answers c.in_ok-petition.ensures.query (λ h stands is.
+    let founding = (c.founding.ensures h stands).vendor in
+    rw (c.in_ok-petition_response.ensures, c.as_ref.ensures.value, is, founding) refl)
