@@ -1,7 +1,6 @@
 //! This machine: its files and its ports.
 
-ghost use Rattle.std.specs.Prelude.{◌≡◌, ⊤, true, false, IfOk, IfErr, IsTrue};
-ghost use Rattle.sqlite.specs.Files.{image_of};
+ghost use Rattle.std.specs.Prelude.{⊤, true, false, IfOk, IfErr, IsTrue};
 ghost use Rattle.sqlite.specs.WalFiles.{image_at};
 ghost use Rattle.sqlite_std_file.specs.File.{IsFresh, file_is_usable};
 ghost use Rattle.registry_commands.specs.Failures.{IsOfStore};

@@ -1,5 +1,5 @@
 -- What the files of a store hold after a command.
-use Rattle.std.proofs.Common.{◌≡◌, ◌⊎◌, inl, inr, ℕ, ◌+◌, List, take, Option, Some, None, refl, sym, subst, ◌∙◌, arith}
+use Rattle.std.proofs.Common.{◌≡◌, ◌⊎◌, inl, inr, ℕ, ◌+◌, true, false, List, take, Option, Some, None, refl, sym, subst, ◌∙◌, arith}
 use Rattle.std.specs.Prelude.{Result, Ok, Err}
 use Rattle.std.proofs.Math.Logic.{∥∥₁_map}
 use Rattle.sqlite_disk.specs.declared.Disk as disk
@@ -19,7 +19,7 @@ use Rattle.registry_wire.specs.Founding.{Listed, founding_listed}
 use Rattle.registry_wire.specs.declared.refusal.WireRefusal.{WireRefusal}
 use Rattle.registry_store.specs.Promise.{Leaves, Represents, connection_of, state_of}
 use Rattle.registry_store.specs.Queries.{IsUntouched}
-use Rattle.registry_store.specs.Reopen.{FilesHoldEither, IsEither, IsUncopied}
+use Rattle.registry_store.specs.Reopen.{FilesHoldEither, IsEither}
 use Rattle.registry_store.proofs.CrashLemmas.{closed_clean, in_newest}
 use Rattle.registry_store.proofs.RunLemmas.{leaves_weaker}
 use Rattle.registry_arguments.specs.declared.command.Command.{Command}
@@ -28,10 +28,9 @@ use Rattle.registry_commands.specs.declared.arguments.BadArgument.{BadArgument}
 use Rattle.registry_commands.specs.declared.importing.Import.{Import}
 use Rattle.registry_commands.specs.declared.messages.Failure.{Failure}
 use Rattle.registry_reports.specs.declared.kinds.ReportKind.{ReportKind}
-use Rattle.registry_commands.specs.Failures.{ErrorOutput, IsOfClosing, IsOfStore, PrintsFailure}
+use Rattle.registry_commands.specs.Failures.{ErrorOutput}
 use Rattle.registry_commands.specs.Found.{IsFoundedBy}
 use Rattle.registry_reports.specs.Kinds.{report_named}
-use Rattle.registry_commands.proofs.FailureLemmas.{of_store, tells_more}
 use Rattle.registry_commands.proofs.ApplyLemmas.{applied_endures}
 use Rattle.registry_desk.specs.declared.server.Connections as connections
 use Rattle.registry_desk.specs.Server.{fault_in}

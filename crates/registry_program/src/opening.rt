@@ -1,6 +1,6 @@
 //! Opens the store and the registry in files.
 
-ghost use Rattle.std.specs.Prelude.{◌≡◌, IfOk, IfErr, IsTrue};
+ghost use Rattle.std.specs.Prelude.{IfOk, IfErr, IsTrue};
 ghost use Rattle.registry_commands.specs.Failures.{IsOfStore};
 ghost use Rattle.registry_program.specs.Opening.{IsConnectedTo, AreLeft, IsLeftUnopened, IsLeftUnread, IsOfOpening, Resumes};
 

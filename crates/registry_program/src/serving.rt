@@ -1,6 +1,6 @@
 //! The command that serves a registry over HTTP.
 
-ghost use Rattle.std.specs.Prelude.{◌≡◌, codes};
+ghost use Rattle.std.specs.Prelude.{◌≡◌};
 ghost use Rattle.registry_commands.specs.Failures.{Prints, error_output};
 ghost use Rattle.registry_program.specs.Outputs.{silent_ends};
 ghost use Rattle.registry_program.specs.Serving.{Serves, ServesOn, TellsEnd, limit_of, socket_line};
