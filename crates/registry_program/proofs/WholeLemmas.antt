@@ -36,7 +36,7 @@ use Rattle.registry_desk.specs.declared.server.Connections as connections
 use Rattle.registry_desk.specs.Server.{fault_in}
 use Rattle.registry_program.specs.declared.host.Host as host
 use Rattle.registry_program.specs.Commands.{ActsOnFile, Applies, ExportsAs, FoundsIn, ImportsAs, ImportsFile, ReportsAs, WritesList, WritesReport}
-use Rattle.registry_program.specs.Outputs.{Ends, Sunk, between}
+use Rattle.registry_program.specs.Outputs.{Ends, Sunk}
 use Rattle.registry_program.specs.Performing.{Performs}
 use Rattle.registry_program.specs.Serving.{Serves, ServesOn, limit_of}
 use Rattle.registry_program.specs.Stores.{IsClosed, IsOver, Runs, TheRegistry}
