@@ -1,7 +1,6 @@
 //! `usbreg`, a registry of shared USB product numbers.
 #![tactic(auto)]
 
-ghost use Rattle.registry_program.specs.Statuses.{IsStatus};
 ghost use Rattle.registry_cli.specs.Statuses.{IsExplained};
 
 mod blank;
@@ -11,28 +10,27 @@ mod machine;
 use byte_streams::{Inlet, Outlet};
 use machine::Machine;
 use registry_arguments::{Usage, command_of};
+use registry_commands::ExitStatus;
 use registry_program::perform;
 use sqlite::Wary;
 use std::io;
 use std::process::ExitCode;
 
 fn main(rt: HostRuntime) -> ExitCode {
-    ExitCode::from(run(&rt))
+    ExitCode::from(run(&rt).code())
 }
 
 /// Reads the arguments, does what they ask for, and returns the exit status.
-fn run(rt: &HostRuntime) -> u8
-    ensures { IsStatus result }
-{
+fn run(rt: &HostRuntime) -> ExitStatus {
     let arguments = match arguments(rt) {
         Ok(arguments) => arguments,
         Err(error) if error.kind() == io::ErrorKind::InvalidData => {
             let _ = rt.eprintln("error: invalid UTF-8 was detected in one or more arguments");
-            return 2;
+            return ExitStatus::Rejected;
         }
         Err(_) => {
             let _ = rt.eprintln("fault: memory");
-            return 1;
+            return ExitStatus::Failed;
         }
     };
     match command_of(rt.alloc(), arguments.as_slice()) {
@@ -54,24 +52,24 @@ fn arguments(rt: &HostRuntime) -> io::Result<Vec<String>> {
 
 /// Prints why the arguments are refused, or the help or the version that they ask for, and returns
 /// the exit status.
-fn explain(rt: &HostRuntime, usage: &Usage) -> u8
+fn explain(rt: &HostRuntime, usage: &Usage) -> ExitStatus
     ensures { IsExplained usage.now result }
 {
     match usage {
         Usage::Refused(error) => {
             let shown = error.print(rt).is_ok();
             if error.use_stderr() {
-                2
+                ExitStatus::Rejected
             } else if shown {
-                0
+                ExitStatus::Success
             } else {
                 let _ = rt.eprintln("fault: file");
-                1
+                ExitStatus::Failed
             }
         }
         Usage::NoMemory => {
             let _ = rt.eprintln("fault: memory");
-            1
+            ExitStatus::Failed
         }
     }
 }

@@ -111,6 +111,6 @@ pub fn add_run<R: Source, S: Alter>(
 ) -> bool {
     let mut output = narrowed(alloc, most);
     let mut errors = narrowed(alloc, AMPLE);
-    let status = apply_lines(alloc, source, answered, registry, &mut output, &mut errors);
+    let status = apply_lines(alloc, source, answered, registry, &mut output, &mut errors).code();
     write!(text, "{status}: ").is_ok() && add_taken(output, text) && add_taken(errors, text)
 }

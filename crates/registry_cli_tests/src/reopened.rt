@@ -76,7 +76,12 @@ fn apply_first<D: Crash + Drop>(
             options,
         ),
     };
-    let _whole = add_written(status, &output.into_inner(), &errors.into_inner(), text);
+    let _whole = add_written(
+        status.code(),
+        &output.into_inner(),
+        &errors.into_inner(),
+        text,
+    );
     opened
 }
 

@@ -1,5 +1,5 @@
 -- How a founding, a trial and the use of a store end.
-use Rattle.std.proofs.Common.{◌≡◌, ◌⊎◌, inl, inr, ℕ, IsTrue, List, Option, refl, sym, subst, arith}
+use Rattle.std.proofs.Common.{◌≡◌, ◌⊎◌, inl, inr, ℕ, IsTrue, List, refl, sym, subst, arith}
 use Rattle.std.specs.Prelude.{◌≢◌, Result, Ok, Err}
 use Rattle.sqlite.specs.declared.error.Error.{Error}
 use Rattle.sqlite.specs.declared.error.Error.TheVariants.{SqliteFailure}
@@ -24,28 +24,30 @@ use Rattle.registry_wire.specs.Founding.{Listed}
 use Rattle.registry_commands.specs.declared.lines.BadLine.{BadLine}
 use Rattle.registry_commands.specs.declared.messages.Failure.{Failure}
 use Rattle.registry_commands.specs.declared.messages.Failure.TheVariants.{Store, Memory}
-use Rattle.registry_commands.specs.Failures.{IsOfClosing, IsOfInput, IsOfSoundRun, PrintsFailure, ErrorOutput}
+use Rattle.registry_commands.specs.declared.status.ExitStatus.{ExitStatus}
+use Rattle.registry_commands.specs.declared.status.ExitStatus.TheVariants.{Failed}
+use Rattle.registry_commands.specs.Ends.{Effect, Output, Sunk}
+use Rattle.registry_commands.specs.Failures.{IsOfClosing, IsOfInput, IsOfOutput, IsOfSoundRun, PrintsFailure}
 use Rattle.registry_commands.specs.Messages.{failure_of}
 use Rattle.registry_commands.specs.Apply.{IsApplied, IsOfRun}
-use Rattle.registry_commands.specs.Found.{IsFoundedBy, IsOfFounding}
+use Rattle.registry_commands.specs.Found.{Attempt, IsFoundedBy, IsOfFounding, attempt}
 use Rattle.registry_commands.specs.Trial.{IsOfStart, IsTrial, IsTrialOf}
-use Rattle.registry_commands.proofs.ApplyLemmas.{keeps_same}
+use Rattle.registry_commands.proofs.ApplyLemmas.{keeps_same, silent}
 use Rattle.registry_commands.proofs.FailureLemmas.{memory_of_input, of_sound_run, tells_more}
 
 -- a failure before anything is founded
-pub founding_fails : {S : Type 0} (OfInput : Failure → Type 0) (g : Ghosts S) (conn : Held S) (read : Result Listed WireRefusal) (errors : ErrorOutput) (status : ℕ)
-    → status ≡ 1 → PrintsFailure OfInput errors → IsFoundedBy g OfInput conn conn read errors status
-founding_fails OfInput g conn (Err refusal) errors status one told = (refl, inr (one, told))
-founding_fails OfInput g conn (Ok listed) errors status one told = inl (refl, one, told)
+pub founding_fails : {S : Type 0} (OfInput : Failure → Type 0) (g : Ghosts S) (conn : Held S) (read : Result Listed WireRefusal) (errors : Output) (status : ExitStatus)
+    → status ≡ Failed → PrintsFailure OfInput errors → IsFoundedBy g OfInput (attempt conn conn errors status) read
+founding_fails OfInput g conn (Err refusal) errors status failed told = (refl, inr (failed, told))
+founding_fails OfInput g conn (Ok listed) errors status failed told = inl (refl, failed, told)
 
 -- the founding file was read from an input, which may fail too
 pub found_more : {S : Type 0} (OfMemory OfInput : Failure → Type 0) → ((failure : Failure) → OfMemory failure → OfInput failure)
-    → (g : Ghosts S) (conn new : Held S) (read : Result Listed WireRefusal) (errors : ErrorOutput) (status : ℕ)
-    → IsFoundedBy g OfMemory conn new read errors status → IsFoundedBy g OfInput conn new read errors status
-found_more OfMemory OfInput more g conn new (Err refusal) errors status is =
-    (is.0, elim is.1 [ inl said ↦ inl said | inr failed ↦ inr (failed.0, tells_more OfMemory OfInput errors more failed.1) ])
-found_more OfMemory OfInput more g conn new (Ok listed) errors status is =
-    elim is [ inl failed ↦ inl (failed.0, failed.1, tells_more OfMemory OfInput errors more failed.2) | inr tried ↦ inr tried ]
+    → (g : Ghosts S) (did : Attempt S) (read : Result Listed WireRefusal) → IsFoundedBy g OfMemory did read → IsFoundedBy g OfInput did read
+found_more OfMemory OfInput more g did (Err refusal) is =
+    (is.0, elim is.1 [ inl said ↦ inl said | inr failed ↦ inr (failed.0, tells_more OfMemory OfInput did.errors more failed.1) ])
+found_more OfMemory OfInput more g did (Ok listed) is =
+    elim is [ inl failed ↦ inl (failed.0, failed.1, tells_more OfMemory OfInput did.errors more failed.2) | inr tried ↦ inr tried ]
 
 -- the fault of a founding is one of its failures
 pub of_founding : {S : Type 0} (g : Ghosts S) (conn new : Held S) (fault : Fault)
@@ -66,10 +68,10 @@ of_closing Left error failure (inl memory) why = subst (λ (f : Failure). IsOfCl
 of_closing Left error failure (inr store) why = subst (λ (f : Failure). IsOfClosing Left f) (sym store.0) (error, store.1, why)
 
 -- a failure before any line is acted on
-pub trial_fails : (OfInput OfOutput : Failure → Type 0) (read : Result (List Request) BadLine) (out : Option (List ℕ)) (errors : ErrorOutput) (status : ℕ)
-    → status ≡ 1 → PrintsFailure (IsOfStart OfInput) errors → IsTrialOf OfInput OfOutput read out out errors status
-trial_fails OfInput OfOutput (Err bad) out errors status one told = (keeps_same out, inr (one, told))
-trial_fails OfInput OfOutput (Ok rs) out errors status one told = inr (inl (one, keeps_same out, told))
+pub trial_fails : (OfInput : Failure → Type 0) (read : Result (List Request) BadLine) (out : Sunk) (errors : Output) (status : ExitStatus)
+    → status ≡ Failed → PrintsFailure (IsOfStart OfInput) errors → IsTrialOf OfInput read (record { out = silent out; errors = errors; status = status })
+trial_fails OfInput (Err bad) out errors status failed told = (keeps_same out.contents, inr (failed, told))
+trial_fails OfInput (Ok rs) out errors status failed told = inr (inl (failed, keeps_same out.contents, told))
 
 -- a founding that fails before the input is read
 pub of_start : (n : ℕ) (bytes : List ℕ) (failure : Failure) → (failure ≡ Store) ⊎ (failure ≡ Memory) → IsOfStart (IsOfInput n n bytes) failure
@@ -81,26 +83,27 @@ pub memory_is_clean : (it : Registry MemStore over_memory) → HasCleanDisk (sta
 unfolding doubt
 memory_is_clean it = refl
 
-pub tried : (OfInput OfOutput : Failure → Type 0) (it new : Registry MemStore over_memory) (founding : Founding) → IsTrial founding → Represents it (founded founding) → (read : Result (List Request) BadLine)
-    (out out_new : Option (List ℕ)) (errors : ErrorOutput) (status : ℕ) → IsApplied OfInput OfOutput it new read 0 out out_new errors status → IsTrialOf OfInput OfOutput read out out_new errors status
-tried OfInput OfOutput it new founding trial stands (Err bad) out out_new errors status applied =
-    (applied.silent, elim applied.told [ inl said ↦ inl said | inr failed ↦ inr (failed.0, tells_more OfInput (IsOfStart OfInput) errors (λ failure is. inr is) failed.1) ])
-tried OfInput OfOutput it new founding trial stands (Ok rs) out out_new errors status applied =
+pub tried : (OfInput : Failure → Type 0) (did : Effect MemStore over_memory) (founding : Founding) → IsTrial founding → Represents did.old (founded founding) → (read : Result (List Request) BadLine)
+    → IsApplied OfInput did read 0 → IsTrialOf OfInput read did.ends
+tried OfInput did founding trial stands (Err bad) applied =
+    (applied.silent, elim applied.told [ inl said ↦ inl said | inr failed ↦ inr (failed.0, tells_more OfInput (IsOfStart OfInput) did.ends.errors (λ failure is. inr is) failed.1) ])
+tried OfInput did founding trial stands (Ok rs) applied =
     let run = applied.1 (omega arith) in
+    let OfOutput = IsOfOutput did.ends.out.old.failures did.ends.out.new.failures in
     elim run.statuses [
-      | inl zero ↦
-          let through = run.through zero (founded founding) (inl stands) (memory_is_clean new) in
-          inl (zero, record { founding = founding; trial = trial; gained = through.gained }, run.quiet zero)
-      | inr one ↦ elim (run.told one) [
-        | inl unread ↦ inr (inl (one, unread.silent, tells_more OfInput (IsOfStart OfInput) errors (λ failure is. inr is) unread.told))
+      | inl success ↦
+          let through = run.through success (founded founding) (inl stands) (memory_is_clean did.new) in
+          inl (success, record { founding = founding; trial = trial; gained = through.gained }, run.quiet success)
+      | inr failed ↦ elim (run.told failed) [
+        | inl unread ↦ inr (inl (failed, unread.silent, tells_more OfInput (IsOfStart OfInput) did.ends.errors (λ failure is. inr is) unread.told))
         | inr told ↦ inr (inr (
-          one,
+          failed,
           (
-              let at = run.stopped one (founded founding) (inl stands) (memory_is_clean new) in
-              record { founding = founding; trial = trial; n = at.0; within = at.1.within; middle = at.1.gained.0; whole = at.1.gained.1; cut = at.1.gained.2 }
+              let at = run.stopped failed (founded founding) (inl stands) (memory_is_clean did.new) in
+              record { founding = founding; trial = trial; n = at.n; within = at.within; middle = at.gained.0; whole = at.gained.1; cut = at.gained.2 }
               ),
-          tells_more (λ failure. IsOfRun it new (λ h. HasAnswered it h rs 0) failure × OfOutput failure) (λ failure. IsOfSoundRun failure × OfOutput failure) errors
-              (λ failure is. (of_sound_run it new (λ h. HasAnswered it h rs 0) (founded founding) (inl stands) stands.not_poisoned (memory_is_clean new) failure is.0, is.1)) told,
+          tells_more (λ failure. IsOfRun did.old did.new (λ h. HasAnswered did.old h rs 0) failure × OfOutput failure) (λ failure. IsOfSoundRun failure × OfOutput failure) did.ends.errors
+              (λ failure is. (of_sound_run did.old did.new (λ h. HasAnswered did.old h rs 0) (founded founding) (inl stands) stands.not_poisoned (memory_is_clean did.new) failure is.0, is.1)) told,
         ))
       ]
     ]

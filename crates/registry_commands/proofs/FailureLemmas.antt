@@ -12,7 +12,8 @@ use Rattle.registry_store.specs.declared.registry.Registry.{Registry}
 use Rattle.registry_store.specs.Promise.{is_poisoned, poisoned_by, state_of}
 use Rattle.registry_commands.specs.declared.messages.Failure.{Failure}
 use Rattle.registry_commands.specs.declared.messages.Failure.TheVariants.{Store, Memory, Foreign, Taken, Poisoned, File}
-use Rattle.registry_commands.specs.Failures.{IsOfClosing, IsOfInput, IsOfMemory, IsOfOutput, IsOfSoundRun, IsOfStore, IsTooLong, PrintsFailure, ErrorOutput}
+use Rattle.registry_commands.specs.Ends.{Output}
+use Rattle.registry_commands.specs.Failures.{IsOfClosing, IsOfInput, IsOfMemory, IsOfOutput, IsOfSoundRun, IsOfStore, IsTooLong, PrintsFailure}
 use Rattle.registry_commands.specs.Messages.{failure_of}
 use Rattle.registry_commands.specs.Apply.{IsOfRun}
 
@@ -21,7 +22,7 @@ if_err P Q (Ok x) f p = tt
 if_err P Q (Err e) f p = f e p
 
 -- a failure of fewer kinds is one of more kinds
-pub tells_more : (Narrow Wide : Failure → Type 0) (errors : ErrorOutput) → ((failure : Failure) → Narrow failure → Wide failure)
+pub tells_more : (Narrow Wide : Failure → Type 0) (errors : Output) → ((failure : Failure) → Narrow failure → Wide failure)
     → PrintsFailure Narrow errors → PrintsFailure Wide errors
 tells_more Narrow Wide errors more told = (told.0, more told.0 told.1, told.2)
 
@@ -35,8 +36,8 @@ of_store May Poisoned never = absurd never
 of_store May File never = absurd never
 
 -- what was read is not too long
-pub within : (bytes : List ℕ) → length bytes ≤ most_bytes → ¬ IsTooLong bytes
-within bytes most long = omega (arith, most, long)
+pub not_too_long : (bytes : List ℕ) → length bytes ≤ most_bytes → ¬ IsTooLong bytes
+not_too_long bytes most long = omega (arith, most, long)
 
 -- out of memory, and the input did not fail
 pub memory_of_input : (old new : ℕ) (bytes : List ℕ) → new ≡ old → (failure : Failure) → IsOfMemory failure → IsOfInput old new bytes failure
@@ -57,9 +58,9 @@ module _ {S : Type 0} {g : Ghosts S} where
   of_reply it new These failure on (inr is) = subst (λ (f : Failure). IsOfRun it new These f) (sym is) on
 
   -- the registry keeps a fault that is its first
-  kept : (it new : Registry S g) (fault : Fault) → (is_poisoned it ≡ true → fault ≡ faults.Poisoned) → (is_poisoned it ≡ false → poisoned_by new ≡ Some fault) → fault ≢ faults.Poisoned
+  keeps_fault : (it new : Registry S g) (fault : Fault) → (is_poisoned it ≡ true → fault ≡ faults.Poisoned) → (is_poisoned it ≡ false → poisoned_by new ≡ Some fault) → fault ≢ faults.Poisoned
       → poisoned_by new ≡ Some fault
-  kept it new fault spent keeps first = go (is_poisoned it) refl
+  keeps_fault it new fault spent keeps first = go (is_poisoned it) refl
     where
       go : (b : Bool) → is_poisoned it ≡ b → poisoned_by new ≡ Some fault
       go true is = absurd (first (spent is))
@@ -69,10 +70,10 @@ module _ {S : Type 0} {g : Ghosts S} where
   pub of_fault : (it new : Registry S g) (These : History → Type 0) (fault : Fault) → (fault ≡ faults.Poisoned → is_poisoned it ≡ true) → (is_poisoned it ≡ true → fault ≡ faults.Poisoned)
       → (is_poisoned it ≡ false → poisoned_by new ≡ Some fault) → (fault ≡ faults.Taken → ⊥)
       → ((h : History) → These h → HasCleanDisk (state_of new) → (fault ≡ faults.Store) ⊎ (fault ≡ faults.NoMemory)) → IsOfRun it new These (failure_of fault)
-  of_fault it new These faults.Store poisoned spent keeps never kind = kept it new faults.Store spent keeps (λ e. absurd cc)
-  of_fault it new These faults.NoMemory poisoned spent keeps never kind = inl (kept it new faults.NoMemory spent keeps (λ e. absurd cc))
+  of_fault it new These faults.Store poisoned spent keeps never kind = keeps_fault it new faults.Store spent keeps (λ e. absurd cc)
+  of_fault it new These faults.NoMemory poisoned spent keeps never kind = inl (keeps_fault it new faults.NoMemory spent keeps (λ e. absurd cc))
   of_fault it new These faults.Foreign poisoned spent keeps never kind =
-      (kept it new faults.Foreign spent keeps (λ e. absurd cc), λ at. elim (kind at.0 at.1 at.2) [ inl e ↦ absurd cc | inr e ↦ absurd cc ])
+      (keeps_fault it new faults.Foreign spent keeps (λ e. absurd cc), λ at. elim (kind at.0 at.1 at.2) [ inl e ↦ absurd cc | inr e ↦ absurd cc ])
   of_fault it new These faults.Taken poisoned spent keeps never kind = never refl
   of_fault it new These faults.Poisoned poisoned spent keeps never kind = poisoned refl
 

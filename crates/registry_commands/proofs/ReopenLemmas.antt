@@ -4,7 +4,6 @@ use Rattle.std.specs.Prelude.{Result, Ok, Err, IfSome}
 use Rattle.std.proofs.Math.Logic.{∥∥₁_map}
 use Rattle.std.proofs.lemmas.Bool.{cases_lt}
 use Rattle.std.proofs.lemmas.List.{take_all}
-use Rattle.std.specs.Io.KnownBytes.{Appends}
 use Rattle.sqlite.specs.Store.{Ghosts}
 use Rattle.sqlite.specs.State.{HasCleanDisk}
 use Rattle.registry_rules.specs.declared.order.Request.{Request}
@@ -20,11 +19,11 @@ use Rattle.registry_store.proofs.RunLemmas.{leaves_weaker}
 use Rattle.registry_store.proofs.RunToLemmas.{between_all}
 use Rattle.registry_commands.specs.declared.lines.BadLine.{BadLine}
 use Rattle.registry_commands.specs.declared.messages.Failure.{Failure}
-use Rattle.registry_commands.specs.Failures.{ErrorOutput}
+use Rattle.registry_commands.specs.Ends.{Ends, Receives, Output, effect}
 use Rattle.registry_commands.specs.Messages.{reply_lines}
 use Rattle.registry_commands.specs.Apply.{IsApplied, IsRun, lines_between}
-use Rattle.registry_commands.specs.Reopened.{IsReopenedAfterLines, IsReopenedAt}
-use Rattle.registry_commands.proofs.ApplyLemmas.{keeps_same, no_beginning}
+use Rattle.registry_commands.specs.Reopened.{IsReopenedAfter, IsReopenedAfterLines}
+use Rattle.registry_commands.proofs.ApplyLemmas.{keeps_same, prefix_of_any}
 
 module _ {S : Type 0} {g : Ghosts S} where
   -- the opened registry represents one of the histories that the last one left
@@ -32,7 +31,8 @@ module _ {S : Type 0} {g : Ghosts S} where
   Opens last it = (h next : History) → Legal h → Legal next → (HasCleanDisk (state_of last) → Leaves newest (state_of last) (IsEither h next))
       → HasCleanDisk (state_of it) → ∥ ((x : History) × IsEither h next x × Represents it x) ∥₁
 
-  at_place : (it : Registry S g) (h : History) (rs : List Request) (n : ℕ) (x : History) → IsEither (after h (take n rs)) (after h (take (n + 1) rs)) x → Represents it x → HasAnswered it h rs n
+  -- a registry that represents one of two histories has answered as many requests
+  pub at_place : (it : Registry S g) (h : History) (rs : List Request) (n : ℕ) (x : History) → IsEither (after h (take n rs)) (after h (take (n + 1) rs)) x → Represents it x → HasAnswered it h rs n
   at_place it h rs n x (inl e) stands = inl (subst (Represents it) e stands)
   at_place it h rs n x (inr e) stands = elim (cases_lt n (length rs)) [
     | inl more ↦ inr (more, subst (Represents it) e stands)
@@ -56,50 +56,49 @@ module _ {S : Type 0} {g : Ghosts S} where
         ∥∥₁_map (opens (after h (take n rs)) (after h (take (n + 1) rs)) (legal_after h (take n rs) legal) (legal_after h (take (n + 1) rs) legal) (λ _. leaves) clean)
         (λ found. at_place it h rs n found.0 found.1 found.2)
 
-    module _ (OfInput OfOutput : Failure → Type 0) (out out_new : Option (List ℕ)) (errors : ErrorOutput) (status : ℕ) where
-      ran : (rs : List Request) (a : ℕ) → a ≤ length rs → IsRun OfInput OfOutput first last rs a out out_new errors status
-          → (h : History) → Legal h → HasAnswered first h rs a → HasCleanDisk (state_of it) → (n : ℕ) × IsReopenedAt it h rs a n out out_new status
+    -- closing the store may print more
+    module _ (OfInput : Failure → Type 0) (ends : Ends) (errors : Output) where
+      ran : (rs : List Request) (a : ℕ) → a ≤ length rs → IsRun OfInput (effect first last ends) rs a
+          → (h : History) → Legal h → HasAnswered first h rs a → HasCleanDisk (state_of it) → IsReopenedAfter it h rs a (record ends { errors = errors })
       ran rs a within run h legal at clean = elim run.statuses [
-        | inl zero ↦
-            let through = run.through zero h at (before clean) in
+        | inl success ↦
+            let through = run.through success h at (before clean) in
             let n = length rs in
             let all : after h rs ≡ after h (take n rs) = ap (after h) (sym (take_all n rs (omega arith))) in
             let leaves : Leaves newest (state_of last) (IsAfterOrNext h rs n) =
-            leaves_weaker newest (state_of last) (λ x. x ≡ after h rs) (IsAfterOrNext h rs n) (λ x e. inl (e ∙ all)) (through.represents.at.left (before clean)) in (
-              n,
-              record {
-                from = within;
-                within = omega arith;
-                whole = λ _. refl;
-                gained = (
-                  out_new,
-                  subst (λ (text : List ℕ). Appends out out_new text) (sym (ap reply_lines (between_all h rs a n refl))) through.gained,
-                  no_beginning out_new (lines_between h rs n (n + 1)),
-                  inl (keeps_same out_new),
-                );
-                answered = placed h rs n legal leaves clean;
-              },
-            )
-        | inr one ↦
-            let stopped = run.stopped one h at (before clean) in
-            let gained = stopped.1.gained in (
-              stopped.0,
-              record {
-                from = stopped.1.from;
-                within = stopped.1.within;
-                whole = λ zero. absurd (omega (arith, one, zero));
-                gained = (
-                  gained.0,
-                  gained.1,
-                  gained.2,
-                  elim gained.3 [ inl kept ↦ inl kept | inr stands ↦ inr (stays (after h (take (stopped.0 + 1) rs)) stands clean) ],
-                );
-                answered = placed h rs stopped.0 legal stopped.1.leaves clean;
-              },
-            )
+            leaves_weaker newest (state_of last) (λ x. x ≡ after h rs) (IsAfterOrNext h rs n) (λ x e. inl (e ∙ all)) (through.represents.at.left (before clean)) in
+            record {
+              n = n;
+              from = within;
+              within = omega arith;
+              whole = λ _. refl;
+              gained = (
+                ends.out.new.contents,
+                subst (λ (text : List ℕ). Receives ends.out text) (sym (ap reply_lines (between_all h rs a n refl))) through.gained,
+                prefix_of_any ends.out.new.contents (lines_between h rs n (n + 1)),
+                inl (keeps_same ends.out.new.contents),
+              );
+              answered = placed h rs n legal leaves clean;
+            }
+        | inr failed ↦
+            let stopped = run.stopped failed h at (before clean) in
+            let gained = stopped.gained in
+            record {
+              n = stopped.n;
+              from = stopped.from;
+              within = stopped.within;
+              whole = λ success. absurd (cc (failed, success));
+              gained = (
+                gained.0,
+                gained.1,
+                gained.2,
+                elim gained.3 [ inl kept ↦ inl kept | inr stands ↦ inr (stays (after h (take (stopped.n + 1) rs)) stands clean) ],
+              );
+              answered = placed h rs stopped.n legal stopped.leaves clean;
+            }
       ]
 
-      reopened : (read : Result (List Request) BadLine) (a : ℕ) → IsApplied OfInput OfOutput first last read a out out_new errors status → IsReopenedAfterLines first read a out out_new status it
+      reopened : (read : Result (List Request) BadLine) (a : ℕ) → IsApplied OfInput (effect first last ends) read a → IsReopenedAfterLines first read a (record ends { errors = errors }) it
       reopened (Err bad) a is = (is.silent, as_before is.same)
       reopened (Ok rs) a is = (λ more. let rejected = is.0 more in (rejected.silent, as_before rejected.same), λ within. ran rs a within (is.1 within))
 
@@ -108,10 +107,8 @@ module _ {S : Type 0} {g : Ghosts S} where
       → IfSome opened (λ it. HasCleanDisk (state_of it) → ∥ ((x : History) × IsEither h next x × Represents it x) ∥₁)
 
   -- the same if a registry is opened
-  pub if_reopened : (OfInput OfOutput : Failure → Type 0) (first last : Registry S g) (read : Result (List Request) BadLine) (a : ℕ) (out out_new : Option (List ℕ)) (errors : ErrorOutput) (status : ℕ)
-      → IsApplied OfInput OfOutput first last read a out out_new errors status
+  pub if_reopened : (OfInput : Failure → Type 0) (first last : Registry S g) (read : Result (List Request) BadLine) (a : ℕ) (ends : Ends) (errors : Output) → IsApplied OfInput (effect first last ends) read a
       → (opened : Option (Registry S g)) → MayOpen last opened → IfSome opened (λ it. HasCleanDisk (state_of it) → HasCleanDisk (state_of last))
-      → IfSome opened (IsReopenedAfterLines first read a out out_new status)
-  if_reopened OfInput OfOutput first last read a out out_new errors status is None opens before = tt
-  if_reopened OfInput OfOutput first last read a out out_new errors status is (Some it) opens before =
-      reopened first last it opens before OfInput OfOutput out out_new errors status read a is
+      → IfSome opened (IsReopenedAfterLines first read a (record ends { errors = errors }))
+  if_reopened OfInput first last read a ends errors is None opens before = tt
+  if_reopened OfInput first last read a ends errors is (Some it) opens before = reopened first last it opens before OfInput ends errors read a is

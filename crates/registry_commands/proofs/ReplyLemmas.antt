@@ -17,8 +17,9 @@ use Rattle.registry_store.specs.RunTo.{HaveTaken, IsCutBy, IsHalted, IsLeftAt}
 use Rattle.registry_commands.specs.declared.replies.ReplyLines.{ReplyLines}
 use Rattle.registry_commands.specs.Messages.{reply_line, reply_lines}
 use Rattle.registry_commands.specs.Apply.{IsStoppedAt, lines_between}
+use Rattle.registry_commands.specs.Ends.{Output}
 use Rattle.registry_commands.specs.Replies.{CutsLine, TakesLine}
-use Rattle.registry_commands.proofs.ApplyLemmas.{keeps_same, no_beginning}
+use Rattle.registry_commands.proofs.ApplyLemmas.{keeps_same, prefix_of_any}
 
 module _ {S : Type 0} {g : Ghosts S} (it : Registry S g) (h : History) where
   poisoned_or_there : (why : RunStop) → IsLeftAt why it h → (is_poisoned it ≡ true) ⊎ Represents it h
@@ -55,7 +56,7 @@ module _ {W : Type 0} (contents : W → Option (List ℕ)) (failures : W → ℕ
       → AppendsPrefix (contents middle.output.now) (contents new.output.now) (reply_line next)
   next_begun (stop.Fault fault) middle new next cut =
       subst (λ (k : ReplyLines W). AppendsPrefix (contents middle.output.now) (contents k.output.now) (reply_line next)) (sym cut.0)
-      (no_beginning (contents middle.output.now) (reply_line next))
+      (prefix_of_any (contents middle.output.now) (reply_line next))
   next_begun stop.Cut middle new next cut = cut.gained
 
   -- nothing of it is written, or its request was acted on
@@ -65,12 +66,20 @@ module _ {W : Type 0} (contents : W → Option (List ℕ)) (failures : W → ℕ
       inl (subst (λ (k : ReplyLines W). Keeps (contents middle.output.now) (contents k.output.now)) (sym cut.0) (keeps_same (contents middle.output.now)))
   next_acted it h stop.Cut middle new next cut stands = inr stands
 
+  -- what the output took between two states
+  abbrev pub output_between : ReplyLines W → ReplyLines W → Output
+  output_between old new = record {
+    old = record { contents = contents old.output.now; failures = failures old.output.now };
+    new = record { contents = contents new.output.now; failures = failures new.output.now };
+  }
+
   pub stopped_lines : {S : Type 0} {g : Ghosts S} (it : Registry S g) (h : History) (rs : List Request) (a n : ℕ) (old new : ReplyLines W) (why : RunStop)
-      → IsHalted (TakesLine contents failures) (CutsLine contents failures) it h rs a n old new why → IsStoppedAt it h rs a n (contents old.output.now) (contents new.output.now)
+      → IsHalted (TakesLine contents failures) (CutsLine contents failures) it h rs a n old new why → IsStoppedAt it h rs a (output_between old new)
   stopped_lines it h rs a n old new why halted =
       let middle = halted.middle in
       let one : lines_between h rs n (n + 1) ≡ reply_line halted.reply.0 = ap reply_lines halted.reply.1 ∙ append-nil (reply_line halted.reply.0) in
       record {
+        n = n;
         from = halted.from;
         within = omega (arith, halted.within);
         gained = (

@@ -15,7 +15,9 @@ use Rattle.registry_store.specs.Run.{HasAnswered, IsAfterOrNext}
 use Rattle.registry_commands.specs.declared.lines.BadLine.{BadLine}
 use Rattle.registry_commands.specs.declared.messages.Failure.{Failure}
 use Rattle.registry_commands.specs.declared.messages.Failure.TheVariants.{File, Foreign, Memory, Poisoned, Store, Taken}
-use Rattle.registry_commands.specs.Failures.{Prints, PrintsFailure, PrintsNothing, ErrorOutput}
+use Rattle.registry_commands.specs.declared.status.ExitStatus.TheVariants.{Success, Failed, Rejected}
+use Rattle.registry_commands.specs.Ends.{Effect, Receives, ReceivesNothing, Output}
+use Rattle.registry_commands.specs.Failures.{IsOfOutput, Prints, PrintsFailure, PrintsNothing}
 use Rattle.registry_commands.specs.Messages.{bad_line_text, exceeds_text, reply_lines}
 
 -- the reply lines of the requests after the first a, up to the n-th
@@ -36,49 +38,49 @@ module _ {S : Type 0} {g : Ghosts S} where
 
   -- All requests after the first a are answered: their reply lines are written, and the registry represents the history
   -- after all requests.
-  pub record IsThrough (it : Registry S g) (h : History) (rs : List Request) (a : ℕ) (old new : Option (List ℕ)) : Type 0 where
-    pub gained : Appends old new (reply_lines (drop a (replies_to h rs)))
+  pub record IsThrough (it : Registry S g) (h : History) (rs : List Request) (a : ℕ) (out : Output) : Type 0 where
+    pub gained : Receives out (reply_lines (drop a (replies_to h rs)))
     pub represents : Represents it (after h rs)
 
   -- The run stopped with n requests answered, whose reply lines are written. Of the next line either nothing is written, or
   -- a prefix is and the registry represents the history after its request. A crash leaves these n requests, and at most one
   -- more.
-  pub record IsStoppedAt (it : Registry S g) (h : History) (rs : List Request) (a n : ℕ) (old new : Option (List ℕ)) : Type 0 where
+  pub record IsStoppedAt (it : Registry S g) (h : History) (rs : List Request) (a : ℕ) (out : Output) : Type 0 where
+    pub n : ℕ
     pub from : a ≤ n
     pub within : n ≤ length rs
-    pub gained : (middle : Option (List ℕ)) × Appends old middle (lines_between h rs a n) × AppendsPrefix middle new (lines_between h rs n (n + 1))
-        × (Keeps middle new ⊎ Represents it (after h (take (n + 1) rs)))
+    pub gained : (middle : Option (List ℕ)) × Appends out.old.contents middle (lines_between h rs a n) × AppendsPrefix middle out.new.contents (lines_between h rs n (n + 1))
+        × (Keeps middle out.new.contents ⊎ Represents it (after h (take (n + 1) rs)))
     pub leaves : Leaves newest (state_of it) (IsAfterOrNext h rs n)
     pub ends : (is_poisoned it ≡ true) ⊎ HasAnswered it h rs n
 
   -- Nothing was acted on and no reply was written. The error output says why, or that the input failed or memory ran out.
-  pub record IsRejected (OfInput : Failure → Type 0) (it new : Registry S g) (out out_new : Option (List ℕ)) (errors : ErrorOutput) (text : List ℕ) (status : ℕ) : Type 0 where
-    pub same : new ≡ it
-    pub silent : Keeps out out_new
-    pub told : ((status ≡ 2) × Prints errors text) ⊎ ((status ≡ 1) × PrintsFailure OfInput errors)
+  pub record IsRejected (OfInput : Failure → Type 0) (did : Effect S g) (text : List ℕ) : Type 0 where
+    pub same : did.new ≡ did.old
+    pub silent : ReceivesNothing did.ends.out
+    pub told : ((did.ends.status ≡ Rejected) × Prints did.ends.errors text) ⊎ ((did.ends.status ≡ Failed) × PrintsFailure OfInput did.ends.errors)
 
   -- The input failed, or memory ran out. Nothing was acted on and no reply was written.
-  pub record IsUnread (OfInput : Failure → Type 0) (it new : Registry S g) (out out_new : Option (List ℕ)) (errors : ErrorOutput) : Type 0 where
-    pub same : new ≡ it
-    pub silent : Keeps out out_new
-    pub told : PrintsFailure OfInput errors
+  pub record IsUnread (OfInput : Failure → Type 0) (did : Effect S g) : Type 0 where
+    pub same : did.new ≡ did.old
+    pub silent : ReceivesNothing did.ends.out
+    pub told : PrintsFailure OfInput did.ends.errors
 
   -- The requests after the first a were acted on in turn: all of them, or up to a failure. A poisoned registry acts on none, no
   -- reply is written, and the error output says that it is poisoned, or that the input failed or memory ran out.
-  pub record IsRun (OfInput OfOutput : Failure → Type 0) (it new : Registry S g) (rs : List Request) (a : ℕ) (out out_new : Option (List ℕ)) (errors : ErrorOutput) (status : ℕ) : Type 0 where
-    pub statuses : (status ≡ 0) ⊎ (status ≡ 1)
-    pub through : status ≡ 0 → (h : History) → HasAnswered it h rs a → HasCleanDisk (state_of new) → IsThrough new h rs a out out_new
-    pub quiet : status ≡ 0 → PrintsNothing errors
-    pub stopped : status ≡ 1 → (h : History) → HasAnswered it h rs a → HasCleanDisk (state_of new) → (n : ℕ) × IsStoppedAt new h rs a n out out_new
-    pub told : status ≡ 1 → IsUnread OfInput it new out out_new errors
-        ⊎ PrintsFailure (λ failure. IsOfRun it new (λ h. HasAnswered it h rs a) failure × OfOutput failure) errors
-    pub poisoned : is_poisoned it ≡ true → (status ≡ 1) × (new ≡ it) × (out_new ≡ out) × PrintsFailure (λ failure. (failure ≡ Poisoned) ⊎ OfInput failure) errors
-    pub endures : Endures (state_of it) (state_of new)
+  pub record IsRun (OfInput : Failure → Type 0) (did : Effect S g) (rs : List Request) (a : ℕ) : Type 0 where
+    pub statuses : (did.ends.status ≡ Success) ⊎ (did.ends.status ≡ Failed)
+    pub through : did.ends.status ≡ Success → (h : History) → HasAnswered did.old h rs a → HasCleanDisk (state_of did.new) → IsThrough did.new h rs a did.ends.out
+    pub quiet : did.ends.status ≡ Success → PrintsNothing did.ends.errors
+    pub stopped : did.ends.status ≡ Failed → (h : History) → HasAnswered did.old h rs a → HasCleanDisk (state_of did.new) → IsStoppedAt did.new h rs a did.ends.out
+    pub told : did.ends.status ≡ Failed → IsUnread OfInput did
+        ⊎ PrintsFailure (λ failure. IsOfRun did.old did.new (λ h. HasAnswered did.old h rs a) failure × IsOfOutput did.ends.out.old.failures did.ends.out.new.failures failure) did.ends.errors
+    pub poisoned : is_poisoned did.old ≡ true → (did.ends.status ≡ Failed) × (did.new ≡ did.old) × (did.ends.out.new.contents ≡ did.ends.out.old.contents)
+        × PrintsFailure (λ failure. (failure ≡ Poisoned) ⊎ OfInput failure) did.ends.errors
+    pub endures : Endures (state_of did.old) (state_of did.new)
 
-  -- How a command on request lines ends. Ok: these requests were read, and the first a of them were answered before. Err: this
+  -- What a command on request lines did. Ok: these requests were read, and the first a of them were answered before. Err: this
   -- is the first line that is not a request.
-  abbrev pub IsApplied : (Failure → Type 0) → (Failure → Type 0) → Registry S g → Registry S g → Result (List Request) BadLine → ℕ → Option (List ℕ) → Option (List ℕ) → ErrorOutput → ℕ → Type 0
-  IsApplied OfInput OfOutput it new (Err bad) a out out_new errors status = IsRejected OfInput it new out out_new errors (bad_line_text bad) status
-  IsApplied OfInput OfOutput it new (Ok rs) a out out_new errors status =
-      (length rs < a → IsRejected OfInput it new out out_new errors exceeds_text status)
-      × (a ≤ length rs → IsRun OfInput OfOutput it new rs a out out_new errors status)
+  abbrev pub IsApplied : (Failure → Type 0) → Effect S g → Result (List Request) BadLine → ℕ → Type 0
+  IsApplied OfInput did (Err bad) a = IsRejected OfInput did (bad_line_text bad)
+  IsApplied OfInput did (Ok rs) a = (length rs < a → IsRejected OfInput did exceeds_text) × (a ≤ length rs → IsRun OfInput did rs a)

@@ -1,40 +1,24 @@
 -- Which failures a command may print, and when.
-use Rattle.std.specs.Prelude.{◌≡◌, ◌≢◌, ◌⊎◌, ◌<◌, ℕ, List, length, Option, ⊤}
-use Rattle.std.specs.Io.KnownBytes.{Appends, Keeps}
+use Rattle.std.specs.Prelude.{◌≡◌, ◌≢◌, ◌⊎◌, ◌<◌, ℕ, List, length, ⊤}
 use Rattle.sqlite.specs.declared.error.Error.{Error}
 use Rattle.sqlite.specs.declared.error.Error.TheVariants.{SqliteFailure}
 use Rattle.sqlite.specs.declared.error.ErrorCode.TheVariants.{OutOfMemory}
-use Rattle.byte_streams.specs.Streams.{AppendsPrefix, HasFailed, most_bytes}
+use Rattle.byte_streams.specs.Streams.{HasFailed, most_bytes}
 use Rattle.registry_commands.specs.declared.messages.Failure.{Failure}
 use Rattle.registry_commands.specs.declared.messages.Failure.TheVariants.{Store, Memory, File}
+use Rattle.registry_commands.specs.Ends.{Receives, ReceivesNothing, ReceivesPrefix, Output}
 use Rattle.registry_commands.specs.Messages.{failure_line}
 
--- the bytes of the error output and how often it had failed, before a command and after it
-pub record ErrorOutput : Type 0 where
-  pub old : Option (List ℕ)
-  pub new : Option (List ℕ)
-  pub failures : ℕ
-  pub failures_new : ℕ
-
--- the same for an error output in two states, by its contents and its count of failures
-abbrev pub error_output : {E : Type 0} → (E → Option (List ℕ)) → (E → ℕ) → E → E → ErrorOutput
-error_output contents failures errors errors_new = record {
-  old = contents errors;
-  new = contents errors_new;
-  failures = failures errors;
-  failures_new = failures errors_new;
-}
-
 -- the text was written: all of it, or a prefix if the error output failed
-abbrev pub Prints : ErrorOutput → List ℕ → Type 0
-Prints errors text = AppendsPrefix errors.old errors.new text × (HasFailed errors.failures errors.failures_new ⊎ Appends errors.old errors.new text)
+abbrev pub Prints : Output → List ℕ → Type 0
+Prints errors text = ReceivesPrefix errors text × (HasFailed errors.old.failures errors.new.failures ⊎ Receives errors text)
 
 -- nothing was written, and the error output did not fail
-abbrev pub PrintsNothing : ErrorOutput → Type 0
-PrintsNothing errors = Keeps errors.old errors.new × (errors.failures_new ≡ errors.failures)
+abbrev pub PrintsNothing : Output → Type 0
+PrintsNothing errors = ReceivesNothing errors × (errors.new.failures ≡ errors.old.failures)
 
 -- the message of one of these failures was written: all of it, or a prefix if the error output failed
-abbrev pub PrintsFailure : (Failure → Type 0) → ErrorOutput → Type 0
+abbrev pub PrintsFailure : (Failure → Type 0) → Output → Type 0
 PrintsFailure May errors = (failure : Failure) × May failure × Prints errors (failure_line failure)
 
 -- more bytes than an input may have

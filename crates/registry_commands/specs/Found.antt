@@ -1,5 +1,5 @@
 -- What a founding does to its connection.
-use Rattle.std.specs.Prelude.{◌≡◌, ◌⊎◌, ℕ, IsTrue, Result, Ok, Err}
+use Rattle.std.specs.Prelude.{◌≡◌, ◌⊎◌, IsTrue, Result, Ok, Err}
 use Rattle.sqlite.specs.Store.{Ghosts}
 use Rattle.sqlite.specs.State.{HasCleanDisk, Survives}
 use Rattle.sqlite.specs.Held.{Held, state}
@@ -12,8 +12,21 @@ use Rattle.registry_wire.specs.declared.refusal.WireRefusal.{WireRefusal}
 use Rattle.registry_wire.specs.Founding.{Founds, Listed}
 use Rattle.registry_commands.specs.declared.messages.Failure.{Failure}
 use Rattle.registry_commands.specs.declared.messages.Failure.TheVariants.{Memory, Store, Taken}
-use Rattle.registry_commands.specs.Failures.{Prints, PrintsFailure, PrintsNothing, ErrorOutput}
+use Rattle.registry_commands.specs.declared.status.ExitStatus.{ExitStatus}
+use Rattle.registry_commands.specs.declared.status.ExitStatus.TheVariants.{Success, Failed, Rejected}
+use Rattle.registry_commands.specs.Ends.{Output}
+use Rattle.registry_commands.specs.Failures.{Prints, PrintsFailure, PrintsNothing}
 use Rattle.registry_commands.specs.Messages.{refusal_line}
+
+-- the connection before a founding and after it, what the error output took, and the exit status
+pub record Attempt (S : Type 0) : Type 0 where
+  pub old : Held S
+  pub new : Held S
+  pub errors : Output
+  pub status : ExitStatus
+
+abbrev pub attempt : {S : Type 0} → Held S → Held S → Output → ExitStatus → Attempt S
+attempt old new errors status = record { old = old; new = new; errors = errors; status = status }
 
 module _ {S : Type 0} (g : Ghosts S) where
   -- the store held no registry, and now holds this one, with no deed
@@ -31,14 +44,15 @@ module _ {S : Type 0} (g : Ghosts S) where
 
   -- A founding was attempted. Whether it failed or not, a crash leaves what it could leave before or, if the store held no
   -- registry, the whole new one.
-  pub record IsTriedOn (old new : Held S) (founding : Founding) (errors : ErrorOutput) (status : ℕ) : Type 0 where
-    pub survives : Survives (state g old) (state g new) (λ db. HasNoMeta (state g old).now × Rows newest db (founded founding))
-    pub ends : ((status ≡ 0) × IsFounded old new founding × PrintsNothing errors) ⊎ ((status ≡ 1) × PrintsFailure (IsOfFounding old new) errors)
+  pub record IsTriedOn (did : Attempt S) (founding : Founding) : Type 0 where
+    pub survives : Survives (state g did.old) (state g did.new) (λ db. HasNoMeta (state g did.old).now × Rows newest db (founded founding))
+    pub ends : ((did.status ≡ Success) × IsFounded did.old did.new founding × PrintsNothing did.errors)
+        ⊎ ((did.status ≡ Failed) × PrintsFailure (IsOfFounding did.old did.new) did.errors)
 
   -- what a founding file does to the connection, by what it lists, or by its first fault
-  abbrev pub IsFoundedBy : (Failure → Type 0) → Held S → Held S → Result Listed WireRefusal → ErrorOutput → ℕ → Type 0
-  IsFoundedBy OfInput old new (Err refusal) errors status =
-      (new ≡ old) × (((status ≡ 2) × Prints errors (refusal_line refusal)) ⊎ ((status ≡ 1) × PrintsFailure OfInput errors))
-  IsFoundedBy OfInput old new (Ok listed) errors status =
-      ((new ≡ old) × (status ≡ 1) × PrintsFailure OfInput errors)
-      ⊎ ((founding : Founding) × Founds listed founding × IsTriedOn old new founding errors status)
+  abbrev pub IsFoundedBy : (Failure → Type 0) → Attempt S → Result Listed WireRefusal → Type 0
+  IsFoundedBy OfInput did (Err refusal) =
+      (did.new ≡ did.old) × (((did.status ≡ Rejected) × Prints did.errors (refusal_line refusal)) ⊎ ((did.status ≡ Failed) × PrintsFailure OfInput did.errors))
+  IsFoundedBy OfInput did (Ok listed) =
+      ((did.new ≡ did.old) × (did.status ≡ Failed) × PrintsFailure OfInput did.errors)
+      ⊎ ((founding : Founding) × Founds listed founding × IsTriedOn did founding)

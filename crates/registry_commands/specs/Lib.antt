@@ -1,4 +1,5 @@
 pub mod Apply
+pub mod Ends
 pub mod Failures
 pub mod Found
 pub mod Lines

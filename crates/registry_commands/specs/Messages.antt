@@ -7,8 +7,8 @@ use Rattle.registry_store.specs.declared.fault.Fault.{Fault}
 use Rattle.registry_store.specs.declared.fault.Fault.TheVariants as faults
 use Rattle.registry_wire.specs.declared.refusal.WireRefusal.{WireRefusal}
 use Rattle.registry_wire.specs.Replies.{refusal_data, reply_data}
-use Rattle.registry_commands.specs.declared.input.InputFault.{InputFault}
-use Rattle.registry_commands.specs.declared.input.InputFault.TheVariants as inputs
+use Rattle.registry_commands.specs.declared.input.ReadAllFault.{ReadAllFault}
+use Rattle.registry_commands.specs.declared.input.ReadAllFault.TheVariants as inputs
 use Rattle.registry_commands.specs.declared.lines.BadLine.{BadLine}
 use Rattle.registry_commands.specs.declared.messages.Failure.{Failure}
 use Rattle.registry_commands.specs.declared.messages.Failure.TheVariants.{Store, Memory, Foreign, Taken, Poisoned, File}
@@ -52,11 +52,11 @@ failure_of faults.Taken = Taken
 failure_of faults.Poisoned = Poisoned
 
 -- the failure for a fault of an input
-abbrev pub input_failure : InputFault → Failure
+abbrev pub input_failure : ReadAllFault → Failure
 input_failure inputs.File = File
 input_failure inputs.NoMemory = Memory
 
 -- why an input cannot be read
-abbrev pub input_fault_text : InputFault → List ℕ
-input_fault_text inputs.File = codes "the input failed or is too long"
-input_fault_text inputs.NoMemory = codes "out of memory"
+abbrev pub read_all_fault_text : ReadAllFault → List ℕ
+read_all_fault_text inputs.File = codes "the input failed or is too long"
+read_all_fault_text inputs.NoMemory = codes "out of memory"

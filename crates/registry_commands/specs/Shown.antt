@@ -1,5 +1,5 @@
 -- What a command shows of a registry without changing it.
-use Rattle.std.specs.Prelude.{◌≡◌, ◌⊎◌, ⊤, ℕ, true, List, Option}
+use Rattle.std.specs.Prelude.{◌≡◌, ◌⊎◌, ⊤, true, List, Option}
 use Rattle.sqlite.specs.Store.{Ghosts}
 use Rattle.sqlite.specs.State.{HasCleanDisk}
 use Rattle.usbids_text.specs.Documents.{IsTextOf}
@@ -13,7 +13,9 @@ use Rattle.registry_store.specs.Promise.{Represents, is_poisoned, state_of}
 use Rattle.registry_store.specs.Queries.{IsUntouched}
 use Rattle.registry_commands.specs.declared.messages.Failure.{Failure}
 use Rattle.registry_commands.specs.declared.messages.Failure.TheVariants.{Store, Memory, Foreign, Taken, Poisoned, File}
-use Rattle.registry_commands.specs.Failures.{PrintsFailure, ErrorOutput}
+use Rattle.registry_commands.specs.declared.status.ExitStatus.TheVariants.{Failed}
+use Rattle.registry_commands.specs.Ends.{Effect}
+use Rattle.registry_commands.specs.Failures.{PrintsFailure}
 use Rattle.registry_commands.specs.Printed.{IsPrinted, IsUnprinted}
 
 module _ {S : Type 0} {g : Ghosts S} where
@@ -28,17 +30,18 @@ module _ {S : Type 0} {g : Ghosts S} where
   IsOfReading it new File = ⊥
 
   -- this holds of each history that the registry represented, over a clean disk
-  abbrev pub Gives : Registry S g → Registry S g → (History → Type 0) → Type 0
-  Gives it new P = (h : History) → Represents it h → HasCleanDisk (state_of new) → P h
+  abbrev pub HoldsOfHistory : Registry S g → Registry S g → (History → Type 0) → Type 0
+  HoldsOfHistory it new P = (h : History) → Represents it h → HasCleanDisk (state_of new) → P h
 
   -- nothing is shown of a poisoned registry: it stays as it is, and the error output says that it is poisoned
-  abbrev pub ShowsNothing : Registry S g → Registry S g → Option (List ℕ) → Option (List ℕ) → ErrorOutput → ℕ → Type 0
-  ShowsNothing it new out out_new errors status = (status ≡ 1) × (new ≡ it) × (out_new ≡ out) × PrintsFailure (λ failure. failure ≡ Poisoned) errors
+  abbrev pub ShowsNothing : Effect S g → Type 0
+  ShowsNothing did =
+      (did.ends.status ≡ Failed) × (did.new ≡ did.old) × (did.ends.out.new.contents ≡ did.ends.out.old.contents) × PrintsFailure (λ failure. failure ≡ Poisoned) did.ends.errors
 
   -- the list of the history is written, whole or in part, and the whole is the text of its document; or nothing is written,
   -- after a failure
-  pub record IsExported (OfOutput : Failure → Type 0) (it new : Registry S g) (stamp : Option Moment) (out out_new : Option (List ℕ)) (errors : ErrorOutput) (status : ℕ) : Type 0 where
-    pub left : IsUntouched it new
-    pub shown : ((doc : List TopEntry) × Gives it new (λ h. IsListing h doc) × IsTextOf (written doc stamp) doc × IsPrinted OfOutput (written doc stamp) out out_new errors status)
-        ⊎ IsUnprinted (IsOfReading it new) out out_new errors status
-    pub poisoned : is_poisoned it ≡ true → ShowsNothing it new out out_new errors status
+  pub record IsExported (did : Effect S g) (stamp : Option Moment) : Type 0 where
+    pub left : IsUntouched did.old did.new
+    pub shown : ((doc : List TopEntry) × HoldsOfHistory did.old did.new (λ h. IsListing h doc) × IsTextOf (written doc stamp) doc × IsPrinted (written doc stamp) did.ends)
+        ⊎ IsUnprinted (IsOfReading did.old did.new) did.ends
+    pub poisoned : is_poisoned did.old ≡ true → ShowsNothing did

@@ -9,12 +9,14 @@ ghost use Rattle.registry_store.specs.Run.{HasAnswered};
 ghost use Rattle.registry_commands.specs.Lines.{requests_in};
 ghost use Rattle.registry_commands.specs.Messages.{bad_line_text};
 ghost use Rattle.registry_commands.specs.Apply.{IsApplied, IsOfRun, IsStoppedAt, IsThrough, IsUnread};
-ghost use Rattle.registry_commands.specs.Failures.{IsOfInput, IsOfMemory, IsOfOutput, IsTooLong, Prints, PrintsFailure, error_output};
+ghost use Rattle.registry_commands.specs.Ends.{effect, ends_of, output_of};
+ghost use Rattle.registry_commands.specs.Failures.{IsOfInput, IsOfMemory, IsOfOutput, IsTooLong, Prints, PrintsFailure};
 
 use crate::input::read_all;
 use crate::lines::{BadLine, requests_in};
 use crate::messages::{Failure, bad_line_text, fail, failure_of, input_failure, tell};
 use crate::replies::ReplyLines;
+use crate::status::ExitStatus;
 use byte_streams::{Sink, Source};
 use registry_rules::Request;
 use registry_store::{Registry, RunStop};
@@ -32,9 +34,9 @@ fn write_replies<S: Alter, W: Sink>(
     requires { answered ≤ length requests.now }
     ensures same_reference { lines.new.output.ghost_name ≡ lines.old.output.ghost_name }
     ensures through { (h : History) → HasAnswered registry.old h requests.now answered → HasCleanDisk (state_of registry.new)
-        → OnOk result (IsThrough registry.new h requests.now answered (W.contents lines.old.output.now) (W.contents lines.new.output.now)) }
+        → OnOk result (IsThrough registry.new h requests.now answered (output_of W.Sink lines.old.output.now lines.new.output.now)) }
     ensures stopped { (h : History) → HasAnswered registry.old h requests.now answered → HasCleanDisk (state_of registry.new)
-        → OnErr result ((n : ℕ) × IsStoppedAt registry.new h requests.now answered n (W.contents lines.old.output.now) (W.contents lines.new.output.now)) }
+        → OnErr result (IsStoppedAt registry.new h requests.now answered (output_of W.Sink lines.old.output.now lines.new.output.now)) }
     ensures failure { IfErr result (λ failure. IsOfRun registry.old registry.new (λ h. HasAnswered registry.old h requests.now answered) failure
         × IsOfOutput (W.failures lines.old.output.now) (W.failures lines.new.output.now) failure) }
     ensures when_poisoned { is_poisoned registry.old ≡ true → (result ≡ Err Failure.Poisoned) × (registry.new ≡ registry.old) × (W.contents lines.new.output.now ≡ W.contents lines.old.output.now) }
@@ -60,9 +62,9 @@ fn answer_from<S: Alter, W: Sink>(
 ) -> Result<(), Failure>
     requires { answered ≤ length requests.now }
     ensures through { (h : History) → HasAnswered registry.old h requests.now answered → HasCleanDisk (state_of registry.new)
-        → OnOk result (IsThrough registry.new h requests.now answered (W.contents output.old) (W.contents output.new)) }
+        → OnOk result (IsThrough registry.new h requests.now answered (output_of W.Sink output.old output.new)) }
     ensures stopped { (h : History) → HasAnswered registry.old h requests.now answered → HasCleanDisk (state_of registry.new)
-        → OnErr result ((n : ℕ) × IsStoppedAt registry.new h requests.now answered n (W.contents output.old) (W.contents output.new)) }
+        → OnErr result (IsStoppedAt registry.new h requests.now answered (output_of W.Sink output.old output.new)) }
     ensures failure { IfErr result (λ failure. IsOfRun registry.old registry.new (λ h. HasAnswered registry.old h requests.now answered) failure
         × IsOfOutput (W.failures output.old) (W.failures output.new) failure) }
     ensures when_poisoned { is_poisoned registry.old ≡ true → (result ≡ Err Failure.Poisoned) × (registry.new ≡ registry.old) × (W.contents output.new ≡ W.contents output.old) }
@@ -77,15 +79,15 @@ fn answer_from<S: Alter, W: Sink>(
 }
 
 /// Prints which line is not a request, and returns the exit status.
-fn reject_line<E: Sink>(alloc: Global, errors: &mut E, bad: BadLine) -> u8
-    ensures { ((result ≡ 2) × Prints (error_output E.contents E.failures errors.old errors.new) (bad_line_text bad))
-        ⊎ ((result ≡ 1) × PrintsFailure IsOfMemory (error_output E.contents E.failures errors.old errors.new)) }
+fn reject_line<E: Sink>(alloc: Global, errors: &mut E, bad: BadLine) -> ExitStatus
+    ensures { ((result ≡ ExitStatus.Rejected) × Prints (output_of E.Sink errors.old errors.new) (bad_line_text bad))
+        ⊎ ((result ≡ ExitStatus.Failed) × PrintsFailure IsOfMemory (output_of E.Sink errors.old errors.new)) }
 {
     let Ok(text) = bad_line_text(alloc, bad) else {
         return fail(errors, Failure::Memory);
     };
     tell(errors, text.as_str());
-    2
+    ExitStatus::Rejected
 }
 
 /// Acts on the requests after the first `answered` ones.
@@ -96,16 +98,16 @@ fn apply_requests<S: Alter, W: Sink, E: Sink>(
     registry: &mut Registry<S>,
     output: &mut W,
     errors: &mut E,
-) -> u8
-    ensures { IsApplied IsOfMemory (IsOfOutput (W.failures output.old) (W.failures output.new)) registry.old registry.new (Ok requests.now) answered
-        (W.contents output.old) (W.contents output.new) (error_output E.contents E.failures errors.old errors.new) result }
+) -> ExitStatus
+    ensures { IsApplied IsOfMemory
+        (effect registry.old registry.new (ends_of W.Sink E.Sink output.old output.new errors.old errors.new result)) (Ok requests.now) answered }
 {
     if answered > requests.len() as u64 {
         tell(errors, "answered exceeds requests\n");
-        return 2;
+        return ExitStatus::Rejected;
     }
     match answer_from(alloc, registry, requests, answered as usize, output) {
-        Ok(()) => 0,
+        Ok(()) => ExitStatus::Success,
         Err(failure) => fail(errors, failure),
     }
 }
@@ -118,9 +120,9 @@ fn apply_bytes<S: Alter, W: Sink, E: Sink>(
     registry: &mut Registry<S>,
     output: &mut W,
     errors: &mut E,
-) -> u8
-    ensures { IsApplied IsOfMemory (IsOfOutput (W.failures output.old) (W.failures output.new)) registry.old registry.new (requests_in bytes.now) answered
-        (W.contents output.old) (W.contents output.new) (error_output E.contents E.failures errors.old errors.new) result }
+) -> ExitStatus
+    ensures { IsApplied IsOfMemory
+        (effect registry.old registry.new (ends_of W.Sink E.Sink output.old output.new errors.old errors.new result)) (requests_in bytes.now) answered }
 {
     match requests_in(alloc, bytes) {
         Ok(Ok(requests)) => apply_requests(
@@ -140,12 +142,12 @@ fn apply_bytes<S: Alter, W: Sink, E: Sink>(
 /// answered before. Reads all lines before it acts on the first request, and writes each reply line
 /// before it acts on the next request.
 ///
-/// The status is 0 if all requests were acted on, refused ones too, and all reply lines are
-/// written. It is 2 if a line is not a request, or `answered` exceeds the number of requests:
-/// then nothing is acted on, and the error output says why. It is 1 after a failure of the source,
-/// the registry, the output, or memory, which the error output names. An input of more than
-/// 4,294,967,295 bytes is such a failure, and nothing is acted on. A failure of the error output
-/// changes nothing else.
+/// The status is `Success` if all requests were acted on, refused ones too, and all reply lines are
+/// written. It is `Rejected` if a line is not a request, or `answered` exceeds the number of
+/// requests: then nothing is acted on, and the error output says why. It is `Failed` after a
+/// failure of the source, the registry, the output, or memory, which the error output names. An
+/// input of more than 4,294,967,295 bytes is such a failure, and nothing is acted on. A failure of
+/// the error output changes nothing else.
 pub fn apply_lines<R: Source, S: Alter, W: Sink, E: Sink>(
     alloc: Global,
     source: &mut R,
@@ -153,11 +155,12 @@ pub fn apply_lines<R: Source, S: Alter, W: Sink, E: Sink>(
     registry: &mut Registry<S>,
     output: &mut W,
     errors: &mut E,
-) -> u8
+) -> ExitStatus
     ensures { (bytes : List ℕ) × MayGive (R.remaining source.old) bytes
-        × IsApplied (IsOfInput (R.failures source.old) (R.failures source.new) bytes) (IsOfOutput (W.failures output.old) (W.failures output.new))
-        registry.old registry.new (requests_in bytes) answered (W.contents output.old) (W.contents output.new) (error_output E.contents E.failures errors.old errors.new) result
-        × (IsTooLong bytes → (result ≡ 1) × IsUnread (IsOfInput (R.failures source.old) (R.failures source.new) bytes) registry.old registry.new (W.contents output.old) (W.contents output.new) (error_output E.contents E.failures errors.old errors.new)) }
+        × IsApplied (IsOfInput (R.failures source.old) (R.failures source.new) bytes)
+        (effect registry.old registry.new (ends_of W.Sink E.Sink output.old output.new errors.old errors.new result)) (requests_in bytes) answered
+        × (IsTooLong bytes → (result ≡ ExitStatus.Failed) × IsUnread (IsOfInput (R.failures source.old) (R.failures source.new) bytes)
+        (effect registry.old registry.new (ends_of W.Sink E.Sink output.old output.new errors.old errors.new result))) }
 {
     match read_all(alloc, source) {
         Ok(bytes) => apply_bytes(alloc, bytes.as_slice(), answered, registry, output, errors),

@@ -1,10 +1,12 @@
 //! Invalid arguments of the command line.
 
 ghost use Rattle.std.specs.Prelude.{◌≡◌};
-ghost use Rattle.registry_commands.specs.Failures.{Prints, error_output};
+ghost use Rattle.registry_commands.specs.Ends.{output_of};
+ghost use Rattle.registry_commands.specs.Failures.{Prints};
 ghost use Rattle.registry_commands.specs.Arguments.{bad_argument_line};
 
 use crate::messages::tell;
+use crate::status::ExitStatus;
 use byte_streams::Sink;
 
 /// An invalid argument.
@@ -50,10 +52,10 @@ impl BadArgument {
 }
 
 /// Prints which argument is invalid, and returns the exit status.
-pub fn reject_argument<E: Sink>(errors: &mut E, argument: BadArgument) -> u8
-    ensures status { result ≡ 2 }
-    ensures told { Prints (error_output E.contents E.failures errors.old errors.new) (bad_argument_line argument) }
+pub fn reject_argument<E: Sink>(errors: &mut E, argument: BadArgument) -> ExitStatus
+    ensures status { result ≡ ExitStatus.Rejected }
+    ensures told { Prints (output_of E.Sink errors.old errors.new) (bad_argument_line argument) }
 {
     tell(errors, argument.line());
-    2
+    ExitStatus::Rejected
 }

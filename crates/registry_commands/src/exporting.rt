@@ -2,11 +2,12 @@
 
 ghost use Rattle.usbids_text.specs.Documents.{IsTextOf};
 ghost use Rattle.usbids_text.specs.Writing.{written};
-ghost use Rattle.registry_commands.specs.Failures.{IsOfOutput, error_output};
+ghost use Rattle.registry_commands.specs.Ends.{effect, ends_of};
 ghost use Rattle.registry_commands.specs.Printed.{IsPrinted};
 ghost use Rattle.registry_commands.specs.Shown.{IsExported};
 
 use crate::messages::{Failure, fail, failure_of};
+use crate::status::ExitStatus;
 use byte_streams::Sink;
 use registry_store::Registry;
 use registry_views::document_of;
@@ -20,13 +21,12 @@ fn put_document<W: Sink, E: Sink>(
     stamp: Option<Stamp>,
     output: &mut W,
     errors: &mut E,
-) -> u8
-    ensures printed { IsPrinted (IsOfOutput (W.failures output.old) (W.failures output.new)) (written document.now stamp)
-        (W.contents output.old) (W.contents output.new) (error_output E.contents E.failures errors.old errors.new) result }
+) -> ExitStatus
+    ensures printed { IsPrinted (written document.now stamp) (ends_of W.Sink E.Sink output.old output.new errors.old errors.new result) }
     ensures is_text { IsTextOf (written document.now stamp) document.now }
 {
     match write(document, stamp, output) {
-        Ok(()) => 0,
+        Ok(()) => ExitStatus::Success,
         Err(WriteFault) => fail(errors, Failure::File),
     }
 }
@@ -34,18 +34,17 @@ fn put_document<W: Sink, E: Sink>(
 /// Writes the list of the held numbers, under their vendors, with the titles of their cards, and
 /// with a stamp if one is given. Changes nothing.
 ///
-/// The status is 0 if the whole list is written. It is 1 after a failure, which the error output
-/// names. After a failure of the registry or of memory nothing is written; after a failure of the
-/// output a prefix of the list is.
+/// The status is `Success` if the whole list is written. It is `Failed` after a failure, which the
+/// error output names. After a failure of the registry or of memory nothing is written; after a
+/// failure of the output a prefix of the list is.
 pub fn export<S: Alter, W: Sink, E: Sink>(
     alloc: Global,
     registry: &mut Registry<S>,
     stamp: Option<Stamp>,
     output: &mut W,
     errors: &mut E,
-) -> u8
-    ensures { IsExported (IsOfOutput (W.failures output.old) (W.failures output.new)) registry.old registry.new stamp
-        (W.contents output.old) (W.contents output.new) (error_output E.contents E.failures errors.old errors.new) result }
+) -> ExitStatus
+    ensures { IsExported (effect registry.old registry.new (ends_of W.Sink E.Sink output.old output.new errors.old errors.new result)) stamp }
 {
     match document_of(alloc, registry) {
         Ok(document) => put_document(&document, stamp, output, errors),

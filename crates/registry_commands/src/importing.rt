@@ -2,13 +2,15 @@
 
 ghost use Rattle.std.specs.Prelude.{◌≡◌, ◌⊎◌, ℕ, List, IfOk, MatchResult, Ok, option_copied};
 ghost use Rattle.byte_streams.specs.Streams.{MayGive};
-ghost use Rattle.registry_commands.specs.Failures.{IsOfInput, IsOfOutput, error_output};
-ghost use Rattle.registry_commands.specs.Imports.{AreOfImport, IsActedOn, IsFirstBad, IsImportOf, IsImported, IsReplied, status_of};
+ghost use Rattle.registry_commands.specs.Ends.{effect, ends_of};
+ghost use Rattle.registry_commands.specs.Failures.{IsOfInput, IsOfOutput};
+ghost use Rattle.registry_commands.specs.Imports.{AreOfImport, IsActedOn, IsFirstBad, IsImportOf, IsImported, IsReplied, exit_status_of};
 
 use crate::arguments::BadArgument;
 use crate::list_input::read_list;
 use crate::looking::put_fault;
 use crate::messages::{Failure, fail, failure_of, put_reply};
+use crate::status::ExitStatus;
 use byte_streams::{Broken, Sink, Source};
 use registry_rules::{Reply, Request};
 use registry_store::Registry;
@@ -66,37 +68,41 @@ pub fn import_of_arguments(
     }))
 }
 
-/// Returns the exit status for a reply: 2 for a refusal, else 0.
-fn status_of(reply: &Reply) -> u8
-    ensures { result ≡ status_of reply.now }
+/// Returns the exit status for a reply.
+fn exit_status_of(reply: &Reply) -> ExitStatus
+    ensures { result ≡ exit_status_of reply.now }
 {
     match reply {
-        Reply::Done(_) => 0,
-        Reply::Refused(_) => 2,
+        Reply::Done(_) => ExitStatus::Success,
+        Reply::Refused(_) => ExitStatus::Rejected,
     }
 }
 
 /// Writes a reply as a line, and returns the exit status.
-fn put_status<W: Sink, E: Sink>(alloc: Global, reply: &Reply, output: &mut W, errors: &mut E) -> u8
+fn put_status<W: Sink, E: Sink>(
+    alloc: Global,
+    reply: &Reply,
+    output: &mut W,
+    errors: &mut E,
+) -> ExitStatus
     ensures { IsReplied (λ failure. ((failure ≡ Failure.Memory) ⊎ (failure ≡ Failure.File)) × IsOfOutput (W.failures output.old) (W.failures output.new) failure) reply.now
-        (W.contents output.old) (W.contents output.new) (error_output E.contents E.failures errors.old errors.new) result }
+        (ends_of W.Sink E.Sink output.old output.new errors.old errors.new result) }
 {
     match put_reply(alloc, output, reply) {
-        Ok(()) => status_of(reply),
+        Ok(()) => exit_status_of(reply),
         Err(failure) => fail(errors, failure),
     }
 }
 
 /// Acts on one request, writes its reply as a line, and returns the exit status.
-fn act_on<S: Alter, W: Sink, E: Sink>(
+fn answer_request<S: Alter, W: Sink, E: Sink>(
     alloc: Global,
     request: &Request,
     registry: &mut Registry<S>,
     output: &mut W,
     errors: &mut E,
-) -> u8
-    ensures { IsActedOn (IsOfOutput (W.failures output.old) (W.failures output.new)) registry.old registry.new request.now
-        (W.contents output.old) (W.contents output.new) (error_output E.contents E.failures errors.old errors.new) result }
+) -> ExitStatus
+    ensures { IsActedOn (effect registry.old registry.new (ends_of W.Sink E.Sink output.old output.new errors.old errors.new result)) request.now }
 {
     match registry.act(request) {
         Ok(reply) => put_status(alloc, &reply, output, errors),
@@ -112,9 +118,8 @@ fn import_document<S: Alter, W: Sink, E: Sink>(
     registry: &mut Registry<S>,
     output: &mut W,
     errors: &mut E,
-) -> u8
-    ensures { IsImportOf (IsOfOutput (W.failures output.old) (W.failures output.new)) registry.old registry.new import (Ok list.now)
-        (W.contents output.old) (W.contents output.new) (error_output E.contents E.failures errors.old errors.new) result }
+) -> ExitStatus
+    ensures { IsImportOf (effect registry.old registry.new (ends_of W.Sink E.Sink output.old output.new errors.old errors.new result)) import (Ok list.now) }
 {
     let Import {
         caller,
@@ -124,7 +129,7 @@ fn import_document<S: Alter, W: Sink, E: Sink>(
     } = import;
     let founding = registry.founding().vendor;
     match import_request(alloc, caller, key, org, founding, vendor, list) {
-        Ok(request) => act_on(alloc, &request, registry, output, errors),
+        Ok(request) => answer_request(alloc, &request, registry, output, errors),
         Err(NoMemory) => fail(errors, Failure::Memory),
     }
 }
@@ -137,9 +142,8 @@ fn import_read<S: Alter, W: Sink, E: Sink>(
     registry: &mut Registry<S>,
     output: &mut W,
     errors: &mut E,
-) -> u8
-    ensures { IsImportOf (IsOfOutput (W.failures output.old) (W.failures output.new)) registry.old registry.new import read
-        (W.contents output.old) (W.contents output.new) (error_output E.contents E.failures errors.old errors.new) result }
+) -> ExitStatus
+    ensures { IsImportOf (effect registry.old registry.new (ends_of W.Sink E.Sink output.old output.new errors.old errors.new result)) import read }
 {
     match read {
         Ok(list) => import_document(alloc, import, &list, registry, output, errors),
@@ -150,12 +154,13 @@ fn import_read<S: Alter, W: Sink, E: Sink>(
 /// Reads a list in pieces, and imports the numbers of one vendor for an organisation: of the named
 /// vendor, else of the founding vendor. Acts on one request, and writes its reply as a line.
 ///
-/// The status is 0 if the import is done now, or was done under this key before. It is 2 if
-/// the request is refused, which its reply says, and if the input is not a list: then nothing is
-/// acted on, and the error output says why. It is 1 after a failure of the source, the registry,
-/// the output, or memory, which the error output names. An input of more than 4,294,967,295 bytes
-/// is such a failure, and nothing is acted on. After a failure of the registry a crash leaves the
-/// history before the request or after it, and the same request gets the same reply.
+/// The status is `Success` if the import is done now, or was done under this key before. It is
+/// `Rejected` if the request is refused, which its reply says, and if the input is not a list: then
+/// nothing is acted on, and the error output says why. It is `Failed` after a failure of the
+/// source, the registry, the output, or memory, which the error output names. An input of more than
+/// 4,294,967,295 bytes is such a failure, and nothing is acted on. After a failure of the registry
+/// a crash leaves the history before the request or after it, and the same request gets the same
+/// reply.
 pub fn import_list<R: Source, S: Alter, W: Sink, E: Sink>(
     alloc: Global,
     source: &mut R,
@@ -163,10 +168,10 @@ pub fn import_list<R: Source, S: Alter, W: Sink, E: Sink>(
     registry: &mut Registry<S>,
     output: &mut W,
     errors: &mut E,
-) -> u8
+) -> ExitStatus
     ensures { (bytes : List ℕ) × MayGive (R.remaining source.old) bytes
-        × IsImported (IsOfInput (R.failures source.old) (R.failures source.new) bytes) (IsOfOutput (W.failures output.old) (W.failures output.new))
-        registry.old registry.new import bytes (W.contents output.old) (W.contents output.new) (error_output E.contents E.failures errors.old errors.new) result }
+        × IsImported (IsOfInput (R.failures source.old) (R.failures source.new) bytes)
+        (effect registry.old registry.new (ends_of W.Sink E.Sink output.old output.new errors.old errors.new result)) import bytes }
 {
     match read_list(alloc, source) {
         Ok(read) => import_read(alloc, import, read, registry, output, errors),

@@ -4,7 +4,7 @@ ghost use Rattle.std.specs.Prelude.{Err, Some, ◌≡◌, ◌≤◌, ◌++◌, �
 ghost use Rattle.std.specs.Io.KnownBytes.{Consumes, IsAtEnd};
 ghost use Rattle.byte_streams.specs.Streams.{HasFailed, MayGive, most_bytes};
 ghost use Rattle.registry_commands.specs.Failures.{IsOfInput};
-ghost use Rattle.registry_commands.specs.Messages.{input_failure, input_fault_text};
+ghost use Rattle.registry_commands.specs.Messages.{input_failure, read_all_fault_text};
 
 use byte_streams::{Broken, Source};
 use std::alloc::Global;
@@ -16,7 +16,7 @@ const MOST: usize = 4_294_967_295;
 
 /// Why an input could not be read.
 #[derive(Clone, Copy, Debug, PartialEq, Eq)]
-pub enum InputFault {
+pub enum ReadAllFault {
     /// The source failed, or gives more than 4,294,967,295 bytes.
     File,
     /// Out of memory.
@@ -24,40 +24,40 @@ pub enum InputFault {
 }
 
 /// The fault in a few words.
-impl fmt::Display for InputFault {
-    ghost output = { λ fault. Some (input_fault_text fault) };
+impl fmt::Display for ReadAllFault {
+    ghost output = { λ fault. Some (read_all_fault_text fault) };
 
     fn fmt<W: fmt::Write>(&self, f: &mut fmt::Formatter<W>) -> fmt::Result {
         f.write_str(match self {
-            InputFault::File => "the input failed or is too long",
-            InputFault::NoMemory => "out of memory",
+            ReadAllFault::File => "the input failed or is too long",
+            ReadAllFault::NoMemory => "out of memory",
         })
     }
 }
 
-impl Error for InputFault {}
+impl Error for ReadAllFault {}
 
 /// Appends the next bytes of the source, and returns their number, which is 0 only at the end.
-fn take_more<R: Source>(source: &mut R, bytes: &mut Vec<u8>) -> Result<usize, InputFault>
+fn take_more<R: Source>(source: &mut R, bytes: &mut Vec<u8>) -> Result<usize, ReadAllFault>
     ensures ok { IfOk result (λ n. (more : List ℕ) × (bytes.new.items ≡ bytes.old.items ++ more) × (length more ≡ n)
         × Consumes (R.remaining source.old) (R.remaining source.new) more × (n ≡ 0 → IsAtEnd (R.remaining source.new))
         × (R.failures source.new ≡ R.failures source.old)) }
-    ensures file { result ≡ Err InputFault.File → HasFailed (R.failures source.old) (R.failures source.new) }
-    ensures memory { result ≡ Err InputFault.NoMemory → R.failures source.new ≡ R.failures source.old }
+    ensures file { result ≡ Err ReadAllFault.File → HasFailed (R.failures source.old) (R.failures source.new) }
+    ensures memory { result ≡ Err ReadAllFault.NoMemory → R.failures source.new ≡ R.failures source.old }
 {
     let mut chunk = [0u8; 8192];
     match source.take(&mut chunk) {
         Ok(count) => match bytes.extend_from_slice(&chunk[..count]) {
             Ok(()) => Ok(count),
-            Err(_) => Err(InputFault::NoMemory),
+            Err(_) => Err(ReadAllFault::NoMemory),
         },
-        Err(Broken) => Err(InputFault::File),
+        Err(Broken) => Err(ReadAllFault::File),
     }
 }
 
 /// Reads all bytes of the source, at most 4,294,967,295. Returns `File` only if the source
 /// failed during this call or gives more bytes, and `NoMemory` only if it did not fail.
-pub fn read_all<R: Source>(alloc: Global, source: &mut R) -> Result<Vec<u8>, InputFault>
+pub fn read_all<R: Source>(alloc: Global, source: &mut R) -> Result<Vec<u8>, ReadAllFault>
     ensures ok { IfOk result (λ v. MayGive (R.remaining source.old) v.items × (length v.items ≤ most_bytes)) }
     ensures kept { OnOk result (R.failures source.new ≡ R.failures source.old) }
     ensures err { IfErr result (λ fault. (b : List ℕ) × MayGive (R.remaining source.old) b
@@ -74,5 +74,5 @@ pub fn read_all<R: Source>(alloc: Global, source: &mut R) -> Result<Vec<u8>, Inp
             Err(fault) => return Err(fault),
         }
     }
-    Err(InputFault::File)
+    Err(ReadAllFault::File)
 }

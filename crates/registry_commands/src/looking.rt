@@ -2,12 +2,14 @@
 
 ghost use Rattle.std.specs.Prelude.{◌≡◌, ◌++◌, ◌∷◌, [], ℕ, List, IfOk};
 ghost use Rattle.byte_streams.specs.Streams.{MayGive};
-ghost use Rattle.registry_commands.specs.Failures.{IsOfInput, IsOfOutput, error_output};
-ghost use Rattle.registry_commands.specs.LookUp.{IsAnswered, IsLookedUp, IsMatched, IsNamed, IsRefused};
+ghost use Rattle.registry_commands.specs.Ends.{ends_of, output_of};
+ghost use Rattle.registry_commands.specs.Failures.{IsOfInput};
+ghost use Rattle.registry_commands.specs.LookUp.{TellsFound, IsLookedUp, IsMatched, IsNamed, IsRefused};
 
 use crate::found::reject;
 use crate::messages::{Failure, fail, tell};
 use crate::printing::print;
+use crate::status::ExitStatus;
 use byte_streams::{Broken, Sink, Source};
 use registry_wire::WireRefusal;
 use std::alloc::Global;
@@ -23,9 +25,13 @@ fn name_line(alloc: Global, name: &Name) -> Result<Vec<u8>, NoMemory>
 }
 
 /// Writes the name as a line, and returns the exit status.
-fn put_name<W: Sink, E: Sink>(alloc: Global, name: &Name, output: &mut W, errors: &mut E) -> u8
-    ensures { IsNamed (IsOfOutput (W.failures output.old) (W.failures output.new)) name.now
-        (W.contents output.old) (W.contents output.new) (error_output E.contents E.failures errors.old errors.new) result }
+fn put_name<W: Sink, E: Sink>(
+    alloc: Global,
+    name: &Name,
+    output: &mut W,
+    errors: &mut E,
+) -> ExitStatus
+    ensures { IsNamed name.now (ends_of W.Sink E.Sink output.old output.new errors.old errors.new result) }
 {
     match name_line(alloc, name) {
         Ok(line) => print(output, errors, line.as_slice()),
@@ -34,8 +40,8 @@ fn put_name<W: Sink, E: Sink>(alloc: Global, name: &Name, output: &mut W, errors
 }
 
 /// Prints why the bytes are not a list, and returns the exit status.
-pub(crate) fn put_fault<E: Sink>(alloc: Global, fault: ReadFault, errors: &mut E) -> u8
-    ensures { IsRefused fault (error_output E.contents E.failures errors.old errors.new) result }
+pub(crate) fn put_fault<E: Sink>(alloc: Global, fault: ReadFault, errors: &mut E) -> ExitStatus
+    ensures { IsRefused fault (output_of E.Sink errors.old errors.new) result }
 {
     match fault {
         ReadFault::Line(fault) => reject(alloc, errors, WireRefusal::BadList(fault)),
@@ -49,15 +55,14 @@ fn put_found<W: Sink, E: Sink>(
     found: Option<Name>,
     output: &mut W,
     errors: &mut E,
-) -> u8
-    ensures { IsMatched (IsOfOutput (W.failures output.old) (W.failures output.new)) found
-        (W.contents output.old) (W.contents output.new) (error_output E.contents E.failures errors.old errors.new) result }
+) -> ExitStatus
+    ensures { IsMatched found (ends_of W.Sink E.Sink output.old output.new errors.old errors.new result) }
 {
     match found {
         Some(name) => put_name(alloc, &name, output, errors),
         None => {
             tell(errors, "not found\n");
-            2
+            ExitStatus::Rejected
         }
     }
 }
@@ -68,9 +73,8 @@ fn put_answer<W: Sink, E: Sink>(
     found: Result<Option<Name>, ReadFault>,
     output: &mut W,
     errors: &mut E,
-) -> u8
-    ensures { IsAnswered (IsOfOutput (W.failures output.old) (W.failures output.new)) found
-        (W.contents output.old) (W.contents output.new) (error_output E.contents E.failures errors.old errors.new) result }
+) -> ExitStatus
+    ensures { TellsFound found (ends_of W.Sink E.Sink output.old output.new errors.old errors.new result) }
 {
     match found {
         Ok(found) => put_found(alloc, found, output, errors),
@@ -81,10 +85,10 @@ fn put_answer<W: Sink, E: Sink>(
 /// Writes the name of the first device with this code, in the order of the list, under a vendor
 /// with this number, as a line. Reads the list once, in pieces, and builds no document.
 ///
-/// The status is 0 if the name is written. It is 2 if the list has no such device, or the
-/// input is not a list: the error output says which. It is 1 after a failure of the source, the
-/// output, or memory, which the error output names. An input of more than 4,294,967,295 bytes is
-/// such a failure.
+/// The status is `Success` if the name is written. It is `Rejected` if the list has no such device,
+/// or the input is not a list: the error output says which. It is `Failed` after a failure of the
+/// source, the output, or memory, which the error output names. An input of more than 4,294,967,295
+/// bytes is such a failure.
 pub fn look_up<R: Source, W: Sink, E: Sink>(
     alloc: Global,
     source: &mut R,
@@ -92,10 +96,10 @@ pub fn look_up<R: Source, W: Sink, E: Sink>(
     code: u16,
     output: &mut W,
     errors: &mut E,
-) -> u8
+) -> ExitStatus
     ensures { (bytes : List ℕ) × MayGive (R.remaining source.old) bytes
-        × IsLookedUp (IsOfInput (R.failures source.old) (R.failures source.new) bytes) (IsOfOutput (W.failures output.old) (W.failures output.new))
-        (record { vendor = vendor; code = code }) bytes (W.contents output.old) (W.contents output.new) (error_output E.contents E.failures errors.old errors.new) result }
+        × IsLookedUp (IsOfInput (R.failures source.old) (R.failures source.new) bytes) (record { vendor = vendor; code = code }) bytes
+        (ends_of W.Sink E.Sink output.old output.new errors.old errors.new result) }
 {
     let mut scan = Scan::new(alloc, vendor, code);
     let mut room = [0u8; 32768];

@@ -4,11 +4,13 @@ ghost use Rattle.std.specs.Prelude.{◌≡◌, ◌≢◌, ◌⊎◌, IfErr, IfOk
 ghost use Rattle.std.specs.String.{string_bytes};
 ghost use Rattle.std.specs.Io.KnownBytes.{Appends};
 ghost use Rattle.byte_streams.specs.Streams.{AppendsPrefix};
-ghost use Rattle.registry_commands.specs.Failures.{IsOfOutput, Prints, error_output};
+ghost use Rattle.registry_commands.specs.Ends.{output_of};
+ghost use Rattle.registry_commands.specs.Failures.{IsOfOutput, Prints};
 ghost use Rattle.registry_commands.specs.Messages.{bad_line_text, failure_line, failure_of, input_failure, refusal_line, reply_line};
 
-use crate::input::InputFault;
+use crate::input::ReadAllFault;
 use crate::lines::BadLine;
+use crate::status::ExitStatus;
 use byte_streams::{Broken, Sink, put_all};
 use registry_rules::Reply;
 use registry_store::Fault;
@@ -100,12 +102,12 @@ pub fn store_failure(error: Error) -> Failure
 }
 
 /// Returns the failure for a fault of an input.
-pub(crate) fn input_failure(fault: InputFault) -> Failure
+pub(crate) fn input_failure(fault: ReadAllFault) -> Failure
     ensures { result ≡ input_failure fault }
 {
     match fault {
-        InputFault::File => Failure::File,
-        InputFault::NoMemory => Failure::Memory,
+        ReadAllFault::File => Failure::File,
+        ReadAllFault::NoMemory => Failure::Memory,
     }
 }
 
@@ -140,8 +142,8 @@ pub(crate) fn bad_line_text(alloc: Global, bad: BadLine) -> Result<String, NoMem
 }
 
 /// Writes a text to the error output: all of it, or a prefix if the error output fails.
-pub(crate) fn tell<E: Sink>(errors: &mut E, text: &str)
-    ensures told { Prints (error_output E.contents E.failures errors.old errors.new) text.now }
+pub fn tell<E: Sink>(errors: &mut E, text: &str)
+    ensures told { Prints (output_of E.Sink errors.old errors.new) text.now }
 {
     match put_all(errors, text.as_bytes()) {
         Ok(()) => {}
@@ -151,12 +153,12 @@ pub(crate) fn tell<E: Sink>(errors: &mut E, text: &str)
 
 /// Prints why the command fails, and returns the exit status. The error output gets the whole line,
 /// or a prefix of it if it fails.
-pub fn fail<E: Sink>(errors: &mut E, failure: Failure) -> u8
-    ensures status { result ≡ 1 }
-    ensures told { Prints (error_output E.contents E.failures errors.old errors.new) (failure_line failure) }
+pub fn fail<E: Sink>(errors: &mut E, failure: Failure) -> ExitStatus
+    ensures status { result ≡ ExitStatus.Failed }
+    ensures told { Prints (output_of E.Sink errors.old errors.new) (failure_line failure) }
 {
     tell(errors, failure.line());
-    1
+    ExitStatus::Failed
 }
 
 /// Writes a reply as a line.

@@ -2,12 +2,14 @@
 
 ghost use Rattle.std.specs.Prelude.{ℕ, List, IfSome};
 ghost use Rattle.byte_streams.specs.Streams.{MayGive};
-ghost use Rattle.registry_commands.specs.Failures.{IsOfInput, IsOfOutput, error_output};
+ghost use Rattle.registry_commands.specs.Ends.{ends_of};
+ghost use Rattle.registry_commands.specs.Failures.{IsOfInput};
 ghost use Rattle.registry_commands.specs.Lines.{requests_in};
 ghost use Rattle.registry_commands.specs.Reopened.{EndsClosing, IsAppliedOver, IsReopenedAfterLines};
 
 use crate::apply::apply_lines;
 use crate::closing::close_store;
+use crate::status::ExitStatus;
 use byte_streams::{Sink, Source};
 use registry_store::{Registry, crash_and_open, open_files};
 use sqlite::{FileStore, Options};
@@ -28,12 +30,12 @@ pub fn apply_and_open<R: Source, D: Disk + Drop, W: Sink, E: Sink>(
     output: &mut W,
     errors: &mut E,
     options: Options,
-) -> (u8, Option<Registry<FileStore<D>>>)
+) -> (ExitStatus, Option<Registry<FileStore<D>>>)
     ensures { (bytes : List ℕ) × MayGive (R.remaining source.old) bytes
-        × ((acted : ℕ) × (middle : E) × IsAppliedOver (IsOfInput (R.failures source.old) (R.failures source.new) bytes) (IsOfOutput (W.failures output.old) (W.failures output.new))
-        first (requests_in bytes) answered (W.contents output.old) (W.contents output.new) (error_output E.contents E.failures errors.old middle) acted
-        × EndsClosing E.contents E.failures acted middle errors.new result.0)
-        × IfSome result.1 (IsReopenedAfterLines first (requests_in bytes) answered (W.contents output.old) (W.contents output.new) result.0) }
+        × ((acted : ExitStatus) × (middle : E)
+        × IsAppliedOver (IsOfInput (R.failures source.old) (R.failures source.new) bytes) first (requests_in bytes) answered (ends_of W.Sink E.Sink output.old output.new errors.old middle acted)
+        × EndsClosing E.Sink acted middle errors.new result.0)
+        × IfSome result.1 (IsReopenedAfterLines first (requests_in bytes) answered (ends_of W.Sink E.Sink output.old output.new errors.old errors.new result.0)) }
 {
     let mut registry = first;
     let status = apply_lines(alloc, source, answered, &mut registry, output, errors);
@@ -56,11 +58,10 @@ pub fn apply_and_crash<R: Source, D: Crash + Drop, W: Sink, E: Sink>(
     output: &mut W,
     errors: &mut E,
     options: Options,
-) -> (u8, Option<Registry<FileStore<D>>>)
+) -> (ExitStatus, Option<Registry<FileStore<D>>>)
     ensures { (bytes : List ℕ) × MayGive (R.remaining source.old) bytes
-        × IsAppliedOver (IsOfInput (R.failures source.old) (R.failures source.new) bytes) (IsOfOutput (W.failures output.old) (W.failures output.new))
-        first (requests_in bytes) answered (W.contents output.old) (W.contents output.new) (error_output E.contents E.failures errors.old errors.new) result.0
-        × IfSome result.1 (IsReopenedAfterLines first (requests_in bytes) answered (W.contents output.old) (W.contents output.new) result.0) }
+        × IsAppliedOver (IsOfInput (R.failures source.old) (R.failures source.new) bytes) first (requests_in bytes) answered (ends_of W.Sink E.Sink output.old output.new errors.old errors.new result.0)
+        × IfSome result.1 (IsReopenedAfterLines first (requests_in bytes) answered (ends_of W.Sink E.Sink output.old output.new errors.old errors.new result.0)) }
 {
     let mut registry = first;
     let status = apply_lines(alloc, source, answered, &mut registry, output, errors);

@@ -1,19 +1,20 @@
 //! Runs request lines over a registry in memory, founded anew each time.
 
 ghost use Rattle.std.specs.Prelude.{◌≡◌, ◌⊎◌, ◌&&◌, ◌∷◌, [], ℕ, List, nat_le, codes, IfErr, IfOk};
-ghost use Rattle.std.specs.Io.KnownBytes.{Keeps};
 ghost use Rattle.byte_streams.specs.Streams.{MayGive};
 ghost use Rattle.usbnum_core.specs.Spans.{spans_have};
 ghost use Rattle.registry_rules.specs.Texts.{AreSorted};
 ghost use Rattle.registry_rules.specs.declared.founding.Founding.{Founding};
 ghost use Rattle.registry_rules.specs.History.{founded};
 ghost use Rattle.registry_store.specs.Promise.{Represents};
-ghost use Rattle.registry_commands.specs.Failures.{IsOfInput, IsOfOutput, IsTooLong, PrintsFailure, error_output};
+ghost use Rattle.registry_commands.specs.Ends.{ReceivesNothing, ends_of, output_of};
+ghost use Rattle.registry_commands.specs.Failures.{IsOfInput, IsTooLong, PrintsFailure};
 ghost use Rattle.registry_commands.specs.Lines.{requests_in};
 ghost use Rattle.registry_commands.specs.Trial.{IsOfStart, IsTrial, IsTrialOf};
 
 use crate::apply::apply_lines;
 use crate::messages::{Failure, fail, failure_of};
+use crate::status::ExitStatus;
 use byte_streams::{Sink, Source};
 use registry_rules::{Curators, Founding, Licences};
 use registry_store::Registry;
@@ -108,11 +109,10 @@ pub fn trial<R: Source, W: Sink, E: Sink>(
     source: &mut R,
     output: &mut W,
     errors: &mut E,
-) -> u8
+) -> ExitStatus
     ensures { (bytes : List ℕ) × MayGive (R.remaining source.old) bytes
-        × IsTrialOf (IsOfInput (R.failures source.old) (R.failures source.new) bytes) (IsOfOutput (W.failures output.old) (W.failures output.new))
-        (requests_in bytes) (W.contents output.old) (W.contents output.new) (error_output E.contents E.failures errors.old errors.new) result
-        × (IsTooLong bytes → (result ≡ 1) × Keeps (W.contents output.old) (W.contents output.new) × PrintsFailure (IsOfStart (IsOfInput (R.failures source.old) (R.failures source.new) bytes)) (error_output E.contents E.failures errors.old errors.new)) }
+        × IsTrialOf (IsOfInput (R.failures source.old) (R.failures source.new) bytes) (requests_in bytes) (ends_of W.Sink E.Sink output.old output.new errors.old errors.new result)
+        × (IsTooLong bytes → (result ≡ ExitStatus.Failed) × ReceivesNothing (output_of W.Sink output.old output.new) × PrintsFailure (IsOfStart (IsOfInput (R.failures source.old) (R.failures source.new) bytes)) (output_of E.Sink errors.old errors.new)) }
 {
     let mut registry = match found_trial(alloc) {
         Ok(registry) => registry,

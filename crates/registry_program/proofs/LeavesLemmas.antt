@@ -1,9 +1,8 @@
 -- What a registry leaves after a command, by the history that it represented.
 use Rattle.std.proofs.Common.{◌≡◌, ◌⊎◌, inl, inr, ℕ, ◌+◌, ◌≤◌, ◌<◌, List, length, take, Option, Some, None, refl, sym, ap, subst, ◌∙◌, arith}
 use Rattle.std.specs.Prelude.{◌≢◌, Result, Ok, Err}
-use Rattle.std.proofs.lemmas.Bool.{cases_lt}
 use Rattle.std.proofs.lemmas.List.{take_all}
-use Rattle.std.specs.Io.KnownBytes.{Appends, Keeps}
+use Rattle.std.specs.Io.KnownBytes.{Keeps}
 use Rattle.sqlite.specs.State.{HasCleanDisk}
 use Rattle.sqlite.specs.Store.{Ghosts}
 use Rattle.usbids_text.specs.Entries.{TopEntry}
@@ -25,16 +24,20 @@ use Rattle.registry_commands.specs.declared.importing.Import.{Import}
 use Rattle.registry_commands.specs.declared.lines.BadLine.{BadLine}
 use Rattle.registry_commands.specs.declared.messages.Failure.{Failure}
 use Rattle.registry_commands.specs.Apply.{IsApplied, IsRun, lines_between}
-use Rattle.registry_commands.specs.Failures.{ErrorOutput}
-use Rattle.registry_commands.specs.Imports.{IsImportOf, IsImported, status_of}
+use Rattle.registry_commands.specs.declared.status.ExitStatus.{ExitStatus}
+use Rattle.registry_commands.specs.declared.status.ExitStatus.TheVariants.{Success, Failed, Rejected}
+use Rattle.registry_commands.specs.Ends.{Effect, Receives, Output}
+use Rattle.registry_commands.specs.Imports.{IsImportOf, IsImported, exit_status_of}
 use Rattle.registry_commands.specs.Messages.{reply_line, reply_lines}
-use Rattle.registry_commands.proofs.ApplyLemmas.{keeps_same, no_beginning, still}
+use Rattle.registry_commands.proofs.ApplyLemmas.{keeps_same, prefix_of_any, endures_itself}
 use Rattle.registry_desk.specs.Server.{EndsServing, Visit}
 use Rattle.registry_desk.proofs.ServerLemmas.{in_part}
 use Rattle.registry_program.specs.Whole.{AreLeftAfter, IsAfterImport, IsAfterLines, Stays}
 
-pub zero_or : (n : ℕ) → (n ≡ 0) ⊎ (n ≢ 0)
-zero_or n = elim (cases_lt 0 n) [ inl more ↦ inr (λ zero. omega (arith, more, zero)) | inr none ↦ inl (omega (arith, none)) ]
+pub success_or : (status : ExitStatus) → (status ≡ Success) ⊎ (status ≢ Success)
+success_or Success = inl refl
+success_or Failed = inr (λ e. absurd cc)
+success_or Rejected = inr (λ e. absurd cc)
 
 pub same_of_either : (h x : History) → IsEither h h x → x ≡ h
 same_of_either h x is = elim is [ inl e ↦ e | inr e ↦ e ]
@@ -54,18 +57,12 @@ module _ {S : Type 0} {g : Ghosts S} where
 
   -- ---- request lines
 
-  pub at_place : (it : Registry S g) (h : History) (rs : List Request) (n : ℕ) (x : History) → IsEither (after h (take n rs)) (after h (take (n + 1) rs)) x → Represents it x → HasAnswered it h rs n
-  at_place it h rs n x (inl e) stands = inl (subst (Represents it) e stands)
-  at_place it h rs n x (inr e) stands = elim (cases_lt n (length rs)) [
-    | inl more ↦ inr (more, subst (Represents it) e stands)
-    | inr none ↦ inl (subst (Represents it) (e ∙ ap (after h) (take_all (n + 1) rs (omega (arith, none)) ∙ sym (take_all n rs none))) stands)
-  ]
-
-  run_leaves : (OfInput OfOutput : Failure → Type 0) (it new : Registry S g) (rs : List Request) (a : ℕ) (out out_new : Option (List ℕ)) (errors : ErrorOutput) (status : ℕ) → a ≤ length rs
-      → IsRun OfInput OfOutput it new rs a out out_new errors status → (h : History) → HasAnswered it h rs a → HasCleanDisk (state_of new) → LeavesSome new (IsAfterLines h rs a out out_new status)
-  run_leaves OfInput OfOutput it new rs a out out_new errors status within run h at clean = elim run.statuses [
-    | inl zero ↦
-        let through = run.through zero h at clean in
+  run_leaves : (OfInput : Failure → Type 0) (did : Effect S g) (rs : List Request) (a : ℕ) → a ≤ length rs
+      → IsRun OfInput did rs a → (h : History) → HasAnswered did.old h rs a → HasCleanDisk (state_of did.new) → LeavesSome did.new (IsAfterLines h rs a did.ends.out did.ends.status)
+  run_leaves OfInput did rs a within run h at clean = elim run.statuses [
+    | inl success ↦
+        let through = run.through success h at clean in
+        let out = did.ends.out in
         let n = length rs in
         let all : after h rs ≡ after h (take n rs) = ap (after h) (sym (take_all n rs (omega arith))) in (
           after h (take n rs),
@@ -75,24 +72,24 @@ module _ {S : Type 0} {g : Ghosts S} where
             from = within;
             within = omega arith;
             whole = λ _. refl;
-            middle = out_new;
-            gained = subst (λ (text : List ℕ). Appends out out_new text) (sym (ap reply_lines (between_all h rs a n refl))) through.gained;
-            begun = no_beginning out_new (lines_between h rs n (n + 1));
+            middle = out.new.contents;
+            gained = subst (λ (text : List ℕ). Receives out text) (sym (ap reply_lines (between_all h rs a n refl))) through.gained;
+            begun = prefix_of_any out.new.contents (lines_between h rs n (n + 1));
             next = refl;
-            last = inl (refl, keeps_same out_new);
+            last = inl (refl, keeps_same out.new.contents);
           },
-          leaves_weaker newest (state_of new) (λ x. x ≡ after h rs) (IsAfterOrNext h rs n) (λ x e. inl (e ∙ all)) (through.represents.at.left clean),
+          leaves_weaker newest (state_of did.new) (λ x. x ≡ after h rs) (IsAfterOrNext h rs n) (λ x e. inl (e ∙ all)) (through.represents.at.left clean),
         )
-    | inr one ↦
-        let stopped = run.stopped one h at clean in
-        let n = stopped.0 in
-        let gained = stopped.1.gained in
+    | inr failed ↦
+        let stopped = run.stopped failed h at clean in
+        let n = stopped.n in
+        let gained = stopped.gained in
         let next = after h (take (n + 1) rs) in
-        let so_far : (x : History) → ((x ≡ after h (take n rs)) × Keeps gained.0 out_new) ⊎ (x ≡ next) → IsAfterLines h rs a out out_new status x next = λ x last. record {
+        let so_far : (x : History) → ((x ≡ after h (take n rs)) × Keeps gained.0 did.ends.out.new.contents) ⊎ (x ≡ next) → IsAfterLines h rs a did.ends.out did.ends.status x next = λ x last. record {
           n = n;
-          from = stopped.1.from;
-          within = stopped.1.within;
-          whole = λ zero. absurd (omega (arith, one, zero));
+          from = stopped.from;
+          within = stopped.within;
+          whole = λ success. absurd (cc (failed, success));
           middle = gained.0;
           gained = gained.1;
           begun = gained.2;
@@ -100,37 +97,37 @@ module _ {S : Type 0} {g : Ghosts S} where
           last = last;
         } in
         elim gained.3 [
-          | inl kept ↦ (after h (take n rs), next, so_far (after h (take n rs)) (inl (refl, kept)), stopped.1.leaves)
-          | inr stands ↦ (next, next, so_far next (inr refl), leaves_itself new next stands clean)
+          | inl kept ↦ (after h (take n rs), next, so_far (after h (take n rs)) (inl (refl, kept)), stopped.leaves)
+          | inr stands ↦ (next, next, so_far next (inr refl), leaves_itself did.new next stands clean)
         ]
   ]
 
-  pub applied : (OfInput OfOutput : Failure → Type 0) (it new : Registry S g) (read : Result (List Request) BadLine) (a : ℕ) (out out_new : Option (List ℕ)) (errors : ErrorOutput) (status : ℕ)
-      → IsApplied OfInput OfOutput it new read a out out_new errors status → (h : History) (rs : List Request) → read ≡ Ok rs → a ≤ length rs → HasAnswered it h rs a → HasCleanDisk (state_of new)
-      → LeavesSome new (IsAfterLines h rs a out out_new status)
-  applied OfInput OfOutput it new (Err bad) a out out_new errors status is h rs parsed within at clean = absurd (cc parsed)
-  applied OfInput OfOutput it new (Ok read) a out out_new errors status is h rs parsed within at clean =
+  pub applied : (OfInput : Failure → Type 0) (did : Effect S g) (read : Result (List Request) BadLine) (a : ℕ) → IsApplied OfInput did read a
+      → (h : History) (rs : List Request) → read ≡ Ok rs → a ≤ length rs → HasAnswered did.old h rs a → HasCleanDisk (state_of did.new)
+      → LeavesSome did.new (IsAfterLines h rs a did.ends.out did.ends.status)
+  applied OfInput did (Err bad) a is h rs parsed within at clean = absurd (cc parsed)
+  applied OfInput did (Ok read) a is h rs parsed within at clean =
       let same : read ≡ rs = cc parsed in
-      let run = subst (λ (x : List Request). IsApplied OfInput OfOutput it new (Ok x) a out out_new errors status) same is in
-      run_leaves OfInput OfOutput it new rs a out out_new errors status within (run.1 within) h at clean
+      let run = subst (λ (x : List Request). IsApplied OfInput did (Ok x) a) same is in
+      run_leaves OfInput did rs a within (run.1 within) h at clean
 
-  pub unacted : (OfInput OfOutput : Failure → Type 0) (it new : Registry S g) (read : Result (List Request) BadLine) (a : ℕ) (out out_new : Option (List ℕ)) (errors : ErrorOutput) (status : ℕ)
-      → IsApplied OfInput OfOutput it new read a out out_new errors status → ((rs : List Request) → read ≡ Ok rs → length rs < a) → new ≡ it
-  unacted OfInput OfOutput it new (Err bad) a out out_new errors status is none = is.same
-  unacted OfInput OfOutput it new (Ok rs) a out out_new errors status is none = (is.0 (none rs refl)).same
+  pub unacted : (OfInput : Failure → Type 0) (did : Effect S g) (read : Result (List Request) BadLine) (a : ℕ) → IsApplied OfInput did read a
+      → ((rs : List Request) → read ≡ Ok rs → length rs < a) → did.new ≡ did.old
+  unacted OfInput did (Err bad) a is none = is.same
+  unacted OfInput did (Ok rs) a is none = (is.0 (none rs refl)).same
 
   -- ---- lists
 
-  abbrev pub LeavesImport : Registry S g → List ℕ → Import → Option (List ℕ) → Option (List ℕ) → ℕ → History → Type 0
-  LeavesImport new bytes import out out_new status h = LeavesSome new (λ x y. Stays h x y ⊎ IsAfterImport bytes import out out_new status h x y)
+  abbrev pub LeavesImport : Registry S g → List ℕ → Import → Output → ExitStatus → History → Type 0
+  LeavesImport new bytes import out status h = LeavesSome new (λ x y. Stays h x y ⊎ IsAfterImport bytes import out status h x y)
 
-  not_made : (it new : Registry S g) (bytes : List ℕ) (import : Import) (out out_new : Option (List ℕ)) (status : ℕ) (h : History) → new ≡ it → Represents it h → HasCleanDisk (state_of new)
-      → LeavesImport new bytes import out out_new status h
-  not_made it new bytes import out out_new status h same stands clean = let s = stayed it new h same stands clean in (s.0, s.1, inl s.2, s.3)
+  not_made : (did : Effect S g) (bytes : List ℕ) (import : Import) (h : History) → did.new ≡ did.old → Represents did.old h → HasCleanDisk (state_of did.new)
+      → LeavesImport did.new bytes import did.ends.out did.ends.status h
+  not_made did bytes import h same stands clean = let s = stayed did.old did.new h same stands clean in (s.0, s.1, inl s.2, s.3)
 
-  imported_as : (OfOutput : Failure → Type 0) (it new : Registry S g) (import : Import) (bytes : List ℕ) (read : Result (List TopEntry) ReadFault) (out out_new : Option (List ℕ)) (errors : ErrorOutput) (status : ℕ)
-      → ReadsAs bytes read → IsImportOf OfOutput it new import read out out_new errors status → (h : History) → Represents it h → HasCleanDisk (state_of new) → LeavesImport new bytes import out out_new status h
-  imported_as OfOutput it new import bytes (Ok doc) out out_new errors status answers is h stands clean = elim is [
+  imported_as : (did : Effect S g) (import : Import) (bytes : List ℕ) (read : Result (List TopEntry) ReadFault) → ReadsAs bytes read → IsImportOf did import read
+      → (h : History) → Represents did.old h → HasCleanDisk (state_of did.new) → LeavesImport did.new bytes import did.ends.out did.ends.status h
+  imported_as did import bytes (Ok doc) answers is h stands clean = elim is [
     | inl acted ↦ let r = acted.0 in elim acted.2.ends [
       | inl gives ↦ let both = gives.answered h (inl stands) clean in (
         after_one h r,
@@ -142,9 +139,9 @@ module _ {S : Type 0} {g : Ghosts S} where
           r_is = acted.1 h stands;
           x_is = inr refl;
           y_is = refl;
-          replied = λ _. (refl, gives.status_is ∙ ap status_of both.0, subst (λ (reply : Reply). Appends out out_new (reply_line reply)) both.0 gives.gained);
+          replied = λ _. (refl, gives.status_is ∙ ap exit_status_of both.0, subst (λ (reply : Reply). Receives did.ends.out (reply_line reply)) both.0 gives.gained);
         }),
-        leaves_itself new (after_one h r) both.1 clean,
+        leaves_itself did.new (after_one h r) both.1 clean,
       )
       | inr failed ↦ (
         h,
@@ -161,30 +158,28 @@ module _ {S : Type 0} {g : Ghosts S} where
         (failed.cut h (inl stands) clean).leaves,
       )
     ]
-    | inr none ↦ not_made it new bytes import out out_new status h none.0 stands clean
+    | inr none ↦ not_made did bytes import h none.0 stands clean
   ]
-  imported_as OfOutput it new import bytes (Err fault) out out_new errors status answers is h stands clean = not_made it new bytes import out out_new status h is.0 stands clean
+  imported_as did import bytes (Err fault) answers is h stands clean = not_made did bytes import h is.0 stands clean
 
-  pub imported : (OfInput OfOutput : Failure → Type 0) (it new : Registry S g) (import : Import) (bytes : List ℕ) (out out_new : Option (List ℕ)) (errors : ErrorOutput) (status : ℕ)
-      → IsImported OfInput OfOutput it new import bytes out out_new errors status → (h : History) → Represents it h → HasCleanDisk (state_of new) → LeavesImport new bytes import out out_new status h
-  imported OfInput OfOutput it new import bytes out out_new errors status is h stands clean = elim is [
-    | inl read ↦ imported_as OfOutput it new import bytes read.0 out out_new errors status read.2 read.3 h stands clean
-    | inr none ↦ not_made it new bytes import out out_new status h none.0 stands clean
+  pub imported : (OfInput : Failure → Type 0) (did : Effect S g) (import : Import) (bytes : List ℕ) → IsImported OfInput did import bytes
+      → (h : History) → Represents did.old h → HasCleanDisk (state_of did.new) → LeavesImport did.new bytes import did.ends.out did.ends.status h
+  imported OfInput did import bytes is h stands clean = elim is [
+    | inl read ↦ imported_as did import bytes read.0 read.2 read.3 h stands clean
+    | inr none ↦ not_made did bytes import h none.0 stands clean
   ]
 
   same_endures : (it new : Registry S g) → new ≡ it → Endures (state_of it) (state_of new)
-  same_endures it new same = subst (λ (x : Registry S g). Endures (state_of it) (state_of x)) (sym same) (still (state_of it))
+  same_endures it new same = subst (λ (x : Registry S g). Endures (state_of it) (state_of x)) (sym same) (endures_itself (state_of it))
 
-  import_endures_as : (OfOutput : Failure → Type 0) (it new : Registry S g) (import : Import) (read : Result (List TopEntry) ReadFault) (out out_new : Option (List ℕ)) (errors : ErrorOutput) (status : ℕ)
-      → IsImportOf OfOutput it new import read out out_new errors status → Endures (state_of it) (state_of new)
-  import_endures_as OfOutput it new import (Ok doc) out out_new errors status is = elim is [ inl acted ↦ acted.2.endures | inr none ↦ same_endures it new none.0 ]
-  import_endures_as OfOutput it new import (Err fault) out out_new errors status is = same_endures it new is.0
+  import_endures_as : (did : Effect S g) (import : Import) (read : Result (List TopEntry) ReadFault) → IsImportOf did import read → Endures (state_of did.old) (state_of did.new)
+  import_endures_as did import (Ok doc) is = elim is [ inl acted ↦ acted.2.endures | inr none ↦ same_endures did.old did.new none.0 ]
+  import_endures_as did import (Err fault) is = same_endures did.old did.new is.0
 
-  pub import_endures : (OfInput OfOutput : Failure → Type 0) (it new : Registry S g) (import : Import) (bytes : List ℕ) (out out_new : Option (List ℕ)) (errors : ErrorOutput) (status : ℕ)
-      → IsImported OfInput OfOutput it new import bytes out out_new errors status → Endures (state_of it) (state_of new)
-  import_endures OfInput OfOutput it new import bytes out out_new errors status is = elim is [
-    | inl read ↦ import_endures_as OfOutput it new import read.0 out out_new errors status read.3
-    | inr none ↦ same_endures it new none.0
+  pub import_endures : (OfInput : Failure → Type 0) (did : Effect S g) (import : Import) (bytes : List ℕ) → IsImported OfInput did import bytes → Endures (state_of did.old) (state_of did.new)
+  import_endures OfInput did import bytes is = elim is [
+    | inl read ↦ import_endures_as did import read.0 read.3
+    | inr none ↦ same_endures did.old did.new none.0
   ]
 
   -- ---- connections

@@ -15,11 +15,13 @@ use Rattle.registry_store.specs.declared.fault.Fault.TheVariants as faults
 use Rattle.registry_store.specs.Promise.{LeavesFrom}
 use Rattle.registry_store.specs.Reopen.{AreClosed, HoldEither, IsEither, IsUncopied}
 use Rattle.registry_commands.specs.declared.messages.Failure.{Failure}
-use Rattle.registry_commands.specs.Failures.{IsOfClosing, IsOfStore, PrintsFailure, error_output}
+use Rattle.registry_commands.specs.declared.status.ExitStatus.{ExitStatus}
+use Rattle.registry_commands.specs.declared.status.ExitStatus.TheVariants.{Success, Failed}
+use Rattle.registry_commands.specs.Ends.{output_of, sunk}
+use Rattle.registry_commands.specs.Failures.{IsOfClosing, IsOfStore, PrintsFailure}
 use Rattle.registry_commands.specs.Messages.{failure_of}
 use Rattle.registry_program.specs.declared.host.Host as host
 use Rattle.registry_program.specs.Opening.{IsOfOpening}
-use Rattle.registry_program.specs.Outputs.{sunk}
 use Rattle.registry_program.specs.Stores.{IsClosed}
 
 -- the fault of opening a registry is one of its failures
@@ -36,11 +38,11 @@ of_store failure is = elim is [ inl store ↦ subst IsOfOpening (sym store) tt |
 
 -- what closing a store does, by what its error output has taken
 pub closes_store : {H F I E : Type 0} (m : host.Ghosts H F I) (d : disk.Ghosts F) (s : sink.Ghosts E)
-    (conn : Held (FileStore F d)) (files : Files F) (e e_new : E) (before status : ℕ)
-    → (before ≢ 0 → (status ≡ before) × (e_new ≡ e))
-    → (before ≡ 0 → ((status ≡ 0) × (e_new ≡ e)) ⊎ ((status ≡ 1) × PrintsFailure (IsOfClosing (IsUncopied conn files)) (error_output s.contents s.failures e e_new)))
+    (conn : Held (FileStore F d)) (files : Files F) (e e_new : E) (before status : ExitStatus)
+    → (before ≢ Success → (status ≡ before) × (e_new ≡ e))
+    → (before ≡ Success → ((status ≡ Success) × (e_new ≡ e)) ⊎ ((status ≡ Failed) × PrintsFailure (IsOfClosing (IsUncopied conn files)) (output_of s e e_new)))
     → AreClosed conn files
-    → (before ≡ 0 → status ≡ 0 → AreClean d files.log files.db → IsCopied conn files)
+    → (before ≡ Success → status ≡ Success → AreClean d files.log files.db → IsCopied conn files)
     → (status ≡ before → (from : ℕ) (h next : History) → (HasCleanDisk (file_state conn) → LeavesFrom from (file_state conn) (IsEither h next)) → AreClean d files.log files.db → HoldEither d from files h next)
     → IsClosed m d conn files (sunk s e) (sunk s e_new) before status
 closes_store m d s conn files e e_new before status kept well closed copied holds = record {

@@ -28,27 +28,30 @@ use Rattle.registry_commands.specs.declared.arguments.BadArgument.{BadArgument}
 use Rattle.registry_commands.specs.declared.importing.Import.{Import}
 use Rattle.registry_commands.specs.declared.messages.Failure.{Failure}
 use Rattle.registry_reports.specs.declared.kinds.ReportKind.{ReportKind}
-use Rattle.registry_commands.specs.Failures.{ErrorOutput}
-use Rattle.registry_commands.specs.Found.{IsFoundedBy}
+use Rattle.registry_commands.specs.declared.status.ExitStatus.{ExitStatus}
+use Rattle.registry_commands.specs.declared.status.ExitStatus.TheVariants.{Success, Failed}
+use Rattle.registry_commands.specs.Ends.{Ends, Output, Sunk, effect}
+use Rattle.registry_commands.specs.Found.{IsFoundedBy, attempt}
 use Rattle.registry_reports.specs.Kinds.{report_named}
 use Rattle.registry_commands.proofs.ApplyLemmas.{applied_endures}
+use Rattle.registry_commands.proofs.ReopenLemmas.{at_place}
 use Rattle.registry_desk.specs.declared.server.Connections as connections
 use Rattle.registry_desk.specs.Server.{fault_in}
 use Rattle.registry_program.specs.declared.host.Host as host
 use Rattle.registry_program.specs.Commands.{ActsOnFile, Applies, ExportsAs, FoundsIn, ImportsAs, ImportsFile, ReportsAs, WritesList, WritesReport}
-use Rattle.registry_program.specs.Outputs.{Ends, Sunk}
+use Rattle.registry_program.specs.Outputs.{earlier}
 use Rattle.registry_program.specs.Performing.{Performs}
 use Rattle.registry_program.specs.Serving.{Serves, ServesOn, limit_of}
 use Rattle.registry_program.specs.Stores.{IsClosed, IsOver, Runs, TheRegistry}
 use Rattle.registry_program.specs.Whole.{AppliesWholly, AreLeftAfter, ExportsWhollyAs, FoundsWholly, ImportsWhollyAs, IsAfterImport, IsAfterLines, IsAppliedTo, IsCarriedOn, IsFoundedWholly, IsImportedTo, IsListed, IsReadFrom, IsReportedOn, IsServedTo, IsUnbegun, IsUsed, IsWhole, LeadsTo, ReportsWholly, ServesWholly, Stays, UnlessStopped}
-use Rattle.registry_program.proofs.LeavesLemmas.{zero_or, same_of_either, LeavesSome, leaves_itself, stayed, at_place, applied, unacted, LeavesImport, imported, import_endures, served}
+use Rattle.registry_program.proofs.LeavesLemmas.{success_or, same_of_either, LeavesSome, leaves_itself, stayed, applied, unacted, LeavesImport, imported, import_endures, served}
 
 module _ {H F I : Type 0} (m : host.Ghosts H F I) (d : disk.Ghosts F) where
-  -- unless closing failed after status 0, the status is the one before
-  kept_unless_failed : (conn : Held (FileStore F d)) (files : Files F) (errors errors_new : Sunk) (before status : ℕ) → IsClosed m d conn files errors errors_new before status
-      → ((before ≡ 0) × (status ≡ 1)) ⊎ (status ≡ before)
-  kept_unless_failed conn files errors errors_new before status is = elim (zero_or before) [
-    | inl zero ↦ elim (is.well zero) [ inl same ↦ inr (same.0 ∙ sym zero) | inr failed ↦ inl (zero, failed.0) ]
+  -- unless closing failed after the status Success, the status is the one before
+  kept_unless_failed : (conn : Held (FileStore F d)) (files : Files F) (errors errors_new : Sunk) (before status : ExitStatus) → IsClosed m d conn files errors errors_new before status
+      → ((before ≡ Success) × (status ≡ Failed)) ⊎ (status ≡ before)
+  kept_unless_failed conn files errors errors_new before status is = elim (success_or before) [
+    | inl success ↦ elim (is.well success) [ inl same ↦ inr (same.0 ∙ sym success) | inr failed ↦ inl (success, failed.0) ]
     | inr other ↦ inr (is.kept other).0
   ]
 
@@ -56,7 +59,7 @@ module _ {H F I : Type 0} (m : host.Ghosts H F I) (d : disk.Ghosts F) where
       → ((over : IsOver m d old new path ends Does) → ends.status ≡ over.before → P) → Runs m d old new path ends Does → UnlessStopped m d old new path ends Does P
   runs_whole old new path ends Does P follows run = elim run [
     | inl not ↦ inl not
-    | inr over ↦ elim (kept_unless_failed (connection_of over.after) over.closes.files over.errors ends.errors_new over.before ends.status over.closes.closed) [
+    | inr over ↦ elim (kept_unless_failed (connection_of over.after) over.closes.files over.errors ends.errors.new over.before ends.status over.closes.closed) [
       | inl failed ↦ inr (inl (over, failed.0, failed.1))
       | inr same ↦ inr (inr (follows over same))
     ]
@@ -95,37 +98,37 @@ module _ {H F I : Type 0} (m : host.Ghosts H F I) (d : disk.Ghosts F) where
     }
 
   unread : (old new : H) (path : List ℕ) (ends : Ends) (Does : H → H → TheRegistry m d → TheRegistry m d → Ends → Type 0)
-      (over : IsOver m d old new path ends Does) → ends.status ≡ over.before → over.after ≡ over.it → over.before ≡ 1 → ends.out_new ≡ ends.out → IsUnbegun m d old new path ends
+      (over : IsOver m d old new path ends Does) → ends.status ≡ over.before → over.after ≡ over.it → over.before ≡ Failed → ends.out.new ≡ ends.out.old → IsUnbegun m d old new path ends
   unread old new path ends Does over same kept one silent = (
     same ∙ one,
     silent,
     carried old new path ends Does over same (λ clean. subst (λ (x : TheRegistry m d). HasCleanDisk (state_of x)) kept clean) Stays (λ h stands clean. stayed over.it over.after h kept stands clean),
   )
 
-  -- a command that only shows something of the history, and only at status 0
+  -- a command that only shows something of the history, and only at the status Success
   show_whole : (old new : H) (path : List ℕ) (ends : Ends) (Does : H → H → TheRegistry m d → TheRegistry m d → Ends → Type 0) (Shown : History → Type 0)
-      → ((over : IsOver m d old new path ends Does) → IsUntouched over.it over.after × ((h : History) → Represents over.it h → HasCleanDisk (state_of over.after) → over.before ≡ 0 → Shown h))
-      → Runs m d old new path ends Does → UnlessStopped m d old new path ends Does (IsCarriedOn m d old new path (λ h x y. Stays h x y × (ends.status ≡ 0 → Shown h)))
-  show_whole old new path ends Does Shown shows = runs_whole old new path ends Does (IsCarriedOn m d old new path (λ h x y. Stays h x y × (ends.status ≡ 0 → Shown h))) (λ over same.
+      → ((over : IsOver m d old new path ends Does) → IsUntouched over.it over.after × ((h : History) → Represents over.it h → HasCleanDisk (state_of over.after) → over.before ≡ Success → Shown h))
+      → Runs m d old new path ends Does → UnlessStopped m d old new path ends Does (IsCarriedOn m d old new path (λ h x y. Stays h x y × (ends.status ≡ Success → Shown h)))
+  show_whole old new path ends Does Shown shows = runs_whole old new path ends Does (IsCarriedOn m d old new path (λ h x y. Stays h x y × (ends.status ≡ Success → Shown h))) (λ over same.
       let left = (shows over).0 in
-      carried old new path ends Does over same (λ clean. omega (arith, left.survives.clean, clean)) (λ h x y. Stays h x y × (ends.status ≡ 0 → Shown h))
-      (λ h stands clean. (h, h, ((refl, refl), λ zero. (shows over).1 h stands clean (sym same ∙ zero)), leaves_itself over.after h (left.stays h stands) clean)))
+      carried old new path ends Does over same (λ clean. omega (arith, left.survives.clean, clean)) (λ h x y. Stays h x y × (ends.status ≡ Success → Shown h))
+      (λ h stands clean. (h, h, ((refl, refl), λ success. (shows over).1 h stands clean (sym same ∙ success)), leaves_itself over.after h (left.stays h stands) clean)))
 
   list_whole : (old new : H) (path : List ℕ) (stamp : Option Moment) (ends : Ends) → Runs m d old new path ends (WritesList stamp) → UnlessStopped m d old new path ends (WritesList stamp) (IsCarriedOn m d old new path (IsListed stamp ends))
   list_whole old new path stamp ends = show_whole old new path ends (WritesList stamp) _ (λ over. let is = over.does.1 in (
     is.left,
-    λ h stands clean zero. elim is.shown [
-      | inl all ↦ (all.0, all.1 h stands clean, all.2, elim all.3 [ inl whole ↦ whole.1 | inr cut ↦ absurd (omega (arith, cut.0, zero)) ])
-      | inr none ↦ absurd (omega (arith, none.0, zero))
+    λ h stands clean success. elim is.shown [
+      | inl all ↦ (all.0, all.1 h stands clean, all.2, elim all.3 [ inl whole ↦ whole.1 | inr cut ↦ absurd (cc (cut.0, success)) ])
+      | inr none ↦ absurd (cc (none.0, success))
     ],
   ))
 
   report_whole : (old new : H) (path : List ℕ) (name : ReportKind) (ends : Ends) → Runs m d old new path ends (WritesReport name) → UnlessStopped m d old new path ends (WritesReport name) (IsCarriedOn m d old new path (IsReportedOn name ends))
   report_whole old new path name ends = show_whole old new path ends (WritesReport name) _ (λ over. let is = over.does.1 in (
     is.left,
-    λ h stands clean zero. elim is.shown [
-      | inl all ↦ (all.0, all.1 h stands clean, elim all.2 [ inl whole ↦ whole.1 | inr cut ↦ absurd (omega (arith, cut.0, zero)) ])
-      | inr none ↦ absurd (omega (arith, none.0, zero))
+    λ h stands clean success. elim is.shown [
+      | inl all ↦ (all.0, all.1 h stands clean, elim all.2 [ inl whole ↦ whole.1 | inr cut ↦ absurd (cc (cut.0, success)) ])
+      | inr none ↦ absurd (cc (none.0, success))
     ],
   ))
 
@@ -133,19 +136,20 @@ module _ {H F I : Type 0} (m : host.Ghosts H F I) (d : disk.Ghosts F) where
     apply_whole : (old new : H) (path file : List ℕ) (a : ℕ) (ends : Ends) → Applies m d s old new path file a ends → AppliesWholly m d s old new path file a ends
     apply_whole old new path file a ends = runs_whole old new path ends (ActsOnFile m s file a) (IsAppliedTo m d s old new path file a ends ⊎ IsUnbegun m d old new path ends) (λ over same. elim over.does [
       | inl read ↦
-          let earlier : HasCleanDisk (state_of over.after) → HasCleanDisk (state_of over.it) = λ clean. omega (arith, (applied_endures _ _ over.it over.after _ a _ _ _ over.before read.3.2).clean, clean) in
+          let did = effect over.it over.after (earlier ends over.errors over.before) in
+          let was_clean : HasCleanDisk (state_of over.after) → HasCleanDisk (state_of over.it) = λ clean. omega (arith, (applied_endures _ did _ a read.3.2).clean, clean) in
           inl (record {
             bytes = read.3.0;
             read = record { reading = over.opened; read = over.done; input = read.0; reads = read.2; gives = read.3.1 };
             files = over.closes.files;
             used = used old new path ends (ActsOnFile m s file a) over;
             holds = λ h rs parsed within.
-                files_lead_to old new path ends (ActsOnFile m s file a) over same earlier (after h (take a rs)) (after h (take (a + 1) rs)) (IsAfterLines h rs a ends.out.contents ends.out_new.contents ends.status)
-                (λ x is stands clean. subst (λ (n : ℕ). LeavesSome over.after (IsAfterLines h rs a ends.out.contents ends.out_new.contents n)) (sym same)
-                (applied _ _ over.it over.after _ a _ _ _ over.before read.3.2 h rs parsed within (at_place over.it h rs a x is stands) clean));
+                files_lead_to old new path ends (ActsOnFile m s file a) over same was_clean (after h (take a rs)) (after h (take (a + 1) rs)) (IsAfterLines h rs a ends.out ends.status)
+                (λ x is stands clean. subst (λ (status : ExitStatus). LeavesSome over.after (IsAfterLines h rs a ends.out status)) (sym same)
+                (applied _ did _ a read.3.2 h rs parsed within (at_place over.it h rs a x is stands) clean));
             stays = λ none h.
-                files_lead_to old new path ends (ActsOnFile m s file a) over same earlier h h (Stays h)
-                (λ x is stands clean. stayed over.it over.after h (unacted _ _ over.it over.after _ a _ _ _ over.before read.3.2 none) (subst (Represents over.it) (same_of_either h x is) stands) clean);
+                files_lead_to old new path ends (ActsOnFile m s file a) over same was_clean h h (Stays h)
+                (λ x is stands clean. stayed over.it over.after h (unacted _ did _ a read.3.2 none) (subst (Represents over.it) (same_of_either h x is) stands) clean);
           })
       | inr not ↦ inr (unread old new path ends (ActsOnFile m s file a) over same not.2.0 not.2.1.1 not.2.1.0)
     ])
@@ -154,14 +158,15 @@ module _ {H F I : Type 0} (m : host.Ghosts H F I) (d : disk.Ghosts F) where
         → UnlessStopped m d old new path ends (ImportsFile m s list import) (IsImportedTo m d s old new path list import ends ⊎ IsUnbegun m d old new path ends)
     import_whole old new path list import ends = runs_whole old new path ends (ImportsFile m s list import) (IsImportedTo m d s old new path list import ends ⊎ IsUnbegun m d old new path ends) (λ over same. elim over.does [
       | inl read ↦
-          let earlier : HasCleanDisk (state_of over.after) → HasCleanDisk (state_of over.it) = λ clean. omega (arith, (import_endures _ _ over.it over.after import _ _ _ _ over.before read.3.2).clean, clean) in
+          let did = effect over.it over.after (earlier ends over.errors over.before) in
+          let was_clean : HasCleanDisk (state_of over.after) → HasCleanDisk (state_of over.it) = λ clean. omega (arith, (import_endures _ did import read.3.0 read.3.2).clean, clean) in
           inl (record {
             bytes = read.3.0;
             read = record { reading = over.opened; read = over.done; input = read.0; reads = read.2; gives = read.3.1 };
-            carried = carried old new path ends (ImportsFile m s list import) over same earlier
-                (λ h x y. Stays h x y ⊎ IsAfterImport read.3.0 import ends.out.contents ends.out_new.contents ends.status h x y)
-                (λ h stands clean. subst (λ (n : ℕ). LeavesImport over.after read.3.0 import ends.out.contents ends.out_new.contents n h) (sym same)
-                (imported _ _ over.it over.after import read.3.0 _ _ _ over.before read.3.2 h stands clean));
+            carried = carried old new path ends (ImportsFile m s list import) over same was_clean
+                (λ h x y. Stays h x y ⊎ IsAfterImport read.3.0 import ends.out ends.status h x y)
+                (λ h stands clean. subst (λ (status : ExitStatus). LeavesImport over.after read.3.0 import ends.out status h) (sym same)
+                (imported _ did import read.3.0 read.3.2 h stands clean));
           })
       | inr not ↦ inr (unread old new path ends (ImportsFile m s list import) over same not.2.0 not.2.1.1 not.2.1.0)
     ])
@@ -179,14 +184,14 @@ module _ {H F I : Type 0} (m : host.Ghosts H F I) (d : disk.Ghosts F) where
     reports_whole old new path (Some name) ends is = report_whole old new path name ends is
     reports_whole old new path None ends is = is
 
-    -- the founding file was read, on this connection, and the status is 0
-    founded_by : (old new : H) (path founding bytes : List ℕ) (OfInput : Failure → Type 0) (conn last : Held (FileStore F d)) (files : Files F) (errors : ErrorOutput) (e e_new : Sunk) (before status : ℕ)
-        (read : Result Listed WireRefusal) → founding_listed bytes ≡ read → IsFoundedBy over_files OfInput conn last read errors before → IsClosed m d last files e e_new before status → before ≡ 0 → status ≡ 0
+    -- the founding file was read, on this connection, and the registry was founded
+    founded_by : (old new : H) (path founding bytes : List ℕ) (OfInput : Failure → Type 0) (conn last : Held (FileStore F d)) (files : Files F) (errors : Output) (e e_new : Sunk) (before status : ExitStatus)
+        (read : Result Listed WireRefusal) → founding_listed bytes ≡ read → IsFoundedBy over_files OfInput (attempt conn last errors before) read → IsClosed m d last files e e_new before status → before ≡ Success → status ≡ Success
         → IsReadFrom m d s founding bytes → IsUsed m d old new path true files → IsFoundedWholly m d s old new path founding
-    founded_by old new path founding bytes OfInput conn last files errors e e_new before status (Err refusal) listed is closed zero well from used_as =
-        elim is.1 [ inl said ↦ absurd (omega (arith, said.0, zero)) | inr failure ↦ absurd (omega (arith, failure.0, zero)) ]
-    founded_by old new path founding bytes OfInput conn last files errors e e_new before status (Ok all) listed is closed zero well from used_as = elim is [
-      | inl failure ↦ absurd (omega (arith, failure.1, zero))
+    founded_by old new path founding bytes OfInput conn last files errors e e_new before status (Err refusal) listed is closed success well from used_as =
+        elim is.1 [ inl said ↦ absurd (cc (said.0, success)) | inr failure ↦ absurd (cc (failure.0, success)) ]
+    founded_by old new path founding bytes OfInput conn last files errors e e_new before status (Ok all) listed is closed success well from used_as = elim is [
+      | inl failure ↦ absurd (cc (failure.1, success))
       | inr tried ↦ elim tried.2.ends [
         | inl ended ↦
             let h = founded tried.0 in
@@ -203,22 +208,22 @@ module _ {H F I : Type 0} (m : host.Ghosts H F I) (d : disk.Ghosts F) where
                   let clean : HasCleanDisk (file_state last) = closed_clean last files closed.closed honest in
                   let left : Leaves newest (file_state last) (IsEither h h) =
                   leaves_weaker newest (file_state last) (λ x. x ≡ h) (IsEither h h) (λ x e. inl e) ((ended.1.rows clean).left clean) in
-                  closed.holds (well ∙ sym zero) newest h h (in_newest (file_state last) (IsEither h h) (λ _. left)) honest;
+                  closed.holds (well ∙ sym success) newest h h (in_newest (file_state last) (IsEither h h) (λ _. left)) honest;
             }
-        | inr failure ↦ absurd (omega (arith, failure.0, zero))
+        | inr failure ↦ absurd (cc (failure.0, success))
       ]
     ]
 
     found_whole : (old new : H) (path founding : List ℕ) (ends : Ends) → FoundsIn m d s old new path founding ends → FoundsWholly m d s old new path founding ends
     found_whole old new path founding ends is well = elim is [
-      | inl not ↦ absurd (omega (arith, not.2.1, well))
+      | inl not ↦ absurd (cc (not.2.1, well))
       | inr on ↦
-          let zero : on.before ≡ 0 = elim (zero_or on.before) [ inl zero ↦ zero | inr other ↦ absurd (other (sym (on.closes.closed.kept other).0 ∙ well)) ] in
+          let success : on.before ≡ Success = elim (success_or on.before) [ inl success ↦ success | inr other ↦ absurd (other (sym (on.closes.closed.kept other).0 ∙ well)) ] in
           elim on.founds [
-            | inl read ↦ founded_by old new path founding read.3.0 _ on.conn on.last on.closes.files _ on.errors ends.errors_new on.before ends.status (founding_listed read.3.0) refl read.3.2 on.closes.closed zero well
+            | inl read ↦ founded_by old new path founding read.3.0 _ on.conn on.last on.closes.files _ on.errors ends.errors.new on.before ends.status (founding_listed read.3.0) refl read.3.2 on.closes.closed success well
                 (record { reading = on.opened; read = on.done; input = read.0; reads = read.2; gives = read.3.1 })
                 (record { opened = on.opened; first = on.connected.files; opens = on.connected.opens; done = on.done; lets_go = on.closes.lets_go })
-            | inr not ↦ absurd (omega (arith, not.2.1, zero))
+            | inr not ↦ absurd (cc (not.2.1, success))
           ]
     ]
 

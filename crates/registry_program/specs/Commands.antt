@@ -1,6 +1,5 @@
 -- What each command asks of the machine, in which order, what it writes, and its exit status.
 use Rattle.std.specs.Prelude.{◌≡◌, ◌≢◌, ◌⊎◌, true, ℕ, List, Option, Some, None, Result, Ok, Err, IfOk, MatchResult}
-use Rattle.std.specs.Io.KnownBytes.{Keeps}
 use Rattle.sqlite_disk.specs.declared.Disk as disk
 use Rattle.sqlite_store.specs.declared.store.FileStore.{FileStore}
 use Rattle.sqlite.specs.Files.{over_files}
@@ -20,9 +19,12 @@ use Rattle.registry_commands.specs.declared.importing.Import.{Import}
 use Rattle.registry_commands.specs.declared.messages.Failure.{Failure}
 use Rattle.registry_commands.specs.declared.messages.Failure.TheVariants.{Memory}
 use Rattle.registry_reports.specs.declared.kinds.ReportKind.{ReportKind}
+use Rattle.registry_commands.specs.declared.status.ExitStatus.{ExitStatus}
+use Rattle.registry_commands.specs.declared.status.ExitStatus.TheVariants.{Failed}
 use Rattle.registry_commands.specs.Apply.{IsApplied, IsUnread}
-use Rattle.registry_commands.specs.Failures.{IsOfInput, IsOfOutput, IsTooLong, Prints, PrintsFailure}
-use Rattle.registry_commands.specs.Found.{IsFoundedBy}
+use Rattle.registry_commands.specs.Ends.{Ends, ReceivesNothing, Sunk, effect}
+use Rattle.registry_commands.specs.Failures.{IsOfInput, IsTooLong, Prints, PrintsFailure}
+use Rattle.registry_commands.specs.Found.{IsFoundedBy, attempt}
 use Rattle.registry_commands.specs.Imports.{AreOfImport, IsFirstBad, IsImported}
 use Rattle.registry_commands.specs.Lines.{requests_in}
 use Rattle.registry_commands.specs.LookUp.{IsLookedUp}
@@ -31,7 +33,7 @@ use Rattle.registry_commands.specs.Reports.{IsReported}
 use Rattle.registry_commands.specs.Shown.{IsExported}
 use Rattle.registry_commands.specs.Trial.{IsOfStart, IsTrialOf}
 use Rattle.registry_program.specs.declared.host.Host as host
-use Rattle.registry_program.specs.Outputs.{Ends, IsFailure, IsRejection, Sunk, between}
+use Rattle.registry_program.specs.Outputs.{IsFailure, IsRejection, earlier}
 use Rattle.registry_program.specs.Stores.{Closes, IsConnected, IsUnconnected, Runs}
 
 -- ---- inputs
@@ -48,9 +50,8 @@ module _ {H F I : Type 0} (m : host.Ghosts H F I) where
 abbrev pub Tries : {R : Type 0} → source.Ghosts R → R → R → Ends → Type 0
 Tries s input input_new ends =
     (bytes : List ℕ) × MayGive (s.remaining input) bytes
-    × IsTrialOf (IsOfInput (s.failures input) (s.failures input_new) bytes) (IsOfOutput ends.out.failures ends.out_new.failures)
-    (requests_in bytes) ends.out.contents ends.out_new.contents (between ends.errors ends.errors_new) ends.status
-    × (IsTooLong bytes → (ends.status ≡ 1) × Keeps ends.out.contents ends.out_new.contents × PrintsFailure (IsOfStart (IsOfInput (s.failures input) (s.failures input_new) bytes)) (between ends.errors ends.errors_new))
+    × IsTrialOf (IsOfInput (s.failures input) (s.failures input_new) bytes) (requests_in bytes) ends
+    × (IsTooLong bytes → (ends.status ≡ Failed) × ReceivesNothing ends.out × PrintsFailure (IsOfStart (IsOfInput (s.failures input) (s.failures input_new) bytes)) ends.errors)
 
 -- ---- apply
 
@@ -58,9 +59,8 @@ Tries s input input_new ends =
 abbrev pub ActsOnLines : {I : Type 0} → source.Ghosts I → {S : Type 0} {g : store.Ghosts S} → I → I → ℕ → Registry S g → Registry S g → Ends → Type 0
 ActsOnLines s old new answered it after ends =
     (bytes : List ℕ) × MayGive (s.remaining old) bytes
-    × IsApplied (IsOfInput (s.failures old) (s.failures new) bytes) (IsOfOutput ends.out.failures ends.out_new.failures)
-    it after (requests_in bytes) answered ends.out.contents ends.out_new.contents (between ends.errors ends.errors_new) ends.status
-    × (IsTooLong bytes → (ends.status ≡ 1) × IsUnread (IsOfInput (s.failures old) (s.failures new) bytes) it after ends.out.contents ends.out_new.contents (between ends.errors ends.errors_new))
+    × IsApplied (IsOfInput (s.failures old) (s.failures new) bytes) (effect it after ends) (requests_in bytes) answered
+    × (IsTooLong bytes → (ends.status ≡ Failed) × IsUnread (IsOfInput (s.failures old) (s.failures new) bytes) (effect it after ends))
 
 module _ {H F I : Type 0} (m : host.Ghosts H F I) (s : source.Ghosts I) where
   -- those of the file at this path are; or it could not be opened
@@ -76,8 +76,7 @@ module _ {H F I : Type 0} (m : host.Ghosts H F I) (s : source.Ghosts I) where
   ImportsFile path import old new it after ends =
       ReadsFrom m old new path
       (λ input input_new. (bytes : List ℕ) × MayGive (s.remaining input) bytes
-      × IsImported (IsOfInput (s.failures input) (s.failures input_new) bytes) (IsOfOutput ends.out.failures ends.out_new.failures)
-      it after import bytes ends.out.contents ends.out_new.contents (between ends.errors ends.errors_new) ends.status)
+      × IsImported (IsOfInput (s.failures input) (s.failures input_new) bytes) (effect it after ends) import bytes)
       (λ failure. (after ≡ it) × IsFailure failure ends)
 
 -- ---- lists and reports
@@ -92,13 +91,11 @@ IsStampOf (Some text) (Err argument) = (argument ≡ Stamp) × ((m : Moment) →
 
 -- the list of a registry is written
 abbrev pub WritesList : {H S : Type 0} {g : store.Ghosts S} → Option Moment → H → H → Registry S g → Registry S g → Ends → Type 0
-WritesList stamp old new it after ends =
-    (new ≡ old) × IsExported (IsOfOutput ends.out.failures ends.out_new.failures) it after stamp ends.out.contents ends.out_new.contents (between ends.errors ends.errors_new) ends.status
+WritesList stamp old new it after ends = (new ≡ old) × IsExported (effect it after ends) stamp
 
 -- a report on a registry is written
 abbrev pub WritesReport : {H S : Type 0} {g : store.Ghosts S} → ReportKind → H → H → Registry S g → Registry S g → Ends → Type 0
-WritesReport name old new it after ends =
-    (new ≡ old) × IsReported (IsOfOutput ends.out.failures ends.out_new.failures) it after name ends.out.contents ends.out_new.contents (between ends.errors ends.errors_new) ends.status
+WritesReport name old new it after ends = (new ≡ old) × IsReported (effect it after ends) name
 
 module _ {H F I : Type 0} (m : host.Ghosts H F I) (s : source.Ghosts I) where
   -- a device is looked up in the list in the file at this path; or it could not be opened
@@ -106,8 +103,7 @@ module _ {H F I : Type 0} (m : host.Ghosts H F I) (s : source.Ghosts I) where
   LooksUpIn old new path wanted ends =
       ReadsFrom m old new path
       (λ input input_new. (bytes : List ℕ) × MayGive (s.remaining input) bytes
-      × IsLookedUp (IsOfInput (s.failures input) (s.failures input_new) bytes) (IsOfOutput ends.out.failures ends.out_new.failures)
-      wanted bytes ends.out.contents ends.out_new.contents (between ends.errors ends.errors_new) ends.status)
+      × IsLookedUp (IsOfInput (s.failures input) (s.failures input_new) bytes) wanted bytes ends)
       (λ failure. IsFailure failure ends)
 
 -- ---- found
@@ -118,9 +114,9 @@ module _ {H F I : Type 0} (m : host.Ghosts H F I) (s : source.Ghosts I) where
   FoundsBy g old new path conn conn_new ends =
       ReadsFrom m old new path
       (λ input input_new. (bytes : List ℕ) × MayGive (s.remaining input) bytes
-      × IsFoundedBy g (IsOfInput (s.failures input) (s.failures input_new) bytes) conn conn_new (founding_listed bytes) (between ends.errors ends.errors_new) ends.status
-      × (IsTooLong bytes → (ends.status ≡ 1) × (conn_new ≡ conn) × PrintsFailure (IsOfInput (s.failures input) (s.failures input_new) bytes) (between ends.errors ends.errors_new)))
-      (λ failure. (conn_new ≡ conn) × (ends.status ≡ 1) × Prints (between ends.errors ends.errors_new) (failure_line failure))
+      × IsFoundedBy g (IsOfInput (s.failures input) (s.failures input_new) bytes) (attempt conn conn_new ends.errors ends.status) (founding_listed bytes)
+      × (IsTooLong bytes → (ends.status ≡ Failed) × (conn_new ≡ conn) × PrintsFailure (IsOfInput (s.failures input) (s.failures input_new) bytes) ends.errors))
+      (λ failure. (conn_new ≡ conn) × (ends.status ≡ Failed) × Prints ends.errors (failure_line failure))
 
 -- ---- commands
 
@@ -133,10 +129,10 @@ module _ {H F I : Type 0} (m : host.Ghosts H F I) (d : disk.Ghosts F) (s : sourc
     pub done : H
     pub last : Held (FileStore F d)
     pub errors : Sunk
-    pub before : ℕ
-    pub founds : FoundsBy m s over_files opened done founding conn last (record ends { errors_new = errors; status = before })
-    pub silent : ends.out_new ≡ ends.out
-    pub closes : Closes m d done new last errors ends.errors_new before ends.status
+    pub before : ExitStatus
+    pub founds : FoundsBy m s over_files opened done founding conn last (earlier ends errors before)
+    pub silent : ends.out.new ≡ ends.out.old
+    pub closes : Closes m d done new last errors ends.errors.new before ends.status
 
   abbrev pub FoundsIn : H → H → List ℕ → List ℕ → Ends → Type 0
   FoundsIn old new path founding ends =

@@ -1,49 +1,27 @@
--- What the outputs of the program have taken before a command and after it.
-use Rattle.std.specs.Prelude.{◌≡◌, ℕ, List, Option}
+-- How a command of the program ends.
+use Rattle.std.specs.Prelude.{◌≡◌}
 use Rattle.byte_streams.specs.declared.streams.Sink as sink
 use Rattle.registry_commands.specs.declared.arguments.BadArgument.{BadArgument}
 use Rattle.registry_commands.specs.declared.messages.Failure.{Failure}
+use Rattle.registry_commands.specs.declared.status.ExitStatus.{ExitStatus}
+use Rattle.registry_commands.specs.declared.status.ExitStatus.TheVariants.{Failed, Rejected}
 use Rattle.registry_commands.specs.Arguments.{bad_argument_line}
-use Rattle.registry_commands.specs.Failures.{ErrorOutput, Prints}
+use Rattle.registry_commands.specs.Ends.{Ends, Sunk, output_of}
+use Rattle.registry_commands.specs.Failures.{Prints}
 use Rattle.registry_commands.specs.Messages.{failure_line}
 
--- what an output has taken, if that is known, and how often it has failed
-pub record Sunk : Type 0 where
-  pub contents : Option (List ℕ)
-  pub failures : ℕ
+-- how a command ends that was given no output, beside any output that stays as it is
+abbrev pub silent_ends : {E : Type 0} → sink.Ghosts E → Sunk → E → E → ExitStatus → Ends
+silent_ends e out errors errors_new status = record { out = record { old = out; new = out }; errors = output_of e errors errors_new; status = status }
 
-abbrev pub sunk : {W : Type 0} → sink.Ghosts W → W → Sunk
-sunk g w = record { contents = g.contents w; failures = g.failures w }
+-- the same, before its store was closed, by what the error output had taken then and the status
+abbrev pub earlier : Ends → Sunk → ExitStatus → Ends
+earlier ends errors status = record { out = ends.out; errors = record { old = ends.errors.old; new = errors }; status = status }
 
--- what an error output took between two states
-abbrev pub between : Sunk → Sunk → ErrorOutput
-between old new = record { old = old.contents; new = new.contents; failures = old.failures; failures_new = new.failures }
-
--- the outputs of a command, before it and after it, and its exit status
-pub record Ends : Type 0 where
-  pub out : Sunk
-  pub out_new : Sunk
-  pub errors : Sunk
-  pub errors_new : Sunk
-  pub status : ℕ
-
-abbrev pub ends_of : {W E : Type 0} → sink.Ghosts W → sink.Ghosts E → W → W → E → E → ℕ → Ends
-ends_of w e out out_new errors errors_new status = record {
-  out = sunk w out;
-  out_new = sunk w out_new;
-  errors = sunk e errors;
-  errors_new = sunk e errors_new;
-  status = status;
-}
-
--- the same of a command that was given no output, beside any output that stays as it is
-abbrev pub silent_ends : {E : Type 0} → sink.Ghosts E → Sunk → E → E → ℕ → Ends
-silent_ends e out errors errors_new status = record { out = out; out_new = out; errors = sunk e errors; errors_new = sunk e errors_new; status = status }
-
--- nothing was written but the message for this failure, and the status is 1
+-- nothing was written but the message for this failure
 abbrev pub IsFailure : Failure → Ends → Type 0
-IsFailure failure ends = (ends.out_new ≡ ends.out) × (ends.status ≡ 1) × Prints (between ends.errors ends.errors_new) (failure_line failure)
+IsFailure failure ends = (ends.out.new ≡ ends.out.old) × (ends.status ≡ Failed) × Prints ends.errors (failure_line failure)
 
--- nothing was written but which argument is invalid, and the status is 2
+-- nothing was written but which argument is invalid
 abbrev pub IsRejection : BadArgument → Ends → Type 0
-IsRejection argument ends = (ends.out_new ≡ ends.out) × (ends.status ≡ 2) × Prints (between ends.errors ends.errors_new) (bad_argument_line argument)
+IsRejection argument ends = (ends.out.new ≡ ends.out.old) × (ends.status ≡ Rejected) × Prints ends.errors (bad_argument_line argument)

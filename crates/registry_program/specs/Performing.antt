@@ -7,10 +7,10 @@ use Rattle.usbnum_core.specs.Number.{code_of, number_of}
 use Rattle.registry_arguments.specs.declared.command.Command.{Command}
 use Rattle.registry_arguments.specs.declared.command.Command.TheVariants as command
 use Rattle.registry_reports.specs.Kinds.{report_named}
+use Rattle.registry_commands.specs.Ends.{Ends}
 use Rattle.registry_desk.specs.declared.server.Connections as connections
 use Rattle.registry_program.specs.declared.host.Host as host
 use Rattle.registry_program.specs.Commands.{Applies, Exports, FoundsIn, Imports, LooksUp, ReportsAs, Tries}
-use Rattle.registry_program.specs.Outputs.{Ends}
 use Rattle.registry_program.specs.Serving.{Serves, limit_of}
 
 -- What is asked of the machine, and what is written where, by the command. Only a trial reads the standard input.

@@ -9,6 +9,8 @@ use Rattle.registry_rules.specs.History.{History}
 use Rattle.registry_tables.specs.Rows.{newest}
 use Rattle.registry_store.specs.declared.registry.Registry.{Registry}
 use Rattle.registry_store.specs.Promise.{Endures, Leaves, Represents, is_poisoned, state_of}
+use Rattle.registry_commands.specs.declared.status.ExitStatus.TheVariants.{Success, Failed}
+use Rattle.registry_commands.specs.Ends.{Ends}
 use Rattle.registry_commands.specs.Failures.{Prints}
 use Rattle.registry_commands.specs.Messages.{failure_of}
 use Rattle.registry_desk.specs.declared.server.Connections as connections
@@ -16,7 +18,7 @@ use Rattle.registry_desk.specs.declared.server.ServerStop.{ServerStop}
 use Rattle.registry_desk.specs.declared.server.ServerStop.TheVariants as stops
 use Rattle.registry_desk.specs.Server.{AreTurnedAway, EndsAt, EndsServing, HaveVisited, IsLeftAfter, Visit, fault_in}
 use Rattle.registry_program.specs.declared.host.Host as host
-use Rattle.registry_program.specs.Outputs.{Ends, IsFailure, between}
+use Rattle.registry_program.specs.Outputs.{IsFailure}
 use Rattle.registry_program.specs.Stores.{Runs}
 
 -- the connections that a server takes at most: so many, or as many as come
@@ -28,13 +30,13 @@ limit_of None = 18446744073709551615
 abbrev pub socket_line : List ℕ
 socket_line = codes "fault: socket\n"
 
--- nothing was written but that the port failed, and the status is 1
+-- nothing was written but that the port failed
 abbrev pub IsSocketFailure : Ends → Type 0
-IsSocketFailure ends = (ends.out_new ≡ ends.out) × (ends.status ≡ 1) × Prints (between ends.errors ends.errors_new) socket_line
+IsSocketFailure ends = (ends.out.new ≡ ends.out.old) × (ends.status ≡ Failed) × Prints ends.errors socket_line
 
 -- how a server ends
 abbrev pub TellsEnd : Result (Unit {0}) ServerStop → Ends → Type 0
-TellsEnd (Ok done) ends = (ends.out_new ≡ ends.out) × (ends.status ≡ 0) × (ends.errors_new ≡ ends.errors)
+TellsEnd (Ok done) ends = (ends.out.new ≡ ends.out.old) × (ends.status ≡ Success) × (ends.errors.new ≡ ends.errors.old)
 TellsEnd (Err stops.Connections) ends = IsSocketFailure ends
 TellsEnd (Err (stops.Registry fault)) ends = IsFailure (failure_of fault) ends
 

@@ -13,10 +13,13 @@ use Rattle.registry_store.specs.declared.registry.Registry.{Registry}
 use Rattle.registry_store.specs.Promise.{LeavesFrom, connection_of}
 use Rattle.registry_store.specs.Reopen.{AreClosed, HoldEither, IsEither, IsUncopied}
 use Rattle.registry_commands.specs.declared.messages.Failure.{Failure}
+use Rattle.registry_commands.specs.declared.status.ExitStatus.{ExitStatus}
+use Rattle.registry_commands.specs.declared.status.ExitStatus.TheVariants.{Success, Failed}
+use Rattle.registry_commands.specs.Ends.{Ends, Sunk}
 use Rattle.registry_commands.specs.Failures.{IsOfClosing, IsOfStore, PrintsFailure}
 use Rattle.registry_program.specs.declared.host.Host as host
 use Rattle.registry_program.specs.Opening.{IsConnectedTo, AreLeft, IsLeftUnopened, IsOfFiles, IsOfOpening, Resumes}
-use Rattle.registry_program.specs.Outputs.{Ends, IsFailure, Sunk, between}
+use Rattle.registry_program.specs.Outputs.{IsFailure, earlier}
 
 module _ {H F I : Type 0} (m : host.Ghosts H F I) (d : disk.Ghosts F) where
   abbrev pub TheRegistry : Type 0
@@ -56,18 +59,18 @@ module _ {H F I : Type 0} (m : host.Ghosts H F I) (d : disk.Ghosts F) where
   abbrev pub IsUnconnected : H → H → List ℕ → Failure → Type 0
   IsUnconnected old new path failure = (m.misses old new path true failure × IsOfFiles true failure) ⊎ (IsOfStore failure × IsGivenUp old new path true (IsLeftUnopened d))
 
-  -- How a store was closed after a command that ended with the first status: at 0 its log was copied, and otherwise not. Unless
-  -- that failed, its files hold what the store held.
-  pub record IsClosed (conn : Held (FileStore F d)) (files : Files F) (errors errors_new : Sunk) (before status : ℕ) : Type 0 where
-    pub kept : before ≢ 0 → (status ≡ before) × (errors_new ≡ errors)
-    pub well : before ≡ 0 → ((status ≡ 0) × (errors_new ≡ errors)) ⊎ ((status ≡ 1) × PrintsFailure (IsOfClosing (IsUncopied conn files)) (between errors errors_new))
+  -- How a store was closed after a command that ended with the first status: at Success its log was copied, and otherwise not.
+  -- Unless that failed, its files hold what the store held.
+  pub record IsClosed (conn : Held (FileStore F d)) (files : Files F) (errors errors_new : Sunk) (before status : ExitStatus) : Type 0 where
+    pub kept : before ≢ Success → (status ≡ before) × (errors_new ≡ errors)
+    pub well : before ≡ Success → ((status ≡ Success) × (errors_new ≡ errors)) ⊎ ((status ≡ Failed) × PrintsFailure (IsOfClosing (IsUncopied conn files)) (record { old = errors; new = errors_new }))
     pub closed : AreClosed conn files
-    pub copied : before ≡ 0 → status ≡ 0 → AreClean d files.log files.db → IsCopied conn files
+    pub copied : before ≡ Success → status ≡ Success → AreClean d files.log files.db → IsCopied conn files
     pub holds : status ≡ before → (from : ℕ) (h next : History) → (HasCleanDisk (file_state conn) → LeavesFrom from (file_state conn) (IsEither h next))
         → AreClean d files.log files.db → HoldEither d from files h next
 
   -- its files were then closed
-  pub record Closes (old new : H) (conn : Held (FileStore F d)) (errors errors_new : Sunk) (before status : ℕ) : Type 0 where
+  pub record Closes (old new : H) (conn : Held (FileStore F d)) (errors errors_new : Sunk) (before status : ExitStatus) : Type 0 where
     pub files : Files F
     pub closed : IsClosed conn files errors errors_new before status
     pub lets_go : m.lets_go old new files
@@ -80,9 +83,9 @@ module _ {H F I : Type 0} (m : host.Ghosts H F I) (d : disk.Ghosts F) where
     pub done : H
     pub after : TheRegistry
     pub errors : Sunk
-    pub before : ℕ
-    pub does : Does opened done it after (record ends { errors_new = errors; status = before })
-    pub closes : Closes done new (connection_of after) errors ends.errors_new before ends.status
+    pub before : ExitStatus
+    pub does : Does opened done it after (earlier ends errors before)
+    pub closes : Closes done new (connection_of after) errors ends.errors.new before ends.status
 
   -- that, or the registry could not be opened, and nothing was done
   abbrev pub Runs : H → H → List ℕ → Ends → (H → H → TheRegistry → TheRegistry → Ends → Type 0) → Type 0

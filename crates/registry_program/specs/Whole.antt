@@ -31,7 +31,10 @@ use Rattle.registry_commands.specs.declared.messages.Failure.{Failure}
 use Rattle.registry_commands.specs.declared.messages.Failure.TheVariants.{Memory}
 use Rattle.registry_reports.specs.declared.kinds.ReportKind.{ReportKind}
 use Rattle.registry_commands.specs.Apply.{lines_between}
-use Rattle.registry_commands.specs.Imports.{AreOfImport, IsFirstBad, request_of, status_of}
+use Rattle.registry_commands.specs.declared.status.ExitStatus.{ExitStatus}
+use Rattle.registry_commands.specs.declared.status.ExitStatus.TheVariants.{Success, Failed}
+use Rattle.registry_commands.specs.Ends.{Ends, Receives, Output}
+use Rattle.registry_commands.specs.Imports.{AreOfImport, IsFirstBad, request_of_import, exit_status_of}
 use Rattle.registry_commands.specs.Lines.{requests_in}
 use Rattle.registry_commands.specs.Messages.{reply_line}
 use Rattle.registry_reports.specs.Kinds.{report_named}
@@ -40,7 +43,7 @@ use Rattle.registry_desk.specs.declared.server.Connections as connections
 use Rattle.registry_desk.specs.Server.{HaveVisited, IsLeftAfter, Visit}
 use Rattle.registry_program.specs.declared.host.Host as host
 use Rattle.registry_program.specs.Commands.{ActsOnFile, ImportsFile, IsStampOf, WritesList, WritesReport}
-use Rattle.registry_program.specs.Outputs.{Ends, IsFailure, IsRejection}
+use Rattle.registry_program.specs.Outputs.{IsFailure, IsRejection}
 use Rattle.registry_program.specs.Serving.{ServesOn, limit_of}
 use Rattle.registry_program.specs.Stores.{IsMissed, IsOver, Opens, TheRegistry}
 
@@ -51,38 +54,38 @@ abbrev pub Stays : History → History → History → Type 0
 Stays h x y = (x ≡ h) × (y ≡ h)
 
 -- Requests were acted on, of which the first a had been answered before: the reply lines up to the n-th are written, and at
--- status 0 these are all. Then x is the history after the first n requests and y the one after one more. If anything of the
--- next line is written, x is the one after that request too.
-pub record IsAfterLines (h : History) (rs : List Request) (a : ℕ) (out out_new : Option (List ℕ)) (status : ℕ) (x y : History) : Type 0 where
+-- the status Success these are all. Then x is the history after the first n requests and y the one after one more. If anything
+-- of the next line is written, x is the one after that request too.
+pub record IsAfterLines (h : History) (rs : List Request) (a : ℕ) (out : Output) (status : ExitStatus) (x y : History) : Type 0 where
   pub n : ℕ
   pub from : a ≤ n
   pub within : n ≤ length rs
-  pub whole : status ≡ 0 → n ≡ length rs
+  pub whole : status ≡ Success → n ≡ length rs
   pub middle : Option (List ℕ)
-  pub gained : Appends out middle (lines_between h rs a n)
-  pub begun : AppendsPrefix middle out_new (lines_between h rs n (n + 1))
+  pub gained : Appends out.old.contents middle (lines_between h rs a n)
+  pub begun : AppendsPrefix middle out.new.contents (lines_between h rs n (n + 1))
   pub next : y ≡ after h (take (n + 1) rs)
-  pub last : ((x ≡ after h (take n rs)) × Keeps middle out_new) ⊎ (x ≡ y)
+  pub last : ((x ≡ after h (take n rs)) × Keeps middle out.new.contents) ⊎ (x ≡ y)
 
--- at status 0 the list of the history is written
+-- at the status Success the list of the history is written
 abbrev pub IsListed : Option Moment → Ends → History → History → History → Type 0
 IsListed stamp ends h x y = Stays h x y
-    × (ends.status ≡ 0 → (doc : List TopEntry) × IsListing h doc × IsTextOf (written doc stamp) doc × Appends ends.out.contents ends.out_new.contents (written doc stamp))
+    × (ends.status ≡ Success → (doc : List TopEntry) × IsListing h doc × IsTextOf (written doc stamp) doc × Receives ends.out (written doc stamp))
 
--- at status 0 the report on the history is written
+-- at the status Success the report on the history is written
 abbrev pub IsReportedOn : ReportKind → Ends → History → History → History → Type 0
-IsReportedOn name ends h x y = Stays h x y × (ends.status ≡ 0 → (text : List ℕ) × IsReport name h text × Appends ends.out.contents ends.out_new.contents text)
+IsReportedOn name ends h x y = Stays h x y × (ends.status ≡ Success → (text : List ℕ) × IsReport name h text × Receives ends.out text)
 
--- The request of the list in these bytes was acted on. Unless the status is 1, its reply is written and both histories are the
--- one after it.
-pub record IsAfterImport (bytes : List ℕ) (import : Import) (out out_new : Option (List ℕ)) (status : ℕ) (h x y : History) : Type 0 where
+-- The request of the list in these bytes was acted on. Unless the status is Failed, its reply is written and both histories are
+-- the one after it.
+pub record IsAfterImport (bytes : List ℕ) (import : Import) (out : Output) (status : ExitStatus) (h x y : History) : Type 0 where
   pub doc : List TopEntry
   pub answers : ReadsAs bytes (Ok doc)
   pub r : Request
-  pub r_is : r ≡ request_of import h.founding.vendor doc
+  pub r_is : r ≡ request_of_import import h.founding.vendor doc
   pub x_is : IsEither h (after_one h r) x
   pub y_is : y ≡ after_one h r
-  pub replied : status ≢ 1 → (x ≡ y) × (status ≡ status_of (reply_to h r)) × Appends out out_new (reply_line (reply_to h r))
+  pub replied : status ≢ Failed → (x ≡ y) × (status ≡ exit_status_of (reply_to h r)) × Receives out (reply_line (reply_to h r))
 
 -- each is a history that a crash leaves after these connections
 abbrev pub AreLeftAfter : List Visit → History → History → History → Type 0
@@ -115,11 +118,11 @@ module _ {H F I : Type 0} (m : host.Ghosts H F I) (d : disk.Ghosts F) where
   -- The input could not be opened, or the port not be listened on, and the history is as before. `performs` says what was
   -- printed.
   abbrev pub IsUnbegun : H → H → List ℕ → Ends → Type 0
-  IsUnbegun old new path ends = (ends.status ≡ 1) × (ends.out_new ≡ ends.out) × IsCarriedOn old new path Stays
+  IsUnbegun old new path ends = (ends.status ≡ Failed) × (ends.out.new ≡ ends.out.old) × IsCarriedOn old new path Stays
 
-  -- what was done with the store ended with status 0, and closing it then failed
+  -- what was done with the store ended with the status Success, and closing it then failed
   abbrev pub EndsUnclosed : H → H → List ℕ → Ends → (H → H → TheRegistry m d → TheRegistry m d → Ends → Type 0) → Type 0
-  EndsUnclosed old new path ends Does = (over : IsOver m d old new path ends Does) × (over.before ≡ 0) × (ends.status ≡ 1)
+  EndsUnclosed old new path ends Does = (over : IsOver m d old new path ends Does) × (over.before ≡ Success) × (ends.status ≡ Failed)
 
   -- the store could not be opened, or not be closed after this was done with it, or P holds
   abbrev pub UnlessStopped : H → H → List ℕ → Ends → (H → H → TheRegistry m d → TheRegistry m d → Ends → Type 0) → Type 0 → Type 0
@@ -142,7 +145,7 @@ module _ {H F I : Type 0} (m : host.Ghosts H F I) (d : disk.Ghosts F) where
       pub files : Files F
       pub used : IsUsed old new path false files
       pub holds : (h : History) (rs : List Request) → requests_in bytes ≡ Ok rs → answered ≤ length rs
-          → LeadsTo old path files (after h (take answered rs)) (after h (take (answered + 1) rs)) (IsAfterLines h rs answered ends.out.contents ends.out_new.contents ends.status)
+          → LeadsTo old path files (after h (take answered rs)) (after h (take (answered + 1) rs)) (IsAfterLines h rs answered ends.out ends.status)
       -- otherwise nothing was acted on
       pub stays : ((rs : List Request) → requests_in bytes ≡ Ok rs → length rs < answered) → (h : History) → LeadsTo old path files h h (Stays h)
 
@@ -153,7 +156,7 @@ module _ {H F I : Type 0} (m : host.Ghosts H F I) (d : disk.Ghosts F) where
     pub record IsImportedTo (old new : H) (path file : List ℕ) (import : Import) (ends : Ends) : Type 0 where
       pub bytes : List ℕ
       pub read : IsReadFrom file bytes
-      pub carried : IsCarriedOn old new path (λ h x y. Stays h x y ⊎ IsAfterImport bytes import ends.out.contents ends.out_new.contents ends.status h x y)
+      pub carried : IsCarriedOn old new path (λ h x y. Stays h x y ⊎ IsAfterImport bytes import ends.out ends.status h x y)
 
     abbrev pub ImportsWhollyAs : H → H → List ℕ → List ℕ → Result (Result Import BadArgument) NoMemory → Ends → Type 0
     ImportsWhollyAs old new path list (Ok (Ok import)) ends = UnlessStopped old new path ends (ImportsFile m s list import) (IsImportedTo old new path list import ends ⊎ IsUnbegun old new path ends)
@@ -178,9 +181,9 @@ module _ {H F I : Type 0} (m : host.Ghosts H F I) (d : disk.Ghosts F) where
       pub used : IsUsed old new path true files
       pub holds : AreClean d files.log files.db → HoldEither d newest files (founded origin) (founded origin)
 
-    -- at status 0; of any other status only `performs` speaks
+    -- at the status Success; of any other status only `performs` speaks
     abbrev pub FoundsWholly : H → H → List ℕ → List ℕ → Ends → Type 0
-    FoundsWholly old new path founding ends = ends.status ≡ 0 → IsFoundedWholly old new path founding
+    FoundsWholly old new path founding ends = ends.status ≡ Success → IsFoundedWholly old new path founding
 
   abbrev pub ExportsWhollyAs : H → H → List ℕ → Result (Option Moment) BadArgument → Ends → Type 0
   ExportsWhollyAs old new path (Ok stamp) ends = UnlessStopped old new path ends (WritesList stamp) (IsCarriedOn old new path (IsListed stamp ends))

@@ -1,12 +1,12 @@
 //! The command that acts on request lines.
 
+ghost use Rattle.registry_commands.specs.Ends.{ends_of};
 ghost use Rattle.registry_program.specs.Commands.{ActsOnFile, Applies};
-ghost use Rattle.registry_program.specs.Outputs.{ends_of};
 
 use crate::host::Host;
 use crate::stores::{close_registry, open_registry};
 use byte_streams::Sink;
-use registry_commands::{apply_lines, fail};
+use registry_commands::{ExitStatus, apply_lines, fail};
 use registry_store::Registry;
 use sqlite::Alter;
 use std::alloc::Global;
@@ -21,7 +21,7 @@ fn apply_file<H: Host, S: Alter, W: Sink, E: Sink>(
     registry: &mut Registry<S>,
     output: &mut W,
     errors: &mut E,
-) -> u8
+) -> ExitStatus
     ensures { ActsOnFile H.Host H.Input.Source file.now answered host.old host.new registry.old registry.new
         (ends_of W.Sink E.Sink output.old output.new errors.old errors.new result) }
 {
@@ -41,7 +41,7 @@ pub fn run_apply<H: Host, W: Sink, E: Sink>(
     answered: u64,
     output: &mut W,
     errors: &mut E,
-) -> u8
+) -> ExitStatus
     ensures { Applies H.Host H.File.Disk H.Input.Source host.old host.new store.now file.now answered
         (ends_of W.Sink E.Sink output.old output.new errors.old errors.new result) }
 {

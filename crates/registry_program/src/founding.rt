@@ -6,7 +6,7 @@ ghost use Rattle.registry_program.specs.Outputs.{silent_ends};
 use crate::host::Host;
 use crate::stores::{close_connection, connect};
 use byte_streams::Sink;
-use registry_commands::{fail, found_registry};
+use registry_commands::{ExitStatus, fail, found_registry};
 use sqlite::{Alter, Connection};
 use std::alloc::Global;
 
@@ -17,7 +17,7 @@ fn found_by_file<H: Host, S: Alter, E: Sink>(
     founding: &str,
     conn: Connection<S>,
     errors: &mut E,
-) -> (u8, Connection<S>)
+) -> (ExitStatus, Connection<S>)
     ensures { (out : _) → FoundsBy H.Host H.Input.Source S.Store host.old host.new founding.now conn result.1
         (silent_ends E.Sink out errors.old errors.new result.0) }
 {
@@ -34,7 +34,7 @@ pub fn run_found<H: Host, E: Sink>(
     store: &str,
     founding: &str,
     errors: &mut E,
-) -> u8
+) -> ExitStatus
     ensures { (out : _) → FoundsIn H.Host H.File.Disk H.Input.Source host.old host.new store.now founding.now
         (silent_ends E.Sink out errors.old errors.new result) }
 {

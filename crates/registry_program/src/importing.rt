@@ -1,12 +1,14 @@
 //! The command that imports a list.
 
+ghost use Rattle.registry_commands.specs.Ends.{ends_of};
 ghost use Rattle.registry_program.specs.Commands.{ImportsAs, ImportsFile};
-ghost use Rattle.registry_program.specs.Outputs.{ends_of};
 
 use crate::host::Host;
 use crate::stores::{close_registry, open_registry};
 use byte_streams::Sink;
-use registry_commands::{BadArgument, Failure, Import, fail, import_list, reject_argument};
+use registry_commands::{
+    BadArgument, ExitStatus, Failure, Import, fail, import_list, reject_argument,
+};
 use registry_store::Registry;
 use sqlite::Alter;
 use std::alloc::Global;
@@ -21,7 +23,7 @@ fn import_file<H: Host, S: Alter, W: Sink, E: Sink>(
     registry: &mut Registry<S>,
     output: &mut W,
     errors: &mut E,
-) -> u8
+) -> ExitStatus
     ensures { ImportsFile H.Host H.Input.Source list.now import host.old host.new registry.old registry.new
         (ends_of W.Sink E.Sink output.old output.new errors.old errors.new result) }
 {
@@ -32,7 +34,7 @@ fn import_file<H: Host, S: Alter, W: Sink, E: Sink>(
 }
 
 /// Imports the list in a file into the registry in a store, if the arguments are valid, and returns
-/// the exit status: 2 if an argument is invalid, and 1 when out of memory.
+/// the exit status: `Rejected` if an argument is invalid, and `Failed` when out of memory.
 pub fn run_import<H: Host, W: Sink, E: Sink>(
     alloc: Global,
     host: &mut H,
@@ -41,7 +43,7 @@ pub fn run_import<H: Host, W: Sink, E: Sink>(
     asked: Result<Result<Import, BadArgument>, NoMemory>,
     output: &mut W,
     errors: &mut E,
-) -> u8
+) -> ExitStatus
     ensures { ImportsAs H.Host H.File.Disk H.Input.Source host.old host.new store.now list.now asked
         (ends_of W.Sink E.Sink output.old output.new errors.old errors.new result) }
 {

@@ -1,7 +1,7 @@
 //! Does what a command asks for.
 
 ghost use Rattle.registry_arguments.specs.Commands.{texts};
-ghost use Rattle.registry_program.specs.Outputs.{ends_of};
+ghost use Rattle.registry_commands.specs.Ends.{code, ends_of};
 ghost use Rattle.registry_program.specs.Performing.{Performs};
 ghost use Rattle.registry_program.specs.Statuses.{IsStatus};
 ghost use Rattle.registry_program.specs.Whole.{IsWhole};
@@ -14,7 +14,7 @@ use crate::serving::run_serve;
 use crate::showing::{run_export, run_lookup, run_report};
 use byte_streams::{Sink, Source};
 use registry_arguments::Command;
-use registry_commands::{import_of_arguments, trial};
+use registry_commands::{ExitStatus, import_of_arguments, trial};
 use registry_desk::Connections;
 use std::alloc::Global;
 
@@ -26,7 +26,7 @@ fn act_by<H: Host + Connections, R: Source, W: Sink, E: Sink>(
     input: &mut R,
     output: &mut W,
     errors: &mut E,
-) -> u8
+) -> ExitStatus
     ensures { Performs H.Host H.File.Disk H.Input.Source H.Connections H.Reader.Source H.Writer.Sink R.Source (texts command.entry) host.old host.new input.old input.new
         (ends_of W.Sink E.Sink output.old output.new errors.old errors.new result) }
 {
@@ -70,10 +70,10 @@ pub fn perform<H: Host + Connections, R: Source, W: Sink, E: Sink>(
     input: &mut R,
     output: &mut W,
     errors: &mut E,
-) -> u8
+) -> ExitStatus
     ensures performs { Performs H.Host H.File.Disk H.Input.Source H.Connections H.Reader.Source H.Writer.Sink R.Source (texts command.entry) host.old host.new input.old input.new
         (ends_of W.Sink E.Sink output.old output.new errors.old errors.new result) }
-    ensures status { IsStatus result }
+    ensures status { IsStatus (code result) }
 
     // From what the files of a store held to what they hold.
     ensures whole { IsWhole H.Host H.File.Disk H.Input.Source H.Connections H.Reader.Source H.Writer.Sink (texts command.entry) host.old host.new

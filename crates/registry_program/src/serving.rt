@@ -1,14 +1,15 @@
 //! The command that serves a registry over HTTP.
 
 ghost use Rattle.std.specs.Prelude.{◌≡◌};
-ghost use Rattle.registry_commands.specs.Failures.{Prints, error_output};
+ghost use Rattle.registry_commands.specs.Ends.{output_of};
+ghost use Rattle.registry_commands.specs.Failures.{Prints};
 ghost use Rattle.registry_program.specs.Outputs.{silent_ends};
 ghost use Rattle.registry_program.specs.Serving.{Serves, ServesOn, TellsEnd, limit_of, socket_line};
 
 use crate::host::Host;
 use crate::stores::{close_registry, open_registry};
-use byte_streams::{Broken, Sink, put_all};
-use registry_commands::{fail, failure_of};
+use byte_streams::{Broken, Sink};
+use registry_commands::{ExitStatus, fail, failure_of, tell};
 use registry_desk::{Connections, ServerStop, serve_all};
 use registry_store::Registry;
 use sqlite::Alter;
@@ -24,31 +25,21 @@ fn limit_of(count: Option<u32>) -> u64
     }
 }
 
-/// Writes a text to the error output: all of it, or a prefix if the error output fails.
-fn tell<E: Sink>(errors: &mut E, text: &str)
-    ensures { Prints (error_output E.contents E.failures errors.old errors.new) text.now }
-{
-    match put_all(errors, text.as_bytes()) {
-        Ok(()) => {}
-        Err(Broken) => {}
-    }
-}
-
 /// Prints that the port failed, and returns the exit status.
-fn fail_socket<E: Sink>(errors: &mut E) -> u8
-    ensures status { result ≡ 1 }
-    ensures told { Prints (error_output E.contents E.failures errors.old errors.new) socket_line }
+fn fail_socket<E: Sink>(errors: &mut E) -> ExitStatus
+    ensures status { result ≡ ExitStatus.Failed }
+    ensures told { Prints (output_of E.Sink errors.old errors.new) socket_line }
 {
     tell(errors, "fault: socket\n");
-    1
+    ExitStatus::Failed
 }
 
 /// Prints why serving stopped before its last connection, if it did, and returns the exit status.
-fn end_serving<E: Sink>(errors: &mut E, served: Result<(), ServerStop>) -> u8
+fn end_serving<E: Sink>(errors: &mut E, served: Result<(), ServerStop>) -> ExitStatus
     ensures { (out : _) → TellsEnd served (silent_ends E.Sink out errors.old errors.new result) }
 {
     match served {
-        Ok(()) => 0,
+        Ok(()) => ExitStatus::Success,
         Err(ServerStop::Connections) => fail_socket(errors),
         Err(ServerStop::Registry(fault)) => fail(errors, failure_of(fault)),
     }
@@ -62,7 +53,7 @@ fn serve_port<H: Host + Connections, S: Alter, E: Sink>(
     count: Option<u32>,
     registry: &mut Registry<S>,
     errors: &mut E,
-) -> u8
+) -> ExitStatus
     ensures { (out : _) → ServesOn H.Host H.Connections H.Reader.Source H.Writer.Sink port (limit_of count) host.old host.new registry.old registry.new
         (silent_ends E.Sink out errors.old errors.new result) }
 {
@@ -84,7 +75,7 @@ pub fn run_serve<H: Host + Connections, E: Sink>(
     port: u16,
     count: Option<u32>,
     errors: &mut E,
-) -> u8
+) -> ExitStatus
     ensures { (out : _) → Serves H.Host H.File.Disk H.Connections H.Reader.Source H.Writer.Sink host.old host.new store.now port (limit_of count)
         (silent_ends E.Sink out errors.old errors.new result) }
 {

@@ -3,13 +3,13 @@
 ghost use Rattle.std.specs.Prelude.{option_copied};
 ghost use Rattle.usbnum_core.specs.Number.{code_of, number_of};
 ghost use Rattle.registry_reports.specs.Kinds.{report_named};
+ghost use Rattle.registry_commands.specs.Ends.{ends_of};
 ghost use Rattle.registry_program.specs.Commands.{Exports, IsStampOf, LooksUp, ReportsAs};
-ghost use Rattle.registry_program.specs.Outputs.{ends_of};
 
 use crate::host::Host;
 use crate::stores::{close_registry, open_registry};
 use byte_streams::Sink;
-use registry_commands::{BadArgument, export, fail, look_up, reject_argument, report};
+use registry_commands::{BadArgument, ExitStatus, export, fail, look_up, reject_argument, report};
 use registry_reports::report_named;
 use registry_wire::stamp_from_text;
 use std::alloc::Global;
@@ -29,8 +29,8 @@ fn stamp_of(text: Option<&str>) -> Result<Option<Stamp>, BadArgument>
     }
 }
 
-/// Prints the list of the registry in a store, and returns the exit status: 2 if the stamp is
-/// invalid.
+/// Prints the list of the registry in a store, and returns the exit status: `Rejected` if the
+/// stamp is invalid.
 pub fn run_export<H: Host, W: Sink, E: Sink>(
     alloc: Global,
     host: &mut H,
@@ -38,7 +38,7 @@ pub fn run_export<H: Host, W: Sink, E: Sink>(
     stamp: Option<&str>,
     output: &mut W,
     errors: &mut E,
-) -> u8
+) -> ExitStatus
     ensures { Exports H.Host H.File.Disk H.Input.Source host.old host.new store.now (option_copied stamp.entry)
         (ends_of W.Sink E.Sink output.old output.new errors.old errors.new result) }
 {
@@ -54,8 +54,8 @@ pub fn run_export<H: Host, W: Sink, E: Sink>(
     close_registry(host, registry, errors, status)
 }
 
-/// Prints a report on the registry in a store, and returns the exit status: 2 if no report has this
-/// name.
+/// Prints a report on the registry in a store, and returns the exit status: `Rejected` if no
+/// report has this name.
 pub fn run_report<H: Host, W: Sink, E: Sink>(
     alloc: Global,
     host: &mut H,
@@ -63,7 +63,7 @@ pub fn run_report<H: Host, W: Sink, E: Sink>(
     name: &str,
     output: &mut W,
     errors: &mut E,
-) -> u8
+) -> ExitStatus
     ensures { ReportsAs H.Host H.File.Disk H.Input.Source host.old host.new store.now (report_named name.now)
         (ends_of W.Sink E.Sink output.old output.new errors.old errors.new result) }
 {
@@ -78,8 +78,8 @@ pub fn run_report<H: Host, W: Sink, E: Sink>(
     close_registry(host, registry, errors, status)
 }
 
-/// Prints the name of a device in the list in a file, and returns the exit status: 2 if a number is
-/// invalid, the input is not a list, or the list has no such device.
+/// Prints the name of a device in the list in a file, and returns the exit status: `Rejected` if a
+/// number is invalid, the input is not a list, or the list has no such device.
 pub fn run_lookup<H: Host, W: Sink, E: Sink>(
     alloc: Global,
     host: &mut H,
@@ -88,7 +88,7 @@ pub fn run_lookup<H: Host, W: Sink, E: Sink>(
     pid: &str,
     output: &mut W,
     errors: &mut E,
-) -> u8
+) -> ExitStatus
     ensures { LooksUp H.Host H.File.Disk H.Input.Source host.old host.new list.now (number_of vid.now) (code_of pid.now)
         (ends_of W.Sink E.Sink output.old output.new errors.old errors.new result) }
 {

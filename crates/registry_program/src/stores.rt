@@ -2,13 +2,13 @@
 
 ghost use Rattle.std.specs.Prelude.{IfOk, IfErr};
 ghost use Rattle.registry_store.specs.Promise.{connection_of};
-ghost use Rattle.registry_program.specs.Outputs.{sunk};
+ghost use Rattle.registry_commands.specs.Ends.{sunk};
 ghost use Rattle.registry_program.specs.Stores.{Closes, IsConnected, IsMissed, IsUnconnected, OpensRegistry};
 
 use crate::host::Host;
 use crate::opening::{connect_to, resume};
 use byte_streams::Sink;
-use registry_commands::{Failure, close_store};
+use registry_commands::{ExitStatus, Failure, close_store};
 use registry_store::Registry;
 use sqlite::{Connection, FileStore};
 use std::alloc::Global;
@@ -70,8 +70,8 @@ pub fn close_connection<H: Host, E: Sink>(
     host: &mut H,
     conn: Connection<FileStore<H::File>>,
     errors: &mut E,
-    status: u8,
-) -> u8
+    status: ExitStatus,
+) -> ExitStatus
     ensures { Closes H.Host H.File.Disk host.old host.new conn (sunk E.Sink errors.old) (sunk E.Sink errors.new) status result }
 {
     let (status, files) = close_store(conn, errors, status);
@@ -84,8 +84,8 @@ pub fn close_registry<H: Host, E: Sink>(
     host: &mut H,
     registry: Registry<FileStore<H::File>>,
     errors: &mut E,
-    status: u8,
-) -> u8
+    status: ExitStatus,
+) -> ExitStatus
     ensures { Closes H.Host H.File.Disk host.old host.new (connection_of registry) (sunk E.Sink errors.old) (sunk E.Sink errors.new) status result }
 {
     close_connection(host, registry.into_connection(), errors, status)

@@ -68,6 +68,7 @@ fn status_of(
         output,
         errors,
     )
+    .code()
 }
 
 fn run(alloc: Global, room: &mut Room<'_>, line: &str) -> Result<String, RowFault> {

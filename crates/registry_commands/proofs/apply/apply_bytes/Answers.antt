@@ -1,14 +1,13 @@
 use Rattle.std.proofs.Common.{◌≡◌, ◌∙◌, Ok, ap, refl, sym}
 use Rattle.registry_commands.specs.declared.messages.Failure.TheVariants.{Memory}
-use Rattle.registry_commands.specs.Failures.{IsOfMemory, IsOfOutput}
+use Rattle.registry_commands.specs.Failures.{IsOfMemory}
 use Rattle.registry_commands.specs.Lines.{requests_in}
 use Rattle.registry_commands.proofs.ApplyLemmas.{fails_before}
 use Rattle.registry_commands.proofs.apply.apply_bytes.Goals as goal
 
 pub returns-in-Err : goal.returns-in-Err
 returns-in-Err g c =
-    fails_before IsOfMemory (IsOfOutput (g.W.Sink.failures c.args.output.now) (g.W.Sink.failures c.args.output.now))
-    c.args.registry.now (requests_in c.args.bytes.now) c.args.answered _ _ c.fail.result c.fail.ensures.status (Memory, refl, c.fail.ensures.told)
+    fails_before IsOfMemory c.args.registry.now (requests_in c.args.bytes.now) c.args.answered _ _ c.fail.result c.fail.ensures.status (Memory, refl, c.fail.ensures.told)
 
 pub returns-in-Ok-Ok : goal.returns-in-Ok-Ok
 returns-in-Ok-Ok g c =

@@ -1,22 +1,23 @@
 use Rattle.std.proofs.Common.{sym, subst, refl}
 use Rattle.registry_commands.specs.declared.messages.Failure.{Failure}
-use Rattle.registry_commands.specs.Failures.{IsOfInput, IsOfMemory, IsOfOutput, PrintsFailure}
+use Rattle.registry_commands.specs.Ends.{effect, ends_of}
+use Rattle.registry_commands.specs.Failures.{IsOfInput, IsOfMemory, PrintsFailure}
 use Rattle.registry_commands.specs.Lines.{requests_in}
 use Rattle.registry_commands.proofs.ApplyLemmas.{applied_more, fails_before, keeps_same}
-use Rattle.registry_commands.proofs.FailureLemmas.{memory_of_input, within}
+use Rattle.registry_commands.proofs.FailureLemmas.{memory_of_input, not_too_long}
 use Rattle.registry_commands.proofs.apply.apply_lines.Goals as goal
 
 pub returns-in-Ok : goal.returns-in-Ok
 returns-in-Ok g c =
     let bytes = c.as_slice.result.now in
     let before = g.R.Source.failures c.args.source.now in
-    let after = g.R.Source.failures c.read_all.new.source in
-    let OfOutput = IsOfOutput (g.W.Sink.failures c.args.output.now) (g.W.Sink.failures c.apply_bytes.new.output) in (
+    let after = g.R.Source.failures c.read_all.new.source in (
       bytes,
       rw c.as_slice.ensures.value c.in-Ok.ensures.ok.0,
-      applied_more IsOfMemory (IsOfInput before after bytes) OfOutput (memory_of_input before after bytes c.in-Ok.ensures.kept)
-          c.args.registry.now c.apply_bytes.new.registry _ _ _ c.apply_bytes.result (requests_in bytes) c.args.answered c.apply_bytes.ensures,
-      λ long. absurd (within bytes (rw c.as_slice.ensures.value c.in-Ok.ensures.ok.1) long),
+      applied_more IsOfMemory (IsOfInput before after bytes) (memory_of_input before after bytes c.in-Ok.ensures.kept)
+          (effect c.args.registry.now c.apply_bytes.new.registry (ends_of g.W.Sink g.E.Sink c.args.output.now c.apply_bytes.new.output c.args.errors.now c.apply_bytes.new.errors c.apply_bytes.result))
+          (requests_in bytes) c.args.answered c.apply_bytes.ensures,
+      λ long. absurd (not_too_long bytes (rw c.as_slice.ensures.value c.in-Ok.ensures.ok.1) long),
     )
 
 pub returns-in-Err : goal.returns-in-Err
@@ -27,7 +28,6 @@ returns-in-Err g c =
     let told : PrintsFailure OfInput _ = (c.input_failure.result, may, c.fail.ensures.told) in (
       bytes,
       c.in-Err.ensures.err.1,
-      fails_before OfInput (IsOfOutput (g.W.Sink.failures c.args.output.now) (g.W.Sink.failures c.args.output.now))
-          c.args.registry.now (requests_in bytes) c.args.answered _ _ c.fail.result c.fail.ensures.status told,
+      fails_before OfInput c.args.registry.now (requests_in bytes) c.args.answered _ _ c.fail.result c.fail.ensures.status told,
       λ long. (c.fail.ensures.status, record { same = refl; silent = keeps_same _; told = told }),
     )

@@ -31,7 +31,7 @@ returns-in-Err-Fault-clause-same_reference g c =
 pub returns-in-Err-Fault-clause-stopped : goal.returns-in-Err-Fault-clause-stopped
 returns-in-Err-Fault-clause-stopped g c h at clean =
     let halted = c.in-Err-Fault.ensures.stopped h at clean in
-    (halted.0, stopped_lines g.W.Sink.contents g.W.Sink.failures c.run_to.new.self h c.args.requests.now c.args.answered halted.0 c.args.lines.now c.run_to.new.replies _ halted.1)
+    stopped_lines g.W.Sink.contents g.W.Sink.failures c.run_to.new.self h c.args.requests.now c.args.answered halted.0 c.args.lines.now c.run_to.new.replies _ halted.1
 
 pub returns-in-Err-Fault-clause-failure : goal.returns-in-Err-Fault-clause-failure
 returns-in-Err-Fault-clause-failure g c =
@@ -64,7 +64,7 @@ returns-in-Some-clause-same_reference g c =
 pub returns-in-Some-clause-stopped : goal.returns-in-Some-clause-stopped
 returns-in-Some-clause-stopped g c h at clean =
     let halted = c.in-Err-Cut.ensures.stopped h at clean in
-    (halted.0, stopped_lines g.W.Sink.contents g.W.Sink.failures c.run_to.new.self h c.args.requests.now c.args.answered halted.0 c.args.lines.now c.run_to.new.replies _ halted.1)
+    stopped_lines g.W.Sink.contents g.W.Sink.failures c.run_to.new.self h c.args.requests.now c.args.answered halted.0 c.args.lines.now c.run_to.new.replies _ halted.1
 
 pub returns-in-Some-clause-failure : goal.returns-in-Some-clause-failure
 returns-in-Some-clause-failure g c =

@@ -1,9 +1,11 @@
 use Rattle.std.proofs.Common.{sym, subst, refl}
 use Rattle.registry_commands.specs.declared.messages.Failure.{Failure}
+use Rattle.registry_commands.specs.Ends.{output_of}
+use Rattle.registry_commands.specs.Found.{attempt}
 use Rattle.registry_commands.specs.Failures.{IsOfInput, IsOfMemory, PrintsFailure}
 use Rattle.registry_wire.specs.Founding.{founding_listed}
 use Rattle.registry_commands.proofs.EndLemmas.{found_more, founding_fails}
-use Rattle.registry_commands.proofs.FailureLemmas.{memory_of_input, within}
+use Rattle.registry_commands.proofs.FailureLemmas.{memory_of_input, not_too_long}
 use Rattle.registry_commands.proofs.found.found_registry.Goals as goal
 
 pub returns-in-Ok : goal.returns-in-Ok
@@ -14,8 +16,8 @@ returns-in-Ok g c =
       bytes,
       rw c.as_slice.ensures.value c.in-Ok.ensures.ok.0,
       found_more IsOfMemory (IsOfInput before after bytes) (memory_of_input before after bytes c.in-Ok.ensures.kept)
-          g.S.Store c.args.conn c.found_by.result.1 (founding_listed bytes) _ c.found_by.result.0 c.found_by.ensures,
-      λ long. absurd (within bytes (rw c.as_slice.ensures.value c.in-Ok.ensures.ok.1) long),
+          g.S.Store (attempt c.args.conn c.found_by.result.1 (output_of g.E.Sink c.args.errors.now c.found_by.new.errors) c.found_by.result.0) (founding_listed bytes) c.found_by.ensures,
+      λ long. absurd (not_too_long bytes (rw c.as_slice.ensures.value c.in-Ok.ensures.ok.1) long),
     )
 
 pub returns-in-Err : goal.returns-in-Err

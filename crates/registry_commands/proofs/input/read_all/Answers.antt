@@ -1,14 +1,14 @@
 use Rattle.std.proofs.Common.{◌≡◌, ◌<◌, ◌++◌, List, ℕ, length, ◌∙◌, inl, inr, ap, refl, Err, arith, length-append}
 use Rattle.byte_streams.specs.Streams.{HasFailed, most_bytes}
 use Rattle.byte_streams.proofs.StreamLemmas.{all_of}
-use Rattle.registry_commands.specs.declared.input.InputFault.{InputFault}
-use Rattle.registry_commands.specs.declared.input.InputFault.TheVariants as inputs
+use Rattle.registry_commands.specs.declared.input.ReadAllFault.{ReadAllFault}
+use Rattle.registry_commands.specs.declared.input.ReadAllFault.TheVariants as inputs
 use Rattle.registry_commands.specs.Failures.{IsOfInput}
 use Rattle.registry_commands.specs.Messages.{input_failure}
 use Rattle.registry_commands.proofs.input.read_all.Goals as goal
 
 -- the fault of an input
-told : (before after : ℕ) (bytes : List ℕ) (fault : InputFault) → (fault ≡ inputs.File → HasFailed before after) → (fault ≡ inputs.NoMemory → after ≡ before)
+told : (before after : ℕ) (bytes : List ℕ) (fault : ReadAllFault) → (fault ≡ inputs.File → HasFailed before after) → (fault ≡ inputs.NoMemory → after ≡ before)
     → IsOfInput before after bytes (input_failure fault)
 told before after bytes inputs.File failed kept = inl (failed refl)
 told before after bytes inputs.NoMemory failed kept = kept refl

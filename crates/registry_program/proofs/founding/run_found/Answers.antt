@@ -1,5 +1,5 @@
 use Rattle.std.proofs.Common.{inr, refl}
-use Rattle.registry_program.specs.Outputs.{sunk}
+use Rattle.registry_commands.specs.Ends.{sunk}
 use Rattle.registry_program.proofs.founding.run_found.Goals as goal
 
 pub returns : goal.returns

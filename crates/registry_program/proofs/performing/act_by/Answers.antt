@@ -1,5 +1,5 @@
 use Rattle.std.proofs.Common.{refl}
-use Rattle.registry_program.specs.Outputs.{sunk}
+use Rattle.registry_commands.specs.Ends.{sunk}
 use Rattle.registry_program.proofs.performing.act_by.Goals as goal
 
 pub returns-in-Trial : goal.returns-in-Trial

@@ -1,14 +1,11 @@
 use Rattle.registry_arguments.specs.Commands.{texts}
-use Rattle.registry_program.specs.Outputs.{ends_of}
-use Rattle.registry_program.proofs.StatusLemmas.{performs_status}
+use Rattle.registry_commands.specs.Ends.{ends_of}
+use Rattle.registry_program.proofs.StatusLemmas.{is_status}
 use Rattle.registry_program.proofs.WholeLemmas.{performs_whole}
 use Rattle.registry_program.proofs.performing.perform.Goals as goal
 
 pub returns-clause-status : goal.returns-clause-status
-returns-clause-status g c =
-    let act = c.act_by in
-    performs_status g.H.Host g.H.File.Disk g.H.Input.Source g.H.Connections g.H.Reader.Source g.H.Writer.Sink g.R.Source (texts c.args.command) c.args.host.now act.new.host c.args.input.now act.new.input
-    (ends_of g.W.Sink g.E.Sink c.args.output.now act.new.output c.args.errors.now act.new.errors act.result) act.ensures
+returns-clause-status g c = is_status c.act_by.result
 
 pub returns-clause-whole : goal.returns-clause-whole
 returns-clause-whole g c =

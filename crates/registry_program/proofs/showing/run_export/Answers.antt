@@ -1,6 +1,6 @@
 use Rattle.std.proofs.Common.{inl, inr, refl}
 use Rattle.std.specs.Prelude.{Ok, Err}
-use Rattle.registry_program.specs.Outputs.{sunk}
+use Rattle.registry_commands.specs.Ends.{sunk}
 use Rattle.registry_program.proofs.showing.run_export.Goals as goal
 
 pub returns : goal.returns

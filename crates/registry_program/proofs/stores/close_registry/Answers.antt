@@ -1,5 +1,5 @@
 use Rattle.std.proofs.Common.{subst}
-use Rattle.registry_program.specs.Outputs.{sunk}
+use Rattle.registry_commands.specs.Ends.{sunk}
 use Rattle.registry_program.specs.Stores.{Closes}
 use Rattle.registry_program.proofs.stores.close_registry.Goals as goal
 
