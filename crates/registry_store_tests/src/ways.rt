@@ -104,7 +104,7 @@ fn go_through<D: Crash + Drop>(
         Way::Leave => leave_and_open(alloc, registry, PLAIN),
         Way::Crash => crash_and_open(alloc, registry, PLAIN),
         Way::CrashUntilOpen => crash_until_open(alloc, registry, PLAIN, 1),
-        Way::Stop => open_again(alloc, abandon(registry).into_connection()),
+        Way::Stop => open_again(alloc, abandon(registry).close()),
         Way::StopOrReturn => open_or_return(alloc, leave(registry)),
         Way::OpenThrough => open_through(alloc, leave(registry), PLAIN, 1),
         Way::CloseStore => close_store_and_open(alloc, registry.into_connection()),
