@@ -6,7 +6,7 @@ use Rattle.usbnum_core.specs.declared.number.Number.{Number}
 use Rattle.usbids_text.specs.Documents.{IsTextOf}
 use Rattle.usbids_text.specs.Entries.{TopEntry}
 use Rattle.usbids_text.specs.Moments.{Moment}
-use Rattle.usbids_text.specs.Reading.{Answers}
+use Rattle.usbids_text.specs.Reading.{ReadsAs}
 use Rattle.usbids_text.specs.Writing.{written}
 use Rattle.usbids_text.specs.declared.fault.ReadFault.{ReadFault}
 use Rattle.usbids_text.specs.declared.fault.ReadFault.TheVariants.{NoMemory}
@@ -32,4 +32,4 @@ ReadsAsItself = (vendors : List Vendor) (numbers : List (Number × Entry)) (stam
 -- a reader of the text returns the list, or runs out of memory
 abbrev pub IsReadBack : Type 0
 IsReadBack = (vendors : List Vendor) (numbers : List (Number × Entry)) (stamp : Option Moment) (read : Result (List TopEntry) ReadFault) → All IsVendor vendors → All IsEntry numbers
-    → Answers (written (list_of vendors numbers) stamp) read → (read ≡ Ok (list_of vendors numbers)) ⊎ (read ≡ Err NoMemory)
+    → ReadsAs (written (list_of vendors numbers) stamp) read → (read ≡ Ok (list_of vendors numbers)) ⊎ (read ≡ Err NoMemory)
