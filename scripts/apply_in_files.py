@@ -120,13 +120,14 @@ def logs_of_others(room):
 
 
 def outputs_that_fail(room):
-    """Tries a reader that goes away after six replies, and a device that is full."""
+    """Tries a reader that is gone, and a device that is full."""
     store, full = room.founded("piped"), room.founded("full")
-    with subprocess.Popen([room.program, "apply", store, TEN], stdout=subprocess.PIPE, stderr=subprocess.PIPE) as applying:
-        applying.stdout.close()
-        errors = applying.stderr.read()
-        if (applying.wait(), errors) != (1, b"fault: file\n"):
-            sys.exit(f"nobody reads the replies: status {applying.returncode}, {errors!r}")
+    reader, writer = os.pipe()
+    os.close(reader)
+    ran = subprocess.run([room.program, "apply", store, TEN], stdout=writer, stderr=subprocess.PIPE, check=False)
+    os.close(writer)
+    if (ran.returncode, ran.stderr) != (1, b"fault: file\n"):
+        sys.exit(f"nobody reads the replies: status {ran.returncode}, {ran.stderr!r}")
     with open("/dev/full", "wb") as device:
         ran = subprocess.run([room.program, "apply", full, TEN], stdout=device, stderr=subprocess.PIPE, check=False)
     if (ran.returncode, ran.stderr) != (1, b"fault: file\n"):
