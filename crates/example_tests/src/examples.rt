@@ -1,6 +1,8 @@
 //! The examples of sets of numbers, of lists, and of the rules.
 
-use registry_rules::{Founding, Holdings, Request, Totals, Verdict, judge, reply_text};
+use registry_rules::{
+    Founding, Holdings, Request, Totals, Verdict, judge, reply_text, vid_concerned,
+};
 use registry_wire::{founding_from_toml, line_request};
 use std::process::Abort;
 use std::test::Fail;
@@ -54,7 +56,8 @@ fn a_new_request_has_a_deed(rt: HostRuntime) {
     let (founding, request) = (founding(&rt), request(&rt));
     let totals = Totals::founded(rt.alloc(), &founding).expect(&rt, "memory");
     let holdings = Holdings::new(Vec::new(rt.alloc()));
-    let facts = totals.facts(&request, None, None, None, holdings);
+    let vid = vid_concerned(&request.order, founding.vendor, None);
+    let facts = totals.facts(&request, vid, None, None, None, holdings);
     let verdict = judge(rt.alloc(), &facts, &request).expect(&rt, "memory");
     let Verdict::New(deed) = verdict else {
         panic!(rt; "no deed");

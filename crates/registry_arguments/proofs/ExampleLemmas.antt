@@ -3,12 +3,12 @@ use Rattle.std.proofs.Common.{◌≡◌, List, [], ◌∷◌, codes, true, false
 use Rattle.std.specs.Prelude.{⊤}
 use Rattle.clap.specs.Words.{Text}
 use Rattle.clap.proofs.OnLiterals.{clap_on_literals}
-use Rattle.registry_arguments.specs.Commands.{accepts, apply_app, asked_by, bare_app, chosen, command_of, export_app, found_app, import_app, lookup_app, number_in, report_app, serve_app, trial_app}
+use Rattle.registry_arguments.specs.Commands.{accepts, apply_app, asked_by, bare_app, chosen, command_of, export_app, found_app, import_app, lookup_app, number_in, history_app, replay_app, report_app, serve_app, trial_app}
 use Rattle.registry_arguments.specs.declared.command.Command.TheVariants as command
 
 -- unfolded by a proof to compute the command of literal arguments
 unfoldable on_literals : ⊤
-unfolding clap_on_literals bare_app trial_app found_app apply_app import_app serve_app export_app report_app lookup_app asked_by chosen number_in accepts
+unfolding clap_on_literals bare_app trial_app found_app apply_app import_app replay_app serve_app export_app report_app history_app lookup_app asked_by chosen number_in accepts
 on_literals = tt
 
 abbrev usbreg : List Text → List Text
@@ -35,6 +35,10 @@ pub imports : command_of (usbreg (codes "import" ∷ codes "s" ∷ codes "l" ∷
 unfolding on_literals
 imports = refl
 
+pub replays : command_of (usbreg (codes "replay" ∷ codes "s" ∷ codes "-" ∷ [])) ≡ Some (command.Replay (codes "s") (codes "-"))
+unfolding on_literals
+replays = refl
+
 pub serves : command_of (usbreg (codes "serve" ∷ codes "s" ∷ codes "--port" ∷ codes "80" ∷ codes "--count=0" ∷ [])) ≡ Some (command.Serve (codes "s") 80 (Some 0))
 unfolding on_literals
 serves = refl
@@ -46,6 +50,14 @@ exports = refl
 pub reports : command_of (usbreg (codes "report" ∷ codes "s" ∷ codes "n" ∷ [])) ≡ Some (command.Report (codes "s") (codes "n"))
 unfolding on_literals
 reports = refl
+
+pub records : command_of (usbreg (codes "history" ∷ codes "s" ∷ [])) ≡ Some (command.History (codes "s") None)
+unfolding on_literals
+records = refl
+
+pub records_from : command_of (usbreg (codes "history" ∷ codes "--after" ∷ codes "0" ∷ codes "s" ∷ [])) ≡ Some (command.History (codes "s") (Some 0))
+unfolding on_literals
+records_from = refl
 
 pub looks_up : command_of (usbreg (codes "lookup" ∷ codes "l" ∷ codes "1209" ∷ codes "0011" ∷ [])) ≡ Some (command.Lookup (codes "l") (codes "1209") (codes "0011"))
 unfolding on_literals

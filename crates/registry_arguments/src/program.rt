@@ -3,7 +3,7 @@
 ghost use Rattle.std.specs.Prelude.{◌≡◌, ◌∷◌, [], IfOk, Some, false, codes, option_copied};
 ghost use Rattle.clap.specs.Words.{app_of, items_of, rule_of, new_app, with_rule, with_subcommand};
 ghost use Rattle.clap.specs.declared.builder.command.Command.TheViews.{out-Command};
-ghost use Rattle.registry_arguments.specs.Commands.{apply_app, export_app, found_app, import_app, lookup_app, needed_option, numeric, option, report_app, serve_app, trial_app, usbreg_app, versioned, positional};
+ghost use Rattle.registry_arguments.specs.Commands.{apply_app, export_app, found_app, history_app, import_app, lookup_app, needed_option, numeric, option, replay_app, report_app, serve_app, trial_app, usbreg_app, versioned, positional};
 
 use clap::builder::ValueParser;
 use clap::{Arg, Command};
@@ -187,6 +187,33 @@ fn with_sender<'a>(alloc: Global, command: Command<'a>) -> Result<Command<'a>, A
     with_arg(command, org)
 }
 
+#[tactic(auto, unfolding(crate::specs::Commands::replay_app))]
+fn replay<'a>(alloc: Global) -> Result<Command<'a>, AllocError>
+    ensures app { IfOk result (λ c. app_of c ≡ replay_app) }
+    ensures local { IfOk result (λ c. (out-Command c).has_globals ≡ false) }
+{
+    let command = subcommand(
+        alloc,
+        "replay",
+        "Run the lines of a record over a registry, and compare the replies",
+        "If the record begins with a founding, STORE may be a new file. Run again over a record that \
+         has grown, it goes on.\n\nExample:\n  usbreg found numbers.db examples/founding.toml\n  usbreg \
+         apply numbers.db examples/first.jsonl\n  usbreg history numbers.db > record.jsonl\n  usbreg \
+         replay copy.db record.jsonl",
+    );
+    let command = with_arg(
+        command,
+        positional(alloc, "store", "STORE", "The registry's file"),
+    )?;
+    let record = positional(
+        alloc,
+        "record",
+        "RECORD",
+        "A record as history prints it; - for standard input",
+    );
+    with_arg(command, record)
+}
+
 #[tactic(auto, unfolding(crate::specs::Commands::serve_app))]
 fn serve<'a>(alloc: Global) -> Result<Command<'a>, AllocError>
     ensures app { IfOk result (λ c. app_of c ≡ serve_app) }
@@ -236,15 +263,46 @@ fn report<'a>(alloc: Global) -> Result<Command<'a>, AllocError>
     let command = subcommand(
         alloc,
         "report",
-        "Print what is free and held, who holds it, or the open petitions",
+        "Print what is free and held, who holds it, the open petitions, all numbers or organisations",
         "Example:\n  usbreg found numbers.db examples/founding.toml\n  usbreg report numbers.db census",
     );
     let command = with_arg(
         command,
         positional(alloc, "store", "STORE", "The registry's file"),
     )?;
-    let name = positional(alloc, "name", "NAME", "census, holders or petitions");
+    let name = positional(
+        alloc,
+        "name",
+        "NAME",
+        "census, holders, petitions, numbers or organisations",
+    );
     with_arg(command, name)
+}
+
+#[tactic(auto, unfolding(crate::specs::Commands::history_app))]
+fn history<'a>(alloc: Global) -> Result<Command<'a>, AllocError>
+    ensures app { IfOk result (λ c. app_of c ≡ history_app) }
+    ensures local { IfOk result (λ c. (out-Command c).has_globals ≡ false) }
+{
+    let command = subcommand(
+        alloc,
+        "history",
+        "Print the record: the founding and the accepted requests with their replies",
+        "One JSON object per line, in the order in which the requests were accepted.\n\nExample:\n  usbreg \
+         found numbers.db examples/founding.toml\n  usbreg apply numbers.db examples/first.jsonl\n  \
+         usbreg history numbers.db > record.jsonl\n  usbreg history numbers.db --after 2",
+    );
+    let command = with_arg(
+        command,
+        positional(alloc, "store", "STORE", "The registry's file"),
+    )?;
+    let after = option(
+        alloc,
+        "after",
+        "N",
+        "Print only the requests after the first N",
+    );
+    with_arg(command, numeric(after, 0, 4_294_967_295))
 }
 
 #[tactic(auto, unfolding(crate::specs::Commands::lookup_app))]
@@ -279,32 +337,34 @@ fn bare<'a>(alloc: Global) -> Command<'a>
     Command::new(alloc, "usbreg")
         .about("A registry of shared USB product numbers that never loses or duplicates a grant")
         .after_help(
-            "Without a command, `usbreg` runs `trial`. `found`, `apply`, `import` and `serve` change a \
-             registry; the other commands only read one.\n\nExit status: 0 on success; 1 after a fault of the \
-             store, of memory, of a file or of a socket; 2 if arguments, an input or an import are \
-             refused, or if no device is found.",
+            "Without a command, `usbreg` runs `trial`. `found`, `apply`, `import`, `replay` and `serve` \
+             change a registry; the other commands only read one.\n\nExit status: 0 on success; 1 after a fault of the \
+             store, of memory, of a file or of a socket; 2 if arguments, an input, a line of a record or an \
+             import are refused, or if no device is found.",
         )
 }
 
-/// Adds `trial`, `found`, `apply` and `import`.
+/// Adds `trial`, `found`, `apply`, `import` and `replay`.
 fn with_requests<'a>(alloc: Global, program: Command<'a>) -> Result<Command<'a>, AllocError>
-    ensures { IfOk result (λ c. app_of c ≡ with_subcommand (with_subcommand (with_subcommand (with_subcommand
-        (app_of program.entry) trial_app.top) found_app.top) apply_app.top) import_app.top) }
+    ensures { IfOk result (λ c. app_of c ≡ with_subcommand (with_subcommand (with_subcommand (with_subcommand (with_subcommand
+        (app_of program.entry) trial_app.top) found_app.top) apply_app.top) import_app.top) replay_app.top) }
 {
     let program = with_command(program, trial(alloc)?)?;
     let program = with_command(program, found(alloc)?)?;
     let program = with_command(program, apply(alloc)?)?;
-    with_command(program, import(alloc)?)
+    let program = with_command(program, import(alloc)?)?;
+    with_command(program, replay(alloc)?)
 }
 
-/// Adds `serve`, `export`, `report` and `lookup`.
+/// Adds `serve`, `export`, `report`, `history` and `lookup`.
 fn with_views<'a>(alloc: Global, program: Command<'a>) -> Result<Command<'a>, AllocError>
-    ensures { IfOk result (λ c. app_of c ≡ with_subcommand (with_subcommand (with_subcommand (with_subcommand
-        (app_of program.entry) serve_app.top) export_app.top) report_app.top) lookup_app.top) }
+    ensures { IfOk result (λ c. app_of c ≡ with_subcommand (with_subcommand (with_subcommand (with_subcommand (with_subcommand
+        (app_of program.entry) serve_app.top) export_app.top) report_app.top) history_app.top) lookup_app.top) }
 {
     let program = with_command(program, serve(alloc)?)?;
     let program = with_command(program, export(alloc)?)?;
     let program = with_command(program, report(alloc)?)?;
+    let program = with_command(program, history(alloc)?)?;
     with_command(program, lookup(alloc)?)
 }
 

@@ -7,3 +7,9 @@ pub mod ReopenLemmas
 pub mod ClosingLemmas
 pub mod ReplyLemmas
 pub mod ShownLemmas
+pub mod RecordedLemmas
+pub mod RecordLineLemmas
+pub mod EntryLemmas
+pub mod ReplayLemmas
+pub mod BeginLemmas
+pub mod FoundOrOpenLemmas

@@ -11,7 +11,7 @@ use Rattle.registry_commands.specs.declared.lines.BadLine.{BadLine}
 use Rattle.registry_commands.specs.Lines.{in_front, is_blank, lines_of, requests_from, with_request}
 
 -- the index of the first line feed
-abbrev feed : List ℕ → ℕ
+abbrev pub feed : List ℕ → ℕ
 feed bytes = position_or_len (λ b. b == 10) bytes
 
 feed_is_less : (b : ℕ) (bytes : List ℕ) (t : Bool) → cond (not t) (1 + feed bytes) 0 < length (b ∷ bytes)
@@ -25,7 +25,7 @@ feed_is_less b bytes false h below =
     let next : 1 + n ≡ suc n = omega arith in
     rw (past, next, below (omega arith)) refl
 
-lines_at : (bytes : List ℕ) → feed bytes < length bytes → lines_of bytes ≡ take (feed bytes) bytes ∷ lines_of (drop (feed bytes + 1) bytes)
+pub lines_at : (bytes : List ℕ) → feed bytes < length bytes → lines_of bytes ≡ take (feed bytes) bytes ∷ lines_of (drop (feed bytes + 1) bytes)
 unfolding lines_of
 lines_at [] h = absurd (omega arith)
 lines_at (b ∷ bytes) h = feed_is_less b bytes (b == 10) h (lines_at bytes)
@@ -36,7 +36,7 @@ no_feed : (b : ℕ) (bytes : List ℕ) (t : Bool) → ¬ (cond (not t) (1 + feed
 no_feed b bytes true h below = absurd (h (omega arith))
 no_feed b bytes false h below = below
 
-one_line : (bytes : List ℕ) → ¬ (feed bytes < length bytes) → 0 < length bytes → lines_of bytes ≡ bytes ∷ []
+pub one_line : (bytes : List ℕ) → ¬ (feed bytes < length bytes) → 0 < length bytes → lines_of bytes ≡ bytes ∷ []
 unfolding lines_of
 one_line [] h some = absurd (omega arith)
 one_line (b ∷ []) h some = no_feed b [] (b == 10) h refl
@@ -64,6 +64,20 @@ first_found bytes end found = go (nat_lt (feed bytes) (length bytes)) refl found
 pub first_none : (bytes : List ℕ) → None ≡ position (λ b. b == 10) bytes → 0 < length bytes → lines_of bytes ≡ bytes ∷ lines_of []
 unfolding lines_of
 first_none bytes found some = one_line bytes (λ h. absurd (go (lt-ltb _ _ h))) some
+  where
+    go : nat_lt (feed bytes) (length bytes) ≡ true → ⊥
+    go e = let bad : None ≡ Some (feed bytes) = rw e at found in absurd cc
+
+-- the index of the first line feed is where it is
+pub feed_at : (bytes : List ℕ) (end : ℕ) → Some end ≡ position (λ b. b == 10) bytes → (end < length bytes) × (end ≡ feed bytes)
+feed_at bytes end found = go (nat_lt (feed bytes) (length bytes)) refl found
+  where
+    go : (t : Bool) → nat_lt (feed bytes) (length bytes) ≡ t → Some end ≡ cond t (Some (feed bytes)) None → (end < length bytes) × (end ≡ feed bytes)
+    go true e is = let same : end ≡ feed bytes = cc in let below = ltb-true _ _ e in (omega arith, same)
+    go false e is = absurd cc
+
+pub feed_not : (bytes : List ℕ) → None ≡ position (λ b. b == 10) bytes → ¬ (feed bytes < length bytes)
+feed_not bytes found h = absurd (go (lt-ltb _ _ h))
   where
     go : nat_lt (feed bytes) (length bytes) ≡ true → ⊥
     go e = let bad : None ≡ Some (feed bytes) = rw e at found in absurd cc

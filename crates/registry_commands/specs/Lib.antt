@@ -13,3 +13,8 @@ pub mod Arguments
 pub mod LookUp
 pub mod Reports
 pub mod Imports
+pub mod Recorded
+pub mod RecordLines
+pub mod Entries
+pub mod Stops
+pub mod Replayed

@@ -38,7 +38,10 @@ impl fmt::Display for ReadAllFault {
 impl Error for ReadAllFault {}
 
 /// Appends the next bytes of the source, and returns their number, which is 0 only at the end.
-fn take_more<R: Source>(source: &mut R, bytes: &mut Vec<u8>) -> Result<usize, ReadAllFault>
+pub(crate) fn take_more<R: Source>(
+    source: &mut R,
+    bytes: &mut Vec<u8>,
+) -> Result<usize, ReadAllFault>
     ensures ok { IfOk result (λ n. (more : List ℕ) × (bytes.new.items ≡ bytes.old.items ++ more) × (length more ≡ n)
         × Consumes (R.remaining source.old) (R.remaining source.new) more × (n ≡ 0 → IsAtEnd (R.remaining source.new))
         × (R.failures source.new ≡ R.failures source.old)) }

@@ -18,7 +18,7 @@ pub struct BadLine {
 }
 
 /// Returns the index of the first line feed.
-fn line_feed(bytes: &[u8]) -> Option<usize>
+pub(crate) fn line_feed(bytes: &[u8]) -> Option<usize>
     ensures { result ≡ position (λ b. b == 10) bytes.now }
 {
     bytes.iter().position(|b| *b == b'\n')
@@ -38,7 +38,7 @@ fn first_line(bytes: &[u8]) -> (&[u8], &[u8])
 
 /// Returns whether the line has only spaces, tabs and carriage returns.
 #[tactic(auto, unfolding(crate::specs::Lines::is_blank))]
-fn is_blank(line: &[u8]) -> bool
+pub(crate) fn is_blank(line: &[u8]) -> bool
     ensures { result ≡ is_blank line.now }
 {
     line.iter()

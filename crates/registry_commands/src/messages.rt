@@ -113,7 +113,7 @@ pub(crate) fn input_failure(fault: ReadAllFault) -> Failure
 
 /// Returns a reply as a line.
 #[tactic(auto, unfolding(crate::specs::Messages::reply_line))]
-fn reply_line(alloc: Global, reply: &Reply) -> Result<String, NoMemory>
+pub(crate) fn reply_line(alloc: Global, reply: &Reply) -> Result<String, NoMemory>
     ensures { IfOk result (λ line. string_bytes line ≡ reply_line reply.now) }
 {
     let mut line = reply_json(alloc, reply)?;

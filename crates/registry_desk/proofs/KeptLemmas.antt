@@ -22,7 +22,7 @@ use Rattle.registry_desk.specs.Kept.{no_texts, text_for, with_text, kept_beside,
 
 -- where nothing is kept, each text is of each history
 pub none_are : (h : History) (kept : Kept) → kept ≡ no_texts → AreTextsOf h kept
-none_are h kept is = subst (λ (k : Kept). AreTextsOf h k) (sym is) (record { list = tt; census = tt; holders = tt; petitions = tt })
+none_are h kept is = subst (λ (k : Kept). AreTextsOf h k) (sym is) (record { list = tt; census = tt; holders = tt; petitions = tt; numbers = tt; organisations = tt })
 
 -- what is taken out is the response to its query
 taken_is : (h : History) (kept : Kept) (query : Query) → AreTextsOf h kept → IfSome (text_for kept query) (IsQueryResponse h query)
@@ -30,9 +30,13 @@ taken_is h kept queries.List of = of.list
 taken_is h kept (queries.Number vendor pid) of = tt
 taken_is h kept (queries.Org org) of = tt
 taken_is h kept (queries.Petition id) of = tt
+taken_is h kept queries.Founding of = tt
+taken_is h kept (queries.History n) of = tt
 taken_is h kept (queries.Report reports.Census) of = of.census
 taken_is h kept (queries.Report reports.Holders) of = of.holders
 taken_is h kept (queries.Report reports.Petitions) of = of.petitions
+taken_is h kept (queries.Report reports.Numbers) of = of.numbers
+taken_is h kept (queries.Report reports.Organisations) of = of.organisations
 
 pub taken_of : (h : History) (kept : Kept) (query : Query) (response : Response) → Some response ≡ text_for kept query → AreTextsOf h kept → IsQueryResponse h query response
 taken_of h kept query response is are = subst (λ (text : Option Response). IfSome text (IsQueryResponse h query)) (sym is) (taken_is h kept query are)
@@ -43,22 +47,30 @@ none_taken kept queries.List is = ap (λ (k : Kept). k.list) is
 none_taken kept (queries.Number vendor pid) is = refl
 none_taken kept (queries.Org org) is = refl
 none_taken kept (queries.Petition id) is = refl
+none_taken kept queries.Founding is = refl
+none_taken kept (queries.History n) is = refl
 none_taken kept (queries.Report reports.Census) is = ap (λ (k : Kept). k.census) is
 none_taken kept (queries.Report reports.Holders) is = ap (λ (k : Kept). k.holders) is
 none_taken kept (queries.Report reports.Petitions) is = ap (λ (k : Kept). k.petitions) is
+none_taken kept (queries.Report reports.Numbers) is = ap (λ (k : Kept). k.numbers) is
+none_taken kept (queries.Report reports.Organisations) is = ap (λ (k : Kept). k.organisations) is
 
 pub never_taken : (kept : Kept) (query : Query) (response : Response) → Some response ≡ text_for kept query → kept ≡ no_texts → ⊥
 never_taken kept query response is none = let never : Some response ≡ None = is ∙ none_taken kept query none in absurd cc
 
 -- one text more or less
 with_are : (h : History) (kept : Kept) (query : Query) (text : Option Response) → AreTextsOf h kept → IfSome text (IsQueryResponse h query) → AreTextsOf h (with_text kept query text)
-with_are h kept queries.List text of is = record { list = is; census = of.census; holders = of.holders; petitions = of.petitions }
+with_are h kept queries.List text of is = record { list = is; census = of.census; holders = of.holders; petitions = of.petitions; numbers = of.numbers; organisations = of.organisations }
 with_are h kept (queries.Number vendor pid) text of is = of
 with_are h kept (queries.Org org) text of is = of
 with_are h kept (queries.Petition id) text of is = of
-with_are h kept (queries.Report reports.Census) text of is = record { list = of.list; census = is; holders = of.holders; petitions = of.petitions }
-with_are h kept (queries.Report reports.Holders) text of is = record { list = of.list; census = of.census; holders = is; petitions = of.petitions }
-with_are h kept (queries.Report reports.Petitions) text of is = record { list = of.list; census = of.census; holders = of.holders; petitions = is }
+with_are h kept queries.Founding text of is = of
+with_are h kept (queries.History n) text of is = of
+with_are h kept (queries.Report reports.Census) text of is = record { list = of.list; census = is; holders = of.holders; petitions = of.petitions; numbers = of.numbers; organisations = of.organisations }
+with_are h kept (queries.Report reports.Holders) text of is = record { list = of.list; census = of.census; holders = is; petitions = of.petitions; numbers = of.numbers; organisations = of.organisations }
+with_are h kept (queries.Report reports.Petitions) text of is = record { list = of.list; census = of.census; holders = of.holders; petitions = is; numbers = of.numbers; organisations = of.organisations }
+with_are h kept (queries.Report reports.Numbers) text of is = record { list = of.list; census = of.census; holders = of.holders; petitions = of.petitions; numbers = is; organisations = of.organisations }
+with_are h kept (queries.Report reports.Organisations) text of is = record { list = of.list; census = of.census; holders = of.holders; petitions = of.petitions; numbers = of.numbers; organisations = is }
 
 the_same : (h x : History) → IsEither h h x → x ≡ h
 the_same h x (inl is) = is

@@ -3,16 +3,22 @@ use Rattle.std.proofs.Common.{◌≡◌, ℕ, Bool, true, false, List, [], ◌�
 use Rattle.std.specs.Ordering.{nat_cmp, ordering_reverse}
 use Rattle.std.specs.List.{AllByRecursion}
 use Rattle.std.specs.List.Sorted.{IsStrictlySortedBy}
+use Rattle.std.specs.Prelude.{map, bytes_eq}
 use Rattle.std.specs.Cmp.{IsTotalOrder}
+use Rattle.std.specs.Cmp.Lexicographic.{slice_cmp}
+use Rattle.std.proofs.lemmas.Cmp.{nat_list_cmp_total, on_total}
+use Rattle.std.proofs.lemmas.Map.Text.{is_eq-slice_cmp}
 use Rattle.sqlite_keyed.proofs.ListLemmas.{all_weaker}
 use Rattle.usbnum_core.specs.declared.number.Number.{Number}
 use Rattle.registry_rules.specs.Number.{number_eq}
 use Rattle.registry_rules.specs.History.{History}
+use Rattle.registry_rules.specs.Texts.{IsAscending}
 use Rattle.registry_rules.specs.declared.record.Entry.{Entry}
-use Rattle.registry_rows.specs.Rows.{by_number}
-use Rattle.registry_tables.specs.Lists.{IsNumberList}
+use Rattle.registry_rules.specs.declared.record.Org.{Org}
+use Rattle.registry_rows.specs.Rows.{by_number, by_slug}
+use Rattle.registry_tables.specs.Lists.{IsNumberList, IsOrgList}
 use Rattle.registry_tables.proofs.ListLemmas.{both_equal, level, number_total}
-use Rattle.registry_tables.proofs.ViewLemmas.{same_number, number_same}
+use Rattle.registry_tables.proofs.ViewLemmas.{same_bytes, bytes_same, same_number, number_same}
 
 module _ {X K : Type 0} (key : X → K) (cmp : X → X → Ordering) (total : IsTotalOrder cmp) (same : K → K → Bool)
     (told : (a b : X) → is_eq (cmp a b) ≡ same (key a) (key b)) (exact : (a b : K) → same a b ≡ true → a ≡ b) where
@@ -93,3 +99,31 @@ number_told a b = go (is_eq (by_number a b)) (number_eq a.0 b.0) refl refl
 pub one_number_list : (h : History) (a b : List (Number × Entry)) → IsNumberList h a → IsNumberList h b → a ≡ b
 one_number_list h a b is_a is_b =
     one_list (λ (pair : Number × Entry). pair.0) by_number number_total number_eq number_told same_number a b is_a.ascend is_b.ascend (λ n. is_a.each n ∙ sym (is_b.each n))
+
+-- ---- the organisations of a history
+
+slug_told : (a b : Org) → is_eq (by_slug a b) ≡ bytes_eq b.slug a.slug
+slug_told a b = is_eq-slice_cmp a.slug b.slug ∙ turned a.slug b.slug
+  where
+    turned : (a b : List ℕ) → bytes_eq a b ≡ bytes_eq b a
+    turned a b = go (bytes_eq a b) (bytes_eq b a) refl refl
+      where
+        go : (e i : Bool) → bytes_eq a b ≡ e → bytes_eq b a ≡ i → e ≡ i
+        go true true is at = refl
+        go false false is at = refl
+        go true false is at = absurd (let here : bytes_eq b a ≡ true = rw (same_bytes a b is) (bytes_same b) in cc)
+        go false true is at = absurd (let here : bytes_eq a b ≡ true = rw (same_bytes b a at) (bytes_same a) in cc)
+
+up_by_slug : (orgs : List Org) → IsAscending (map (λ org. org.slug) orgs) → IsStrictlySortedBy by_slug orgs
+unfolding IsStrictlySortedBy
+up_by_slug [] up = tt
+up_by_slug (x ∷ orgs) up = (below orgs up.0, up_by_slug orgs up.1)
+  where
+    below : (orgs : List Org) → AllByRecursion (λ slug. slice_cmp nat_cmp x.slug slug ≡ Less) (map (λ org. org.slug) orgs) → AllByRecursion (λ org. by_slug x org ≡ Less) orgs
+    below [] all = tt
+    below (y ∷ orgs) all = (all.0, below orgs all.1)
+
+pub one_org_list : (h : History) (a b : List Org) → IsOrgList h a → IsOrgList h b → a ≡ b
+one_org_list h a b is_a is_b =
+    one_list (λ (org : Org). org.slug) by_slug (on_total (λ (org : Org). org.slug) nat_list_cmp_total) (λ k slug. bytes_eq slug k) slug_told (λ k slug is. sym (same_bytes slug k is)) a b (up_by_slug a is_a.ascend) (up_by_slug b is_b.ascend)
+    (λ slug. is_a.each slug ∙ sym (is_b.each slug))

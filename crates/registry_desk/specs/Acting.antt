@@ -9,15 +9,22 @@ use Rattle.registry_rules.specs.Number.{number}
 use Rattle.registry_rules.specs.Query.{is_reserved, has_vendor, org_of, petition_of}
 use Rattle.registry_rules.specs.Records.{entry_of}
 use Rattle.registry_rules.specs.Run.{after_one, reply_to}
+use Rattle.registry_rules.specs.Accepted.{AreValid}
+use Rattle.registry_rules.specs.FactsOf.{IsCurrentFounding}
+use Rattle.registry_rules.specs.Texts.{IsLicences}
+use Rattle.registry_rules.specs.declared.founding.Founding.{Founding}
+use Rattle.registry_rules.specs.declared.record.Vendor.{Vendor}
 use Rattle.registry_rules.specs.declared.refusal.Refusal.TheVariants.{NoVendor}
 use Rattle.registry_rules.specs.declared.verdict.Reply.TheVariants.{Refused}
 use Rattle.registry_reports.specs.History.{IsListing}
 use Rattle.registry_reports.specs.declared.kinds.ReportKind.{ReportKind}
+use Rattle.registry_tables.specs.Lists.{IsVendorList}
 use Rattle.registry_tables.specs.Rows.{newest}
 use Rattle.registry_store.specs.declared.fault.Fault.TheVariants as faults
 use Rattle.registry_store.specs.declared.registry.Registry.{Registry as TheRegistry}
 use Rattle.registry_store.specs.Promise.{Leaves, Represents, is_poisoned, poisoned_by, state_of}
 use Rattle.registry_store.specs.Queries.{IsUntouched}
+use Rattle.registry_views.specs.Records.{IsRecordPage}
 use Rattle.registry_views.specs.Reports.{IsReport}
 use Rattle.registry_http.specs.declared.response.Response.{Response}
 use Rattle.registry_http.specs.declared.refusal.HttpRefusal.{HttpRefusal}
@@ -26,6 +33,7 @@ use Rattle.registry_http.specs.declared.route.Query.TheVariants as queries
 use Rattle.registry_http.specs.declared.message.Message.{Message}
 use Rattle.registry_http.specs.declared.message.Message.TheVariants as messages
 use Rattle.registry_http.specs.Responses.{refusal_response, reply_response, text_response}
+use Rattle.registry_http.specs.Foundings.{founding_response}
 use Rattle.registry_http.specs.Resources.{number_response, org_response, petition_response}
 use Rattle.registry_desk.specs.declared.fault.DeskFault.{DeskFault}
 use Rattle.registry_desk.specs.declared.fault.DeskFault.TheVariants.{Registry, NoMemory}
@@ -43,6 +51,19 @@ IsListResponse h response = (doc : List TopEntry) × IsListing h doc × (respons
 abbrev pub IsReportResponse : History → ReportKind → Response → Type 0
 IsReportResponse h kind response = (text : List ℕ) × IsReport kind h text × (response ≡ text_response text)
 
+-- the response has the founding with the licences of now, and all vendors
+pub record IsFoundingResponse (h : History) (response : Response) : Type 0 where
+  pub founding : Founding
+  pub current : IsCurrentFounding h founding
+  pub sorted : IsLicences founding.licences
+  pub vendors : List Vendor
+  pub all_vendors : IsVendorList h vendors
+  pub response_is : response ≡ founding_response founding vendors
+
+-- the response has the page of the record after the first n accepted requests, if they have valid fields
+abbrev pub IsHistoryResponse : History → ℕ → Response → Type 0
+IsHistoryResponse h n response = (text : List ℕ) × IsRecordPage h n text × (response ≡ text_response text)
+
 -- the response to a query; a number without a vendor is one of the founding vendor
 abbrev pub IsQueryResponse : History → Query → Response → Type 0
 IsQueryResponse h queries.List response = IsListResponse h response
@@ -52,6 +73,8 @@ IsQueryResponse h (queries.Number (Some vid) pid) response = response ≡ vendor
 IsQueryResponse h (queries.Org org) response = response ≡ org_response (org_of h org)
 IsQueryResponse h (queries.Petition id) response = response ≡ petition_response h.founding.vendor id (petition_of h id)
 IsQueryResponse h (queries.Report kind) response = IsReportResponse h kind response
+IsQueryResponse h queries.Founding response = IsFoundingResponse h response
+IsQueryResponse h (queries.History n) response = IsHistoryResponse h n response
 
 -- the response to what a message says, over a history
 abbrev pub IsResponse : History → Result Message HttpRefusal → Response → Type 0
@@ -101,6 +124,18 @@ module _ {S : Type 0} {g : Ghosts S} where
     pub leaves : Leaves newest (state_of it) (IsEither h next)
     pub ends : EndsAt fault it h next
 
+-- whether a message has one response: a page of the record needs requests with valid fields
+abbrev pub IsDetermined : History → Result Message HttpRefusal → Type 0
+IsDetermined h (Err refusal) = Unit {0}
+IsDetermined h (Ok (messages.Request request)) = Unit {0}
+IsDetermined h (Ok (messages.Query (queries.History n))) = AreValid h.deeds
+IsDetermined h (Ok (messages.Query queries.List)) = Unit {0}
+IsDetermined h (Ok (messages.Query (queries.Number vendor pid))) = Unit {0}
+IsDetermined h (Ok (messages.Query (queries.Org org))) = Unit {0}
+IsDetermined h (Ok (messages.Query (queries.Petition id))) = Unit {0}
+IsDetermined h (Ok (messages.Query queries.Founding)) = Unit {0}
+IsDetermined h (Ok (messages.Query (queries.Report kind))) = Unit {0}
+
 -- a history has one response to what a message says
 abbrev pub HasOneResponse : Type 0
-HasOneResponse = (h : History) (said : Result Message HttpRefusal) (a b : Response) → IsResponse h said a → IsResponse h said b → a ≡ b
+HasOneResponse = (h : History) (said : Result Message HttpRefusal) (a b : Response) → IsDetermined h said → IsResponse h said a → IsResponse h said b → a ≡ b

@@ -19,7 +19,7 @@ use Rattle.registry_desk.specs.Server.{Visit, IsTurn}
 
 -- nothing is kept
 abbrev pub no_texts : Kept
-no_texts = record { list = None; census = None; holders = None; petitions = None }
+no_texts = record { list = None; census = None; holders = None; petitions = None; numbers = None; organisations = None }
 
 -- the response that is kept for a query
 abbrev pub text_for : Kept → Query → Option Response
@@ -27,9 +27,13 @@ text_for kept queries.List = kept.list
 text_for kept (queries.Number vendor pid) = None
 text_for kept (queries.Org org) = None
 text_for kept (queries.Petition id) = None
+text_for kept queries.Founding = None
+text_for kept (queries.History n) = None
 text_for kept (queries.Report reports.Census) = kept.census
 text_for kept (queries.Report reports.Holders) = kept.holders
 text_for kept (queries.Report reports.Petitions) = kept.petitions
+text_for kept (queries.Report reports.Numbers) = kept.numbers
+text_for kept (queries.Report reports.Organisations) = kept.organisations
 
 -- this is kept for a query for the list or a report
 abbrev pub with_text : Kept → Query → Option Response → Kept
@@ -37,9 +41,13 @@ with_text kept queries.List text = record kept { list = text }
 with_text kept (queries.Number vendor pid) text = kept
 with_text kept (queries.Org org) text = kept
 with_text kept (queries.Petition id) text = kept
+with_text kept queries.Founding text = kept
+with_text kept (queries.History n) text = kept
 with_text kept (queries.Report reports.Census) text = record kept { census = text }
 with_text kept (queries.Report reports.Holders) text = record kept { holders = text }
 with_text kept (queries.Report reports.Petitions) text = record kept { petitions = text }
+with_text kept (queries.Report reports.Numbers) text = record kept { numbers = text }
+with_text kept (queries.Report reports.Organisations) text = record kept { organisations = text }
 
 -- what is kept beside the response to a message, while that is written
 abbrev pub kept_beside : Kept → Result Message HttpRefusal → Kept
@@ -60,6 +68,8 @@ pub record AreTextsOf (h : History) (kept : Kept) : Type 0 where
   pub census : IfSome kept.census (IsQueryResponse h (queries.Report reports.Census))
   pub holders : IfSome kept.holders (IsQueryResponse h (queries.Report reports.Holders))
   pub petitions : IfSome kept.petitions (IsQueryResponse h (queries.Report reports.Petitions))
+  pub numbers : IfSome kept.numbers (IsQueryResponse h (queries.Report reports.Numbers))
+  pub organisations : IfSome kept.organisations (IsQueryResponse h (queries.Report reports.Organisations))
 
 -- the texts are of the history that these bytes lead to, whether their message was acted on or not
 abbrev pub AreTextsAfter : History → List ℕ → Kept → Type 0

@@ -14,6 +14,8 @@ pub(crate) struct Kept {
     census: Option<Response>,
     holders: Option<Response>,
     petitions: Option<Response>,
+    numbers: Option<Response>,
+    organisations: Option<Response>,
 }
 
 impl Kept {
@@ -26,6 +28,8 @@ impl Kept {
             census: None,
             holders: None,
             petitions: None,
+            numbers: None,
+            organisations: None,
         }
     }
 
@@ -39,7 +43,13 @@ impl Kept {
             Query::Report(ReportKind::Census) => self.census.take(),
             Query::Report(ReportKind::Holders) => self.holders.take(),
             Query::Report(ReportKind::Petitions) => self.petitions.take(),
-            Query::Number { .. } | Query::Org(_) | Query::Petition(_) => None,
+            Query::Report(ReportKind::Numbers) => self.numbers.take(),
+            Query::Report(ReportKind::Organisations) => self.organisations.take(),
+            Query::Number { .. }
+            | Query::Org(_)
+            | Query::Petition(_)
+            | Query::Founding
+            | Query::History(_) => None,
         }
     }
 
@@ -52,7 +62,13 @@ impl Kept {
             Query::Report(ReportKind::Census) => self.census = Some(response),
             Query::Report(ReportKind::Holders) => self.holders = Some(response),
             Query::Report(ReportKind::Petitions) => self.petitions = Some(response),
-            Query::Number { .. } | Query::Org(_) | Query::Petition(_) => {}
+            Query::Report(ReportKind::Numbers) => self.numbers = Some(response),
+            Query::Report(ReportKind::Organisations) => self.organisations = Some(response),
+            Query::Number { .. }
+            | Query::Org(_)
+            | Query::Petition(_)
+            | Query::Founding
+            | Query::History(_) => {}
         }
     }
 

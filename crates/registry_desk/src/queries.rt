@@ -10,18 +10,18 @@ ghost use Rattle.registry_rules.specs.declared.refusal.Refusal.TheVariants as ru
 ghost use Rattle.registry_http.specs.Responses.{reply_response, text_response};
 ghost use Rattle.registry_http.specs.Resources.{number_response, org_response, petition_response};
 ghost use Rattle.registry_desk.specs.declared.fault.DeskFault.TheVariants as desk_faults;
-ghost use Rattle.registry_desk.specs.Acting.{IsAsked, IsListResponse, IsQueryResponse, IsReportResponse, vendor_number_at};
+ghost use Rattle.registry_desk.specs.Acting.{IsAsked, IsFoundingResponse, IsHistoryResponse, IsListResponse, IsQueryResponse, IsReportResponse, vendor_number_at};
 
 use crate::fault::{DeskFault, failed_by};
 use byte_streams::Outlet;
 use registry_http::{
-    Query, Response, number_response, org_response, petition_response, reply_response,
-    text_response,
+    Query, Response, founding_response, number_response, org_response, petition_response,
+    reply_response, text_response,
 };
 use registry_reports::ReportKind;
 use registry_rules::{Refusal, Reply};
 use registry_store::Registry;
-use registry_views::{document_of, report_of};
+use registry_views::{document_of, record_page, report_of};
 use sqlite::Alter;
 use std::alloc::Global;
 use usbids_text::{Document, WriteFault, write};
@@ -127,6 +127,31 @@ fn ask_report<S: Alter>(
     }
 }
 
+/// Returns the response with the founding, as it is now, and all vendors.
+fn ask_founding<S: Alter>(alloc: Global, registry: &mut Registry<S>) -> Result<Response, DeskFault>
+    ensures { IsAsked registry.old registry.new result (λ h response. IsFoundingResponse h response) }
+{
+    let vendors = registry.vendors()?;
+    let founding = registry.founding();
+    // Only for the proof: the licences ascend.
+    let _ = founding.licences.as_slice();
+    Ok(founding_response(alloc, founding, vendors.as_slice())?)
+}
+
+/// Returns the response with a page of the record, after the first `n` accepted requests.
+fn ask_history<S: Alter>(
+    alloc: Global,
+    registry: &mut Registry<S>,
+    n: u64,
+) -> Result<Response, DeskFault>
+    ensures { IsAsked registry.old registry.new result (λ h response. IsHistoryResponse h n response) }
+{
+    match record_page(alloc, registry, n) {
+        Ok(text) => Ok(text_response(text.into_bytes())),
+        Err(fault) => Err(failed_by(fault)),
+    }
+}
+
 /// Returns the response to a query.
 pub(crate) fn ask<S: Alter>(
     alloc: Global,
@@ -146,6 +171,8 @@ pub(crate) fn ask<S: Alter>(
         Query::List => ask_list(alloc, registry),
         Query::Org(slug) => ask_org(alloc, registry, slug),
         Query::Petition(id) => ask_petition(alloc, registry, *id),
+        Query::Founding => ask_founding(alloc, registry),
+        Query::History(n) => ask_history(alloc, registry, *n),
         Query::Report(kind) => ask_report(alloc, registry, *kind),
     }
 }

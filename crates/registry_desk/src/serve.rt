@@ -16,7 +16,9 @@ use crate::acting::response_to;
 use crate::fault::{DeskFault, registry_fault, unavailable_of};
 use crate::kept::Kept;
 use byte_streams::{Broken, Sink, Source};
-use registry_http::{MessageFault, Response, read_message, write_response, write_unavailable};
+use registry_http::{
+    MessageFault, Response, Routes, read_message, write_response, write_unavailable,
+};
 use registry_store::{Fault, Registry};
 use sqlite::Alter;
 use std::alloc::Global;
@@ -70,6 +72,7 @@ fn send<W: Sink>(alloc: Global, sink: &mut W, done: &Result<Response, DeskFault>
 /// was acted on.
 pub(crate) fn serve_message<R: Source, W: Sink, S: Alter>(
     alloc: Global,
+    routes: &mut Routes,
     source: &mut R,
     sink: &mut W,
     registry: &mut Registry<S>,
@@ -85,7 +88,7 @@ pub(crate) fn serve_message<R: Source, W: Sink, S: Alter>(
     ensures endures { Endures (state_of registry.old) (state_of registry.new) }
 {
     let founding = registry.founding().vendor;
-    match read_message(alloc, source, founding) {
+    match read_message(alloc, routes, source, founding) {
         Ok(said) => {
             let done = response_to(alloc, registry, kept, &said);
             let served = send(alloc, sink, &done);
@@ -124,6 +127,7 @@ pub fn serve_one<R: Source, W: Sink, S: Alter>(
     ensures kept { OnOk result (R.failures source.new ≡ R.failures source.old) }
     ensures endures { Endures (state_of registry.old) (state_of registry.new) }
 {
+    let mut routes = Routes::new();
     let mut kept = Kept::new();
-    serve_message(alloc, source, sink, registry, &mut kept)
+    serve_message(alloc, &mut routes, source, sink, registry, &mut kept)
 }

@@ -12,6 +12,7 @@ ghost use Rattle.registry_desk.specs.Kept.{AreTextsAfterVisit, AreTextsOf, no_te
 use crate::kept::Kept;
 use crate::serve::{Served, serve_message};
 use byte_streams::{Broken, Sink, Source};
+use registry_http::Routes;
 use registry_store::{Fault, Registry};
 use sqlite::Alter;
 use std::alloc::Global;
@@ -97,9 +98,10 @@ fn fault_behind(served: Result<Served, Broken>) -> Option<Fault>
 }
 
 /// Opens the next connection, serves its message, and closes it, as `serve_next` does, beside the
-/// texts that earlier connections left.
+/// texts that earlier connections left, and by the table of routes that the first one made.
 fn serve_beside<C: Connections, S: Alter>(
     alloc: Global,
+    routes: &mut Routes,
     connections: &mut C,
     registry: &mut Registry<S>,
     kept: &mut Kept,
@@ -114,7 +116,7 @@ fn serve_beside<C: Connections, S: Alter>(
     match connections.open() {
         Ok(ends) => {
             let (mut reader, mut writer) = ends;
-            let served = serve_message(alloc, &mut reader, &mut writer, registry, kept);
+            let served = serve_message(alloc, routes, &mut reader, &mut writer, registry, kept);
             connections.close(reader, writer, status_of(served));
             match fault_behind(served) {
                 None => Ok(()),
@@ -142,8 +144,9 @@ pub fn serve_next<C: Connections, S: Alter>(
     ensures none { result ≡ Err ServerStop.Connections → C.fails connections.old connections.new × (registry.new ≡ registry.old) }
     ensures endures { Endures (state_of registry.old) (state_of registry.new) }
 {
+    let mut routes = Routes::new();
     let mut kept = Kept::new();
-    serve_beside(alloc, connections, registry, &mut kept)
+    serve_beside(alloc, &mut routes, connections, registry, &mut kept)
 }
 
 /// Serves at most `count` connections, one after another, up to the first fault of the registry.
@@ -173,9 +176,10 @@ pub fn serve_all<C: Connections, S: Alter>(
         × (is_poisoned registry.old ≡ true → AreTurnedAway visits (fault_in result) × (registry.new ≡ registry.old)) }
     ensures endures { Endures (state_of registry.old) (state_of registry.new) }
 {
+    let mut routes = Routes::new();
     let mut kept = Kept::new();
     for _ in 0..count {
-        serve_beside(alloc, connections, registry, &mut kept)?;
+        serve_beside(alloc, &mut routes, connections, registry, &mut kept)?;
     }
     Ok(())
 }

@@ -5,3 +5,4 @@ pub mod AsciiLemmas
 pub mod BodyLemmas
 pub mod MessageLemmas
 pub mod ObjectLemmas
+pub mod FoundingLemmas

@@ -11,3 +11,4 @@ pub mod Statuses
 pub mod Responses
 pub mod Objects
 pub mod Resources
+pub mod Foundings

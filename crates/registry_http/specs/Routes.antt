@@ -41,7 +41,9 @@ templates =
     (with_template (codes "/list") at.List
     (with_template (codes "/imports/{org}/{vid}") at.VendorImports
     (with_template (codes "/imports/{org}") at.Imports
-    (with_template (codes "/commands") at.Commands []))))))))
+    (with_template (codes "/history/{n}") at.History
+    (with_template (codes "/founding") at.Founding
+    (with_template (codes "/commands") at.Commands []))))))))))
 
 -- the next of the remaining parts
 abbrev pub NextPart : List (List ℕ × List ℕ) → Option (List ℕ) → List (List ℕ × List ℕ) → Type 0
@@ -71,6 +73,10 @@ below_2_32 n = if nat_lt n 4294967296 then Some n else None
 unfoldable pub petition_written : List ℕ → Option ℕ
 petition_written text = if starts_with_zero text then None else option_and_then below_2_32 (length_of text)
 
+-- a count of requests: 0 to 4,294,967,295 in decimal, without leading zeros
+unfoldable pub count_written : List ℕ → Option ℕ
+count_written text = if bytes_eq text (codes "0") then Some 0 else petition_written text
+
 unfoldable pub number_route : Option (List ℕ) → Option Route
 number_route part = option_map (λ pid. Get (queries.Number None pid)) (option_and_then number_of part)
 
@@ -89,12 +95,17 @@ org_route part = option_map (λ org. Get (queries.Org org)) (option_and_then slu
 unfoldable pub petition_route : Option (List ℕ) → Option Route
 petition_route part = option_map (λ id. Get (queries.Petition id)) (option_and_then petition_written part)
 
+unfoldable pub history_route : Option (List ℕ) → Option Route
+history_route part = option_map (λ n. Get (queries.History n)) (option_and_then count_written part)
+
 unfoldable pub report_route : Option (List ℕ) → Option Route
 report_route part = option_map (λ report. Get (queries.Report report)) (option_and_then report_named part)
 
 -- the route of a path with this template and these parts
 abbrev pub route_for : Template → Option (List ℕ) → Option (List ℕ) → Option Route
 route_for at.Commands one two = Some (Post endpoints.Commands)
+route_for at.Founding one two = Some (Get queries.Founding)
+route_for at.History one two = history_route one
 route_for at.Imports one two = import_route one
 route_for at.VendorImports one two = vendor_import_route one two
 route_for at.List one two = Some (Get queries.List)

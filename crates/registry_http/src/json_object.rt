@@ -1,9 +1,9 @@
-//! Makes JSON objects of texts and whole numbers, member by member.
+//! Makes JSON objects of texts, whole numbers and arrays, member by member.
 
 ghost use Rattle.std.specs.Prelude.{◌≡◌, false, IfOk, OnOk, option_copied, string_bytes};
-ghost use Rattle.serde_json.specs.Data.{string, number, unsigned, object, put};
-ghost use Rattle.serde_json.specs.View.{view, members_view};
-ghost use Rattle.serde_json.specs.Written.{compact_text, has_float, members_have_float};
+ghost use Rattle.serde_json.specs.Data.{string, number, unsigned, array, object, put};
+ghost use Rattle.serde_json.specs.View.{view, items_view, members_view};
+ghost use Rattle.serde_json.specs.Written.{compact_text, has_float, items_have_float, members_have_float};
 ghost use Rattle.registry_http.specs.Objects.{put_text, put_if};
 
 use serde_json::{Map, Number, Value};
@@ -23,7 +23,8 @@ fn put(
     Ok(())
 }
 
-fn text_value(alloc: Global, text: &str) -> Result<Value, NoMemory>
+/// Makes a text.
+pub(crate) fn text_value(alloc: Global, text: &str) -> Result<Value, NoMemory>
     ensures { IfOk result (λ value. view value ≡ string text.now) }
 {
     Ok(Value::String(String::from_str(alloc, text)?))
@@ -78,7 +79,21 @@ pub(crate) fn put_number(
     put(alloc, members, key, number_value(count))
 }
 
-fn object_value(members: Map<String, Value>) -> Value
+/// Puts an array at a key.
+pub(crate) fn put_array(
+    alloc: Global,
+    members: &mut Map<String, Value>,
+    key: &str,
+    items: Vec<Value>,
+) -> Result<(), NoMemory>
+    ensures value { OnOk result (members_view members.new.entries ≡ put key.now (array (items_view items.items)) (members_view members.old.entries)) }
+    ensures plain { OnOk result (items_have_float (items_view items.items) ≡ false → members_have_float (members_view members.old.entries) ≡ false → members_have_float (members_view members.new.entries) ≡ false) }
+{
+    put(alloc, members, key, Value::Array(items))
+}
+
+/// Makes an object.
+pub(crate) fn object_value(members: Map<String, Value>) -> Value
     ensures { view result ≡ object (members_view members.entries) }
 {
     Value::Object(members)

@@ -3,6 +3,7 @@
 
 mod body;
 mod fields;
+mod founding;
 mod head;
 mod json_object;
 mod message;
@@ -18,11 +19,13 @@ mod status;
 mod unavailable;
 mod write;
 
+pub use founding::founding_response;
 pub use head::MessageFault;
 pub use message::{Message, read_message, says_one_thing};
 pub use refusal::{Allow, HttpRefusal};
 pub use resources::{number_response, org_response, petition_response};
 pub use response::{Body, ContentType, Response, refusal_response, reply_response, text_response};
 pub use route::Query;
+pub use routes::Routes;
 pub use unavailable::Unavailable;
 pub use write::{write_response, write_unavailable};

@@ -9,6 +9,7 @@ ghost use Rattle.registry_rules.specs.declared.order.Request.{Request};
 ghost use Rattle.registry_http.specs.Bodies.{body_in, IsFed};
 ghost use Rattle.registry_http.specs.declared.route.Endpoint.TheVariants as endpoints;
 ghost use Rattle.registry_http.specs.Reading.{head_in};
+ghost use Rattle.registry_http.specs.Routes.{templates};
 ghost use Rattle.registry_http.specs.Messages.{BodySays, HeadSays, Says};
 ghost use Rattle.registry_http.specs.declared.message.Message.{Message};
 ghost use Rattle.registry_http.specs.declared.refusal.HttpRefusal.{HttpRefusal};
@@ -18,8 +19,10 @@ use crate::head::{HeadEnd, MessageFault, read_head};
 use crate::reading::{Head, OrderHead, head_in};
 use crate::refusal::HttpRefusal;
 use crate::route::{Endpoint, Query};
+use crate::routes::{Routes, Template};
 use byte_streams::Source;
 use httparse::spans::{EMPTY_HEADER_SPAN, HeaderSpan, RequestSpans};
+use matchit::Router;
 use registry_rules::{Rejection, Request};
 use registry_wire::{WireRefusal, import_request, request_from_json};
 use std::alloc::Global;
@@ -172,16 +175,19 @@ fn read_order<R: Source>(
 /// Returns the query or order that the head in the buffer asks for, or a refusal.
 fn head_at(
     alloc: Global,
+    router: &Router<Template>,
     buffer: &[u8],
     spans: &[HeaderSpan],
     head: RequestSpans,
 ) -> Result<Result<Head, HttpRefusal>, MessageFault>
-    requires { IsRequestWithin buffer.now spans.now head }
+    requires within { IsRequestWithin buffer.now spans.now head }
+    requires whole { router.now ≡ templates }
     ensures ok { IfOk result (λ call. call ≡ head_in (span_bytes buffer.now head.method) (span_bytes buffer.now head.path) (map (header_bytes buffer.now) (take head.headers spans.now))) }
     ensures kind { result ≡ Err MessageFault.Broken → ⊥ }
 {
     match head_in(
         alloc,
+        router,
         head.method.of(buffer),
         head.path.of(buffer),
         buffer,
@@ -222,6 +228,7 @@ fn read_rest<R: Source>(
 /// Reads the rest of a message whose head is at the front of the buffer.
 fn read_after_head<R: Source>(
     alloc: Global,
+    router: &Router<Template>,
     source: &mut R,
     buffer: &mut Vec<u8>,
     spans: &[HeaderSpan],
@@ -230,13 +237,14 @@ fn read_after_head<R: Source>(
 ) -> Result<Result<Message, HttpRefusal>, MessageFault>
     requires within { IsRequestWithin buffer.old.items spans.now head }
     requires front { head.len ≤ 8192 }
+    requires whole { router.now ≡ templates }
     ensures ok { IfOk result (λ said. (rest : List ℕ) × MayGive (R.remaining source.old) rest
         × HeadSays founding (head_in (span_bytes buffer.old.items head.method) (span_bytes buffer.old.items head.path) (map (header_bytes buffer.old.items) (take head.headers spans.now))) (drop head.len buffer.old.items ++ rest) said) }
     ensures kept { OnOk result (R.failures source.new ≡ R.failures source.old) }
     ensures short { result ≡ Err MessageFault.NoMemory → R.failures source.new ≡ R.failures source.old }
     ensures broken { result ≡ Err MessageFault.Broken → HasFailed (R.failures source.old) (R.failures source.new) }
 {
-    match head_at(alloc, buffer, spans, head) {
+    match head_at(alloc, router, buffer, spans, head) {
         Ok(Ok(call)) => read_rest(alloc, source, buffer, head.len, founding, call),
         Ok(Err(refusal)) => Ok(Err(refusal)),
         Err(fault) => Err(fault),
@@ -244,7 +252,8 @@ fn read_after_head<R: Source>(
 }
 
 /// Reads one message to a registry with this founding vendor. Returns a query, a request, or the
-/// refusal of the first fault. Reads no further once the bytes read decide the result.
+/// refusal of the first fault. Reads no further once the bytes read decide the result. The first
+/// message makes the table of the served paths.
 ///
 /// A message needs at most 8,192 bytes of memory for its head and 16,384 for the body of an order
 /// in JSON, besides the request itself. An imported list is read in pieces and needs the memory of
@@ -254,6 +263,7 @@ fn read_after_head<R: Source>(
 /// out of memory.
 pub fn read_message<R: Source>(
     alloc: Global,
+    routes: &mut Routes,
     source: &mut R,
     founding: Vid,
 ) -> Result<Result<Message, HttpRefusal>, MessageFault>
@@ -265,9 +275,18 @@ pub fn read_message<R: Source>(
     let mut buffer = Vec::new(alloc);
     let mut spans = [EMPTY_HEADER_SPAN; 64];
     match read_head(source, &mut buffer, &mut spans) {
-        Ok(HeadEnd::Whole(head)) => {
-            read_after_head(alloc, source, &mut buffer, &spans, head, founding)
-        }
+        Ok(HeadEnd::Whole(head)) => match routes.router(alloc) {
+            Ok(router) => read_after_head(
+                alloc,
+                router,
+                source,
+                &mut buffer,
+                &spans,
+                head,
+                founding,
+            ),
+            Err(NoMemory) => Err(MessageFault::NoMemory),
+        },
         Ok(HeadEnd::Missing) => Ok(Err(HttpRefusal::Wire(WireRefusal::BadHead))),
         Err(fault) => Err(fault),
     }

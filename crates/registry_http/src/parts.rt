@@ -2,7 +2,7 @@
 
 ghost use Rattle.std.specs.Prelude.{◌≡◌, IfOk, option_copied};
 ghost use Rattle.registry_wire.specs.Kinds.{slug_of};
-ghost use Rattle.registry_http.specs.Routes.{starts_with_zero, petition_written, number_route, vendor_number_route, import_route, vendor_import_route, org_route, petition_route, report_route};
+ghost use Rattle.registry_http.specs.Routes.{starts_with_zero, petition_written, count_written, number_route, vendor_number_route, import_route, vendor_import_route, org_route, petition_route, history_route, report_route};
 
 use crate::fields::length_of;
 use crate::route::{Endpoint, Query, Route};
@@ -43,6 +43,17 @@ fn petition_written(text: &[u8]) -> Option<u32>
     }
 }
 
+#[tactic(auto, unfolding(crate::specs::Routes::count_written))]
+fn count_written(text: &[u8]) -> Option<u32>
+    ensures { result ≡ count_written text.now }
+{
+    if text == "0".as_bytes() {
+        Some(0)
+    } else {
+        petition_written(text)
+    }
+}
+
 #[tactic(auto, unfolding(crate::specs::Routes::number_route))]
 pub(crate) fn number_route(pid: Option<&str>) -> Option<Route>
     ensures { result ≡ number_route (option_copied pid.entry) }
@@ -69,6 +80,14 @@ pub(crate) fn petition_route(id: Option<&str>) -> Option<Route>
 {
     let id = petition_written(id?.as_bytes())?;
     Some(Route::Get(Query::Petition(id)))
+}
+
+#[tactic(auto, unfolding(crate::specs::Routes::history_route))]
+pub(crate) fn history_route(n: Option<&str>) -> Option<Route>
+    ensures { result ≡ history_route (option_copied n.entry) }
+{
+    let n = count_written(n?.as_bytes())?;
+    Some(Route::Get(Query::History(u64::from(n))))
 }
 
 #[tactic(auto, unfolding(crate::specs::Routes::report_route))]

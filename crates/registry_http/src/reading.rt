@@ -5,6 +5,7 @@ ghost use Rattle.httparse.specs.Spans.{IsHeaderWithin, header_bytes};
 ghost use Rattle.registry_rules.specs.Gives.{Gives};
 ghost use Rattle.registry_http.specs.Refusals.{found_or};
 ghost use Rattle.registry_wire.specs.Kinds.{slug_of, key_of};
+ghost use Rattle.registry_http.specs.Routes.{templates};
 ghost use Rattle.registry_http.specs.Reading.{length_in, header_in, body_limit, within, order_head, head_for, head_in};
 ghost use Rattle.registry_wire.specs.declared.refusal.WireRefusal.TheVariants as refusals;
 ghost use Rattle.registry_wire.specs.declared.refusal.Header.TheVariants as headers;
@@ -13,8 +14,9 @@ use crate::fields::{has_field, length_of, only_value};
 use crate::parts::slug_of;
 use crate::refusal::{Allow, HttpRefusal};
 use crate::route::{Endpoint, Query, Route};
-use crate::routes::route_of;
+use crate::routes::{Template, route_of};
 use httparse::spans::HeaderSpan;
+use matchit::Router;
 use registry_rules::Rejection;
 use registry_wire::{Header, WireRefusal};
 use std::alloc::Global;
@@ -178,15 +180,17 @@ fn head_for(
 #[tactic(auto, unfolding(crate::specs::Reading::head_in))]
 pub(crate) fn head_in(
     alloc: Global,
+    router: &Router<Template>,
     method: &[u8],
     target: &[u8],
     buffer: &[u8],
     spans: &[HeaderSpan],
 ) -> Result<Head, Rejection<HttpRefusal>>
-    requires { All (IsHeaderWithin (length buffer.now)) spans.now }
+    requires within { All (IsHeaderWithin (length buffer.now)) spans.now }
+    requires whole { router.now ≡ templates }
     ensures { Gives result (head_in method.now target.now (map (header_bytes buffer.now) spans.now)) }
 {
-    match route_of(alloc, target)? {
+    match route_of(alloc, router, target)? {
         Some(route) => head_for(alloc, route, method, buffer, spans),
         None => Err(Rejection::Refused(HttpRefusal::Wire(WireRefusal::NoRoute))),
     }

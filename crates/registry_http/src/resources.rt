@@ -121,7 +121,10 @@ fn put_state(
 
 /// Makes a response of status 200 with an object.
 #[tactic(auto, unfolding(crate::specs::Resources::found_response))]
-fn found_response(alloc: Global, members: Map<String, Value>) -> Result<Response, NoMemory>
+pub(crate) fn found_response(
+    alloc: Global,
+    members: Map<String, Value>,
+) -> Result<Response, NoMemory>
     requires { members_have_float (members_view members.entries) ≡ false }
     ensures { IfOk result (λ response. response ≡ found_response (members_view members.entries)) }
 {

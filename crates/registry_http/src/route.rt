@@ -14,6 +14,10 @@ pub enum Query {
     Org(Slug),
     /// The petition with this number.
     Petition(u32),
+    /// The founding, with the licences and the vendors of now.
+    Founding,
+    /// A page of the history: its accepted requests after this many.
+    History(u64),
     /// A report on the whole registry.
     Report(ReportKind),
 }

@@ -1,24 +1,27 @@
 //! The served paths, and the route of a message's target.
 
-ghost use Rattle.std.specs.Prelude.{◌≡◌, ◌≤◌, All, OnOk, IfOk, option_copied, length, position};
+ghost use Rattle.std.specs.Prelude.{◌≡◌, ◌≤◌, All, OnOk, IfOk, IsSome, option_copied, length, position};
 ghost use Rattle.std.specs.Str.{IsAscii, IsUtf8};
 ghost use Rattle.std.specs.List.{list_all};
 ghost use Rattle.matchit.specs.Params.{walk};
 ghost use Rattle.registry_http.specs.Routes.{templates, with_template, first_two, is_ascii, path_end, is_question_mark, path_of, ascii_path, route_of, route_of_path, route_for, NextPart};
 
 use crate::parts::{
-    import_route, number_route, org_route, petition_route, report_route, vendor_import_route,
-    vendor_number_route,
+    history_route, import_route, number_route, org_route, petition_route, report_route,
+    vendor_import_route, vendor_number_route,
 };
 use crate::route::{Endpoint, Query, Route};
 use matchit::{Params, ParamsIter, Router};
 use std::alloc::Global;
+use std::marker::Model;
 use usbnum_core::NoMemory;
 
 /// A served path, before its parts are read.
 #[derive(Clone, Copy, Debug, PartialEq, Eq)]
 pub(crate) enum Template {
     Commands,
+    Founding,
+    History,
     Imports,
     VendorImports,
     List,
@@ -46,6 +49,8 @@ fn templates(alloc: Global) -> Result<Router<Template>, NoMemory>
 {
     let mut router = Router::new(alloc);
     add(&mut router, "/commands", Template::Commands)?;
+    add(&mut router, "/founding", Template::Founding)?;
+    add(&mut router, "/history/{n}", Template::History)?;
     add(&mut router, "/imports/{org}", Template::Imports)?;
     add(&mut router, "/imports/{org}/{vid}", Template::VendorImports)?;
     add(&mut router, "/list", Template::List)?;
@@ -91,6 +96,8 @@ fn route_for(
 {
     match template {
         Template::Commands => Ok(Some(Route::Post(Endpoint::Commands))),
+        Template::Founding => Ok(Some(Route::Get(Query::Founding))),
+        Template::History => Ok(history_route(one)),
         Template::Imports => import_route(alloc, one),
         Template::VendorImports => vendor_import_route(alloc, one, two),
         Template::List => Ok(Some(Route::Get(Query::List))),
@@ -167,14 +174,61 @@ fn ascii_path(path: &[u8]) -> Option<&str>
 
 /// Returns the route of a message's target, if it is served.
 #[tactic(auto, unfolding(crate::specs::Routes::route_of))]
-pub(crate) fn route_of(alloc: Global, target: &[u8]) -> Result<Option<Route>, NoMemory>
+pub(crate) fn route_of(
+    alloc: Global,
+    router: &Router<Template>,
+    target: &[u8],
+) -> Result<Option<Route>, NoMemory>
+    requires { router.now ≡ templates }
     ensures { IfOk result (λ found. found ≡ route_of target.now) }
 {
     match ascii_path(path_of(target)) {
-        Some(path) => {
-            let router = templates(alloc)?;
-            route_of_path(alloc, &router, path)
-        }
+        Some(path) => route_of_path(alloc, router, path),
         None => Ok(None),
+    }
+}
+
+/// The table of the served paths. It is made once, for the first message.
+#[derive(Drop)]
+pub struct Routes {
+    router: Option<Router<Template>>,
+}
+
+impl Model for Routes {
+    ghost use Rattle.std.specs.Prelude.{◌≡◌, Option, IfSome};
+    ghost use Rattle.registry_http.specs.Routes.{Templates, templates};
+
+    ghost Value = { Option Templates };
+
+    ghost view = { λ routes. routes.router };
+
+    ghost invariant = { λ routes. IfSome routes.router (λ router. router ≡ templates) };
+}
+
+impl Routes {
+    /// Makes an empty table, which the first message fills.
+    pub fn new() -> Routes {
+        Routes { router: None }
+    }
+
+    /// Makes the router, unless it is there.
+    fn fill(&mut self, alloc: Global) -> Result<(), NoMemory>
+        ensures { OnOk result (IsSome self.new) }
+    {
+        if self.router.is_none() {
+            self.router = Some(templates(alloc)?);
+        }
+        Ok(())
+    }
+
+    /// Returns the router of the served paths.
+    pub(crate) fn router(&mut self, alloc: Global) -> Result<&Router<Template>, NoMemory>
+        ensures { IfOk result (λ router. router.now ≡ templates) }
+    {
+        self.fill(alloc)?;
+        match &self.router {
+            Some(router) => Ok(router),
+            None => unreachable!(),
+        }
     }
 }

@@ -22,6 +22,7 @@ fn of_bytes(alloc: Global, kind: &str, bytes: &[u8]) -> Result<Vec<u8>, RowFault
 
 fn of_resources(alloc: Global, kind: &str, text: &str) -> Result<Vec<u8>, RowFault> {
     match kind {
+        "founding" => resources::founding(alloc, text),
         "number" => resources::number(alloc, text),
         "org" => resources::org(alloc, text),
         "no-org" => resources::no_org(alloc),

@@ -3,7 +3,9 @@
 use crate::ends::Drip;
 use crate::responses::response_text;
 use byte_streams::{Inlet, Source};
-use registry_http::{HttpRefusal, Message, MessageFault, Query, read_message, refusal_response};
+use registry_http::{
+    HttpRefusal, Message, MessageFault, Query, Routes, read_message, refusal_response,
+};
 use registry_reports::ReportKind;
 use row_records::canonical;
 use row_texts::{RowFault, text_of};
@@ -22,6 +24,8 @@ fn report_text(alloc: Global, report: ReportKind) -> Result<Vec<u8>, RowFault> {
         ReportKind::Census => text_of(alloc, "census"),
         ReportKind::Holders => text_of(alloc, "holders"),
         ReportKind::Petitions => text_of(alloc, "petitions"),
+        ReportKind::Numbers => text_of(alloc, "numbers"),
+        ReportKind::Organisations => text_of(alloc, "organisations"),
     }
 }
 
@@ -31,6 +35,8 @@ fn query_text(alloc: Global, query: &Query) -> Result<Vec<u8>, RowFault> {
         Query::Number { vendor, pid } => number_text(alloc, *vendor, *pid),
         Query::Org(org) => Ok(format!(in alloc; "organisation {org}")?.into_bytes()),
         Query::Petition(id) => Ok(format!(in alloc; "petition {id}")?.into_bytes()),
+        Query::Founding => text_of(alloc, "founding"),
+        Query::History(n) => Ok(format!(in alloc; "history {n}")?.into_bytes()),
         Query::Report(report) => report_text(alloc, *report),
     }
 }
@@ -48,7 +54,7 @@ fn refusal_text(alloc: Global, refusal: HttpRefusal) -> Result<Vec<u8>, RowFault
 
 // Reads a message, and returns the query, the request, or the response to the first fault.
 fn read<R: Source>(alloc: Global, source: &mut R, founding: Vid) -> Result<Vec<u8>, RowFault> {
-    match read_message(alloc, source, founding) {
+    match read_message(alloc, &mut Routes::new(), source, founding) {
         Ok(Ok(message)) => said_text(alloc, &message),
         Ok(Err(refusal)) => refusal_text(alloc, refusal),
         Err(MessageFault::Broken) => text_of(alloc, "broken"),

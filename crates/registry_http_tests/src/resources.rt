@@ -1,10 +1,10 @@
 //! Numbers, organisations and petitions, and the whole response for each.
 
 use crate::responses::response_text;
-use registry_http::{number_response, org_response, petition_response};
-use registry_rules::{Entry, Org, Petition, Terms};
-use row_records::{field, link, maybe_vid, pid, slug, title, vid};
-use row_texts::{RowFault, number_of};
+use registry_http::{founding_response, number_response, org_response, petition_response};
+use registry_rules::{Entry, Founding, Org, Petition, Terms, Vendor};
+use row_records::{field, founding_of, maybe_vid, pid, slug, vid};
+use row_texts::{RowFault, bytes_of, cut, number_of};
 use std::alloc::Global;
 use usbnum_core::{Pid, Vid};
 
@@ -56,25 +56,13 @@ pub(crate) fn number(alloc: Global, text: &str) -> Result<Vec<u8>, RowFault> {
     }
 }
 
-fn org_of(alloc: Global, text: &str) -> Result<Org, RowFault> {
-    let (org, rest) = field(text)?;
-    let (keeper, rest) = field(rest)?;
-    let (site, name) = field(rest)?;
-    Ok(Org {
-        slug: slug(alloc, org)?,
-        title: title(alloc, name)?,
-        site: link(alloc, site)?,
-        keeper: slug(alloc, keeper)?,
-    })
-}
-
 fn org_text(alloc: Global, org: Option<&Org>) -> Result<Vec<u8>, RowFault> {
     response_text(alloc, &org_response(alloc, org)?)
 }
 
 /// Shows the response to a query for an organisation: its slug, keeper, site and title.
 pub(crate) fn org(alloc: Global, text: &str) -> Result<Vec<u8>, RowFault> {
-    let org = org_of(alloc, text)?;
+    let org = row_records::org(alloc, text)?;
     org_text(alloc, Some(&org))
 }
 
@@ -97,4 +85,21 @@ pub(crate) fn petition(alloc: Global, text: &str) -> Result<Vec<u8>, RowFault> {
 /// Shows the response to a query for a petition that is not there.
 pub(crate) fn no_petition(alloc: Global, text: &str) -> Result<Vec<u8>, RowFault> {
     petition_text(alloc, number_of(text)?, None)
+}
+
+fn founding_text(
+    alloc: Global,
+    founding: &Founding,
+    vendors: &[Vendor],
+) -> Result<Vec<u8>, RowFault> {
+    response_text(alloc, &founding_response(alloc, founding, vendors)?)
+}
+
+/// Shows the response to a query for the founding: the founding file, and the vendors of its
+/// registry.
+pub(crate) fn founding(alloc: Global, text: &str) -> Result<Vec<u8>, RowFault> {
+    let (file, vendors) = cut(text)?;
+    let founding = founding_of(alloc, &bytes_of(alloc, file)?)?;
+    let vendors = row_records::vendors(alloc, vendors)?;
+    founding_text(alloc, &founding, &vendors)
 }

@@ -2,3 +2,8 @@ pub mod SoundLemmas
 pub mod FreshLemmas
 pub mod TakingLemmas
 pub mod RoundTripLemmas
+pub mod TextLemmas
+pub mod KindLemmas
+pub mod AcceptedLemmas
+pub mod LineLemmas
+pub mod WholeLemmas

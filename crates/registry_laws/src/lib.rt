@@ -1,8 +1,9 @@
-//! Laws of lists that are exported, and then read or imported.
+//! Laws of lists that are exported, and then read or imported, and of the lines of a record.
 #![tactic(auto)]
 
 ghost use Rattle.registry_laws.specs.Exports.{ReadsAsItself, IsReadBack};
 ghost use Rattle.registry_laws.specs.Imports.{TakesOver, CompletesList, GivesSameList};
+ghost use Rattle.registry_laws.specs.Records.{ReadsAccepted, ReadsFounding, HasOwnLine, HasOwnFoundingLine, KeepsWholeHistory};
 
 /// The text of an exported list is the text of that list.
 pub fn reads_as_itself()
@@ -30,4 +31,30 @@ pub fn completes_list()
 /// have the same list.
 pub fn gives_same_list()
     ensures { GivesSameList }
+{}
+
+/// The line of an accepted request is read as that request with its reply.
+pub fn reads_accepted()
+    ensures { ReadsAccepted }
+{}
+
+/// The line of a founding is read as that founding.
+pub fn reads_founding()
+    ensures { ReadsFounding }
+{}
+
+/// Different accepted requests have different lines.
+pub fn has_own_line()
+    ensures { HasOwnLine }
+{}
+
+/// Different foundings have different lines.
+pub fn has_own_founding_line()
+    ensures { HasOwnFoundingLine }
+{}
+
+/// The record of a legal history is read as its founding and its accepted requests. These make the
+/// same history of a new registry, with the same replies.
+pub fn keeps_whole_history()
+    ensures { KeepsWholeHistory }
 {}

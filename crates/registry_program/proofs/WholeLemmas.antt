@@ -12,6 +12,7 @@ use Rattle.byte_streams.specs.declared.streams.Sink as sink
 use Rattle.byte_streams.specs.declared.streams.Source as source
 use Rattle.usbids_text.specs.Moments.{Moment}
 use Rattle.usbnum_core.specs.declared.error.NoMemory.{NoMemory}
+use Rattle.registry_rules.specs.Accepted.{AreValid}
 use Rattle.registry_rules.specs.History.{History, founded}
 use Rattle.registry_rules.specs.Run.{after}
 use Rattle.registry_tables.specs.Rows.{newest}
@@ -22,40 +23,37 @@ use Rattle.registry_store.specs.Queries.{IsUntouched}
 use Rattle.registry_store.specs.Reopen.{FilesHoldEither, IsEither}
 use Rattle.registry_store.proofs.CrashLemmas.{closed_clean, in_newest}
 use Rattle.registry_store.proofs.RunLemmas.{leaves_weaker}
-use Rattle.registry_arguments.specs.declared.command.Command.{Command}
-use Rattle.registry_arguments.specs.declared.command.Command.TheVariants as command
 use Rattle.registry_commands.specs.declared.arguments.BadArgument.{BadArgument}
 use Rattle.registry_commands.specs.declared.importing.Import.{Import}
 use Rattle.registry_commands.specs.declared.messages.Failure.{Failure}
 use Rattle.registry_reports.specs.declared.kinds.ReportKind.{ReportKind}
 use Rattle.registry_commands.specs.declared.status.ExitStatus.{ExitStatus}
 use Rattle.registry_commands.specs.declared.status.ExitStatus.TheVariants.{Success, Failed}
-use Rattle.registry_commands.specs.Ends.{Ends, Output, Sunk, effect}
+use Rattle.registry_commands.specs.Ends.{Ends, Output, Receives, Sunk, effect}
 use Rattle.registry_commands.specs.Found.{IsFoundedBy, attempt}
-use Rattle.registry_reports.specs.Kinds.{report_named}
+use Rattle.registry_commands.specs.Recorded.{record_text}
 use Rattle.registry_commands.proofs.ApplyLemmas.{applied_endures}
 use Rattle.registry_commands.proofs.ReopenLemmas.{at_place}
 use Rattle.registry_desk.specs.declared.server.Connections as connections
 use Rattle.registry_desk.specs.Server.{fault_in}
 use Rattle.registry_program.specs.declared.host.Host as host
-use Rattle.registry_program.specs.Commands.{ActsOnFile, Applies, ExportsAs, FoundsIn, ImportsAs, ImportsFile, ReportsAs, WritesList, WritesReport}
+use Rattle.registry_program.specs.Commands.{ActsOnFile, Applies, ExportsAs, FoundsIn, ImportsAs, ImportsFile, ReportsAs, WritesList, WritesRecord, WritesReport}
 use Rattle.registry_program.specs.Outputs.{earlier}
-use Rattle.registry_program.specs.Performing.{Performs}
 use Rattle.registry_program.specs.Serving.{Serves, ServesOn, limit_of}
 use Rattle.registry_program.specs.Stores.{IsClosed, IsOver, Runs, TheRegistry}
-use Rattle.registry_program.specs.Whole.{AppliesWholly, AreLeftAfter, ExportsWhollyAs, FoundsWholly, ImportsWhollyAs, IsAfterImport, IsAfterLines, IsAppliedTo, IsCarriedOn, IsFoundedWholly, IsImportedTo, IsListed, IsReadFrom, IsReportedOn, IsServedTo, IsUnbegun, IsUsed, IsWhole, LeadsTo, ReportsWholly, ServesWholly, Stays, UnlessStopped}
+use Rattle.registry_program.specs.Whole.{AppliesWholly, AreLeftAfter, ExportsWhollyAs, FoundsWholly, ImportsWhollyAs, IsAfterImport, IsAfterLines, IsAppliedTo, IsCarriedOn, IsFoundedWholly, IsImportedTo, IsListed, IsReadFrom, IsRecordedOn, IsReportedOn, IsServedTo, IsUnbegun, IsUsed, LeadsTo, ReportsWholly, ServesWholly, Stays, UnlessStopped}
 use Rattle.registry_program.proofs.LeavesLemmas.{success_or, same_of_either, LeavesSome, leaves_itself, stayed, applied, unacted, LeavesImport, imported, import_endures, served}
 
 module _ {H F I : Type 0} (m : host.Ghosts H F I) (d : disk.Ghosts F) where
   -- unless closing failed after the status Success, the status is the one before
-  kept_unless_failed : (conn : Held (FileStore F d)) (files : Files F) (errors errors_new : Sunk) (before status : ExitStatus) → IsClosed m d conn files errors errors_new before status
+  pub kept_unless_failed : (conn : Held (FileStore F d)) (files : Files F) (errors errors_new : Sunk) (before status : ExitStatus) → IsClosed m d conn files errors errors_new before status
       → ((before ≡ Success) × (status ≡ Failed)) ⊎ (status ≡ before)
   kept_unless_failed conn files errors errors_new before status is = elim (success_or before) [
     | inl success ↦ elim (is.well success) [ inl same ↦ inr (same.0 ∙ sym success) | inr failed ↦ inl (success, failed.0) ]
     | inr other ↦ inr (is.kept other).0
   ]
 
-  runs_whole : (old new : H) (path : List ℕ) (ends : Ends) (Does : H → H → TheRegistry m d → TheRegistry m d → Ends → Type 0) (P : Type 0)
+  pub runs_whole : (old new : H) (path : List ℕ) (ends : Ends) (Does : H → H → TheRegistry m d → TheRegistry m d → Ends → Type 0) (P : Type 0)
       → ((over : IsOver m d old new path ends Does) → ends.status ≡ over.before → P) → Runs m d old new path ends Does → UnlessStopped m d old new path ends Does P
   runs_whole old new path ends Does P follows run = elim run [
     | inl not ↦ inl not
@@ -89,7 +87,7 @@ module _ {H F I : Type 0} (m : host.Ghosts H F I) (d : disk.Ghosts F) where
         let left = does it.0 it.1 it.2 clean in
         (left.0, left.1, left.2, over.closes.closed.holds same newest left.0 left.1 (in_newest (state_of over.after) (IsEither left.0 left.1) (λ _. left.3)) honest))
 
-    carried : (After : History → History → History → Type 0)
+    pub carried : (After : History → History → History → Type 0)
         → ((h : History) → Represents over.it h → HasCleanDisk (state_of over.after) → LeavesSome over.after (After h)) → IsCarriedOn m d old new path After
     carried After does = record {
       files = over.closes.files;
@@ -132,8 +130,12 @@ module _ {H F I : Type 0} (m : host.Ghosts H F I) (d : disk.Ghosts F) where
     ],
   ))
 
+  pub record_whole : (old new : H) (path : List ℕ) (from : Option ℕ) (ends : Ends) → Runs m d old new path ends (WritesRecord from) → UnlessStopped m d old new path ends (WritesRecord from) (IsCarriedOn m d old new path (IsRecordedOn from ends))
+  record_whole old new path from ends = show_whole old new path ends (WritesRecord from) (λ h. AreValid h.deeds → Receives ends.out (record_text h from)) (λ over.
+      let is = over.does.1 in (is.left, λ h stands clean success. is.whole success h stands clean))
+
   module _ (s : source.Ghosts I) where
-    apply_whole : (old new : H) (path file : List ℕ) (a : ℕ) (ends : Ends) → Applies m d s old new path file a ends → AppliesWholly m d s old new path file a ends
+    pub apply_whole : (old new : H) (path file : List ℕ) (a : ℕ) (ends : Ends) → Applies m d s old new path file a ends → AppliesWholly m d s old new path file a ends
     apply_whole old new path file a ends = runs_whole old new path ends (ActsOnFile m s file a) (IsAppliedTo m d s old new path file a ends ⊎ IsUnbegun m d old new path ends) (λ over same. elim over.does [
       | inl read ↦
           let did = effect over.it over.after (earlier ends over.errors over.before) in
@@ -171,16 +173,16 @@ module _ {H F I : Type 0} (m : host.Ghosts H F I) (d : disk.Ghosts F) where
       | inr not ↦ inr (unread old new path ends (ImportsFile m s list import) over same not.2.0 not.2.1.1 not.2.1.0)
     ])
 
-    imports_whole : (old new : H) (path list : List ℕ) (asked : Result (Result Import BadArgument) NoMemory) (ends : Ends) → ImportsAs m d s old new path list asked ends → ImportsWhollyAs m d s old new path list asked ends
+    pub imports_whole : (old new : H) (path list : List ℕ) (asked : Result (Result Import BadArgument) NoMemory) (ends : Ends) → ImportsAs m d s old new path list asked ends → ImportsWhollyAs m d s old new path list asked ends
     imports_whole old new path list (Ok (Ok import)) ends is = import_whole old new path list import ends is
     imports_whole old new path list (Ok (Err argument)) ends is = is
     imports_whole old new path list (Err none) ends is = is
 
-    exports_whole : (old new : H) (path : List ℕ) (read : Result (Option Moment) BadArgument) (ends : Ends) → ExportsAs m d s old new path read ends → ExportsWhollyAs m d old new path read ends
+    pub exports_whole : (old new : H) (path : List ℕ) (read : Result (Option Moment) BadArgument) (ends : Ends) → ExportsAs m d s old new path read ends → ExportsWhollyAs m d old new path read ends
     exports_whole old new path (Ok stamp) ends is = list_whole old new path stamp ends is
     exports_whole old new path (Err argument) ends is = is
 
-    reports_whole : (old new : H) (path : List ℕ) (name : Option ReportKind) (ends : Ends) → ReportsAs m d s old new path name ends → ReportsWholly m d old new path name ends
+    pub reports_whole : (old new : H) (path : List ℕ) (name : Option ReportKind) (ends : Ends) → ReportsAs m d s old new path name ends → ReportsWholly m d old new path name ends
     reports_whole old new path (Some name) ends is = report_whole old new path name ends is
     reports_whole old new path None ends is = is
 
@@ -214,7 +216,7 @@ module _ {H F I : Type 0} (m : host.Ghosts H F I) (d : disk.Ghosts F) where
       ]
     ]
 
-    found_whole : (old new : H) (path founding : List ℕ) (ends : Ends) → FoundsIn m d s old new path founding ends → FoundsWholly m d s old new path founding ends
+    pub found_whole : (old new : H) (path founding : List ℕ) (ends : Ends) → FoundsIn m d s old new path founding ends → FoundsWholly m d s old new path founding ends
     found_whole old new path founding ends is well = elim is [
       | inl not ↦ absurd (cc (not.2.1, well))
       | inr on ↦
@@ -228,7 +230,7 @@ module _ {H F I : Type 0} (m : host.Ghosts H F I) (d : disk.Ghosts F) where
     ]
 
     module _ {R W IN : Type 0} (c : connections.Ghosts H R W) (r : source.Ghosts R) (w : sink.Ghosts W) (i : source.Ghosts IN) where
-      serves_whole : (old new : H) (path : List ℕ) (port limit : ℕ) (ends : Ends) → Serves m d c r w old new path port limit ends → ServesWholly m d c r w old new path port limit ends
+      pub serves_whole : (old new : H) (path : List ℕ) (port limit : ℕ) (ends : Ends) → Serves m d c r w old new path port limit ends → ServesWholly m d c r w old new path port limit ends
       serves_whole old new path port limit ends = runs_whole old new path ends (ServesOn m c r w port limit) (IsServedTo m d c r w old new path port ⊎ IsUnbegun m d old new path ends) (λ over same. elim over.does [
         | inl on ↦
             let all = on.served.served in
@@ -244,13 +246,3 @@ module _ {H F I : Type 0} (m : host.Ghosts H F I) (d : disk.Ghosts F) where
             })
         | inr not ↦ inr (unread old new path ends (ServesOn m c r w port limit) over same not.1 not.2.1 not.2.0)
       ])
-
-      pub performs_whole : (command : Command (List ℕ)) (old new : H) (input input_new : IN) (ends : Ends) → Performs m d s c r w i command old new input input_new ends → IsWhole m d s c r w command old new ends
-      performs_whole command.Trial old new input input_new ends is = tt
-      performs_whole (command.Found path founding) old new input input_new ends is = found_whole old new path founding ends is.1
-      performs_whole (command.Apply path file a) old new input input_new ends is = apply_whole old new path file a ends is.1
-      performs_whole (command.Import path list caller key org vendor) old new input input_new ends is = (is.1.0, is.1.1, imports_whole old new path list is.1.0 ends is.1.2)
-      performs_whole (command.Serve path port count) old new input input_new ends is = serves_whole old new path port (limit_of count) ends is.1
-      performs_whole (command.Export path stamp) old new input input_new ends is = (is.1.0, is.1.1, exports_whole old new path is.1.0 ends is.1.2)
-      performs_whole (command.Report path name) old new input input_new ends is = reports_whole old new path (report_named name) ends is.1
-      performs_whole (command.Lookup list vid pid) old new input input_new ends is = tt

@@ -29,6 +29,7 @@ use Rattle.registry_commands.specs.Imports.{AreOfImport, IsFirstBad, IsImported}
 use Rattle.registry_commands.specs.Lines.{requests_in}
 use Rattle.registry_commands.specs.LookUp.{IsLookedUp}
 use Rattle.registry_commands.specs.Messages.{failure_line}
+use Rattle.registry_commands.specs.Recorded.{IsRecorded}
 use Rattle.registry_commands.specs.Reports.{IsReported}
 use Rattle.registry_commands.specs.Shown.{IsExported}
 use Rattle.registry_commands.specs.Trial.{IsOfStart, IsTrialOf}
@@ -97,6 +98,10 @@ WritesList stamp old new it after ends = (new ≡ old) × IsExported (effect it 
 abbrev pub WritesReport : {H S : Type 0} {g : store.Ghosts S} → ReportKind → H → H → Registry S g → Registry S g → Ends → Type 0
 WritesReport name old new it after ends = (new ≡ old) × IsReported (effect it after ends) name
 
+-- the record of a registry is written, or only the requests after the first ones
+abbrev pub WritesRecord : {H S : Type 0} {g : store.Ghosts S} → Option ℕ → H → H → Registry S g → Registry S g → Ends → Type 0
+WritesRecord from old new it after ends = (new ≡ old) × IsRecorded (effect it after ends) from
+
 module _ {H F I : Type 0} (m : host.Ghosts H F I) (s : source.Ghosts I) where
   -- a device is looked up in the list in the file at this path; or it could not be opened
   abbrev pub LooksUpIn : H → H → List ℕ → Wanted → Ends → Type 0
@@ -119,6 +124,11 @@ module _ {H F I : Type 0} (m : host.Ghosts H F I) (s : source.Ghosts I) where
       (λ failure. (conn_new ≡ conn) × (ends.status ≡ Failed) × Prints ends.errors (failure_line failure))
 
 -- ---- commands
+
+module _ {H F I : Type 0} (m : host.Ghosts H F I) (d : disk.Ghosts F) where
+  -- history STORE
+  abbrev pub PrintsRecord : H → H → List ℕ → Option ℕ → Ends → Type 0
+  PrintsRecord old new path from ends = Runs m d old new path ends (WritesRecord from)
 
 module _ {H F I : Type 0} (m : host.Ghosts H F I) (d : disk.Ghosts F) (s : source.Ghosts I) where
   -- found STORE FOUNDING: the store was opened, or made, a registry was founded on it, and it was closed

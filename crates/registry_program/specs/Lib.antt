@@ -4,5 +4,6 @@ pub mod Opening
 pub mod Stores
 pub mod Commands
 pub mod Serving
+pub mod Replaying
 pub mod Performing
 pub mod Whole

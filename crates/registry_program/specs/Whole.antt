@@ -1,9 +1,12 @@
 -- What the files of a store hold after a command, and what the outputs have gained, by the history that the files held before
 -- it.
-use Rattle.std.specs.Prelude.{◌≡◌, ◌≢◌, ◌⊎◌, ◌<◌, ◌≤◌, ◌+◌, ⊤, Bool, false, true, ℕ, List, length, take, Option, Some, None, Result, Ok, Err, IfOk, MatchResult}
+use Rattle.std.specs.Prelude.{◌≡◌, ◌≢◌, ◌⊎◌, ◌<◌, ◌≤◌, ◌+◌, ⊤, Bool, false, true, ℕ, List, [], ◌++◌, codes, length, take, Option, Some, None, Result, Ok, Err, IfOk, MatchResult}
 use Rattle.std.specs.Io.KnownBytes.{Appends, Keeps}
+use Rattle.std.specs.Str.{bytes_eq}
 use Rattle.sqlite_disk.specs.declared.Disk as disk
 use Rattle.sqlite_disk.specs.declared.Files.{Files}
+use Rattle.sqlite_store.specs.declared.store.FileStore.{FileStore}
+use Rattle.sqlite.specs.Held.{Held}
 use Rattle.sqlite.specs.WalReads.{AreClean}
 use Rattle.byte_streams.specs.declared.streams.Sink as sink
 use Rattle.byte_streams.specs.declared.streams.Source as source
@@ -16,6 +19,8 @@ use Rattle.usbids_text.specs.Writing.{written}
 use Rattle.usbnum_core.specs.declared.error.NoMemory.{NoMemory}
 use Rattle.registry_rules.specs.declared.founding.Founding.{Founding}
 use Rattle.registry_rules.specs.declared.order.Request.{Request}
+use Rattle.registry_rules.specs.Accepted.{AreValid}
+use Rattle.registry_rules.specs.declared.accepted.Accepted.{Accepted}
 use Rattle.registry_rules.specs.History.{History, founded}
 use Rattle.registry_rules.specs.Run.{Legal, after, after_one, reply_to}
 use Rattle.registry_reports.specs.History.{IsListing}
@@ -33,19 +38,24 @@ use Rattle.registry_reports.specs.declared.kinds.ReportKind.{ReportKind}
 use Rattle.registry_commands.specs.Apply.{lines_between}
 use Rattle.registry_commands.specs.declared.status.ExitStatus.{ExitStatus}
 use Rattle.registry_commands.specs.declared.status.ExitStatus.TheVariants.{Success, Failed}
-use Rattle.registry_commands.specs.Ends.{Ends, Receives, Output}
+use Rattle.registry_commands.specs.Ends.{Ends, Receives, Output, Sunk}
 use Rattle.registry_commands.specs.Imports.{AreOfImport, IsFirstBad, request_of_import, exit_status_of}
 use Rattle.registry_commands.specs.Lines.{requests_in}
+use Rattle.registry_commands.specs.declared.entries.Entry.TheVariants as says
+use Rattle.registry_commands.specs.Entries.{IsFirst}
 use Rattle.registry_commands.specs.Messages.{reply_line}
+use Rattle.registry_commands.specs.RecordLines.{MayHaveLines}
+use Rattle.registry_commands.specs.Replayed.{GetTheirReplies, after_lines}
+use Rattle.registry_commands.specs.Recorded.{record_text}
 use Rattle.registry_reports.specs.Kinds.{report_named}
 use Rattle.registry_views.specs.Reports.{IsReport}
 use Rattle.registry_desk.specs.declared.server.Connections as connections
 use Rattle.registry_desk.specs.Server.{HaveVisited, IsLeftAfter, Visit}
 use Rattle.registry_program.specs.declared.host.Host as host
-use Rattle.registry_program.specs.Commands.{ActsOnFile, ImportsFile, IsStampOf, WritesList, WritesReport}
+use Rattle.registry_program.specs.Commands.{ActsOnFile, ImportsFile, IsStampOf, WritesList, WritesRecord, WritesReport}
 use Rattle.registry_program.specs.Outputs.{IsFailure, IsRejection}
 use Rattle.registry_program.specs.Serving.{ServesOn, limit_of}
-use Rattle.registry_program.specs.Stores.{IsMissed, IsOver, Opens, TheRegistry}
+use Rattle.registry_program.specs.Stores.{IsClosed, IsMissed, IsOver, IsUnconnected, Opens, TheRegistry}
 
 -- ---- what a command makes of the history
 
@@ -76,6 +86,10 @@ IsListed stamp ends h x y = Stays h x y
 abbrev pub IsReportedOn : ReportKind → Ends → History → History → History → Type 0
 IsReportedOn name ends h x y = Stays h x y × (ends.status ≡ Success → (text : List ℕ) × IsReport name h text × Receives ends.out text)
 
+-- at the status Success the record of the history is written, if its requests are valid
+abbrev pub IsRecordedOn : Option ℕ → Ends → History → History → History → Type 0
+IsRecordedOn from ends h x y = Stays h x y × (ends.status ≡ Success → AreValid h.deeds → Receives ends.out (record_text h from))
+
 -- The request of the list in these bytes was acted on. Unless the status is Failed, its reply is written and both histories are
 -- the one after it.
 pub record IsAfterImport (bytes : List ℕ) (import : Import) (out : Output) (status : ExitStatus) (h x y : History) : Type 0 where
@@ -90,6 +104,21 @@ pub record IsAfterImport (bytes : List ℕ) (import : Import) (out : Output) (st
 -- each is a history that a crash leaves after these connections
 abbrev pub AreLeftAfter : List Visit → History → History → History → Type 0
 AreLeftAfter visits h x y = IsLeftAfter h visits x × IsLeftAfter h visits y
+
+-- the history after the requests of these lines of a record, or after that of the next line too
+abbrev pub IsNear : History → List (List ℕ) → List (List ℕ) → History → Type 0
+IsNear h front rest x = (x ≡ after_lines h front) ⊎ ((accepted : Accepted) × IsFirst rest (says.Accepted accepted) × (x ≡ after_one (after_lines h front) accepted.request))
+
+-- The first lines of a record were acted on, and each got the reply that it says; at the status Success these are all. Both
+-- histories are the one after them, or after the request of the next line too.
+pub record IsAfterRecord (lines : List (List ℕ)) (status : ExitStatus) (h x y : History) : Type 0 where
+  pub front : List (List ℕ)
+  pub rest : List (List ℕ)
+  pub split : lines ≡ front ++ rest
+  pub replied : GetTheirReplies h front
+  pub whole : status ≡ Success → rest ≡ []
+  pub x_is : IsNear h front rest x
+  pub y_is : IsNear h front rest y
 
 -- ---- what the files hold
 
@@ -196,6 +225,38 @@ module _ {H F I : Type 0} (m : host.Ghosts H F I) (d : disk.Ghosts F) where
   ReportsWholly old new path (Some name) ends = UnlessStopped old new path ends (WritesReport name) (IsCarriedOn old new path (IsReportedOn name ends))
   ReportsWholly old new path None ends = (new ≡ old) × IsRejection Name ends
 
+  abbrev pub PrintsRecordWholly : H → H → List ℕ → Option ℕ → Ends → Type 0
+  PrintsRecordWholly old new path from ends = UnlessStopped old new path ends (WritesRecord from) (IsCarriedOn old new path (IsRecordedOn from ends))
+
+  -- The store was opened, or made, and its registry could neither be founded nor opened: what its files held is left, in its
+  -- schema or a later one.
+  pub record IsUnreplayed (old new : H) (path : List ℕ) (ends : Ends) : Type 0 where
+    pub files : Files F
+    pub used : IsUsed old new path true files
+    pub status_is : ends.status ≡ Failed
+    pub holds : (h : History) → Legal h → (from : ℕ) → FilesHoldEither from (m.holds old path) h h → AreClean d files.log files.db → HoldEither d from files h h
+
+  module _ {R : Type 0} (r : source.Ghosts R) where
+    -- Lines of the record came after those before them, which are blank or its founding. The store at the path was used, and for
+    -- each history that its files held they were replayed over it.
+    pub record IsReplayedTo (source : R) (old new : H) (path : List ℕ) (may_make : Bool) (ends : Ends) : Type 0 where
+      pub before : List (List ℕ)
+      pub lines : List (List ℕ)
+      pub come : MayHaveLines (r.remaining source) (before ++ lines)
+      pub files : Files F
+      pub used : IsUsed old new path may_make files
+      pub holds : (h : History) → LeadsTo old path files h h (IsAfterRecord lines ends.status h)
+
+    -- No store was opened, since the beginning of the record is refused or could not be read; or the store could not be opened, or
+    -- not be closed after the status Success; or the lines were replayed.
+    abbrev pub ReplaysWhollyFrom : R → H → H → List ℕ → Ends → Type 0
+    ReplaysWhollyFrom source old new path ends =
+        (new ≡ old)
+        ⊎ ((failure : Failure) × (IsMissed m d old new path failure ⊎ IsUnconnected m d old new path failure) × IsFailure failure ends)
+        ⊎ ((conn : Held (FileStore F d)) × (files : Files F) × (errors : Sunk) × IsClosed m d conn files errors ends.errors.new Success ends.status × (ends.status ≡ Failed))
+        ⊎ IsUnreplayed old new path ends
+        ⊎ ((may_make : Bool) × IsReplayedTo source old new path may_make ends)
+
   module _ {R W : Type 0} (c : connections.Ghosts H R W) (r : source.Ghosts R) (w : sink.Ghosts W) where
     -- these connections came to the port and were served; `performs` has their number
     pub record IsServedTo (old new : H) (path : List ℕ) (port : ℕ) : Type 0 where
@@ -210,15 +271,24 @@ module _ {H F I : Type 0} (m : host.Ghosts H F I) (d : disk.Ghosts F) where
     abbrev pub ServesWholly : H → H → List ℕ → ℕ → ℕ → Ends → Type 0
     ServesWholly old new path port limit ends = UnlessStopped old new path ends (ServesOn m c r w port limit) (IsServedTo old new path port ⊎ IsUnbegun old new path ends)
 
+-- The record is the standard input if it is called `-`, else the file at the second path; or that file could not be opened.
+abbrev pub ReplaysWholly : {H F I R : Type 0} → host.Ghosts H F I → disk.Ghosts F → source.Ghosts I → source.Ghosts R → R → H → H → List ℕ → List ℕ → Ends → Type 0
+ReplaysWholly {H} {F} {I} m d s r input old new path file ends =
+    (bytes_eq file (codes "-") ≡ true → ReplaysWhollyFrom m d r input old new path ends)
+    × (bytes_eq file (codes "-") ≡ false → ((read : H) × (source : I) × m.reads old read file source × ReplaysWhollyFrom m d s source read new path ends)
+    ⊎ ((failure : Failure) × m.lacks old new file failure × IsFailure failure ends))
+
 -- What holds from the files before a command to the files after it. A trial and a look-up open no store, so nothing is said of
 -- them.
-abbrev pub IsWhole : {H F I R W : Type 0} → host.Ghosts H F I → disk.Ghosts F → source.Ghosts I → connections.Ghosts H R W → source.Ghosts R → sink.Ghosts W
-    → Command (List ℕ) → H → H → Ends → Type 0
-IsWhole m d s c r w command.Trial old new ends = ⊤
-IsWhole m d s c r w (command.Found path founding) old new ends = FoundsWholly m d s old new path founding ends
-IsWhole m d s c r w (command.Apply path file answered) old new ends = AppliesWholly m d s old new path file answered ends
-IsWhole m d s c r w (command.Import path list caller key org vendor) old new ends = ImportsWholly m d s old new path list caller key org vendor ends
-IsWhole m d s c r w (command.Serve path port count) old new ends = ServesWholly m d c r w old new path port (limit_of count) ends
-IsWhole m d s c r w (command.Export path stamp) old new ends = ExportsWholly m d old new path stamp ends
-IsWhole m d s c r w (command.Report path name) old new ends = ReportsWholly m d old new path (report_named name) ends
-IsWhole m d s c r w (command.Lookup list vid pid) old new ends = ⊤
+abbrev pub IsWhole : {H F I R W IN : Type 0} → host.Ghosts H F I → disk.Ghosts F → source.Ghosts I → connections.Ghosts H R W → source.Ghosts R → sink.Ghosts W
+    → source.Ghosts IN → Command (List ℕ) → H → H → IN → Ends → Type 0
+IsWhole m d s c r w i command.Trial old new input ends = ⊤
+IsWhole m d s c r w i (command.Found path founding) old new input ends = FoundsWholly m d s old new path founding ends
+IsWhole m d s c r w i (command.Apply path file answered) old new input ends = AppliesWholly m d s old new path file answered ends
+IsWhole m d s c r w i (command.Import path list caller key org vendor) old new input ends = ImportsWholly m d s old new path list caller key org vendor ends
+IsWhole m d s c r w i (command.Replay path file) old new input ends = ReplaysWholly m d s i input old new path file ends
+IsWhole m d s c r w i (command.Serve path port count) old new input ends = ServesWholly m d c r w old new path port (limit_of count) ends
+IsWhole m d s c r w i (command.Export path stamp) old new input ends = ExportsWholly m d old new path stamp ends
+IsWhole m d s c r w i (command.Report path name) old new input ends = ReportsWholly m d old new path (report_named name) ends
+IsWhole m d s c r w i (command.History path from) old new input ends = PrintsRecordWholly m d old new path from ends
+IsWhole m d s c r w i (command.Lookup list vid pid) old new input ends = ⊤

@@ -10,8 +10,9 @@ use crate::applying::run_apply;
 use crate::founding::run_found;
 use crate::host::Host;
 use crate::importing::run_import;
+use crate::replaying::run_replay;
 use crate::serving::run_serve;
-use crate::showing::{run_export, run_lookup, run_report};
+use crate::showing::{run_export, run_history, run_lookup, run_report};
 use byte_streams::{Sink, Source};
 use registry_arguments::Command;
 use registry_commands::{ExitStatus, import_of_arguments, trial};
@@ -49,11 +50,17 @@ fn act_by<H: Host + Connections, R: Source, W: Sink, E: Sink>(
             let asked = import_of_arguments(alloc, caller, key, org, vendor);
             run_import(alloc, host, store, list, asked, output, errors)
         }
+        Command::Replay { store, record } => {
+            run_replay(alloc, host, store, record, input, errors)
+        }
         Command::Serve { store, port, count } => {
             run_serve(alloc, host, store, port, count, errors)
         }
         Command::Export { store, stamp } => run_export(alloc, host, store, stamp, output, errors),
         Command::Report { store, name } => run_report(alloc, host, store, name, output, errors),
+        Command::History { store, after } => {
+            run_history(alloc, host, store, after, output, errors)
+        }
         Command::Lookup { list, vid, pid } => {
             run_lookup(alloc, host, list, vid, pid, output, errors)
         }
@@ -76,7 +83,7 @@ pub fn perform<H: Host + Connections, R: Source, W: Sink, E: Sink>(
     ensures status { IsStatus (code result) }
 
     // From what the files of a store held to what they hold.
-    ensures whole { IsWhole H.Host H.File.Disk H.Input.Source H.Connections H.Reader.Source H.Writer.Sink (texts command.entry) host.old host.new
+    ensures whole { IsWhole H.Host H.File.Disk H.Input.Source H.Connections H.Reader.Source H.Writer.Sink R.Source (texts command.entry) host.old host.new input.old
         (ends_of W.Sink E.Sink output.old output.new errors.old errors.new result) }
 {
     act_by(alloc, host, command, input, output, errors)

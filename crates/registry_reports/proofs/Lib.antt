@@ -7,3 +7,5 @@ pub mod UniqueLemmas
 pub mod HistoryLemmas
 pub mod TallyLemmas
 pub mod HolderLemmas
+pub mod NumberLemmas
+pub mod PageLemmas

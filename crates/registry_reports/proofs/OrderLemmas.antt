@@ -21,7 +21,7 @@ mid_codes mids = map (λ (mid : MidEntry). mid.code) mids
 level : (n : ℕ) → nat_cmp n n ≡ Equal
 level n = grind arith
 
-then_less : (a b : ℕ) (d : Ordering) → a ≡ b → ordering_then (nat_cmp a b) d ≡ Less → d ≡ Less
+pub then_less : (a b : ℕ) (d : Ordering) → a ≡ b → ordering_then (nat_cmp a b) d ≡ Less → d ≡ Less
 then_less a b d same e = let tie : nat_cmp a b ≡ Equal = ap (nat_cmp a) (sym same) ∙ level a in sym (ap (λ (o : Ordering). ordering_then o d) tie) ∙ e
 
 above : (x : Pair) (vid : ℕ) (ys : List Pair) → AllByRecursion (λ y. by_number x y ≡ Less) ys → nat_eq x.0.vid vid ≡ true → AllByRecursion (λ code. nat_cmp x.0.pid code ≡ Less) (mid_codes (devices_of vid ys))

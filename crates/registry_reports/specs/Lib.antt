@@ -3,6 +3,9 @@ pub mod Listing
 pub mod Columns
 pub mod Petitions
 pub mod Census
+pub mod Numbers
+pub mod Organisations
+pub mod Pages
 pub mod History
 pub mod Tallies
 pub mod Holders

@@ -12,6 +12,10 @@ pub enum ReportKind {
     Holders,
     /// The open petitions.
     Petitions,
+    /// The numbers that are not free.
+    Numbers,
+    /// The organisations.
+    Organisations,
 }
 
 /// Returns the kind of report with this name, or None.
@@ -25,6 +29,10 @@ pub fn report_named(name: &str) -> Option<ReportKind>
         Some(ReportKind::Holders)
     } else if name == "petitions" {
         Some(ReportKind::Petitions)
+    } else if name == "numbers" {
+        Some(ReportKind::Numbers)
+    } else if name == "organisations" {
+        Some(ReportKind::Organisations)
     } else {
         None
     }

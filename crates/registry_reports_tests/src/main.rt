@@ -2,6 +2,7 @@
 //! of row and its text; the line that is printed shows what the calls give.
 #![tactic(auto)]
 
+mod pages;
 mod reports;
 
 use row_texts::{Kinds, RowFault, show_rows};
@@ -15,7 +16,10 @@ impl Kinds for Rows {
         match kind {
             "list" => reports::list(alloc, text),
             "census" => reports::numbers(alloc, text),
+            "numbers" => reports::taken(alloc, text),
             "holders" => reports::owners(alloc, text),
+            "organisations" => reports::orgs(alloc, text),
+            "page" => pages::page(alloc, text),
             "petitions" => reports::petitions(alloc, text),
             _ => Err(RowFault::BadRow),
         }

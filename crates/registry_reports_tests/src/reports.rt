@@ -1,8 +1,10 @@
 //! The list and the reports of the records of a row.
 
 use byte_streams::Outlet;
-use registry_reports::{census, holders, list_document, open_petitions};
-use registry_rules::{Entry, Petition, Vendor};
+use registry_reports::{
+    census, holders, list_document, open_petitions, organisations, taken_numbers,
+};
+use registry_rules::{Entry, Org, Petition, Vendor};
 use row_texts::{RowFault, cut};
 use std::alloc::Global;
 use usbids_text::{Document, WriteFault, write};
@@ -47,6 +49,32 @@ pub(crate) fn numbers(alloc: Global, text: &str) -> Result<Vec<u8>, RowFault> {
     let reserved = row_records::reserved(alloc, vendors)?;
     let numbers = row_records::numbers(alloc, numbers)?;
     census_text(alloc, &reserved, &numbers)
+}
+
+fn taken_text(
+    alloc: Global,
+    reserved: &[(Vid, Spans)],
+    numbers: &[(Number, Entry)],
+) -> Result<Vec<u8>, RowFault> {
+    Ok(taken_numbers(alloc, reserved, numbers)?.into_bytes())
+}
+
+/// Shows the numbers of each vendor that are not free.
+pub(crate) fn taken(alloc: Global, text: &str) -> Result<Vec<u8>, RowFault> {
+    let (vendors, numbers) = cut(text)?;
+    let reserved = row_records::reserved(alloc, vendors)?;
+    let numbers = row_records::numbers(alloc, numbers)?;
+    taken_text(alloc, &reserved, &numbers)
+}
+
+fn orgs_text(alloc: Global, orgs: &[Org]) -> Result<Vec<u8>, RowFault> {
+    Ok(organisations(alloc, orgs)?.into_bytes())
+}
+
+/// Shows the organisations.
+pub(crate) fn orgs(alloc: Global, text: &str) -> Result<Vec<u8>, RowFault> {
+    let orgs = row_records::orgs(alloc, text)?;
+    orgs_text(alloc, &orgs)
 }
 
 fn holders_text(alloc: Global, numbers: &[(Number, Entry)]) -> Result<Vec<u8>, RowFault> {

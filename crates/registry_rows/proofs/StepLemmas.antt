@@ -1,5 +1,5 @@
 -- From what a statement did or showed to what a call does within a transaction.
-use Rattle.std.proofs.Common.{◌≡◌, ◌≢◌, ◌⊎◌, sym, subst, Bool, true, false, cond, ℕ, IsTrue, List, [], ◌∷◌, map, filter, find, slice_get, Option, Result, Ok, Err, inl, MatchResult, Vec, Global, Ordering, is_gt, ◌∙◌}
+use Rattle.std.proofs.Common.{◌≡◌, ◌≢◌, ◌⊎◌, sym, subst, Bool, true, false, cond, ℕ, zero, suc, take, drop, IsTrue, List, [], ◌∷◌, map, filter, find, slice_get, Option, Result, Ok, Err, inl, MatchResult, Vec, Global, Ordering, is_gt, ◌∙◌}
 use Rattle.std.specs.Prelude.{IsErrAnd}
 use Rattle.std.specs.Borrow.{MutBor}
 use Rattle.std.specs.List.{AllByRecursion}
@@ -93,6 +93,19 @@ reads_by retell read = record { same_reference = read.same_reference; told = λ 
 -- ---- values picked from valid ones are valid
 
 module _ {X : Type 0} (IsValid : X → Type 0) where
+  valid_first : (most : ℕ) (values : List X) → AllByRecursion IsValid values → AllByRecursion IsValid (take most values)
+  valid_first zero values all = tt
+  valid_first (suc most) [] all = tt
+  valid_first (suc most) (x ∷ xs) all = (all.0, valid_first most xs all.1)
+
+  valid_rest : (after : ℕ) (values : List X) → AllByRecursion IsValid values → AllByRecursion IsValid (drop after values)
+  valid_rest zero values all = all
+  valid_rest (suc after) [] all = tt
+  valid_rest (suc after) (x ∷ xs) all = valid_rest after xs all.1
+
+  pub valid_part : (most after : ℕ) (values : List X) → AllByRecursion IsValid values → AllByRecursion IsValid (take most (drop after values))
+  valid_part most after values all = valid_first most (drop after values) (valid_rest after values all)
+
   inserted : (cmp : X → X → Ordering) (new : X) (values : List X) → IsValid new → AllByRecursion IsValid values → AllByRecursion IsValid (insert_sorted cmp new values)
   inserted cmp new [] h all = (h, tt)
   inserted cmp new (x ∷ xs) h all = elim (is_gt (cmp new x)) as (λ b. AllByRecursion IsValid (cond b (x ∷ insert_sorted cmp new xs) (new ∷ x ∷ xs))) [ true ↦ (all.0, inserted cmp new xs h all.1) | false ↦ (h, all) ]

@@ -1,13 +1,13 @@
 //! The kept replies.
 
-ghost use Rattle.std.specs.Prelude.{◌≡◌, [], ◌∷◌, ◌++◌, map, filter, find};
+ghost use Rattle.std.specs.Prelude.{◌≡◌, [], ◌∷◌, ◌++◌, map, filter, find, take, drop};
 ghost use Rattle.sqlite_keyed.specs.Lists.{delete_where};
-ghost use Rattle.registry_rows.specs.Rows.{kept_row, is_kept_under};
+ghost use Rattle.registry_rows.specs.Rows.{kept_row, is_kept_under, has_reply_within};
 ghost use Rattle.registry_rows.specs.Steps.{Changes, Reads, ReadsRows, Writes};
 ghost use Rattle.registry_rows.specs.Tables.{Holds};
 
 use crate::columns::{canonical_form_at, reply_at, text_at};
-use crate::decode::{FromRow, first_from};
+use crate::decode::{FromRow, all_from, first_from};
 use registry_rules::{CanonicalForm, KeptReply, ReplyText};
 use registry_schema::TableFault;
 use sqlite::{Alter, Row, Transaction, params};
@@ -90,4 +90,57 @@ pub fn find_kept<S: Alter>(
 {
     let rows = kept_rows(tx, caller, key)?;
     first_from(alloc, &rows)
+}
+
+fn rows_after<S: Alter>(
+    tx: &mut Transaction<'_, S>,
+    after: u32,
+    most: u32,
+) -> Result<Vec<Row>, TableFault>
+    ensures reads { ReadsRows S.Store tx.old.conn tx.new.conn result Holds (λ t. map kept_row (take most (drop after t.kept))) }
+{
+    Ok(tx.query_all(
+        "SELECT caller, request_key, request, reply FROM kept ORDER BY rowid LIMIT ?1 OFFSET ?2",
+        params![most, after],
+    )?)
+}
+
+/// Returns at most `most` of what is kept after the first `after`, in order of insertion.
+pub fn kept_after<S: Alter>(
+    alloc: Global,
+    tx: &mut Transaction<'_, S>,
+    after: u32,
+    most: u32,
+) -> Result<Vec<KeptRow>, TableFault>
+    ensures reads { Reads S.Store tx.old.conn tx.new.conn result Holds (λ t all. all.items ≡ take most (drop after t.kept)) }
+{
+    let rows = rows_after(tx, after, most)?;
+    all_from(alloc, &rows)
+}
+
+fn rows_with_replies<S: Alter>(
+    tx: &mut Transaction<'_, S>,
+    low: &str,
+    high: &str,
+) -> Result<Vec<Row>, TableFault>
+    ensures reads { ReadsRows S.Store tx.old.conn tx.new.conn result Holds (λ t. map kept_row (filter (has_reply_within low.now high.now) t.kept)) }
+{
+    Ok(tx.query_all(
+        "SELECT caller, request_key, request, reply FROM kept WHERE reply BETWEEN ?1 AND ?2 ORDER BY rowid",
+        params![low, high],
+    )?)
+}
+
+/// Returns what is kept with a reply from the low text to the high one, in order of insertion. The
+/// store reads every row.
+pub fn kept_with_replies<S: Alter>(
+    alloc: Global,
+    tx: &mut Transaction<'_, S>,
+    low: &str,
+    high: &str,
+) -> Result<Vec<KeptRow>, TableFault>
+    ensures reads { Reads S.Store tx.old.conn tx.new.conn result Holds (λ t all. all.items ≡ filter (has_reply_within low.now high.now) t.kept) }
+{
+    let rows = rows_with_replies(tx, low, high)?;
+    all_from(alloc, &rows)
 }

@@ -5,7 +5,7 @@ pub use columns::pid_at;
 pub use decode::{FromRow, all_from};
 pub use entries::{find_entries, find_entry, list_entries, put_entry, set_card, set_held};
 pub use fixed::{list_fixed, put_fixed};
-pub use kept::{KeptRow, find_kept, put_kept};
+pub use kept::{KeptRow, find_kept, kept_after, kept_with_replies, put_kept};
 pub use meta::{Meta, list_metas, put_meta};
 pub use names::{list_curators, list_licences, put_curator, put_licence};
 pub use orgs::{find_org, list_orgs, put_org};

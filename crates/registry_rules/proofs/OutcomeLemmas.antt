@@ -1,21 +1,19 @@
 -- The outcome of an order by the facts of a history is its outcome by the history.
-use Rattle.std.proofs.Common.{◌≡◌, ℕ, ◌+◌, ◌-◌, Ok, Err, Result, List, [], ◌∷◌, ◌++◌, Option, Some, None, Bool, true, false, refl, ap, sym, ◌∙◌, arith, inl, inr}
-use Rattle.std.proofs.lemmas.Bool.{eq-eqb, and_from, or_left, or_right, cases_Bool, not_from_false}
-use Rattle.std.specs.Prelude.{length, nat_eq, unwrap_or, is_some, ◌&&◌, not}
+use Rattle.std.proofs.Common.{◌≡◌, ℕ, ◌+◌, ◌-◌, Ok, Err, Result, List, [], ◌∷◌, ◌++◌, Option, Some, None, Bool, true, false, refl, ap, ap₂, sym, ◌∙◌}
+use Rattle.std.proofs.lemmas.Bool.{eq-eqb, and_from}
+use Rattle.std.specs.Prelude.{length, nat_eq, unwrap_or, is_none, is_some, if◌then◌else◌}
 use Rattle.std.specs.Option.{option_map, option_or}
-use Rattle.std.specs.List.{list_any}
-use Rattle.usbnum_core.specs.Spans.{span_has, spans_have}
+use Rattle.usbnum_core.specs.Spans.{spans_have}
 use Rattle.usbnum_core.specs.declared.number.Number.{Number}
 use Rattle.usbnum_core.specs.declared.number.Span.{Span}
-use Rattle.usbnum_core.proofs.MemberLemmas.{has}
 use Rattle.registry_rules.specs.Number.{number, number_eq}
 use Rattle.registry_rules.specs.History.{History, sooner, first_of, last_of}
-use Rattle.registry_rules.specs.Import.{Standing, class_of, classes_from}
+use Rattle.registry_rules.specs.Import.{Standing, is_doubled, class_of, classes_from}
 use Rattle.registry_rules.specs.Query.{owner_of, is_held, is_reserved, holds, receiver, item_of, answer_if, petition_of, least, org_of, open_count, asked, has_vendor, vendor_meant, is_licence}
 use Rattle.registry_rules.specs.Checks.{ask_checks, grant_checks, amend_checks, return_checks, reserve_checks, release_checks, import_checks}
 use Rattle.registry_rules.specs.Verdict.{outcome, deed_for, verdict, verdict_by, standing_of, standing_at, org_owning, number_chosen, pid_chosen, least_for, least_owned, meets_fixed, new_petition, new_card, kept_under}
 use Rattle.registry_rules.specs.FactsOf.{AreFactsOf, slug_concerned, petition_named, vendor_concerned, open_concerned, org_concerned, concerns, is_wanted, holding_of, holding_in}
-use Rattle.registry_rules.specs.OnFacts.{outcome_on, standing_in, standing_in_at, least_owned_in}
+use Rattle.registry_rules.specs.OnFacts.{outcome_on, standing_in, standing_in_at, standing_in_sets, is_owned_by, least_owned_in}
 use Rattle.registry_rules.specs.declared.deed.Deed.{Deed}
 use Rattle.registry_rules.specs.declared.deed.Act.{Act}
 use Rattle.registry_rules.specs.declared.deed.Act.TheVariants.{Granted, Returned, Imported}
@@ -25,6 +23,7 @@ use Rattle.registry_rules.specs.declared.verdict.Verdict.TheVariants.{New, Refus
 use Rattle.registry_rules.specs.declared.facts.Facts.{Facts}
 use Rattle.registry_rules.specs.declared.facts.KeptReply.{KeptReply}
 use Rattle.registry_rules.specs.declared.item.Item.{Item}
+use Rattle.registry_rules.specs.declared.item.ItemClass.TheVariants.{Zero, Untitled, Doubled, Reserved, Owned, Fresh}
 use Rattle.registry_rules.specs.declared.record.Holding.{Holding}
 use Rattle.registry_rules.specs.declared.record.Petition.{Petition}
 use Rattle.registry_rules.specs.declared.order.Order.{Order}
@@ -91,32 +90,26 @@ same_chosen h facts founding named (Some there) reserved holdings = chosen (pid_
     chosen None found = refl
     chosen (Some pid) found = ap (λ (s : Standing). Some s) (same_standing h facts (number there.vid pid) (reserved pid) (found (number there.vid pid) (is_itself (number there.vid pid))))
 
-is_some_map : {A B : Type 0} (f : A → B) (o : Option A) → is_some (option_map f o) ≡ is_some o
-is_some_map f None = refl
-is_some_map f (Some x) = refl
-
 -- the same for the least owned number of a span
-same_least : (h : History) (facts : Facts) (vid : ℕ) (span : Span) → ((n : Number) → (nat_eq vid n.vid && span_has span n.pid) ≡ true → holding_in facts.holdings n ≡ holding_of h n) →
-    least_owned_in facts.holdings vid span ≡ least_owned h vid span
-same_least h facts vid span holdings =
-    let own = span.ordered in
-    same_find (λ pid. is_some (holding_in facts.holdings (number vid pid))) (λ pid. is_some (owner_of h (number vid pid))) span.first (span.last + 1 - span.first)
-    (λ pid from lt. ap is_some (holdings (number vid pid) (and_from (nat_eq vid vid) _ (eq-eqb vid vid refl) (has span pid from (omega arith))))
-    ∙ is_some_map (λ owner. record { number = number vid pid; org = owner; held = is_held h (number vid pid) }) (owner_of h (number vid pid)))
+same_least : (h : History) (facts : Facts) (vid : ℕ) (span : Span) → ((pid : ℕ) → is_owned_by facts.taken.now facts.reserved.now pid ≡ is_some (owner_of h (number vid pid))) →
+    least_owned_in facts.taken.now facts.reserved.now span ≡ least_owned h vid span
+same_least h facts vid span owned =
+    same_find (is_owned_by facts.taken.now facts.reserved.now) (λ pid. is_some (owner_of h (number vid pid))) span.first (span.last + 1 - span.first) (λ pid from lt. owned pid)
 
--- the class of an item is the same if the state of its number is, unless its code is 0
-same_class : (a b : ℕ → Standing) (before : List Item) (item : Item) → (nat_eq item.code 0 ≡ false → a item.code ≡ b item.code) → class_of (a item.code) before item ≡ class_of (b item.code) before item
-same_class a b before item same = elim (cases_Bool (nat_eq item.code 0)) [
-  | inl nought ↦ rw nought refl
-  | inr code ↦ ap (λ (s : Standing). class_of s before item) (same code)
-]
+-- the class of an item depends on whether its number is reserved and whether it is owned
+same_class : (a b : Standing) (before : List Item) (item : Item) → a.reserved ≡ b.reserved → is_some a.owner ≡ is_some b.owner → class_of a before item ≡ class_of b before item
+same_class a b before item reserved owned =
+    ap₂ (λ r o. if nat_eq item.code 0 then Zero else if is_none item.title then Untitled else if is_doubled before item.code then Doubled else if r then Reserved else if o then Owned else Fresh) reserved owned
 
-same_classes : (a b : ℕ → Standing) (before items : List Item) →
-    ((code : ℕ) → nat_eq code 0 ≡ false → list_any (λ item. nat_eq item.code code) items ≡ true → a code ≡ b code) → classes_from a before items ≡ classes_from b before items
-same_classes a b before [] same = refl
-same_classes a b before (item ∷ items) same =
-    ap (λ class. class ∷ classes_from a (before ++ item ∷ []) items) (same_class a b before item (λ code. same item.code code (or_left (nat_eq item.code item.code) _ (eq-eqb item.code item.code refl))))
-    ∙ ap (λ classes. class_of (b item.code) before item ∷ classes) (same_classes a b (before ++ item ∷ []) items (λ code nonzero among. same code nonzero (or_right (nat_eq item.code code) _ among)))
+same_classes : (a b : ℕ → Standing) (before items : List Item) → ((code : ℕ) → (a code).reserved ≡ (b code).reserved) → ((code : ℕ) → is_some (a code).owner ≡ is_some (b code).owner) →
+    classes_from a before items ≡ classes_from b before items
+same_classes a b before [] reserved owned = refl
+same_classes a b before (item ∷ items) reserved owned =
+    ap₂ ◌∷◌ (same_class (a item.code) (b item.code) before item (reserved item.code) (owned item.code)) (same_classes a b (before ++ item ∷ []) items reserved owned)
+
+has_answer : (b : Bool) → is_some (answer_if {A = List ℕ} b []) ≡ b
+has_answer true = refl
+has_answer false = refl
 
 same_for : (h : History) (caller : List ℕ) (key : List ℕ) (order : Order) (facts : Facts) → AreFactsOf h (record { caller = caller; key = key; order = order }) facts →
     outcome_on facts caller order ≡ outcome h caller order
@@ -146,7 +139,7 @@ same_for h caller key (orders.Return it) facts are =
 same_for h caller key (orders.Reserve it) facts are =
     rw (are.founding.curators, are.founding.vendor, are.vendor, are.founding.fixed, are.vendors.each (vendor_meant h it.vendor))
     (ap (λ least. reserve_checks h.founding.curators h.founding.vendor (has_vendor h (vendor_meant h it.vendor)) (meets_fixed h (vendor_meant h it.vendor) it.span) least caller (vendor_meant h it.vendor) it.span)
-    (same_least h facts (vendor_meant h it.vendor) it.span are.holdings))
+    (same_least h facts (vendor_meant h it.vendor) it.span are.owned))
 same_for h caller key (orders.Release it) facts are =
     rw (are.founding.curators, are.founding.vendor, are.vendor, are.founding.fixed, are.vendors.each (vendor_meant h it.vendor))
     (ap (λ all. release_checks h.founding.curators h.founding.vendor (has_vendor h (vendor_meant h it.vendor)) (meets_fixed h (vendor_meant h it.vendor) it.span) all caller (vendor_meant h it.vendor) it.span)
@@ -154,11 +147,8 @@ same_for h caller key (orders.Release it) facts are =
 same_for h caller key (orders.Import it) facts are =
     rw (are.founding.curators, are.vendor, are.org, are.vendors.each (vendor_meant h it.vendor))
     (ap (λ classes. import_checks h.founding.curators (org_of h it.org) (has_vendor h (vendor_meant h it.vendor)) classes caller (vendor_meant h it.vendor) it.org it.items)
-    (same_classes (standing_in_at facts (vendor_meant h it.vendor)) (standing_at h (vendor_meant h it.vendor)) [] it.items
-    (λ code nonzero among. same_standing h facts (number (vendor_meant h it.vendor) code) (are.reserved code)
-    (are.holdings (number (vendor_meant h it.vendor) code)
-    (and_from (nat_eq (vendor_meant h it.vendor) (vendor_meant h it.vendor) && not (nat_eq code 0)) _
-    (and_from (nat_eq (vendor_meant h it.vendor) (vendor_meant h it.vendor)) _ (eq-eqb (vendor_meant h it.vendor) (vendor_meant h it.vendor) refl) (not_from_false _ nonzero)) among)))))
+    (same_classes (standing_in_sets facts.taken.now facts.reserved.now (vendor_meant h it.vendor)) (standing_at h (vendor_meant h it.vendor)) [] it.items are.reserved
+    (λ code. has_answer (is_owned_by facts.taken.now facts.reserved.now code) ∙ are.owned code)))
 same_for h caller key (orders.AddVendor it) facts are = rw (are.founding.curators, are.vendors.each it.vendor, are.vendors.count) refl
 same_for h caller key (orders.AddLicence it) facts are = rw (are.founding.curators, are.founding.allowed it.licence, are.founding.allowed_count) refl
 

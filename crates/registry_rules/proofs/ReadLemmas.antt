@@ -16,7 +16,8 @@ use Rattle.usbnum_core.specs.declared.number.Span.{Span}
 use Rattle.usbnum_core.proofs.DigitLemmas.{digits_read}
 use Rattle.usbnum_core.proofs.SameSpansLemmas.{span_decides}
 use Rattle.registry_rules.specs.Orders.{fields_of, canonical_form, number_field, vendor_fields, item_field, IsOrder, IsItem, IsIdIfAny}
-use Rattle.registry_rules.proofs.FieldLemmas.{HasNoTab, same_fields, slug_has_no_tab, title_has_no_tab, link_has_no_tab}
+use Rattle.registry_rules.specs.Reading.{HasNoTab}
+use Rattle.registry_rules.proofs.FieldLemmas.{same_fields, slug_has_no_tab, title_has_no_tab, link_has_no_tab}
 use Rattle.registry_rules.specs.declared.item.Item.{Item}
 use Rattle.registry_rules.specs.declared.record.Terms.{Terms}
 use Rattle.registry_rules.specs.declared.order.Order.{Order}
@@ -70,7 +71,7 @@ items_tabless : (items : List Item) → AllByRecursion IsItem items → AllByRec
 items_tabless [] each = tt
 items_tabless (item ∷ items) each = (item_tabless item each.0, items_tabless items each.1)
 
-tabless : (order : Order) → IsOrder order → AllByRecursion HasNoTab (fields_of order)
+pub tabless : (order : Order) → IsOrder order → AllByRecursion HasNoTab (fields_of order)
 tabless (orders.Enrol it) is = (fixed_text (codes "enrol") refl, (slug_has_no_tab it.org is.0, (title_has_no_tab it.title is.1, (link_has_no_tab it.site is.2, tt))))
 tabless (orders.AmendOrg it) is = (fixed_text (codes "amend-org") refl, (slug_has_no_tab it.org is.0, (title_has_no_tab it.title is.1, (link_has_no_tab it.site is.2, tt))))
 tabless (orders.Ask it) is = (
@@ -117,7 +118,7 @@ code_by : (found : Option ℕ) (n : ℕ) → option_and_then (λ code. if nat_eq
 code_by None n e = absurd cc
 code_by (Some c) n e = not_zero (nat_eq c 0) c n e
 
-code_reads : (n : ℕ) → n ≤ 65535 → code_of (digits_of n) ≡ Some n
+pub code_reads : (n : ℕ) → n ≤ 65535 → code_of (digits_of n) ≡ Some n
 code_reads n within = ⊎_elim
     (λ (z : n ≡ 0). subst (λ m. code_of (digits_of m) ≡ Some m) (sym z) refl)
     (λ (z : n ≡ 0 → ⊥). code_by (code_of (digits_of n)) n (digits_read n (record { above = omega (arith, z); within = within })))
@@ -187,7 +188,7 @@ abbrev span_from : (first last : ℕ) → (last < first) ⊎ (first ≤ last) �
 span_from first last (inl less) = None
 span_from first last (inr ordered) = Some (record { first = first; last = last; ordered = ordered })
 
-same_span : (a b : Span) → a.first ≡ b.first → a.last ≡ b.last → a ≡ b
+pub same_span : (a b : Span) → a.first ≡ b.first → a.last ≡ b.last → a ≡ b
 same_span a b p q = (span_decides a b).0 (and_from _ _ (eq-eqb a.first b.first p) (eq-eqb a.last b.last q))
 
 span_is : (span : Span) (order : (span.last < span.first) ⊎ (span.first ≤ span.last)) → span_from span.first span.last order ≡ Some span
@@ -305,7 +306,7 @@ reads (orders.AddLicence it) is = refl
 
 -- Orders with the same canonical form are equal.
 
-filled : (order : Order) → 1 ≤ length (fields_of order)
+pub filled : (order : Order) → 1 ≤ length (fields_of order)
 filled (orders.Enrol it) = omega arith
 filled (orders.AmendOrg it) = omega arith
 filled (orders.Ask it) = omega arith

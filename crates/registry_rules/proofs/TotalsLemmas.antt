@@ -23,7 +23,7 @@ use Rattle.registry_rules.specs.Verdict.{verdict, standing_at}
 use Rattle.registry_rules.proofs.FollowLemmas.{CanEnrol, CanAsk, CanGrant, CanClose, CanRelease, CanImport, Follows, new_follows}
 use Rattle.registry_rules.proofs.RunLemmas.{legal_new}
 use Rattle.registry_rules.proofs.NoRepeatLemmas.{licences_counted, ascending_distinct}
-use Rattle.registry_rules.proofs.NumberLemmas.{owned_or_reserved}
+use Rattle.registry_rules.proofs.NumberLemmas.{owned_or_reserved, owned_and_reserved}
 use Rattle.registry_rules.proofs.OpenLemmas.{open_after_ask, open_after_close}
 use Rattle.registry_rules.proofs.TakenLemmas.{taken_more, same_test, reserves_taken, reserves_reserved, released_taken, released_reserved, unowned_by, in_span, takes_by, imported_taken}
 use Rattle.registry_rules.proofs.ChangeLemmas.{leads_to}
@@ -88,6 +88,7 @@ enrolled_more h caller key order org old new can is s =
       still_open = s.still_open;
       taken = s.taken;
       reserved = s.reserved;
+      apart = s.apart;
       nothing = s.nothing;
     })
 
@@ -112,14 +113,15 @@ asked_more h caller key order id petition old new can leads is s =
           ∙ sym (open_after_ask h (with_deed h deed) id petition leads.petitions can.next can.is_open more slug);
       taken = s.taken;
       reserved = s.reserved;
+      apart = s.apart;
       nothing = s.nothing;
     })
 
 -- a grant: one fewer open petition, and one more number that is taken
-granted_more : (h : History) (caller key : List ℕ) (order : Order) (id : ℕ) (petition : Petition) (name : NumberName) (old mid new : Totals) → CanGrant h id petition name
+granted_more : (h : History) (caller key : List ℕ) (order : Order) (id : ℕ) (petition : Petition) (name : NumberName) (old mid new : Totals) → Legal (with_deed h (the_deed caller key order (Granted id petition name))) → CanGrant h id petition name
     → LeadsTo (act_changes (Granted id petition name)) h (with_deed h (the_deed caller key order (Granted id petition name)))
     → CarriesCloses old mid petition.org → HasTaken mid new name.number.vid name.number.pid → IsSummary h old → IsSummary (with_deed h (the_deed caller key order (Granted id petition name))) new
-granted_more h caller key order id petition name old mid new can leads closes takes s =
+granted_more h caller key order id petition name old mid new after can leads closes takes s =
     let deed = the_deed caller key order (Granted id petition name) in
     let now : new ≡ record old { still_open = mid.still_open; taken = new.taken } = takes.same ∙ ap (λ (m : Totals). record m { taken = new.taken }) closes.same in
     subst (λ t. IsSummary (with_deed h deed) t) (sym now) (record {
@@ -135,6 +137,7 @@ granted_more h caller key order id petition name old mid new can leads closes ta
           ∙ ap (λ b. b || number_eq n name.number) (s.taken n)
           ∙ taken_more (owner_of h n) (is_reserved h n) (number_eq n name.number) petition.org;
       reserved = s.reserved;
+      apart = λ n. (owned_and_reserved (with_deed h deed) n after).0;
       nothing = s.nothing;
     })
 
@@ -146,6 +149,7 @@ record KeepsTotals (h : History) (deed : Deed) : Type 0 where
   petitions : length (asked h) ≡ length (asked (with_deed h deed))
   taken : (n : Number) → is_taken h n ≡ is_taken (with_deed h deed) n
   reserved : (n : Number) → is_reserved h n ≡ is_reserved (with_deed h deed) n
+  apart : (n : Number) → (is_some (owner_of h n) && is_reserved h n) ≡ (is_some (owner_of (with_deed h deed) n) && is_reserved (with_deed h deed) n)
 
 -- only the open counts change
 only_open : (h : History) (deed : Deed) (old new : Totals) → KeepsTotals h deed → new ≡ record old { still_open = new.still_open }
@@ -158,6 +162,7 @@ only_open h deed old new keeps same opened s = subst (λ t. IsSummary (with_deed
   still_open = opened;
   taken = λ n. s.taken n ∙ keeps.taken n;
   reserved = λ n. s.reserved n ∙ keeps.reserved n;
+  apart = λ n. sym (keeps.apart n) ∙ s.apart n;
   nothing = s.nothing;
 })
 
@@ -175,9 +180,9 @@ closed_less h deed id petition state old new keeps can closed at is s =
     only_open h deed old new keeps is.same (λ slug. is.closed slug ∙ ap (λ n. if bytes_eq petition.org slug then n - 1 else n) (s.still_open slug)
     ∙ sym (open_after_close h (with_deed h deed) id petition state at can.there can.was_open closed (sym keeps.petitions) slug)) s
 
-reserved_more : (h : History) (caller key : List ℕ) (order : Order) (name : SpanName) (old new : Totals) → CarriesReserves old new name.vid name.span
+reserved_more : (h : History) (caller key : List ℕ) (order : Order) (name : SpanName) (old new : Totals) → Legal (with_deed h (the_deed caller key order (Reserved name))) → CarriesReserves old new name.vid name.span
     → IsSummary h old → IsSummary (with_deed h (the_deed caller key order (Reserved name))) new
-reserved_more h caller key order name old new is s =
+reserved_more h caller key order name old new after is s =
     let deed = the_deed caller key order (Reserved name) in
     subst (λ t. IsSummary (with_deed h deed) t) (sym is.same) (record {
       founding = keeps_founding h deed old.founding refl s.founding;
@@ -189,12 +194,13 @@ reserved_more h caller key order name old new is s =
           ∙ reserves_taken (is_some (owner_of h n)) (is_fixed h n) (nat_eq name.vid n.vid && span_has name.span n.pid) (last_of (λ d. reserves n d.act) h.deeds);
       reserved = λ n. is.reserved n ∙ ap (λ b. b || (nat_eq name.vid n.vid && span_has name.span n.pid)) (s.reserved n)
           ∙ reserves_reserved (is_fixed h n) (nat_eq name.vid n.vid && span_has name.span n.pid) (last_of (λ d. reserves n d.act) h.deeds);
+      apart = λ n. (owned_and_reserved (with_deed h deed) n after).0;
       nothing = s.nothing;
     })
 
-released_less : (h : History) (caller key : List ℕ) (order : Order) (name : SpanName) (old new : Totals) → Legal h → CanRelease h name → Releases old new name.vid name.span
+released_less : (h : History) (caller key : List ℕ) (order : Order) (name : SpanName) (old new : Totals) → Legal h → Legal (with_deed h (the_deed caller key order (Released name))) → CanRelease h name → Releases old new name.vid name.span
     → IsSummary h old → IsSummary (with_deed h (the_deed caller key order (Released name))) new
-released_less h caller key order name old new legal can is s =
+released_less h caller key order name old new legal after can is s =
     let deed = the_deed caller key order (Released name) in
     let unfixed : (n : Number) → (nat_eq name.vid n.vid && span_has name.span n.pid) ≡ true → is_fixed h n ≡ false
     = λ n e. let at = in_span name.vid name.span n e in subst (λ m. is_fixed h m ≡ false) at.0 (can.unfixed n.pid at.1) in
@@ -211,12 +217,13 @@ released_less h caller key order name old new legal can is s =
           ∙ released_taken (owner_of h n) (is_fixed h n) (nat_eq name.vid n.vid && span_has name.span n.pid) (last_of (λ d. reserves n d.act) h.deeds) (unowned n) (unfixed n);
       reserved = λ n. is.reserved n ∙ ap (λ b. b && not (nat_eq name.vid n.vid && span_has name.span n.pid)) (s.reserved n)
           ∙ released_reserved (is_fixed h n) (nat_eq name.vid n.vid && span_has name.span n.pid) (last_of (λ d. reserves n d.act) h.deeds) (unfixed n);
+      apart = λ n. (owned_and_reserved (with_deed h deed) n after).0;
       nothing = s.nothing;
     })
 
-imported_more : (h : History) (caller key : List ℕ) (order : Order) (vid : ℕ) (org : List ℕ) (fresh : List Item) (tally : Tally) (old new : Totals) → CanImport h vid org fresh → CarriesImports old new vid fresh
+imported_more : (h : History) (caller key : List ℕ) (order : Order) (vid : ℕ) (org : List ℕ) (fresh : List Item) (tally : Tally) (old new : Totals) → Legal (with_deed h (the_deed caller key order (Imported vid org fresh tally))) → CanImport h vid org fresh → CarriesImports old new vid fresh
     → IsSummary h old → IsSummary (with_deed h (the_deed caller key order (Imported vid org fresh tally))) new
-imported_more h caller key order vid org fresh tally old new can is s =
+imported_more h caller key order vid org fresh tally old new after can is s =
     let deed = the_deed caller key order (Imported vid org fresh tally) in
     subst (λ t. IsSummary (with_deed h deed) t) (sym is.same) (record {
       founding = keeps_founding h deed old.founding refl s.founding;
@@ -227,6 +234,7 @@ imported_more h caller key order vid org fresh tally old new can is s =
       taken = λ n. is.taken n ∙ ap₂ ◌||◌ (s.taken n) (takes_by vid n (standing_at h vid) fresh (nat_eq vid n.vid) refl can.each)
           ∙ imported_taken (owner_of h n) (is_reserved h n) (item_of vid fresh n) org;
       reserved = s.reserved;
+      apart = λ n. (owned_and_reserved (with_deed h deed) n after).0;
       nothing = s.nothing;
     })
 
@@ -249,6 +257,7 @@ vendor_more h caller key order vid name old new is s =
       still_open = s.still_open;
       taken = s.taken;
       reserved = s.reserved;
+      apart = s.apart;
       nothing = s.nothing;
     })
 
@@ -277,6 +286,7 @@ licence_more h caller key order licence old new after is s =
       still_open = s.still_open;
       taken = s.taken;
       reserved = s.reserved;
+      apart = s.apart;
       nothing = s.nothing;
     })
 
@@ -284,18 +294,18 @@ carries_by : (h : History) (caller key : List ℕ) (order : Order) (act : Act) (
     → LeadsTo (act_changes act) h (with_deed h (the_deed caller key order act)) → Carries old new act → IsSummary h old → IsSummary (with_deed h (the_deed caller key order act)) new
 carries_by h caller key order (Enrolled org) old new legal after can leads is s = enrolled_more h caller key order org old new can is s
 carries_by h caller key order (Asked id petition) old new legal after can leads is s = asked_more h caller key order id petition old new can leads is s
-carries_by h caller key order (Granted id petition name) old new legal after can leads is s = granted_more h caller key order id petition name old is.0 new can leads is.1 is.2 s
+carries_by h caller key order (Granted id petition name) old new legal after can leads is s = granted_more h caller key order id petition name old is.0 new after can leads is.1 is.2 s
 carries_by h caller key order (Declined id petition) old new legal after can leads is s = closed_less h (the_deed caller key order (Declined id petition)) id petition StateDeclined old new
-    (record { licence = refl; vendor = refl; orgs = refl; petitions = refl; taken = λ n. refl; reserved = λ n. refl }) can refl leads.petitions is s
+    (record { licence = refl; vendor = refl; orgs = refl; petitions = refl; taken = λ n. refl; reserved = λ n. refl; apart = λ n. refl }) can refl leads.petitions is s
 carries_by h caller key order (Withdrawn id petition) old new legal after can leads is s = closed_less h (the_deed caller key order (Withdrawn id petition)) id petition StateWithdrawn old new
-    (record { licence = refl; vendor = refl; orgs = refl; petitions = refl; taken = λ n. refl; reserved = λ n. refl }) can refl leads.petitions is s
-carries_by h caller key order (Reserved name) old new legal after can leads is s = reserved_more h caller key order name old new is s
-carries_by h caller key order (Released name) old new legal after can leads is s = released_less h caller key order name old new legal can is s
-carries_by h caller key order (Imported vid org fresh tally) old new legal after can leads is s = imported_more h caller key order vid org fresh tally old new can is s
+    (record { licence = refl; vendor = refl; orgs = refl; petitions = refl; taken = λ n. refl; reserved = λ n. refl; apart = λ n. refl }) can refl leads.petitions is s
+carries_by h caller key order (Reserved name) old new legal after can leads is s = reserved_more h caller key order name old new after is s
+carries_by h caller key order (Released name) old new legal after can leads is s = released_less h caller key order name old new legal after can is s
+carries_by h caller key order (Imported vid org fresh tally) old new legal after can leads is s = imported_more h caller key order vid org fresh tally old new after can is s
 carries_by h caller key order (VendorAdded vid name) old new legal after can leads is s = vendor_more h caller key order vid name old new is s
 carries_by h caller key order (LicenceAdded licence) old new legal after can leads is s = licence_more h caller key order licence old new after is s
 carries_by h caller key order _ old new legal after can leads is s = no_total h _ old new
-    (record { licence = refl; vendor = refl; orgs = refl; petitions = refl; taken = λ n. refl; reserved = λ n. refl }) (λ slug. refl) is s
+    (record { licence = refl; vendor = refl; orgs = refl; petitions = refl; taken = λ n. refl; reserved = λ n. refl; apart = λ n. refl }) (λ slug. refl) is s
 
 -- totals that are updated with a new deed are those of the history with the deed
 pub carries : (h : History) (request : Request) (deed : Deed) (old new : Totals) → Legal h → verdict h request ≡ New deed → Carries old new deed.act

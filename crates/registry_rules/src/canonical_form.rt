@@ -23,7 +23,7 @@ pub fn request_bytes(alloc: Global, request: &Request) -> Result<CanonicalForm, 
 }
 
 #[tactic(auto, unfolding(crate::specs::Orders::canonical_form))]
-fn order_text(alloc: Global, order: &Order) -> Result<String, AllocError>
+pub(crate) fn order_text(alloc: Global, order: &Order) -> Result<String, AllocError>
     ensures { IfOk result (λ text. string_bytes text ≡ canonical_form order.now) }
 {
     match order {

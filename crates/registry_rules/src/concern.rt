@@ -1,7 +1,6 @@
 //! The vendor, the numbers and the organisation that an order concerns.
 
-ghost use Rattle.std.specs.Prelude.{◌≡◌, ℕ, true, false, nat_eq, IfSome, IsSomeAnd, option_and_then};
-ghost use Rattle.std.specs.List.{list_any};
+ghost use Rattle.std.specs.Prelude.{◌≡◌, true, IsSomeAnd, option_and_then};
 ghost use Rattle.std.specs.Option.{option_copied, option_map};
 ghost use Rattle.usbnum_core.specs.Spans.{span_has};
 ghost use Rattle.usbnum_core.specs.declared.number.Number.{Number};
@@ -11,7 +10,7 @@ ghost use Rattle.registry_rules.specs.Query.{petition_of};
 ghost use Rattle.registry_rules.specs.Verdict.{least_for};
 
 use crate::{
-    Amend, AmendOrg, Ask, Decline, Enrol, Grant, Holdings, Import, Item, Order, Petition, Release,
+    Amend, AmendOrg, Ask, Decline, Enrol, Grant, Holdings, Import, Order, Petition, Release,
     Reserve, Return, Withdraw,
 };
 use usbnum_core::{Number, Pid, Slug, Span, Vid};
@@ -36,48 +35,6 @@ fn only(pid: Pid) -> Span
     }
 }
 
-// The least span that has the numbers of the span and the product ID.
-fn grown(span: &Span, pid: Pid) -> Span
-    ensures keeps { (n : ℕ) → span_has span.now n ≡ true → span_has result n ≡ true }
-    ensures has { span_has result pid ≡ true }
-{
-    let first = if pid < span.first() {
-        pid
-    } else {
-        span.first()
-    };
-    let last = if span.last() < pid { pid } else { span.last() };
-    match Span::new(first, last) {
-        Some(grown) => grown,
-        None => unreachable!(),
-    }
-}
-
-// The span extended to the code, unless that is 0.
-fn with_code(found: Option<Span>, code: u16) -> Option<Span>
-    ensures keeps { IfSome found (λ old. IsSomeAnd result (λ new. (n : ℕ) → span_has old n ≡ true → span_has new n ≡ true)) }
-    ensures has { nat_eq code 0 ≡ false → IsSomeAnd result (λ new. span_has new code ≡ true) }
-{
-    let Some(pid) = Pid::new(code) else {
-        return found;
-    };
-    match found {
-        Some(span) => Some(grown(&span, pid)),
-        None => Some(only(pid)),
-    }
-}
-
-// The span from the least code of the items to the greatest, without 0.
-fn codes_span(items: &[Item]) -> Option<Span>
-    ensures { (code : ℕ) → nat_eq code 0 ≡ false → list_any (λ item. nat_eq item.code code) items.now ≡ true → IsSomeAnd result (λ span. span_has span code ≡ true) }
-{
-    let mut found: Option<Span> = None;
-    for item in items {
-        found = with_code(found, item.code);
-    }
-    found
-}
-
 /// Returns the number of the petition that the order names.
 #[tactic(auto, unfolding(crate::specs::FactsOf::petition_named))]
 pub fn petition_concerned(order: &Order) -> Option<u32>
@@ -91,10 +48,11 @@ pub fn petition_concerned(order: &Order) -> Option<u32>
     }
 }
 
-/// Returns the vendor that the order names, or its petition's, otherwise the founding vendor.
-/// `petition` is the petition that the order names. No other function resolves a vendor.
+/// Returns the vendor that the order concerns: the one that it names, or its petition's, otherwise
+/// the founding vendor. `petition` is the petition that the order names. No other function resolves
+/// a vendor.
 #[tactic(auto, unfolding(crate::specs::FactsOf::vendor_concerned, crate::specs::FactsOf::petition_named))]
-pub(crate) fn vid_concerned(order: &Order, founding: Vid, petition: Option<&Petition>) -> Vid
+pub fn vid_concerned(order: &Order, founding: Vid, petition: Option<&Petition>) -> Vid
     ensures { (h : History) → founding ≡ h.founding.vendor → option_copied petition.entry ≡ petition_named h order.now → result ≡ vendor_concerned h order.now }
 {
     match order {
@@ -112,26 +70,23 @@ pub(crate) fn vid_concerned(order: &Order, founding: Vid, petition: Option<&Peti
     }
 }
 
-/// Returns a span that has each number that the order concerns, with its vendor. For an import it
-/// reaches from the least code to the greatest. `petition` is the petition that the order names,
-/// and `least` the least free product ID of that petition's vendor.
+/// Returns a span that has each number that the order concerns, with its vendor. An order on a span
+/// and an import concern none by itself. `vid` is the vendor that the order concerns, `petition` the
+/// petition that it names, and `least` the least free product ID of that petition's vendor.
 #[tactic(auto, unfolding(crate::specs::FactsOf::concerns, crate::specs::FactsOf::petition_named, crate::specs::FactsOf::vendor_concerned))]
 pub fn numbers_concerned(
     order: &Order,
-    founding: Vid,
+    vid: Vid,
     petition: Option<&Petition>,
     least: Option<Pid>,
 ) -> Option<VendorSpan>
-    ensures { (h : History) → founding ≡ h.founding.vendor → option_copied petition.entry ≡ petition_named h order.now → least ≡ least_for h (petition_named h order.now) →
+    ensures { (h : History) → vid ≡ vendor_concerned h order.now → option_copied petition.entry ≡ petition_named h order.now → least ≡ least_for h (petition_named h order.now) →
         (n : Number) → concerns h order.now n ≡ true → IsSomeAnd result (λ range. (range.vid ≡ n.vid) × (span_has range.span n.pid ≡ true)) }
 {
-    let vid = vid_concerned(order, founding, petition);
     let span = match order {
         Order::Ask(it) => only(it.want?),
         Order::Grant(it) => only(it.number.or(petition?.want).or(least)?),
         Order::Amend(Amend { number, .. }) | Order::Return(Return { number, .. }) => only(*number),
-        Order::Reserve(Reserve { span, .. }) | Order::Release(Release { span, .. }) => *span,
-        Order::Import(it) => codes_span(it.items.as_slice())?,
         _ => return None,
     };
     Some(VendorSpan { vid, span })
@@ -148,19 +103,18 @@ fn owner_in(holdings: &Holdings, number: Number) -> Option<&Slug>
 }
 
 /// Returns the organisation that the order names, its petition's, or the owner of its number.
-/// `petition` is the petition that the order names; `holdings` has the holding of each number that
-/// the order concerns.
+/// `vid` is the vendor that the order concerns, and `petition` the petition that it names;
+/// `holdings` has the holding of each number that it concerns.
 #[tactic(auto, unfolding(crate::specs::FactsOf::concerns, crate::specs::FactsOf::petition_named, crate::specs::FactsOf::slug_concerned, crate::specs::FactsOf::vendor_concerned))]
 pub fn slug_concerned<'a>(
     order: &'a Order,
-    founding: Vid,
+    vid: Vid,
     petition: Option<&'a Petition>,
     holdings: &'a Holdings,
 ) -> Option<&'a Slug>
-    ensures { (h : History) → founding ≡ h.founding.vendor → option_copied petition.entry ≡ petition_named h order.now →
+    ensures { (h : History) → vid ≡ vendor_concerned h order.now → option_copied petition.entry ≡ petition_named h order.now →
         ((n : Number) → concerns h order.now n ≡ true → holding_in holdings.now n ≡ holding_of h n) → option_copied result ≡ slug_concerned h order.now }
 {
-    let vid = vid_concerned(order, founding, petition);
     match order {
         Order::Enrol(Enrol { org, .. })
         | Order::AmendOrg(AmendOrg { org, .. })

@@ -80,7 +80,10 @@ pub struct Facts<'a> {
     pub petitions: u32,
     /// The holdings of the numbers that the order concerns, and perhaps of others, in any order.
     pub holdings: Holdings,
-    /// The reserved numbers of the vendor concerned, including the fixed ones.
+    /// The numbers of the vendor concerned that are owned or reserved.
+    pub taken: &'a Spans,
+    /// The reserved numbers of the vendor concerned, including the fixed ones. The other taken
+    /// numbers are the owned ones.
     pub reserved: &'a Spans,
     /// The least free product ID of the vendor concerned.
     pub least: Option<Pid>,

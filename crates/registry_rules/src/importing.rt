@@ -1,29 +1,45 @@
 //! The checks of an import, the classes of its items, and its act if the checks pass.
 
-ghost use Rattle.std.specs.Prelude.{◌≡◌, ◌≤◌, [], nat_eq, is_some, IfOk, length, ◌&&◌};
-ghost use Rattle.std.specs.List.{list_any};
+ghost use Rattle.std.specs.Prelude.{◌≡◌, ◌≤◌, List, [], ◌∷◌, ◌++◌, IfOk, length};
 ghost use Rattle.registry_rules.specs.Gives.{Gives};
-ghost use Rattle.registry_rules.specs.Import.{is_doubled, class_of, classes_from, fresh_of, counted, tally_of, IsTallyWithin};
-ghost use Rattle.registry_rules.specs.OnFacts.{standing_in_at, outcome_on};
+ghost use Rattle.registry_rules.specs.Import.{AreSeen, class_of, classes_from, fresh_of, counted, tally_of, IsTallyWithin};
+ghost use Rattle.registry_rules.specs.OnFacts.{standing_in_sets, outcome_on};
+ghost use Rattle.registry_rules.specs.declared.item.Item.{Item as ItemValue};
 ghost use Rattle.registry_rules.specs.declared.order.Order.TheVariants as orders;
 
 use crate::checks::{check_curator, check_vendor};
 use crate::limits::MOST_ITEMS;
 use crate::{Act, Facts, Import, Item, ItemClass, Items, Refusal, Rejection, Tally};
 use std::alloc::{AllocError, Global};
-use usbnum_core::{Number, Pid, Slug, Vid};
+use usbnum_core::{Pid, Slug, Vid};
 
-// Whether one of the items has the code and a title.
-fn has_doubled(before: &[Item], code: u16) -> bool
-    ensures { result ≡ is_doubled before.now code }
+// A flag for each code.
+const CODES: usize = 65536;
+
+// Returns the flags before the first item.
+fn none_seen(alloc: Global) -> Result<Vec<bool>, AllocError>
+    ensures counted { IfOk result (λ seen. length seen.items ≡ CODES) }
+    ensures none { IfOk result (λ seen. AreSeen seen.items []) }
 {
-    before
-        .iter()
-        .any(|other| other.code == code && other.title.is_some())
+    vec![in alloc; false; CODES]
 }
 
-fn class_by(facts: &Facts<'_>, vid: Vid, before: &[Item], item: &Item) -> ItemClass
-    ensures { result ≡ class_of (standing_in_at facts.now vid item.now.code) before.now item.now }
+// Sets the flag of the item's code, if the item has a title.
+fn mark(seen: &mut Vec<bool>, item: &Item)
+    requires { length seen.old.items ≡ CODES }
+    ensures counted { length seen.new.items ≡ CODES }
+    ensures marked { (before : List ItemValue) → AreSeen seen.old.items before → AreSeen seen.new.items (before ++ item.now ∷ []) }
+{
+    if item.title.is_some() {
+        seen[usize::from(item.code)] = true;
+    }
+}
+
+// The class of the item, by the flags of the items before it.
+fn class_by(facts: &Facts<'_>, vid: Vid, seen: &[bool], item: &Item) -> ItemClass
+    requires { length seen.now ≡ CODES }
+    ensures { (before : List ItemValue) → AreSeen seen.now before
+        → result ≡ class_of (standing_in_sets facts.now.taken.now facts.now.reserved.now vid item.now.code) before item.now }
 {
     let Some(pid) = Pid::new(item.code) else {
         return ItemClass::Zero;
@@ -31,13 +47,13 @@ fn class_by(facts: &Facts<'_>, vid: Vid, before: &[Item], item: &Item) -> ItemCl
     if item.title.is_none() {
         return ItemClass::Untitled;
     }
-    if has_doubled(before, item.code) {
+    if seen[usize::from(item.code)] {
         return ItemClass::Doubled;
     }
     if facts.reserved.contains(pid) {
         return ItemClass::Reserved;
     }
-    if facts.holdings.of(Number { vid, pid }).is_some() {
+    if facts.taken.contains(pid) {
         return ItemClass::Owned;
     }
     ItemClass::Fresh
@@ -50,11 +66,13 @@ fn classes(
     vid: Vid,
     items: &[Item],
 ) -> Result<Vec<ItemClass>, AllocError>
-    ensures { IfOk result (λ classes. classes.items ≡ classes_from (standing_in_at facts.now vid) [] items.now) }
+    ensures { IfOk result (λ classes. classes.items ≡ classes_from (standing_in_sets facts.now.taken.now facts.now.reserved.now vid) [] items.now) }
 {
     let mut classes = Vec::new(alloc);
-    for (i, item) in items.iter().enumerate() {
-        classes.push(class_by(facts, vid, &items[..i], item))?;
+    let mut seen = none_seen(alloc)?;
+    for item in items {
+        classes.push(class_by(facts, vid, &seen, item))?;
+        mark(&mut seen, item);
     }
     Ok(classes)
 }

@@ -1,12 +1,14 @@
 //! The checks of orders on spans, and their acts if they pass.
 
-ghost use Rattle.std.specs.Prelude.{◌≡◌};
+ghost use Rattle.std.specs.Prelude.{◌≡◌, ◌≤◌, ◌+◌, ℕ, ◌&&◌, not, true, false, find, MatchOption};
+ghost use Rattle.usbnum_core.specs.Spans.{span_has, spans_have};
 ghost use Rattle.registry_rules.specs.Gives.{Gives};
-ghost use Rattle.registry_rules.specs.OnFacts.{is_in_span, least_with, span_meets_fixed, span_is_reserved, least_owned_in, outcome_on};
+ghost use Rattle.registry_rules.specs.Number.{numbers_in};
+ghost use Rattle.registry_rules.specs.OnFacts.{span_meets_fixed, span_is_reserved, least_owned_in, outcome_on};
 ghost use Rattle.registry_rules.specs.declared.order.Order.TheVariants as orders;
 
 use crate::checks::{check_curator, check_vendor, number_name, span_name};
-use crate::{Act, Facts, Founding, Holding, Holdings, Refusal, Rejection, Release, Reserve};
+use crate::{Act, Facts, Founding, Refusal, Rejection, Release, Reserve};
 use usbnum_core::{Number, Pid, Slug, Span, Spans, Vid};
 
 // Whether a number of the span is fixed.
@@ -23,38 +25,65 @@ fn is_reserved(reserved: &Spans, span: &Span) -> bool
     reserved.covers(*span)
 }
 
-// Whether the holding's number is in the vendor's span.
-fn is_in(holding: &Holding, vid: Vid, span: &Span) -> bool
-    ensures { result ≡ is_in_span holding.now vid span.now }
+// The numbers that the two spans share.
+fn common(part: &Span, span: &Span) -> Option<Span>
+    ensures { MatchOption result
+        ((n : ℕ) → span_has part.now n ≡ true → span_has span.now n ≡ false)
+        (λ both. (n : ℕ) → span_has both n ≡ (span_has part.now n && span_has span.now n)) }
 {
-    holding.number.vid == vid
-        && span.first() <= holding.number.pid
-        && holding.number.pid <= span.last()
+    let first = if part.first() < span.first() {
+        span.first()
+    } else {
+        part.first()
+    };
+    let last = if part.last() < span.last() {
+        part.last()
+    } else {
+        span.last()
+    };
+    Span::new(first, last)
 }
 
-// The lesser of the least so far and the holding's number, if that is in the span.
-fn lesser(least: Option<Pid>, holding: &Holding, vid: Vid, span: &Span) -> Option<Pid>
-    ensures { result ≡ least_with holding.now vid span.now least }
+// The number after the part, if the span has it.
+fn next_in(part: &Span, span: &Span) -> Option<Pid>
+    requires { part.now.first ≤ span.now.last }
+    ensures { MatchOption result (span.now.last ≤ part.now.last) (λ next. (next ≡ part.now.last + 1) × (next ≤ span.now.last)) }
 {
-    let pid = holding.number.pid;
-    let found = is_in(holding, vid, span);
-    match least {
-        Some(least) if found && pid < least => Some(pid),
-        Some(least) => Some(least),
-        None if found => Some(pid),
-        None => None,
+    if part.last() < span.last() {
+        Pid::new(part.last().get() + 1)
+    } else {
+        None
     }
+}
+
+// The least number of the span that is outside the set. The sets of totals have many parts, so it
+// asks first whether the set has the whole span, which takes one search.
+fn least_outside(set: &Spans, span: &Span) -> Option<Pid>
+    ensures { result ≡ find (λ pid. not (spans_have set.now pid)) (numbers_in span.now) }
+{
+    if set.covers(*span) {
+        return None;
+    }
+    for part in set.parts() {
+        if part.first() <= span.first() && span.first() <= part.last() {
+            return next_in(part, span);
+        }
+    }
+    Some(span.first())
 }
 
 // The least product ID of the span whose number is owned.
-fn least_owned(holdings: &Holdings, vid: Vid, span: &Span) -> Option<Pid>
-    ensures { result ≡ least_owned_in holdings.now vid span.now }
+fn least_owned(taken: &Spans, reserved: &Spans, span: &Span) -> Option<Pid>
+    ensures { result ≡ least_owned_in taken.now reserved.now span.now }
 {
-    let mut least: Option<Pid> = None;
-    for holding in holdings.as_slice() {
-        least = lesser(least, holding, vid, span);
+    for part in taken.parts() {
+        if let Some(both) = common(part, span) {
+            if let Some(pid) = least_outside(reserved, &both) {
+                return Some(pid);
+            }
+        }
     }
-    least
+    None
 }
 
 #[tactic(auto, unfolding(crate::specs::OnFacts::outcome_on))]
@@ -72,7 +101,7 @@ pub(crate) fn reserve(
         return Err(Rejection::Refused(Refusal::RangeFixed));
     }
     let name = span_name(facts.founding, vid, &it.span);
-    if let Some(pid) = least_owned(&facts.holdings, vid, &it.span) {
+    if let Some(pid) = least_owned(facts.taken, facts.reserved, &it.span) {
         let name = number_name(facts.founding, &Number { vid, pid });
         return Err(Rejection::Refused(Refusal::RangeOwned(name)));
     }

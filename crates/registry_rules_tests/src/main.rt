@@ -14,6 +14,7 @@ fn of_bytes(alloc: Global, kind: &str, bytes: &[u8]) -> Result<Vec<u8>, RowFault
     match kind {
         "founded" => rules::founded(alloc, bytes),
         "form" => values::form(alloc, bytes),
+        "read" => values::read(alloc, bytes),
         "laws" => values::laws(alloc, bytes),
         _ => Err(RowFault::BadRow),
     }
@@ -25,6 +26,7 @@ impl Kinds for Rows {
     fn result_of(alloc: Global, kind: &str, text: &str) -> Result<Vec<u8>, RowFault> {
         match kind {
             "judge" => steps::judged(alloc, text),
+            "settled" => steps::settled_alone(alloc, text),
             "way" => steps::gone(alloc, text),
             "totals" => rules::totals(alloc, text),
             "reply" => values::reply(alloc, text),

@@ -2,7 +2,7 @@
 
 use registry_rules::{
     Deed, Facts, Holdings, Order, Org, Refusal, Request, Totals, Verdict, changes, judge,
-    numbers_concerned, reply_text, request_bytes, slug_concerned,
+    numbers_concerned, reply_text, request_bytes, settled, slug_concerned, vid_concerned,
 };
 use row_records::{founding_of, request_of};
 use row_texts::{RowFault, cut, number_of, text_of};
@@ -45,11 +45,25 @@ fn refused_text(alloc: Global, refusal: &Refusal) -> Result<Vec<u8>, RowFault> {
 }
 
 // The reply, `kept`, or the refusal's number and name.
-fn answer(alloc: Global, facts: &Facts<'_>, request: &Request) -> Result<Vec<u8>, RowFault> {
-    match judge(alloc, facts, request)? {
+fn verdict_text(alloc: Global, verdict: Verdict) -> Result<Vec<u8>, RowFault> {
+    match verdict {
         Verdict::New(deed) => accepted_text(alloc, &deed),
         Verdict::Refused(refusal) => refused_text(alloc, &refusal),
         Verdict::Kept(_) => text_of(alloc, "kept"),
+    }
+}
+
+fn answer(alloc: Global, facts: &Facts<'_>, request: &Request) -> Result<Vec<u8>, RowFault> {
+    verdict_text(alloc, judge(alloc, facts, request)?)
+}
+
+/// Shows the verdict on a request under a new key that its caller alone decides, or `open`.
+pub(crate) fn settled_alone(alloc: Global, line: &str) -> Result<Vec<u8>, RowFault> {
+    let request = request_of(alloc, line)?;
+    let founding = founding_of(alloc, FOUNDING)?;
+    match settled(alloc, None, &founding, &request)? {
+        Some(verdict) => verdict_text(alloc, verdict),
+        None => text_of(alloc, "open"),
     }
 }
 
@@ -62,7 +76,8 @@ fn answer_at(
 ) -> Result<Vec<u8>, RowFault> {
     let org = org_of(alloc, &request.order)?;
     let holdings = Holdings::new(Vec::new(alloc));
-    let mut facts = totals.facts(request, None, None, org, holdings);
+    let vid = vid_concerned(&request.order, totals.founding().vendor, None);
+    let mut facts = totals.facts(request, vid, None, None, org, holdings);
     facts.orgs = orgs;
     facts.petitions = petitions;
     answer(alloc, &facts, request)
@@ -81,8 +96,9 @@ pub(crate) fn judged(alloc: Global, text: &str) -> Result<Vec<u8>, RowFault> {
 // What an order concerns that names no petition.
 fn concern_text(alloc: Global, order: &Order, vendor: Vid) -> Result<Vec<u8>, RowFault> {
     let holdings = Holdings::new(Vec::new(alloc));
-    let numbers = numbers_concerned(order, vendor, None, None).is_some();
-    let slug = match slug_concerned(order, vendor, None, &holdings) {
+    let vid = vid_concerned(order, vendor, None);
+    let numbers = numbers_concerned(order, vid, None, None).is_some();
+    let slug = match slug_concerned(order, vid, None, &holdings) {
         Some(slug) => slug.as_str(),
         None => "none",
     };
@@ -91,7 +107,8 @@ fn concern_text(alloc: Global, order: &Order, vendor: Vid) -> Result<Vec<u8>, Ro
 
 fn deed_of(alloc: Global, totals: &Totals, request: &Request) -> Result<Deed, RowFault> {
     let holdings = Holdings::new(Vec::new(alloc));
-    let facts = totals.facts(request, None, None, None, holdings);
+    let vid = vid_concerned(&request.order, totals.founding().vendor, None);
+    let facts = totals.facts(request, vid, None, None, None, holdings);
     match judge(alloc, &facts, request)? {
         Verdict::New(deed) => Ok(deed),
         _ => Err(RowFault::Wrong),

@@ -2,18 +2,40 @@
 
 use registry_rules::laws::{
     has_entry_if_owned, has_four_states, has_one_organisation, has_one_state,
-    has_own_canonical_form, is_kept_for_good, is_legal_from_start, may_be_repeated, stays_legal,
+    has_own_canonical_form, is_kept_for_good, is_legal_from_start, is_made_by_its_requests,
+    may_be_repeated, stays_legal,
 };
-use registry_rules::{CanonicalForm, Founding, Holdings, ReplyText};
-use row_records::founding_of;
+use registry_rules::{
+    CanonicalForm, Founding, Holdings, Order, ReplyText, Request, order_of_form, request_bytes,
+};
+use row_records::{founding_of, slug};
 use row_texts::{RowFault, text_of};
 use std::alloc::Global;
+use usbnum_core::Key;
 
 /// Shows the bytes of the copy of a canonical form.
 pub(crate) fn form(alloc: Global, bytes: &[u8]) -> Result<Vec<u8>, RowFault> {
     let form = CanonicalForm::new(bytes.to_vec(alloc)?);
     let copy = form.clone()?;
     Ok(copy.as_bytes().to_vec(alloc)?)
+}
+
+fn form_of(alloc: Global, order: Order) -> Result<Vec<u8>, RowFault> {
+    let request = Request {
+        caller: slug(alloc, "ann")?,
+        key: Key::new(alloc, b"k1")?.ok_or(RowFault::BadRow)?,
+        order,
+    };
+    Ok(request_bytes(alloc, &request)?.as_bytes().to_vec(alloc)?)
+}
+
+/// Shows the canonical form of the order that is read from a canonical form, if one is.
+pub(crate) fn read(alloc: Global, bytes: &[u8]) -> Result<Vec<u8>, RowFault> {
+    let form = CanonicalForm::new(bytes.to_vec(alloc)?);
+    match order_of_form(alloc, &form)? {
+        Some(order) => form_of(alloc, order),
+        None => text_of(alloc, "none"),
+    }
 }
 
 /// Shows the text of the copy of a reply.
@@ -39,6 +61,7 @@ fn cite(founding: &Founding) {
     has_four_states();
     has_own_canonical_form();
     has_entry_if_owned();
+    is_made_by_its_requests();
 }
 
 /// Cites each law for a founding file.

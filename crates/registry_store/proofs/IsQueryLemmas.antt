@@ -1,8 +1,6 @@
 -- Queries of a registry, whatever they look up.
-use Rattle.std.proofs.Common.{◌≡◌, ◌≢◌, true, false, Result, Ok, Err, refl, sym, ap, subst, ◌∙◌, arith}
+use Rattle.std.proofs.Common.{◌≡◌, ◌≢◌, false, inr, Result, Ok, Err, refl, sym, subst, ◌∙◌}
 use Rattle.sqlite.specs.Store.{Ghosts}
-use Rattle.sqlite.specs.State.{State}
-use Rattle.sqlite.specs.Held.{Held, state}
 use Rattle.registry_schema.specs.declared.fault.TableFault.{TableFault}
 use Rattle.registry_schema.specs.declared.fault.TableFault.TheVariants.{Foreign}
 use Rattle.registry_rules.specs.History.{History}
@@ -46,3 +44,35 @@ module _ {S : Type 0} {g : Ghosts S} {it new : Registry S g} {A : Type 0} {Is : 
     kind = λ h stands clean. kind_of (state_of it) (state_of new) h stands.at stands.legal_with.legal (earlier (state_of it) (state_of new) _ looked.survives clean) (Err was) was e (looked.foreign clean) refl not_poisoned found foreign;
     left = left (Err was) looked;
   }
+
+  -- an answer made of what was looked up, and the faults of such a query
+  module _ {B : Type 0} {Also : History → B → Type 0} where
+    pub queried_as : {found : A} {answer : B} → ((h : History) → Represents it h → Is h found → Also h answer) → IsLookUp (state_of it) (state_of new) (Ok found) Is → IsQuery it new (Ok answer) Also
+    queried_as {found} {answer} means looked = let plain = queried looked in record {
+      when_poisoned = λ is. absurd cc;
+      only_poisoned = λ never. absurd cc;
+      never_taken = λ never. cc;
+      answered = λ h stands clean. means h stands (plain.answered h stands clean);
+      kind = λ h stands clean. tt;
+      left = plain.left;
+    }
+
+    pub faulted_as : {was : TableFault} {e : Fault} → e ≢ of.Poisoned → e ≢ of.Taken → (e ≡ of.Foreign → was ≡ Foreign) → IsLookUp (state_of it) (state_of new) (Err was) Is → IsQuery it new (Err e) Also
+    faulted_as {was} {e} not_poisoned found foreign looked = let plain = faulted not_poisoned found foreign looked in record {
+      when_poisoned = λ is. absurd cc;
+      only_poisoned = λ is. absurd (not_poisoned cc);
+      never_taken = λ is. found cc;
+      answered = λ h stands clean. tt;
+      kind = plain.kind;
+      left = plain.left;
+    }
+
+    pub ran_short : {found : A} → IsLookUp (state_of it) (state_of new) (Ok found) Is → IsQuery it new (Err of.NoMemory) Also
+    ran_short {found} looked = record {
+      when_poisoned = λ is. absurd cc;
+      only_poisoned = λ is. absurd cc;
+      never_taken = λ is. cc;
+      answered = λ h stands clean. tt;
+      kind = λ h stands clean. inr refl;
+      left = left (Ok found) looked;
+    }

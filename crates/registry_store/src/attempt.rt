@@ -5,26 +5,45 @@ ghost use Rattle.sqlite.specs.State.{HasCleanDisk, Survives};
 ghost use Rattle.sqlite.specs.Held.{state};
 ghost use Rattle.table_laws.specs.Inside.{CommitsNothing};
 ghost use Rattle.registry_rules.specs.History.{History};
-ghost use Rattle.registry_rules.specs.Verdict.{verdict};
+ghost use Rattle.registry_rules.specs.Verdict.{verdict, kept_under};
 ghost use Rattle.registry_rules.specs.declared.deed.Deed.{Deed};
 ghost use Rattle.registry_rules.specs.declared.verdict.Verdict.TheVariants as verdicts;
 ghost use Rattle.registry_rules.specs.Reply.{act_text};
 ghost use Rattle.registry_rules.specs.Run.{after_one, reply_to};
 ghost use Rattle.registry_rules.specs.TotalsOf.{AreTotalsOf};
-ghost use Rattle.registry_tables.specs.Finds.{Finds};
+ghost use Rattle.registry_tables.specs.Finds.{Finds, ReadsHistoryOpen};
 ghost use Rattle.registry_tables.specs.Rows.{HoldsRows, newest};
 ghost use Rattle.registry_store.specs.Promise.{IsLegalWith, IsAt};
 ghost use Rattle.registry_store.specs.Attempt.{CommitsOne, Wrote};
 
 use registry_rules::{
-    Deed, Reply, ReplyText, Request, Totals, Verdict, changes, judge, reply_text,
+    Deed, KeptReply, Reply, ReplyText, Request, Totals, Verdict, changes, judge, reply_text,
+    settled,
 };
-use registry_tables::{TableFault, commit, facts_for, keep_reply, store};
+use registry_tables::{TableFault, commit, facts_for, keep_reply, kept_reply, store};
 use sqlite::{Alter, Connection, Transaction};
 use std::alloc::Global;
 use usbnum_core::NoMemory;
 
-/// Returns the verdict on a request, from the rows that it concerns.
+/// Returns the verdict on a request whose key and caller alone do not decide it.
+fn judged_by_facts<S: Alter>(
+    alloc: Global,
+    tx: &mut Transaction<'_, S>,
+    totals: &Totals,
+    request: &Request,
+    kept: Option<KeptReply>,
+) -> Result<Verdict, TableFault>
+    ensures reads { ReadsHistoryOpen S.Store tx.old.conn tx.new.conn result (λ h found. kept ≡ kept_under h request.now.caller request.now.key → AreTotalsOf h totals.now → found ≡ verdict h request.now) }
+{
+    let facts = facts_for(alloc, tx, totals, request, kept)?;
+    match judge(alloc, &facts, request) {
+        Ok(verdict) => Ok(verdict),
+        Err(NoMemory) => Err(TableFault::NoMemory),
+    }
+}
+
+/// Returns the verdict on a request, from the row of its key, and from other rows only if that row
+/// and the caller do not decide it.
 fn judged<S: Alter>(
     alloc: Global,
     tx: &mut Transaction<'_, S>,
@@ -36,9 +55,10 @@ fn judged<S: Alter>(
         → Finds (state S.Store tx.old.conn.now) (state S.Store tx.new.conn.now) result (λ h found. AreTotalsOf h totals.now → found ≡ verdict h request.now) }
     ensures survives { CommitsNothing (state S.Store tx.old.conn.now) (state S.Store tx.new.conn.now) }
 {
-    let facts = facts_for(alloc, tx, totals, request)?;
-    match judge(alloc, &facts, request) {
-        Ok(verdict) => Ok(verdict),
+    let kept = kept_reply(alloc, tx, request)?;
+    match settled(alloc, kept.as_ref(), totals.founding(), request) {
+        Ok(Some(verdict)) => Ok(verdict),
+        Ok(None) => judged_by_facts(alloc, tx, totals, request, kept),
         Err(NoMemory) => Err(TableFault::NoMemory),
     }
 }

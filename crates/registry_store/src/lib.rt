@@ -3,6 +3,7 @@
 
 mod attempt;
 pub mod fault;
+mod history;
 mod queries;
 pub mod registry;
 pub mod reopen;

@@ -2,7 +2,7 @@
 
 use crate::steps::{ENROL, Step};
 use crate::values::{founding, lines_of, replies_to, request, requests_of, slug};
-use registry_rules::{Entry, Founding, Petition, PetitionState, Reply, Request};
+use registry_rules::{Accepted, Entry, Founding, Petition, PetitionState, Reply, Request};
 use registry_store::{Registry, RunEnd};
 use sqlite::{Alter, Connection};
 use std::alloc::Global;
@@ -50,6 +50,10 @@ const STEPS: &[Step] = &[
         r#"{"caller":"ann","key":"a5","order":"return","number":"0001","vendor":"1000"}"#,
         r#"{"done":"returned 1000:0001"}"#,
     ),
+    (
+        r#"{"caller":"cora","key":"c6","order":"add-licence","licence":"CERN-OHL-S-2.0"}"#,
+        r#"{"done":"added licence CERN-OHL-S-2.0"}"#,
+    ),
 ];
 
 const NUMBERS: &str =
@@ -63,6 +67,13 @@ const VENDORS: &str = "1000 Further\n1209 Shared products\n";
 
 // The fixed numbers, and the span.
 const RESERVED: usize = 16 + 256;
+
+// The requests after the first eight, two at a time, and the founding with its first licences.
+const RECORD: &str = "cora i1: imported fresh 1, owned 1, reserved 0, doubled 1, untitled 0, zero 0
+ann a5: returned 1000:0001
+cora c6: added licence CERN-OHL-S-2.0
+1209 Shared products: GPL-3.0-only MIT
+";
 
 const FOUND: &str = "1209:0010 true true
 1209:0011 true false acme true Blinker
@@ -144,6 +155,44 @@ fn count_reserved<S: Alter>(registry: &Registry<S>, vid: Vid, text: &mut String)
         Ok(reserved) => {
             let count = reserved.count();
             writeln!(text, "{count}").is_ok()
+        }
+        Err(_) => false,
+    }
+}
+
+fn add_accepted(accepted: &[Accepted], text: &mut String) -> bool {
+    accepted.iter().all(|Accepted { request, reply }| {
+        let (caller, key, reply) = (&request.caller, &request.key, reply.as_str());
+        writeln!(text, "{caller} {key}: {reply}").is_ok()
+    })
+}
+
+// Adds the record after the first eight requests, in pieces of two, to the piece that is empty.
+fn list_record<S: Alter>(registry: &mut Registry<S>, text: &mut String) -> bool {
+    for after in [8, 10, 12] {
+        match registry.accepted_after(after, 2) {
+            Ok(accepted) => {
+                if !add_accepted(accepted.as_slice(), text) {
+                    return false;
+                }
+            }
+            Err(_) => return false,
+        }
+    }
+    true
+}
+
+fn add_founding<S: Alter>(registry: &mut Registry<S>, text: &mut String) -> bool {
+    match registry.first_founding() {
+        Ok(founding) => {
+            let (vendor, name) = (founding.vendor, &founding.name);
+            write!(text, "{vendor} {name}:").is_ok()
+                && founding
+                    .licences
+                    .as_slice()
+                    .iter()
+                    .all(|licence| write!(text, " {licence}").is_ok())
+                && text.push('\n').is_ok()
         }
         Err(_) => false,
     }
@@ -263,6 +312,8 @@ fn ask<S: Alter>(
         && list_orgs(registry, text)
         && list_vendors(registry, text)
         && count_reserved(registry, vid, text)
+        && list_record(registry, text)
+        && add_founding(registry, text)
         && look_up(registry, keys, text)
     {
         Some(replies)
@@ -326,7 +377,7 @@ fn answers_what_it_was_asked_to_do(rt: HostRuntime) -> Result<(), Fail> {
     let mut wanted = String::new(alloc);
     write!(
         &mut wanted,
-        "{NUMBERS}{PETITIONS}{ORGS}{VENDORS}{RESERVED}\n{FOUND}{replies}"
+        "{NUMBERS}{PETITIONS}{ORGS}{VENDORS}{RESERVED}\n{RECORD}{FOUND}{replies}"
     )?;
     assert_eq!(rt; text.as_str(), wanted.as_str());
     Ok(())

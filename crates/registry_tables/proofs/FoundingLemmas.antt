@@ -88,4 +88,4 @@ founded_records founding valid = record {
 }
 
 pub founded_kept : (founding : Founding) → AreKeptReplies (founded founding) []
-founded_kept founding = record { each = λ caller key. refl; once = tt }
+founded_kept founding = record { in_order = refl; each = λ caller key. refl; once = tt }

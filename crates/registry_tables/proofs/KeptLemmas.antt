@@ -1,5 +1,7 @@
 -- With the kept reply the rows are those of the history with the deed.
-use Rattle.std.proofs.Common.{◌≡◌, ℕ, Bool, true, false, cond, ◌&&◌, List, [], ◌∷◌, ◌++◌, Option, Some, None, Result, refl, sym, ap, ◌∙◌}
+use Rattle.std.proofs.Common.{◌≡◌, ℕ, Bool, true, false, cond, ◌&&◌, List, [], ◌∷◌, ◌++◌, Option, Some, None, Result, map, find, refl, sym, ap, ◌∙◌}
+use Rattle.std.proofs.lemmas.List.{map-append}
+use Rattle.registry_rules.specs.Accepted.{accepted_of, accepted_by}
 use Rattle.std.specs.Option.{option_map}
 use Rattle.std.specs.Str.{bytes_eq}
 use Rattle.std.proofs.lemmas.Bool.{and_parts}
@@ -21,7 +23,7 @@ use Rattle.registry_rules.specs.declared.verdict.Verdict.TheVariants.{Kept as Ve
 use Rattle.registry_rows.specs.declared.kept.KeptRow.{KeptRow}
 use Rattle.registry_rows.specs.Rows.{is_kept_under}
 use Rattle.registry_rows.specs.Tables.{Tables, Holds}
-use Rattle.registry_tables.specs.Rows.{newest, AreKeptReplies, HoldsRows, HoldsUnkept}
+use Rattle.registry_tables.specs.Rows.{newest, AreKeptReplies, kept_row_of, HoldsRows, HoldsUnkept}
 use Rattle.registry_tables.specs.Calls.{IsKeptAs}
 use Rattle.registry_tables.proofs.ViewLemmas.{same_bytes, kept_put}
 
@@ -47,6 +49,18 @@ one_step : (b : Bool) (earlier : Option Deed) (deed : Deed) (x : KeptRow) (row :
 one_step true earlier deed x row none is = rw (none refl) (ap Some (is refl))
 one_step false earlier deed x row none is = refl
 
+step_unless : {X : Type 0} (p : X → Bool) (x : X) (xs : List X) (b : Bool) → p x ≡ b → cond b (Some x) (find p xs) ≡ None → (find p xs ≡ None → delete_where p xs ≡ xs) → delete_where p (x ∷ xs) ≡ x ∷ xs
+step_unless p x xs true is none rest = absurd cc
+step_unless p x xs false is none rest = rw is (ap (λ ys. x ∷ ys) (rest none))
+
+-- what is not found is not deleted
+none_deleted : {X : Type 0} (p : X → Bool) (xs : List X) → find p xs ≡ None → delete_where p xs ≡ xs
+none_deleted p [] none = refl
+none_deleted p (x ∷ xs) none = step_unless p x xs (p x) refl none (none_deleted p xs)
+
+no_row : {X Y : Type 0} (found : Option X) (f : X → Y) → found ≡ None → option_map f found ≡ None
+no_row found f none = ap (option_map f) none
+
 module _ (h : History) (deed : Deed) (legal : Legal (with_deed h deed)) (request : Request) (reply : List ℕ) (keeps : IsKeptAs deed request reply) (order : List ℕ) (spelled : order ≡ canonical_form request.order) where
   abbrev row : KeptRow
   row = record { caller = request.caller; key = request.key; kept = record { order = order; reply = reply } }
@@ -62,6 +76,12 @@ module _ (h : History) (deed : Deed) (legal : Legal (with_deed h deed)) (request
 
   kept_after : (rows : List KeptRow) → AreKeptReplies h rows → AreKeptReplies (with_deed h deed) (delete_where (λ other. is_kept_under request.caller request.key other) rows ++ row ∷ [])
   kept_after rows was = record {
+    in_order =
+        let unfound : find (is_kept_under request.caller request.key) rows ≡ None =
+        was.each request.caller request.key ∙ no_row (kept_under h request.caller request.key) (under request.caller request.key) (no_row (deed_under h request.caller request.key) kept_of (rw (sym keeps.caller, sym keeps.key) (unkept h deed legal))) in
+        ap (λ kept. kept ++ row ∷ []) (none_deleted (is_kept_under request.caller request.key) rows unfound ∙ was.in_order)
+        ∙ ap (λ r. map kept_row_of (accepted_of h.deeds) ++ r ∷ []) (row_is deed.caller deed.key (sym keeps.caller) (sym keeps.key))
+        ∙ sym (map-append kept_row_of (accepted_of h.deeds) (accepted_by deed ∷ []));
     each = λ caller key.
         let b = bytes_eq request.caller caller && bytes_eq request.key key in
         let both = λ (yes : b ≡ true). and_parts (bytes_eq request.caller caller) (bytes_eq request.key key) yes in

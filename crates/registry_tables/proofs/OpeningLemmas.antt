@@ -55,7 +55,7 @@ one_meta h t had = subst (λ l. 0 < length l) (sym had.metas) (omega arith)
 names_up : (names : List (List ℕ)) → RiseBy (λ a b. is_named a b ≡ false) names → IsAscending (sort_by by_bytes names)
 names_up names once = sorted_up by_bytes nat_list_cmp_total is_named (λ a b apart. is_eq-slice_cmp a b ∙ apart) names once
 
-same_names : (xs ys : List (List ℕ)) → IsAscending xs → IsAscending ys → ((name : List ℕ) → list_any (bytes_eq name) xs ≡ list_any (bytes_eq name) ys) → xs ≡ ys
+pub same_names : (xs ys : List (List ℕ)) → IsAscending xs → IsAscending ys → ((name : List ℕ) → list_any (bytes_eq name) xs ≡ list_any (bytes_eq name) ys) → xs ≡ ys
 same_names = one_order (slice_cmp nat_cmp) nat_list_cmp_total bytes_eq is_eq-slice_cmp same_bytes
 
 module _ (h : History) (names given : List (List ℕ)) (is : given ≡ sort_by by_bytes names) where

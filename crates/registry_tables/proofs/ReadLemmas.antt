@@ -98,6 +98,39 @@ module _ {S : Type 0} {g : Ghosts S} {a b c : MutBor (Held S)} {A : Type 0} {P :
     survives = quiet_then (state g a.now) (state g b.now) (state g c.now) one.survives two.survives;
   })
 
+-- the same where the first look-up may need no read
+module _ {S : Type 0} {g : Ghosts S} {a b c : MutBor (Held S)} {A : Type 0} {P : History → A → Type 0} {x : A} where
+  pub open_then : {B : Type 0} {Q : History → B → Type 0} {r : Result B TableFault} → ReadsHistoryOpen g a b (Ok x) P → ReadsHistoryOpen g b c r Q → ReadsHistoryOpen g a c r (λ h y. P h x × Q h y)
+  open_then {B} {Q} {r} one two = record {
+    same_reference = two.same_reference ∙ one.same_reference;
+    found = λ clean inside is_open. (
+        let first = one.found (omega (arith, two.survives.clean)) inside is_open in
+        finds_then (state g a.now) (state g b.now) (state g c.now) P Q x r first (two.found clean first.0.mode first.0.is_open));
+    survives = quiet_then (state g a.now) (state g b.now) (state g c.now) one.survives two.survives;
+  }
+
+  pub open_fails : {B C : Type 0} {Q : History → B → Type 0} {Is : History → C → Type 0} {e : TableFault} {r : Result C TableFault} → r ≡ Err e → ReadsHistoryOpen g a b (Ok x) P → ReadsHistoryOpen g b c (Err e) Q
+      → ReadsHistoryOpen g a c r Is
+  open_fails {B} {C} {Q} {Is} {e} {r} is one two = subst (λ r. ReadsHistoryOpen g a c r Is) (sym is) (record {
+    same_reference = two.same_reference ∙ one.same_reference;
+    found = λ clean inside is_open. (
+        let first = one.found (omega (arith, two.survives.clean)) inside is_open in
+        fails_then (state g a.now) (state g b.now) (state g c.now) (λ h. P h x) first e Q Is (two.found clean first.0.mode first.0.is_open));
+    survives = quiet_then (state g a.now) (state g b.now) (state g c.now) one.survives two.survives;
+  })
+
+-- the same results of one look-up that may need no read
+module _ {S : Type 0} {g : Ghosts S} {a b : MutBor (Held S)} {A B : Type 0} {P : History → A → Type 0} {Is : History → B → Type 0} where
+  pub makes_open : {x : A} {y : B} → ((h : History) → Legal h → P h x → Is h y) → ReadsHistoryOpen g a b (Ok x) P → ReadsHistoryOpen g a b (Ok y) Is
+  makes_open {x} {y} means one = record { same_reference = one.same_reference; found = λ clean inside is_open. finds_ok (state g a.now) (state g b.now) P Is x y means (one.found clean inside is_open); survives = one.survives }
+
+  -- a fault that comes after it
+  pub falls_short : {x : A} {e : TableFault} → e ≢ Foreign → ReadsHistoryOpen g a b (Ok x) P → ReadsHistoryOpen g a b (Err e) Is
+  falls_short {x} {e} other one = record { same_reference = one.same_reference; found = λ clean inside is_open. short (state g a.now) (state g b.now) Is e other (one.found clean inside is_open).0; survives = one.survives }
+
+  pub fails_first_open : {e : TableFault} {r : Result B TableFault} → r ≡ Err e → ReadsHistoryOpen g a b (Err e) P → ReadsHistoryOpen g a b r Is
+  fails_first_open {e} {r} is one = subst (λ r. ReadsHistoryOpen g a b r Is) (sym is) (record { same_reference = one.same_reference; found = one.found; survives = one.survives })
+
 -- the tables that the totals are made of
 module _ {S : Type 0} {g : Ghosts S} {a b : MutBor (Held S)} where
   pub orgs_read : {all : Vec Org Global} → Reads g a b (Ok all) Holds (λ t all. all.items ≡ sort_by by_slug t.orgs) → ReadsHistoryOpen g a b (Ok all) (λ h all. IsOrgList h all.items)

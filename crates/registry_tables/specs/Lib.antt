@@ -7,3 +7,4 @@ pub mod Finds
 pub mod Version
 pub mod Versions
 pub mod Raising
+pub mod FirstLicences

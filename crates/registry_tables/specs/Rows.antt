@@ -1,5 +1,5 @@
 -- The rows of a history in a store.
-use Rattle.std.specs.Prelude.{◌≡◌, ◌≢◌, ℕ, ◌+◌, ◌<◌, ◌⊎◌, Bool, false, List, [], ◌∷◌, ◌&&◌, nat_eq, find}
+use Rattle.std.specs.Prelude.{◌≡◌, ◌≢◌, ℕ, ◌+◌, ◌<◌, ◌⊎◌, Bool, false, List, [], ◌∷◌, map, ◌&&◌, nat_eq, find}
 use Rattle.std.specs.Option.{option_map}
 use Rattle.std.specs.List.{list_any}
 use Rattle.std.specs.Str.{bytes_eq}
@@ -14,6 +14,9 @@ use Rattle.registry_rules.specs.declared.founding.Founding.{Founding}
 use Rattle.registry_rules.specs.Query.{org_of, petition_of, vendor_of, is_reserved_by_order, is_licence}
 use Rattle.registry_rules.specs.Records.{entry_of}
 use Rattle.registry_rules.specs.Verdict.{kept_under}
+use Rattle.registry_rules.specs.Orders.{canonical_form, IsOrder}
+use Rattle.registry_rules.specs.Accepted.{accepted_of}
+use Rattle.registry_rules.specs.declared.accepted.Accepted.{Accepted}
 use Rattle.registry_rules.specs.declared.record.Org.{Org}
 use Rattle.registry_rules.specs.declared.record.Entry.{Entry}
 use Rattle.registry_rules.specs.declared.record.Petition.{Petition}
@@ -47,6 +50,14 @@ pub record IsFounding (founding : Founding) : Type 0 where
   pub curators : IsCurators founding.curators
   pub fixed : IsSpread 1 founding.fixed
 
+-- the row of an accepted request and its reply
+abbrev pub kept_row_of : Accepted → KeptRow
+kept_row_of accepted = record { caller = accepted.request.caller; key = accepted.request.key; kept = record { order = canonical_form accepted.request.order; reply = accepted.reply } }
+
+-- its order is valid, so its canonical form is that of no other valid order
+abbrev pub HasValidOrder : Accepted → Type 0
+HasValidOrder accepted = IsOrder accepted.request.order
+
 -- each key finds what the history says, and no key has two rows
 module _ (h : History) where
   pub record AreCurators (names : List (List ℕ)) : Type 0 where
@@ -77,6 +88,7 @@ module _ (h : History) where
   AreVendors vendors = (vid : ℕ) → find (λ vendor. nat_eq vendor.vid vid) vendors ≡ vendor_of h vid
 
   pub record AreKeptReplies (rows : List KeptRow) : Type 0 where
+    pub in_order : rows ≡ map kept_row_of (accepted_of h.deeds)
     pub each : (caller key : List ℕ) → find (is_kept_under caller key) rows ≡ option_map (λ kept. record { caller = caller; key = key; kept = kept }) (kept_under h caller key)
     pub once : NoTwo (λ a b. is_kept_under b.caller b.key a) rows
 

@@ -5,10 +5,10 @@ use crate::values::{Asked, Put, changes, request_of};
 use registry_rules::{Change, Facts, Founding, ReplyText, Request, Totals};
 use registry_schema::{is_empty, version_of};
 use registry_tables::{
-    TableFault, create, facts_for, has_meta, keep_reply, list_numbers, list_orgs, list_petitions,
-    list_vendors, migrate, store, totals,
+    TableFault, create, facts_for, has_meta, keep_reply, kept_reply, list_numbers, list_orgs,
+    list_petitions, list_vendors, migrate, store, totals,
 };
-use sqlite::{Alter, Connection};
+use sqlite::{Alter, Connection, Transaction};
 use std::alloc::Global;
 
 /// What each step is given.
@@ -248,6 +248,16 @@ fn describe(facts: &Facts<'_>, text: &mut String) -> bool {
     writeln!(text, "{kept:?} {org:?} {state:?}\n{holdings:?}").is_ok()
 }
 
+fn facts_of<'a, S: Alter>(
+    alloc: Global,
+    tx: &mut Transaction<'_, S>,
+    totals: &'a Totals,
+    request: &Request,
+) -> Result<Facts<'a>, TableFault> {
+    let kept = kept_reply(alloc, tx, request)?;
+    facts_for(alloc, tx, totals, request, kept)
+}
+
 fn add_facts_over<S: Alter>(
     alloc: Global,
     conn: &mut Connection<S>,
@@ -259,7 +269,7 @@ fn add_facts_over<S: Alter>(
         return false;
     }
     let mut tx = conn.transaction();
-    match facts_for(alloc, &mut tx, totals, request) {
+    match facts_of(alloc, &mut tx, totals, request) {
         Ok(facts) => describe(&facts, text),
         Err(_) => false,
     }

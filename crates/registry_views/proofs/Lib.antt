@@ -1,2 +1,4 @@
 pub mod ReportLemmas
 pub mod ViewLemmas
+pub mod RecordLemmas
+pub mod PieceLemmas

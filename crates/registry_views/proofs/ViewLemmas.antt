@@ -12,7 +12,7 @@ use Rattle.registry_store.specs.Queries.{IsUntouched, IsQuery}
 use Rattle.registry_store.proofs.TransactionLemmas.{quiet_then}
 
 module _ {S : Type 0} {g : Ghosts S} where
-  left_then : (it mid new : Registry S g) → IsUntouched it mid → IsUntouched mid new → IsUntouched it new
+  pub left_then : (it mid new : Registry S g) → IsUntouched it mid → IsUntouched mid new → IsUntouched it new
   left_then it mid new a b = record {
     stays = λ h stands. b.stays h (a.stays h stands);
     poisons_nothing = b.poisons_nothing ∙ a.poisons_nothing;
@@ -20,7 +20,7 @@ module _ {S : Type 0} {g : Ghosts S} where
   }
 
   -- a disk that is clean after a query was clean before it
-  clean_before : (mid new : Registry S g) → IsUntouched mid new → HasCleanDisk (state_of new) → HasCleanDisk (state_of mid)
+  pub clean_before : (mid new : Registry S g) → IsUntouched mid new → HasCleanDisk (state_of new) → HasCleanDisk (state_of mid)
   clean_before mid new b clean = let more = b.survives.clean in omega (arith, more, clean)
 
 module _ {S : Type 0} {g : Ghosts S} {it new : Registry S g} {A : Type 0} {Is : History → A → Type 0} where

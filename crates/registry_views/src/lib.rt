@@ -1,8 +1,10 @@
-//! The list and the reports of a registry. Reads it, and changes nothing.
+//! The list, the reports and the record of a registry. Reads it, and changes nothing.
 #![tactic(auto)]
 
 mod list;
+mod record;
 mod reports;
 
 pub use list::document_of;
+pub use record::record_page;
 pub use reports::report_of;

@@ -4,9 +4,9 @@ ghost use Rattle.std.specs.Prelude.{◌≡◌, false, IfErr, IfOk, string_bytes}
 ghost use Rattle.registry_rules.specs.History.{History};
 ghost use Rattle.registry_store.specs.Promise.{Represents, is_poisoned};
 ghost use Rattle.registry_store.specs.Queries.{IsQuery};
-ghost use Rattle.registry_views.specs.Reports.{AreReserved, IsCensus, IsHoldersReport, IsPetitionsReport, IsReport};
+ghost use Rattle.registry_views.specs.Reports.{AreReserved, IsCensus, IsHoldersReport, IsNumbersReport, IsOrganisationsReport, IsPetitionsReport, IsReport};
 
-use registry_reports::{ReportKind, census, holders, open_petitions};
+use registry_reports::{ReportKind, census, holders, open_petitions, organisations, taken_numbers};
 use registry_rules::Vendor;
 use registry_store::{Fault, Registry};
 use sqlite::Alter;
@@ -57,6 +57,22 @@ fn petitions_of<S: Alter>(alloc: Global, registry: &mut Registry<S>) -> Result<S
     Ok(open_petitions(alloc, founding, petitions.as_slice())?)
 }
 
+fn numbers_of<S: Alter>(alloc: Global, registry: &mut Registry<S>) -> Result<String, Fault>
+    ensures { IsQuery registry.old registry.new result (λ h text. IsNumbersReport h (string_bytes text)) }
+{
+    let vendors = registry.vendors()?;
+    let numbers = registry.numbers()?;
+    let pairs = reserved_of(alloc, registry, vendors.as_slice())?;
+    Ok(taken_numbers(alloc, pairs.as_slice(), numbers.as_slice())?)
+}
+
+fn organisations_of<S: Alter>(alloc: Global, registry: &mut Registry<S>) -> Result<String, Fault>
+    ensures { IsQuery registry.old registry.new result (λ h text. IsOrganisationsReport h (string_bytes text)) }
+{
+    let orgs = registry.orgs()?;
+    Ok(organisations(alloc, orgs.as_slice())?)
+}
+
 /// Returns the text of a report on the registry. Changes nothing.
 ///
 /// # Errors
@@ -74,5 +90,7 @@ pub fn report_of<S: Alter>(
         ReportKind::Census => census_of(alloc, registry),
         ReportKind::Holders => holders_of(alloc, registry),
         ReportKind::Petitions => petitions_of(alloc, registry),
+        ReportKind::Numbers => numbers_of(alloc, registry),
+        ReportKind::Organisations => organisations_of(alloc, registry),
     }
 }

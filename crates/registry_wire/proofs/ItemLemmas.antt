@@ -15,7 +15,7 @@ with_front front found = option_map (λ others. front ++ others) found
 pub items_step : (values : List Value) (i : ℕ) (value : Value) → i < length values → value ≡ get_or values i value → items_view (drop i values) ≡ item (view value) (items_view (drop (i + 1) values))
 items_step values i value within is = rw add-one (ap items_view (drop-cons values i value within) ∙ ap (λ (x : Value). item (view x) (items_view (drop (suc i) values))) (sym is))
 
-front_grows : {A : Type 0} (front : List A) (x : A) (found : Option (List A)) → with_front front (option_map (λ xs. x ∷ xs) found) ≡ with_front (front ++ x ∷ []) found
+pub front_grows : {A : Type 0} (front : List A) (x : A) (found : Option (List A)) → with_front front (option_map (λ xs. x ∷ xs) found) ≡ with_front (front ++ x ∷ []) found
 front_grows front x None = refl
 front_grows front x (Some others) = ap (λ ys. Some ys) (sym (append_assoc front (x ∷ []) others))
 

@@ -20,6 +20,10 @@ key_of text = where_it_holds (key_or_not text) text
 unfoldable pub title_of : List ℕ → Option (List ℕ)
 title_of text = where_it_holds (title_or_not text) text
 
+-- the text as a link, if it is one
+unfoldable pub kept_link : List ℕ → Option (List ℕ)
+kept_link text = where_it_holds (link_or_not text) text
+
 -- an HTTP or HTTPS URL as a link: the URL's own text, if that is a link
 unfoldable pub web_address : Parts → Option (List ℕ)
 web_address url =

@@ -5,6 +5,7 @@ pub mod Kinds
 pub mod Listing
 pub mod Names
 pub mod Reading
+pub mod Record
 pub mod Refusals
 pub mod Replies
 pub mod Spans

@@ -1,6 +1,6 @@
-//! The fields of a request in JSON, by name.
+//! The fields of a request or of a record's line in JSON, by name.
 
-/// A field of a request in JSON.
+/// A field of a request, or of a record's line, in JSON.
 #[derive(Clone, Copy, Debug, PartialEq, Eq)]
 pub enum Field {
     /// Who makes the request.
@@ -31,6 +31,10 @@ pub enum Field {
     Vendor,
     /// The name of a vendor.
     Name,
+    /// The items of an import, in a record.
+    Items,
+    /// The reply to an accepted request, in a record.
+    Done,
 }
 
 impl Field {
@@ -56,6 +60,8 @@ impl Field {
             Field::Last => "last",
             Field::Vendor => "vendor",
             Field::Name => "name",
+            Field::Items => "items",
+            Field::Done => "done",
         }
     }
 }

@@ -1,11 +1,11 @@
 //! Reads one field of a request in JSON as a value of its kind.
 
-ghost use Rattle.std.specs.Prelude.{◌≡◌, option_copied, option_map, option_and_then};
+ghost use Rattle.std.specs.Prelude.{◌≡◌, IfOk, option_copied, option_map, option_and_then};
 ghost use Rattle.usbnum_core.specs.Number.{number_of};
 ghost use Rattle.serde_json.specs.View.{view};
 ghost use Rattle.serde_json.specs.Find.{as_str};
 ghost use Rattle.registry_rules.specs.Gives.{Gives};
-ghost use Rattle.registry_wire.specs.Reading.{wanted, text_in, given_in, slug_in, key_in, title_in, link_in, number_in, optional_number_in, petition_number, whole_in, petition_in, span_in, kind_in};
+ghost use Rattle.registry_wire.specs.Reading.{wanted, text_in, given_in, slug_in, key_in, title_in, link_from, link_in, number_in, optional_number_in, least_petition, petition_number, whole_in, petition_in, span_in, kind_in};
 
 use crate::link::link_of;
 use crate::orders::{Kind, kind_named};
@@ -15,17 +15,26 @@ use crate::{Field, WireRefusal};
 use registry_rules::Rejection;
 use serde_json::Value;
 use std::alloc::Global;
-use usbnum_core::{Key, Link, Pid, Slug, Span, Title, Vid, parse_pid, parse_vid};
+use usbnum_core::{Key, Link, NoMemory, Pid, Slug, Span, Title, Vid, parse_pid, parse_vid};
+
+// Where an object is from.
+#[derive(Clone, Copy, Debug, PartialEq, Eq)]
+pub(crate) enum Origin {
+    // A caller: a link is any URL that has a canonical form, and petitions count from 1.
+    Caller,
+    // A record, which has every order as it is kept: a link stands in its canonical form.
+    Record,
+}
 
 // The value of a field, or the refusal that the field is bad.
-fn wanted<T>(field: Field, found: Option<T>) -> Result<T, Rejection<WireRefusal>>
+pub(crate) fn wanted<T>(field: Field, found: Option<T>) -> Result<T, Rejection<WireRefusal>>
     ensures { Gives result (wanted field found) }
 {
     present(WireRefusal::BadField(field), found)
 }
 
 // The text at a field.
-fn text_at(value: &Value, field: Field) -> Option<&str>
+pub(crate) fn text_at(value: &Value, field: Field) -> Option<&str>
     ensures { option_copied result ≡ text_in field (view value.now) }
 {
     match value.get(field.name()) {
@@ -76,18 +85,30 @@ pub(crate) fn title_at(
     wanted(field, Title::new(alloc, text.as_bytes())?)
 }
 
+// A caller's link in its canonical form, or the link of a record as it stands.
+#[tactic(auto, unfolding(crate::specs::Kinds::kept_link))]
+fn link_from(alloc: Global, origin: Origin, text: &str) -> Result<Option<Link>, NoMemory>
+    ensures { IfOk result (λ found. found ≡ link_from origin text.now) }
+{
+    match origin {
+        Origin::Caller => link_of(alloc, text),
+        Origin::Record => Link::new(alloc, text.as_bytes()),
+    }
+}
+
 #[tactic(auto, unfolding(crate::specs::Reading::link_in))]
 pub(crate) fn link_at(
     alloc: Global,
+    origin: Origin,
     value: &Value,
     field: Field,
 ) -> Result<Link, Rejection<WireRefusal>>
-    ensures { Gives result (link_in field (view value.now)) }
+    ensures { Gives result (link_in origin field (view value.now)) }
 {
     let Some(text) = text_at(value, field) else {
         return wanted(field, None);
     };
-    wanted(field, link_of(alloc, text)?)
+    wanted(field, link_from(alloc, origin, text)?)
 }
 
 #[tactic(auto, unfolding(crate::specs::Reading::kind_in))]
@@ -166,11 +187,20 @@ pub(crate) fn optional_vid_at(
     }
 }
 
-// The number of a petition: 1 to 4,294,967,295.
-fn petition_number(number: u64) -> Option<u32>
-    ensures { result ≡ petition_number number }
+fn least_petition(origin: Origin) -> u64
+    ensures { result ≡ least_petition origin }
 {
-    if 1 <= number && number <= 4_294_967_295 {
+    match origin {
+        Origin::Caller => 1,
+        Origin::Record => 0,
+    }
+}
+
+// The number of a petition: 1 to 4,294,967,295, or in a record from 0 on.
+fn petition_number(origin: Origin, number: u64) -> Option<u32>
+    ensures { result ≡ petition_number origin number }
+{
+    if least_petition(origin) <= number && number <= 4_294_967_295 {
         Some(number as u32)
     } else {
         None
@@ -188,11 +218,11 @@ fn whole_at(value: &Value, field: Field) -> Option<u64>
 }
 
 #[tactic(auto, unfolding(crate::specs::Reading::petition_in))]
-pub(crate) fn petition_at(value: &Value) -> Result<u32, Rejection<WireRefusal>>
-    ensures { Gives result (petition_in (view value.now)) }
+pub(crate) fn petition_at(origin: Origin, value: &Value) -> Result<u32, Rejection<WireRefusal>>
+    ensures { Gives result (petition_in origin (view value.now)) }
 {
     match whole_at(value, Field::Petition) {
-        Some(number) => wanted(Field::Petition, petition_number(number)),
+        Some(number) => wanted(Field::Petition, petition_number(origin, number)),
         None => wanted(Field::Petition, None),
     }
 }

@@ -5,7 +5,7 @@ ghost use Rattle.std.specs.List.{list_any};
 ghost use Rattle.toml.specs.View.{view, table_view};
 ghost use Rattle.registry_rules.specs.Gives.{Gives};
 ghost use Rattle.registry_wire.specs.Refusals.{GivesSeen};
-ghost use Rattle.usbnum_core.specs.Spans.{span_has, spans_have};
+ghost use Rattle.usbnum_core.specs.Spans.{span_has, spans_have, IsSpread};
 ghost use Rattle.registry_wire.specs.Founding.{value_in, one_in, some_in, fixed_in, listed_in, table_of, founding_listed, Founds, FoundsAs};
 ghost use Rattle.registry_wire.specs.Listing.{seen};
 
@@ -140,8 +140,9 @@ fn read_listing(alloc: Global, bytes: &[u8]) -> Result<Listing, Rejection<WireRe
 }
 
 // The numbers of all spans.
-fn spans_of(alloc: Global, listed: &[Span]) -> Result<Spans, NoMemory>
-    ensures { IfOk result (λ spans. (n : ℕ) → spans_have spans n ≡ list_any (λ span. span_has span n) listed.now) }
+pub(crate) fn spans_of(alloc: Global, listed: &[Span]) -> Result<Spans, NoMemory>
+    ensures numbers { IfOk result (λ spans. (n : ℕ) → spans_have spans n ≡ list_any (λ span. span_has span n) listed.now) }
+    ensures spread { IfOk result (λ spans. IsSpread 1 spans) }
 {
     let mut spans = Spans::new(alloc);
     for span in listed {

@@ -6,7 +6,7 @@ ghost use Rattle.registry_rules.specs.Gives.{Gives};
 ghost use Rattle.registry_wire.specs.Refusals.{GivesSeen};
 ghost use Rattle.registry_wire.specs.Reading.{object_of, body_reading, line_reading};
 
-use crate::fields::{key_at, slug_at};
+use crate::fields::{Origin, key_at, slug_at};
 use crate::orders::order_at;
 use crate::{Field, WireRefusal};
 use registry_rules::{Rejection, Request};
@@ -16,7 +16,7 @@ use usbnum_core::{Key, NoMemory, Slug};
 
 // Reads the bytes as a JSON object.
 #[tactic(auto, unfolding(crate::specs::Reading::object_of))]
-fn object_of(alloc: Global, bytes: &[u8]) -> Result<Value, Rejection<WireRefusal>>
+pub(crate) fn object_of(alloc: Global, bytes: &[u8]) -> Result<Value, Rejection<WireRefusal>>
     ensures { GivesSeen view result (object_of bytes.now) }
 {
     match Value::from_slice(alloc, bytes) {
@@ -44,7 +44,7 @@ fn read_line(alloc: Global, bytes: &[u8]) -> Result<Request, Rejection<WireRefus
     let value = object_of(alloc, bytes)?;
     let caller = slug_at(alloc, &value, Field::Caller)?;
     let key = key_at(alloc, &value, Field::Key)?;
-    let order = order_at(alloc, &value)?;
+    let order = order_at(alloc, Origin::Caller, &value)?;
     Ok(Request { caller, key, order })
 }
 
@@ -58,7 +58,7 @@ fn read_body(
     ensures { Gives result (body_reading caller key bytes.now) }
 {
     let value = object_of(alloc, bytes)?;
-    let order = order_at(alloc, &value)?;
+    let order = order_at(alloc, Origin::Caller, &value)?;
     Ok(Request { caller, key, order })
 }
 

@@ -68,7 +68,7 @@ fn span_after(first: Pid, rest: &[u8]) -> Option<Span>
 
 // The span of a text: one number, or the first and the last with a hyphen between them.
 #[tactic(auto, unfolding(crate::specs::Founding::span_written))]
-fn span_written(text: &[u8]) -> Option<Span>
+pub(crate) fn span_written(text: &[u8]) -> Option<Span>
     ensures { result ≡ span_written text.now }
 {
     let [a, b, c, d, rest @ ..] = text else {

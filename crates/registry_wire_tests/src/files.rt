@@ -40,7 +40,7 @@ fn push_fixed(text: &mut String, founding: &Founding) -> Result<(), RowFault> {
     Ok(())
 }
 
-fn founding_text(alloc: Global, founding: &Founding) -> Result<Vec<u8>, RowFault> {
+pub(crate) fn founding_text(alloc: Global, founding: &Founding) -> Result<Vec<u8>, RowFault> {
     let (vendor, name) = (founding.vendor, &founding.name);
     let mut text = format!(in alloc; "{vendor} {name}")?;
     push_members(&mut text, founding)?;

@@ -1,8 +1,9 @@
-//! Tests of requests, replies and founding files: what no contract says. A line of the standard input
+//! Tests of requests, replies, founding files and records: what no contract says. A line of the standard input
 //! has a kind of row and its text; the line that is printed shows what the calls give.
 #![tactic(auto)]
 
 mod files;
+mod records;
 mod refusals;
 
 use row_texts::{Kinds, RowFault, bytes_of, show_rows};
@@ -14,6 +15,8 @@ fn of_bytes(alloc: Global, kind: &str, bytes: &[u8]) -> Result<Vec<u8>, RowFault
         "line" => files::line(alloc, bytes),
         "founding" => files::founding(alloc, bytes),
         "time" => files::time(alloc, bytes),
+        "record" => records::record(alloc, bytes),
+        "again" => records::again(alloc, bytes),
         _ => Err(RowFault::BadRow),
     }
 }

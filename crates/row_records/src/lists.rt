@@ -1,8 +1,8 @@
 //! Makes lists of the records of a row, which have semicolons between them.
 
-use crate::records::{entry, petition};
+use crate::records::{entry, org, petition};
 use crate::values::{field, number, span, title, vid};
-use registry_rules::{Entry, Petition, Vendor};
+use registry_rules::{Entry, Org, Petition, Vendor};
 use row_texts::RowFault;
 use std::alloc::Global;
 use usbnum_core::{Number, Spans, Vid};
@@ -64,6 +64,17 @@ pub fn numbers(alloc: Global, text: &str) -> Result<Vec<(Number, Entry)>, RowFau
         }
     }
     Ok(numbers)
+}
+
+/// Returns organisations; none of an empty text.
+pub fn orgs(alloc: Global, text: &str) -> Result<Vec<Org>, RowFault> {
+    let mut orgs = Vec::new(alloc);
+    if !text.is_empty() {
+        for part in text.split(';') {
+            orgs.push(org(alloc, part)?)?;
+        }
+    }
+    Ok(orgs)
 }
 
 pub fn petitions(alloc: Global, text: &str) -> Result<Vec<(u32, Petition)>, RowFault> {

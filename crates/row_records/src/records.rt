@@ -1,7 +1,7 @@
 //! Makes records of the fields of a row.
 
 use crate::values::{field, is_held, link, maybe_pid, pid, slug, title, vid};
-use registry_rules::{Card, Entry, Petition, PetitionState, Terms};
+use registry_rules::{Card, Entry, Org, Petition, PetitionState, Terms};
 use row_texts::{RowFault, number_of};
 use std::alloc::Global;
 use usbnum_core::{Pid, Vid};
@@ -68,4 +68,17 @@ pub fn petition(alloc: Global, text: &str) -> Result<(u32, Petition), RowFault> 
     let (id, vendor, want) = (number_of(id)?, vid(vendor)?, maybe_pid(want)?);
     let petition = asked(alloc, vendor, want, state(outcome)?, rest)?;
     Ok((id, petition))
+}
+
+/// Reads an organisation: its slug, keeper, site and title.
+pub fn org(alloc: Global, text: &str) -> Result<Org, RowFault> {
+    let (name, rest) = field(text)?;
+    let (keeper, rest) = field(rest)?;
+    let (site, display) = field(rest)?;
+    Ok(Org {
+        slug: slug(alloc, name)?,
+        title: title(alloc, display)?,
+        site: link(alloc, site)?,
+        keeper: slug(alloc, keeper)?,
+    })
 }

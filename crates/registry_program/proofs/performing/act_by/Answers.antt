@@ -14,6 +14,9 @@ returns-in-Apply g c = rw c.in-Apply.is (refl, c.run_apply.ensures)
 pub returns-in-Import : goal.returns-in-Import
 returns-in-Import g c = rw c.in-Import.is (refl, (c.import_of_arguments-asked.result, c.import_of_arguments-asked.ensures, c.run_import.ensures))
 
+pub returns-in-Replay : goal.returns-in-Replay
+returns-in-Replay g c = rw c.in-Replay.is (c.run_replay.ensures (sunk g.W.Sink c.args.output.now))
+
 pub returns-in-Serve : goal.returns-in-Serve
 returns-in-Serve g c = rw c.in-Serve.is (refl, c.run_serve.ensures (sunk g.W.Sink c.args.output.now))
 
@@ -22,6 +25,9 @@ returns-in-Export g c = rw c.in-Export.is (refl, c.run_export.ensures)
 
 pub returns-in-Report : goal.returns-in-Report
 returns-in-Report g c = rw c.in-Report.is (refl, c.run_report.ensures)
+
+pub returns-in-History : goal.returns-in-History
+returns-in-History g c = rw c.in-History.is (refl, c.run_history.ensures)
 
 pub returns-in-Lookup : goal.returns-in-Lookup
 returns-in-Lookup g c = rw c.in-Lookup.is (refl, c.run_lookup.ensures)

@@ -1,7 +1,7 @@
 use Rattle.registry_arguments.specs.Commands.{texts}
 use Rattle.registry_commands.specs.Ends.{ends_of}
 use Rattle.registry_program.proofs.StatusLemmas.{is_status}
-use Rattle.registry_program.proofs.WholeLemmas.{performs_whole}
+use Rattle.registry_program.proofs.PerformsLemmas.{performs_whole}
 use Rattle.registry_program.proofs.performing.perform.Goals as goal
 
 pub returns-clause-status : goal.returns-clause-status

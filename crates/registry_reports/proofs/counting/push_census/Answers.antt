@@ -1,7 +1,6 @@
-use Rattle.std.proofs.Common.{◌≡◌, ◌++◌, ap, ◌∙◌, ℕ, List}
+use Rattle.std.proofs.Common.{◌++◌, ap, ◌∙◌, ℕ, List}
 use Rattle.std.specs.String.{string_bytes}
 use Rattle.std.proofs.lemmas.Result.{on_ok_weaker}
-use Rattle.registry_reports.specs.Census.{census_text}
 use Rattle.registry_reports.proofs.CensusLineLemmas.{same_census}
 use Rattle.registry_reports.proofs.counting.push_census.Goals as goal
 

@@ -3,30 +3,27 @@ use Rattle.usbnum_core.specs.declared.number.Number.{Number}
 use Rattle.registry_rules.specs.FactsOf.{concerns, org_concerned}
 use Rattle.registry_rules.specs.Query.{org_of}
 use Rattle.registry_rules.specs.Verdict.{least_for}
-use Rattle.registry_tables.proofs.ReadLemmas.{then_open, fails_open, fails_first, makes}
+use Rattle.registry_tables.proofs.ReadLemmas.{open_then, open_fails, fails_first_open, makes_open}
 use Rattle.registry_tables.proofs.facts.facts_for.Goals as goal
 
 pub returns : goal.returns
 unfolding org_concerned
 returns g c =
     record {
-      reads = makes (λ h legal it are.
-          let vendor = (c.founding.ensures h are).vendor in
-          let named = it.0.0.1 in
-          let range = c.numbers_concerned-range.ensures h vendor (c.as_ref-2.ensures.value ∙ named) (c.least_of-least.ensures h are ∙ ap (least_for h) (c.as_ref.ensures.value ∙ named)) in
+      reads = makes_open (λ h legal it kept are.
+          let named = it.0.0 in
+          let vendor = c.vid_concerned-vid.ensures h (c.founding.ensures h are).vendor (c.as_ref.ensures.value ∙ named) in
+          let range = c.numbers_concerned-range.ensures h vendor (c.as_ref-3.ensures.value ∙ named) (c.least_of-least.ensures h are ∙ ap (least_for h) (c.as_ref-2.ensures.value ∙ named)) in
           let each = λ (n : Number) (about : concerns h c.args.request.now.order n ≡ true). it.0.1 n (range n about) in
-          c.facts.ensures h are it.0.0.0 named (it.1 ∙ ap (option_and_then (org_of h)) (c.slug_concerned-slug.ensures h vendor (c.as_ref-3.ensures.value ∙ named) each)) each)
-          (then_open (then_open (then_open c.in_ok-kept.ensures.reads c.in_ok-petition.ensures.reads) c.in_ok-holdings.ensures.reads) c.in_ok-org.ensures.reads);
+          c.facts.ensures h are vendor kept named (it.1 ∙ ap (option_and_then (org_of h)) (c.slug_concerned-slug.ensures h vendor (c.as_ref-4.ensures.value ∙ named) each)) each)
+          (open_then (open_then c.in_ok-petition.ensures.reads c.in_ok-holdings.ensures.reads) c.in_ok-org.ensures.reads);
     }
 
-pub returns-in_err-kept : goal.returns-in_err-kept
-returns-in_err-kept g c = record { reads = fails_first (search rules) c.in_err-kept.ensures.reads }
-
 pub returns-in_err-petition : goal.returns-in_err-petition
-returns-in_err-petition g c = record { reads = fails_open (search rules) c.in_ok-kept.ensures.reads c.in_err-petition.ensures.reads }
+returns-in_err-petition g c = record { reads = fails_first_open (search rules) c.in_err-petition.ensures.reads }
 
 pub returns-in_err-holdings : goal.returns-in_err-holdings
-returns-in_err-holdings g c = record { reads = fails_open (search rules) (then_open c.in_ok-kept.ensures.reads c.in_ok-petition.ensures.reads) c.in_err-holdings.ensures.reads }
+returns-in_err-holdings g c = record { reads = open_fails (search rules) c.in_ok-petition.ensures.reads c.in_err-holdings.ensures.reads }
 
 pub returns-in_err-org : goal.returns-in_err-org
-returns-in_err-org g c = record { reads = fails_open (search rules) (then_open (then_open c.in_ok-kept.ensures.reads c.in_ok-petition.ensures.reads) c.in_ok-holdings.ensures.reads) c.in_err-org.ensures.reads }
+returns-in_err-org g c = record { reads = open_fails (search rules) (open_then c.in_ok-petition.ensures.reads c.in_ok-holdings.ensures.reads) c.in_err-org.ensures.reads }

@@ -1,0 +1,289 @@
+-- Lines of a record that were acted on, one after another.
+use Rattle.std.proofs.Common.{◌≡◌, ◌⊎◌, inl, inr, ℕ, ◌+◌, ◌-◌, ◌^◌, false, true, List, [], ◌∷◌, ◌++◌, length, Option, Some, None, Result, Ok, Err, refl, sym, ap, subst, ◌∙◌, arith, append-nil, append_assoc, length-append}
+use Rattle.std.specs.Prelude.{◌≢◌, All, map}
+use Rattle.std.proofs.lemmas.List.Elements.{All-nil, All-push}
+use Rattle.std.proofs.lemmas.List.{map-append}
+use Rattle.sqlite.specs.Store.{Ghosts}
+use Rattle.sqlite.specs.State.{State, HasCleanDisk}
+use Rattle.registry_rules.specs.declared.accepted.Accepted.{Accepted}
+use Rattle.registry_rules.specs.declared.verdict.Reply.{Reply}
+use Rattle.registry_rules.specs.declared.verdict.Reply.TheVariants.{Done}
+use Rattle.registry_rules.specs.History.{History}
+use Rattle.registry_rules.specs.Run.{after, after_one, replies_to, reply_to}
+use Rattle.registry_tables.specs.Rows.{newest}
+use Rattle.registry_store.specs.declared.registry.Registry.{Registry}
+use Rattle.registry_store.specs.Promise.{Endures, Leaves, Represents, is_poisoned, state_of}
+use Rattle.registry_commands.specs.declared.entries.Entry.{Entry}
+use Rattle.registry_commands.specs.declared.entries.Entry.TheVariants.{End, Blank, Founding, Accepted as Request, Bad}
+use Rattle.registry_commands.specs.declared.entries.LineRefusal.{LineRefusal}
+use Rattle.registry_commands.specs.declared.following.ReplayStop.{ReplayStop}
+use Rattle.registry_commands.specs.declared.following.ReplayStop.TheVariants as stop
+use Rattle.registry_commands.specs.declared.input.ReadAllFault.{ReadAllFault}
+use Rattle.registry_commands.specs.declared.input.ReadAllFault.TheVariants as inputs
+use Rattle.registry_commands.specs.declared.messages.Failure.{Failure}
+use Rattle.registry_commands.specs.declared.messages.Failure.TheVariants as of
+use Rattle.byte_streams.specs.Streams.{HasFailed}
+use Rattle.registry_commands.specs.Messages.{input_failure}
+use Rattle.registry_commands.specs.Entries.{IsFirst, IsNext, PassesOne, Takes, entry_in, is_followed}
+use Rattle.registry_commands.specs.RecordLines.{MayHaveLines, Passes}
+use Rattle.registry_commands.specs.Replayed.{GetTheirReplies, HasReplayed, IsLeftAfter, IsOfActing, IsOfReplay, IsRefusedFor, IsReplayOf, StopsBefore, accepted_in, after_lines, replies_of, requests_of, with_entry}
+use Rattle.registry_commands.proofs.ApplyLemmas.{endures_itself}
+use Rattle.registry_commands.proofs.RecordLineLemmas.{may_have, passes_none, passes_then}
+
+-- ---- one line more
+
+with_last : (front : List (List ℕ)) (line : List ℕ) → accepted_in (front ++ line ∷ []) ≡ accepted_in front ++ with_entry (entry_in line) []
+with_last [] line = refl
+with_last (first ∷ front) line = go (entry_in first) (with_last front line)
+  where
+    go : (e : Entry) → accepted_in (front ++ line ∷ []) ≡ accepted_in front ++ with_entry (entry_in line) []
+        → with_entry e (accepted_in (front ++ line ∷ [])) ≡ with_entry e (accepted_in front) ++ with_entry (entry_in line) []
+    go (Request a) below = ap (λ (l : List Accepted). a ∷ l) below
+    go End below = below
+    go Blank below = below
+    go (Founding f) below = below
+    go (Bad r) below = below
+
+with_blank : (front : List (List ℕ)) (line : List ℕ) → entry_in line ≡ Blank → accepted_in (front ++ line ∷ []) ≡ accepted_in front
+with_blank front line is = with_last front line ∙ ap (λ (e : Entry). accepted_in front ++ with_entry e []) is ∙ append-nil (accepted_in front)
+
+with_request : (front : List (List ℕ)) (line : List ℕ) (a : Accepted) → entry_in line ≡ Request a → accepted_in (front ++ line ∷ []) ≡ accepted_in front ++ a ∷ []
+with_request front line a is = with_last front line ∙ ap (λ (e : Entry). accepted_in front ++ with_entry e []) is
+
+after_more : (h : History) (list : List Accepted) (a : Accepted) → after h (requests_of (list ++ a ∷ [])) ≡ after_one (after h (requests_of list)) a.request
+after_more h [] a = refl
+after_more h (first ∷ list) a = after_more (after_one h first.request) list a
+
+replies_more : (h : History) (list : List Accepted) (a : Accepted) → replies_to h (requests_of (list ++ a ∷ [])) ≡ replies_to h (requests_of list) ++ reply_to (after h (requests_of list)) a.request ∷ []
+replies_more h [] a = refl
+replies_more h (first ∷ list) a = ap (λ (l : List Reply). reply_to h first.request ∷ l) (replies_more (after_one h first.request) list a)
+
+told_more : (list : List Accepted) (a : Accepted) → replies_of (list ++ a ∷ []) ≡ replies_of list ++ Done a.reply ∷ []
+told_more list a = map-append (λ (accepted : Accepted). Done accepted.reply) list (a ∷ [])
+
+pub after_request : (h : History) (front : List (List ℕ)) (line : List ℕ) (a : Accepted) → entry_in line ≡ Request a → after_lines h (front ++ line ∷ []) ≡ after_one (after_lines h front) a.request
+after_request h front line a is = ap (λ (l : List Accepted). after h (requests_of l)) (with_request front line a is) ∙ after_more h (accepted_in front) a
+
+pub replied_request : (h : History) (front : List (List ℕ)) (line : List ℕ) (a : Accepted) → entry_in line ≡ Request a → GetTheirReplies h front → reply_to (after_lines h front) a.request ≡ Done a.reply
+    → GetTheirReplies h (front ++ line ∷ [])
+replied_request h front line a is so_far same =
+    ap (λ (l : List Accepted). replies_to h (requests_of l)) (with_request front line a is)
+    ∙ replies_more h (accepted_in front) a
+    ∙ ap (λ (l : List Reply). l ++ reply_to (after_lines h front) a.request ∷ []) so_far
+    ∙ ap (λ (r : Reply). replies_of (accepted_in front) ++ r ∷ []) same
+    ∙ sym (told_more (accepted_in front) a)
+    ∙ ap replies_of (sym (with_request front line a is))
+
+-- ---- the registry so far
+
+endures_then : (a b c : State) → Endures a b → Endures b c → Endures a c
+endures_then a b c p q = record {
+  clean = omega (arith, p.clean, q.clean);
+  shield = λ s. q.shield (p.shield s);
+  faults_grow = omega (arith, p.faults_grow, q.faults_grow);
+  closes = λ clean is_open.
+      let early : HasCleanDisk b = omega (arith, q.clean, clean) in
+      elim (p.closes early is_open) [
+        | inl still ↦ elim (q.closes clean still) [
+          | inl there ↦ inl there
+          | inr more ↦ inr (omega (arith, more, p.faults_grow))
+        ]
+        | inr more ↦ inr (omega (arith, more, q.faults_grow))
+      ];
+}
+
+module _ {S : Type 0} {g : Ghosts S} where
+  -- After the lines passed so far the registry is this one: each was followed, and got its reply.
+  pub record AreReplayed (to_come now : Option (List ℕ)) (before count : ℕ) (it mid : Registry S g) : Type 0 where
+    pub front : List (List ℕ)
+    pub passed : Passes to_come now front
+    pub each : All (λ line. is_followed (entry_in line) ≡ true) front
+    pub counted : count ≡ before + length front
+    pub replied : (h : History) → Represents it h → HasCleanDisk (state_of mid) → GetTheirReplies h front × Represents mid (after_lines h front)
+    pub sound : is_poisoned mid ≡ is_poisoned it
+    pub endures : Endures (state_of it) (state_of mid)
+
+  pub none_yet : (to_come : Option (List ℕ)) (before : ℕ) (it : Registry S g) → AreReplayed to_come to_come before before it it
+  none_yet to_come before it = record {
+    front = [];
+    passed = passes_none to_come;
+    each = All-nil (λ line. is_followed (entry_in line) ≡ true);
+    counted = omega arith;
+    replied = λ h stands clean. (refl, stands);
+    sound = refl;
+    endures = endures_itself (state_of it);
+  }
+
+  -- a failure of acting on a request after others
+  of_acting : (lines failures failures_new : ℕ) (it mid new : Registry S g) → is_poisoned mid ≡ is_poisoned it
+      → ((h : History) → Represents it h → HasCleanDisk (state_of new) → (x : History) × Represents mid x)
+      → (failure : Failure) → IsOfActing mid new failure → IsOfReplay lines failures failures_new it new failure
+  of_acting lines failures failures_new it mid new sound stands of.Store why = why
+  of_acting lines failures failures_new it mid new sound stands of.Memory why = inl why
+  of_acting lines failures failures_new it mid new sound stands of.Foreign why = (why.0, λ at. let then = stands at.0 at.1 at.2 in why.1 (then.0, then.1, at.2))
+  of_acting lines failures failures_new it mid new sound stands of.Poisoned why = sym sound ∙ why
+  of_acting lines failures failures_new it mid new sound stands of.Taken why = absurd why
+  of_acting lines failures failures_new it mid new sound stands of.File why = absurd why
+
+  -- a fault of the record
+  pub of_record : (lines failures failures_new : ℕ) (it new : Registry S g) (fault : ReadAllFault) → is_poisoned new ≡ is_poisoned it
+      → (fault ≡ inputs.File → HasFailed failures failures_new ⊎ (lines ≡ 2 ^ 64 - 1)) → IsOfReplay lines failures failures_new it new (input_failure fault)
+  of_record lines failures failures_new it new inputs.File sound failed = failed refl
+  of_record lines failures failures_new it new inputs.NoMemory sound failed = inr sound
+
+  module _ (to_come now : Option (List ℕ)) (before count : ℕ) (it mid : Registry S g) (so_far : AreReplayed to_come now before count it mid) where
+    -- a blank line was passed
+    pub then_blank : (next : Option (List ℕ)) (more : ℕ) → PassesOne now next Blank → more ≡ count + 1 → AreReplayed to_come next before more it mid
+    then_blank next more one is = record {
+      front = so_far.front ++ one.0 ∷ [];
+      passed = passes_then to_come now next so_far.front (one.0 ∷ []) so_far.passed one.2;
+      each = All-push (λ line. is_followed (entry_in line) ≡ true) so_far.front one.0 so_far.each (rw one.1 refl);
+      counted = omega (arith, is, so_far.counted, length-append so_far.front (one.0 ∷ []));
+      replied = λ h stands clean.
+          let old = so_far.replied h stands clean in
+          let same : accepted_in (so_far.front ++ one.0 ∷ []) ≡ accepted_in so_far.front = with_blank so_far.front one.0 one.1 in (
+            subst (λ (l : List Accepted). replies_to h (requests_of l) ≡ replies_of l) (sym same) old.0,
+            subst (λ (l : List Accepted). Represents mid (after h (requests_of l))) (sym same) old.1,
+          );
+      sound = so_far.sound;
+      endures = so_far.endures;
+    }
+
+    -- an accepted request was acted on, and got its reply
+    pub then_request : (next : Option (List ℕ)) (more : ℕ) (a : Accepted) (new : Registry S g) → PassesOne now next (Request a) → more ≡ count + 1
+        → ((h : History) → Represents mid h → HasCleanDisk (state_of new) → Represents new (after_one h a.request) × (reply_to h a.request ≡ Done a.reply))
+        → (is_poisoned mid ≡ false) × (is_poisoned new ≡ false) → Endures (state_of mid) (state_of new) → AreReplayed to_come next before more it new
+    then_request next more a new one is acted sound more_endures = record {
+      front = so_far.front ++ one.0 ∷ [];
+      passed = passes_then to_come now next so_far.front (one.0 ∷ []) so_far.passed one.2;
+      each = All-push (λ line. is_followed (entry_in line) ≡ true) so_far.front one.0 so_far.each (rw one.1 refl);
+      counted = omega (arith, is, so_far.counted, length-append so_far.front (one.0 ∷ []));
+      replied = λ h stands clean.
+          let early : HasCleanDisk (state_of mid) = omega (arith, more_endures.clean, clean) in
+          let old = so_far.replied h stands early in
+          let did = acted (after_lines h so_far.front) old.1 clean in (
+            replied_request h so_far.front one.0 a one.1 old.0 did.1,
+            subst (Represents new) (sym (after_request h so_far.front one.0 a one.1)) did.0,
+          );
+      sound = sound.1 ∙ sym sound.0 ∙ so_far.sound;
+      endures = endures_then (state_of it) (state_of mid) (state_of new) so_far.endures more_endures;
+    }
+
+    -- ---- the end
+
+    -- there was no further line
+    pub at_end : (failures failures_new : ℕ) → MayHaveLines now [] → IsReplayOf to_come before failures failures_new it mid (Ok tt)
+    at_end failures failures_new none = record {
+      lines = so_far.front ++ [];
+      come = so_far.passed [] none;
+      replayed = record {
+        front = so_far.front;
+        rest = [];
+        split = refl;
+        each = so_far.each;
+        stops = refl;
+        replied = so_far.replied;
+        cause = λ failure never. absurd cc;
+      };
+      endures = so_far.endures;
+    }
+
+    -- the next line is refused
+    pub at_refused : (failures failures_new : ℕ) (number : ℕ) (why : LineRefusal) (entry : Entry) (rest : List (List ℕ)) → MayHaveLines now rest → IsFirst rest entry → IsRefusedFor entry why → number ≡ count + 1
+        → IsReplayOf to_come before failures failures_new it mid (Err (stop.Line number why))
+    at_refused failures failures_new number why entry rest have first refused is = record {
+      lines = so_far.front ++ rest;
+      come = so_far.passed rest have;
+      replayed = record {
+        front = so_far.front;
+        rest = rest;
+        split = refl;
+        each = so_far.each;
+        stops = (is ∙ ap (λ (n : ℕ). n + 1) so_far.counted, (entry, first, refused));
+        replied = so_far.replied;
+        cause = λ failure never. absurd cc;
+      };
+      endures = so_far.endures;
+    }
+
+    -- the next request got another reply
+    pub at_reply : (failures failures_new : ℕ) (number : ℕ) (reply : Reply) (a : Accepted) (new : Registry S g) (next : Option (List ℕ)) → PassesOne now next (Request a) → number ≡ count + 1
+        → ((h : History) → Represents mid h → HasCleanDisk (state_of new) → Represents new (after_one h a.request) × (reply_to h a.request ≡ reply))
+        → reply ≢ Done a.reply → Endures (state_of mid) (state_of new) → IsReplayOf to_come before failures failures_new it new (Err (stop.Reply number reply))
+    at_reply failures failures_new number reply a new next one is acted other more_endures =
+        let later = may_have next in
+        record {
+          lines = so_far.front ++ one.0 ∷ later.0;
+          come = so_far.passed (one.0 ∷ later.0) (one.2 later.0 later.1);
+          replayed = record {
+            front = so_far.front;
+            rest = one.0 ∷ later.0;
+            split = refl;
+            each = so_far.each;
+            stops = (is ∙ ap (λ (n : ℕ). n + 1) so_far.counted, (a, one.1, other));
+            replied = λ h stands clean.
+                let early : HasCleanDisk (state_of mid) = omega (arith, more_endures.clean, clean) in
+                let old = so_far.replied h stands early in
+                let did = acted (after_lines h so_far.front) old.1 clean in
+                (old.0, (a, one.1, sym did.1, did.0));
+            cause = λ failure never. absurd cc;
+          };
+          endures = endures_then (state_of it) (state_of mid) (state_of new) so_far.endures more_endures;
+        }
+
+    -- acting on the next request failed
+    pub at_fault : (failures failures_new : ℕ) (failure : Failure) (a : Accepted) (new : Registry S g) (next : Option (List ℕ)) → PassesOne now next (Request a)
+        → ((h : History) → Represents mid h → HasCleanDisk (state_of new) → Leaves newest (state_of new) (λ x. (x ≡ h) ⊎ (x ≡ after_one h a.request)))
+        → IsOfActing mid new failure → Endures (state_of mid) (state_of new) → IsReplayOf to_come before failures failures_new it new (Err (stop.Failure failure))
+    at_fault failures failures_new failure a new next one crash why more_endures =
+        let later = may_have next in
+        record {
+          lines = so_far.front ++ one.0 ∷ later.0;
+          come = so_far.passed (one.0 ∷ later.0) (one.2 later.0 later.1);
+          replayed = record {
+            front = so_far.front;
+            rest = one.0 ∷ later.0;
+            split = refl;
+            each = so_far.each;
+            stops = tt;
+            replied = λ h stands clean.
+                let early : HasCleanDisk (state_of mid) = omega (arith, more_endures.clean, clean) in
+                let old = so_far.replied h stands early in (
+                  old.0,
+                  λ db may.
+                      let left = crash (after_lines h so_far.front) old.1 clean db may in
+                      (left.0, elim left.1 [ inl before_it ↦ inl before_it | inr after_it ↦ inr (a, one.1, after_it) ], left.2),
+                );
+            cause = λ failed same.
+                let is : failure ≡ failed = cc in
+                subst (λ (f : Failure). IsOfReplay (before + length so_far.front) failures failures_new it new f) is
+                (of_acting (before + length so_far.front) failures failures_new it mid new so_far.sound (λ h stands clean.
+                let early : HasCleanDisk (state_of mid) = omega (arith, more_endures.clean, clean) in
+                (after_lines h so_far.front, (so_far.replied h stands early).1)) failure why);
+          };
+          endures = endures_then (state_of it) (state_of mid) (state_of new) so_far.endures more_endures;
+        }
+
+    -- the next line could not be read
+    pub at_unread : (failures failures_new : ℕ) (failure : Failure) → IsOfReplay (before + length so_far.front) failures failures_new it mid failure
+        → IsReplayOf to_come before failures failures_new it mid (Err (stop.Failure failure))
+    at_unread failures failures_new failure why =
+        let rest = may_have now in
+        record {
+          lines = so_far.front ++ rest.0;
+          come = so_far.passed rest.0 rest.1;
+          replayed = record {
+            front = so_far.front;
+            rest = rest.0;
+            split = refl;
+            each = so_far.each;
+            stops = tt;
+            replied = λ h stands clean.
+                let old = so_far.replied h stands clean in
+                (old.0, λ db may. let left = old.1.at.left clean db may in (left.0, inl left.1, left.2));
+            cause = λ failed same.
+                let is : failure ≡ failed = cc in
+                subst (λ (f : Failure). IsOfReplay (before + length so_far.front) failures failures_new it mid f) is why;
+          };
+          endures = so_far.endures;
+        }

@@ -1,0 +1,14 @@
+use Rattle.std.proofs.Common.{arith}
+use Rattle.registry_commands.proofs.replaying.open_there.Goals as goal
+
+pub returns-in-Ok-clause-ok : goal.returns-in-Ok-clause-ok
+returns-in-Ok-clause-ok g c = record {
+  opened = c.in-Ok.ensures.fresh;
+  clean = λ clean. omega (arith, c.in-Ok.ensures.survives.clean, clean);
+}
+
+pub returns-in-Err-clause-err : goal.returns-in-Err-clause-err
+returns-in-Err-clause-err g c = record {
+  leaves = λ live version h legal fresh clean. c.in-Err.ensures.leaves_fresh version h legal fresh clean;
+  clean = λ clean. omega (arith, c.in-Err.ensures.survives.clean, clean);
+}

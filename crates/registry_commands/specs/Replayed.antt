@@ -1,0 +1,219 @@
+-- What a replay of a record does.
+use Rattle.std.specs.Prelude.{◌≡◌, ◌≢◌, ◌⊎◌, ◌+◌, ◌^◌, ◌-◌, ⊤, ℕ, Bool, true, false, All, List, [], ◌∷◌, ◌++◌, length, map, Option, Some, None, Result, Ok, Err}
+use Rattle.sqlite.specs.Store.{Ghosts}
+use Rattle.sqlite.specs.Held.{Held, state}
+use Rattle.sqlite.specs.State.{HasCleanDisk, IsLive}
+use Rattle.byte_streams.specs.Streams.{HasFailed}
+use Rattle.registry_rules.specs.declared.accepted.Accepted.{Accepted}
+use Rattle.registry_rules.specs.declared.order.Request.{Request}
+use Rattle.registry_rules.specs.declared.verdict.Reply.{Reply}
+use Rattle.registry_rules.specs.declared.verdict.Reply.TheVariants.{Done}
+use Rattle.registry_rules.specs.declared.founding.Founding.{Founding}
+use Rattle.registry_rules.specs.Accepted.{AreValid}
+use Rattle.registry_rules.specs.History.{History, founded}
+use Rattle.registry_rules.specs.Run.{Legal, after, after_one, replies_to, reply_to}
+use Rattle.registry_tables.specs.Rows.{newest}
+use Rattle.registry_tables.specs.Calls.{HasNoMeta}
+use Rattle.registry_store.specs.declared.fault.Fault.TheVariants as faults
+use Rattle.registry_store.specs.declared.registry.Registry.{Registry}
+use Rattle.registry_store.specs.Promise.{Endures, IsFreshAt, Leaves, LeavesLater, Represents, connection_of, is_poisoned, poisoned_by, state_of}
+use Rattle.registry_store.specs.Queries.{IsUntouched}
+use Rattle.registry_wire.specs.Record.{founding_line}
+use Rattle.registry_commands.specs.declared.entries.Entry.{Entry}
+use Rattle.registry_commands.specs.declared.entries.Entry.TheVariants as says
+use Rattle.registry_commands.specs.declared.entries.LineRefusal.{LineRefusal}
+use Rattle.registry_commands.specs.declared.entries.LineRefusal.TheVariants.{TooLong, NoEntry, LateFounding, OtherFounding}
+use Rattle.registry_commands.specs.declared.following.ReplayStop.{ReplayStop}
+use Rattle.registry_commands.specs.declared.following.ReplayStop.TheVariants as stop
+use Rattle.registry_commands.specs.declared.messages.Failure.{Failure}
+use Rattle.registry_commands.specs.declared.messages.Failure.TheVariants.{File, Foreign, Memory, Poisoned, Store, Taken}
+use Rattle.registry_commands.specs.Entries.{IsFirst, entry_in, is_followed}
+use Rattle.registry_commands.specs.declared.status.ExitStatus.{ExitStatus}
+use Rattle.registry_commands.specs.declared.status.ExitStatus.TheVariants.{Failed}
+use Rattle.registry_commands.specs.Ends.{Output}
+use Rattle.registry_commands.specs.Failures.{Prints}
+use Rattle.registry_commands.specs.Messages.{failure_line}
+use Rattle.registry_commands.specs.RecordLines.{MayHaveLines, Passes}
+use Rattle.registry_commands.specs.Shown.{HoldsOfHistory, IsOfReading}
+use Rattle.registry_commands.specs.Stops.{TellsStop}
+
+-- ---- the accepted requests of lines
+
+-- an accepted request before others, if the line says one
+abbrev pub with_entry : Entry → List Accepted → List Accepted
+with_entry (says.Accepted accepted) more = accepted ∷ more
+with_entry entry more = more
+
+-- the accepted requests of lines, in order
+abbrev pub accepted_in : List (List ℕ) → List Accepted
+accepted_in [] = []
+accepted_in (line ∷ lines) = with_entry (entry_in line) (accepted_in lines)
+
+-- the requests, without their replies
+abbrev pub requests_of : List Accepted → List Request
+requests_of list = map (λ accepted. accepted.request) list
+
+-- the replies that they got
+abbrev pub replies_of : List Accepted → List Reply
+replies_of list = map (λ accepted. Done accepted.reply) list
+
+-- the history after the accepted requests of lines
+abbrev pub after_lines : History → List (List ℕ) → History
+after_lines h lines = after h (requests_of (accepted_in lines))
+
+-- each of them gets the reply that its line says
+abbrev pub GetTheirReplies : History → List (List ℕ) → Type 0
+GetTheirReplies h lines = replies_to h (requests_of (accepted_in lines)) ≡ replies_of (accepted_in lines)
+
+-- no other reply: the one to a request is this; or it is another
+abbrev pub Differs : Reply → List ℕ → Option Reply → Type 0
+Differs reply done None = reply ≡ Done done
+Differs reply done (Some other) = reply ≡ other
+
+-- ---- why a replay ends
+
+-- the line says something for which it is refused like this, whatever the registry is
+abbrev pub IsRefusedFor : Entry → LineRefusal → Type 0
+IsRefusedFor (says.Bad refusal) why = why ≡ refusal
+IsRefusedFor (says.Founding founding) why = why ≡ LateFounding
+IsRefusedFor entry why = ⊥
+
+-- The lines that follow those that were acted on, whose count is given: none, or the first of them is refused, or is an accepted
+-- request that got another reply.
+abbrev pub StopsBefore : Result (Unit {0}) ReplayStop → ℕ → List (List ℕ) → Type 0
+StopsBefore (Ok done) n rest = rest ≡ []
+StopsBefore (Err (stop.Line number why)) n rest = (number ≡ n + 1) × ((entry : Entry) × IsFirst rest entry × IsRefusedFor entry why)
+StopsBefore (Err (stop.Reply number reply)) n rest = (number ≡ n + 1) × ((accepted : Accepted) × IsFirst rest (says.Accepted accepted) × (reply ≢ Done accepted.reply))
+StopsBefore (Err (stop.Failure failure)) n rest = ⊤
+
+-- ---- how a record begins
+
+abbrev pub AreBlank : List (List ℕ) → Type 0
+AreBlank lines = All (λ line. entry_in line ≡ says.Blank) lines
+
+-- a failure of reading a record, after so many lines: the source failed, or gives more lines than are counted; or memory ran out
+abbrev pub IsOfRecordInput : ℕ → ℕ → ℕ → Failure → Type 0
+IsOfRecordInput lines failures failures_new File = HasFailed failures failures_new ⊎ (lines ≡ 2 ^ 64 - 1)
+IsOfRecordInput lines failures failures_new Memory = failures_new ≡ failures
+IsOfRecordInput lines failures failures_new failure = ⊥
+
+-- an accepted request, or the end
+abbrev pub is_later : Entry → Bool
+is_later says.End = true
+is_later (says.Accepted accepted) = true
+is_later entry = false
+
+-- The first line that is not blank is a founding, and was passed with the blank ones; or it is an accepted request or the end,
+-- and only the blank ones were passed; or it is refused, or could not be read. The counts are those of the lines passed.
+abbrev pub Begins : Option (List ℕ) → Option (List ℕ) → ℕ → ℕ → ℕ → ℕ → Result (Option Founding) ReplayStop → Type 0
+Begins to_come now before count failures failures_new (Ok (Some founding)) =
+    (blank : List (List ℕ)) × (line : List ℕ) × AreBlank blank × (entry_in line ≡ says.Founding founding) × Passes to_come now (blank ++ line ∷ []) × (count ≡ before + length blank + 1)
+Begins to_come now before count failures failures_new (Ok None) =
+    (blank : List (List ℕ)) × AreBlank blank × Passes to_come now blank × (count ≡ before + length blank)
+    × ((entry : Entry) × (is_later entry ≡ true) × (lines : List (List ℕ)) × IsFirst lines entry × MayHaveLines to_come (blank ++ lines))
+Begins to_come now before count failures failures_new (Err (stop.Line number why)) =
+    (blank : List (List ℕ)) × AreBlank blank × (number ≡ before + length blank + 1) × ((lines : List (List ℕ)) × IsFirst lines (says.Bad why) × MayHaveLines to_come (blank ++ lines))
+Begins to_come now before count failures failures_new (Err (stop.Reply number reply)) = ⊥
+Begins to_come now before count failures failures_new (Err (stop.Failure failure)) = IsOfRecordInput count failures failures_new failure
+
+module _ {S : Type 0} {g : Ghosts S} where
+  -- A failure of acting on a request. Store, Memory or Foreign: the registry had this fault, and is poisoned by it. Foreign: it
+  -- represented no history, or the disk is not clean. Poisoned: it was poisoned before. Never Taken or File.
+  abbrev pub IsOfActing : Registry S g → Registry S g → Failure → Type 0
+  IsOfActing it new Store = poisoned_by new ≡ Some faults.Store
+  IsOfActing it new Memory = poisoned_by new ≡ Some faults.NoMemory
+  IsOfActing it new Foreign = (poisoned_by new ≡ Some faults.Foreign) × ¬ ((h : History) × Represents it h × HasCleanDisk (state_of new))
+  IsOfActing it new Poisoned = is_poisoned it ≡ true
+  IsOfActing it new Taken = ⊥
+  IsOfActing it new File = ⊥
+
+  -- A failure of a replay: of acting on a request, or of the record. File: the source failed between these counts of failures,
+  -- or gives more lines than are counted. Memory also: memory ran out for the record.
+  abbrev pub IsOfReplay : ℕ → ℕ → ℕ → Registry S g → Registry S g → Failure → Type 0
+  IsOfReplay lines old_failures new_failures it new File = HasFailed old_failures new_failures ⊎ (lines ≡ 2 ^ 64 - 1)
+  IsOfReplay lines old_failures new_failures it new Memory = (poisoned_by new ≡ Some faults.NoMemory) ⊎ (is_poisoned new ≡ is_poisoned it)
+  IsOfReplay lines old_failures new_failures it new failure = IsOfActing it new failure
+
+  -- What the registry then is. After a refused line it represents the history after the lines before it; after another reply
+  -- the one after that request too; and after a failure a crash leaves one of the two.
+  abbrev pub IsLeftAfter : Result (Unit {0}) ReplayStop → Registry S g → History → List (List ℕ) → Type 0
+  IsLeftAfter (Ok done) new h rest = Represents new h
+  IsLeftAfter (Err (stop.Line number why)) new h rest = Represents new h
+  IsLeftAfter (Err (stop.Reply number reply)) new h rest =
+      (accepted : Accepted) × IsFirst rest (says.Accepted accepted) × (reply ≡ reply_to h accepted.request) × Represents new (after_one h accepted.request)
+  IsLeftAfter (Err (stop.Failure failure)) new h rest =
+      Leaves newest (state_of new) (λ x. (x ≡ h) ⊎ ((accepted : Accepted) × IsFirst rest (says.Accepted accepted) × (x ≡ after_one h accepted.request)))
+
+  -- These lines were to come, after so many that were passed before. The first of them were acted on, in order, and each got
+  -- the reply that it says; and then this ended it.
+  pub record HasReplayed (lines : List (List ℕ)) (before failures failures_new : ℕ) (it new : Registry S g) (result : Result (Unit {0}) ReplayStop) : Type 0 where
+    pub front : List (List ℕ)
+    pub rest : List (List ℕ)
+    pub split : lines ≡ front ++ rest
+    pub each : All (λ line. is_followed (entry_in line) ≡ true) front
+    pub stops : StopsBefore result (before + length front) rest
+    pub replied : (h : History) → Represents it h → HasCleanDisk (state_of new) → GetTheirReplies h front × IsLeftAfter result new (after_lines h front) rest
+    pub cause : (failure : Failure) → result ≡ Err (stop.Failure failure) → IsOfReplay (before + length front) failures failures_new it new failure
+
+  -- The lines that were to come were replayed.
+  pub record IsReplayOf (to_come : Option (List ℕ)) (before failures failures_new : ℕ) (it new : Registry S g) (result : Result (Unit {0}) ReplayStop) : Type 0 where
+    pub lines : List (List ℕ)
+    pub come : MayHaveLines to_come lines
+    pub replayed : HasReplayed lines before failures failures_new it new result
+    pub endures : Endures (state_of it) (state_of new)
+
+  -- ---- with the founding
+
+  -- The registry was founded like this, by the lines of the two foundings; or it was not; or it could not be read.
+  abbrev pub ChecksAs : Registry S g → Registry S g → ℕ → Founding → Result (Unit {0}) ReplayStop → Type 0
+  ChecksAs it new number founding (Ok done) = HoldsOfHistory it new (λ h. AreValid h.deeds → founding_line h.founding ≡ founding_line founding)
+  ChecksAs it new number founding (Err (stop.Line n why)) =
+      (n ≡ number) × (why ≡ OtherFounding) × HoldsOfHistory it new (λ h. AreValid h.deeds → founding_line h.founding ≢ founding_line founding)
+  ChecksAs it new number founding (Err (stop.Reply n reply)) = ⊥
+  ChecksAs it new number founding (Err (stop.Failure failure)) = IsOfReading it new failure
+
+  pub record IsChecked (it new : Registry S g) (number : ℕ) (founding : Founding) (result : Result (Unit {0}) ReplayStop) : Type 0 where
+    pub left : IsUntouched it new
+    pub found : ChecksAs it new number founding result
+
+  -- once the founding was checked, the lines were replayed; or that ended it
+  abbrev pub ThenReplays : Option (List ℕ) → ℕ → ℕ → ℕ → Registry S g → Registry S g → Result (Unit {0}) ReplayStop → Result (Unit {0}) ReplayStop → Type 0
+  ThenReplays to_come before failures failures_new mid new (Ok done) result = IsReplayOf to_come before failures failures_new mid new result
+  ThenReplays to_come before failures failures_new mid new (Err why) result = (new ≡ mid) × (result ≡ Err why)
+
+  -- The founding was checked, if there is one, whose line is the last of those passed; and the lines that were to come were replayed.
+  abbrev pub IsFollowedFrom : Option Founding → Option (List ℕ) → ℕ → ℕ → ℕ → Registry S g → Registry S g → Result (Unit {0}) ReplayStop → Type 0
+  IsFollowedFrom None to_come before failures failures_new it new result = IsReplayOf to_come before failures failures_new it new result
+  IsFollowedFrom (Some founding) to_come before failures failures_new it new result =
+      (checked : Result (Unit {0}) ReplayStop) × (mid : Registry S g) × IsChecked it mid before founding checked × ThenReplays to_come before failures failures_new mid new checked result
+
+  -- so it was done, and told
+  abbrev pub IsReplayed : Option Founding → Option (List ℕ) → ℕ → ℕ → ℕ → Registry S g → Registry S g → Output → ExitStatus → Type 0
+  IsReplayed founding to_come before failures failures_new it new errors status =
+      (result : Result (Unit {0}) ReplayStop) × IsFollowedFrom founding to_come before failures failures_new it new result × TellsStop result errors status
+
+-- ---- from a connection
+
+module _ {S : Type 0} (g : Ghosts S) where
+  -- the registry is the one that the connection shows, in any schema
+  pub record IsOpen (conn : Held S) (it : Registry S g) : Type 0 where
+    pub opened : (version : ℕ) (h : History) → Legal h → IsFreshAt version (state g conn) h → HasCleanDisk (state_of it) → Represents it h
+    pub clean : HasCleanDisk (state_of it) → HasCleanDisk (state g conn)
+
+  -- The registry is the one that the connection shows, in any schema; and if it shows none, the registry was founded like this.
+  pub record IsFoundOrOpen (conn : Held S) (founding : Founding) (it : Registry S g) : Type 0 where
+    pub opened : IsLive (state g conn) → (version : ℕ) (h : History) → Legal h → IsFreshAt version (state g conn) h → HasCleanDisk (state_of it) → Represents it h
+    pub founds : HasNoMeta (state g conn).now → HasCleanDisk (state_of it) → Represents it (founded founding)
+    pub clean : HasCleanDisk (state_of it) → HasCleanDisk (state g conn)
+
+  -- It could not be opened or founded: what the connection shows is left, in its schema or a later one.
+  pub record IsLeftFound (conn last : Held S) : Type 0 where
+    pub leaves : IsLive (state g conn) → (version : ℕ) (h : History) → Legal h → IsFreshAt version (state g conn) h → HasCleanDisk (state g last) → LeavesLater version (state g last) h
+    pub clean : HasCleanDisk (state g last) → HasCleanDisk (state g conn)
+
+  -- The registry was founded or opened, and the record replayed over it; or neither could be done.
+  abbrev pub IsReplayedOn : Founding → Option (List ℕ) → ℕ → ℕ → ℕ → Held S → Held S → Output → ExitStatus → Type 0
+  IsReplayedOn founding to_come before failures failures_new conn last errors status =
+      ((it : Registry S g) × (after : Registry S g) × IsFoundOrOpen conn founding it × (last ≡ connection_of after)
+      × IsReplayed (Some founding) to_come before failures failures_new it after errors status)
+      ⊎ ((failure : Failure) × IsLeftFound conn last × (status ≡ Failed) × Prints errors (failure_line failure))

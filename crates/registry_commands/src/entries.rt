@@ -1,0 +1,124 @@
+//! What the lines of a record say.
+
+ghost use Rattle.std.specs.Prelude.{◌≡◌, ◌<◌, ◌≤◌, ◌-◌, ◌^◌, [], length, IfOk, OnOk, Err};
+ghost use Rattle.std.specs.Io.KnownBytes.{Consumes};
+ghost use Rattle.registry_commands.specs.Entries.{Peeks, Takes, entry_in, is_followed};
+ghost use Rattle.registry_commands.specs.RecordLines.{HasFailedOrIsFull, ahead, most_line};
+
+use crate::input::ReadAllFault;
+use crate::lines::is_blank;
+use crate::record_lines::{Found, find_line};
+use crate::unread::Unread;
+use byte_streams::Source;
+use registry_rules::{Accepted, Founding, Rejection};
+use registry_wire::{RecordLine, WireRefusal, record_line};
+use std::alloc::Global;
+use usbnum_core::NoMemory;
+
+/// Why a line ends a replay before its request is acted on.
+#[derive(Clone, Copy, Debug, PartialEq, Eq)]
+pub enum LineRefusal {
+    /// It has more than 4,194,304 bytes.
+    TooLong,
+    /// It is neither a founding nor an accepted request.
+    NoEntry(WireRefusal),
+    /// It is a founding, after the first line.
+    LateFounding,
+    /// It is a founding, and the registry was founded otherwise.
+    OtherFounding,
+}
+
+/// What a line of a record says.
+#[derive(Debug, Drop)]
+pub enum Entry {
+    /// There is no further line.
+    End,
+    /// Nothing: it is blank.
+    Blank,
+    /// The founding of the registry.
+    Founding(Founding),
+    /// An accepted request, and its reply.
+    Accepted(Accepted),
+    /// It is no line of a record.
+    Bad(LineRefusal),
+}
+
+/// Reads what a line says.
+fn entry_of(alloc: Global, line: &[u8]) -> Result<Entry, NoMemory>
+    requires short { length line.now ≤ most_line }
+    ensures { IfOk result (λ entry. entry_in line.now ≡ entry) }
+{
+    if is_blank(line) {
+        return Ok(Entry::Blank);
+    }
+    match record_line(alloc, line) {
+        Ok(RecordLine::Founding(founding)) => Ok(Entry::Founding(founding)),
+        Ok(RecordLine::Accepted(accepted)) => Ok(Entry::Accepted(accepted)),
+        Err(Rejection::Refused(refusal)) => Ok(Entry::Bad(LineRefusal::NoEntry(refusal))),
+        Err(Rejection::NoMemory) => Err(NoMemory),
+    }
+}
+
+/// Reads what the next line says, and returns it with the size of the line. Passes nothing.
+///
+/// # Errors
+///
+/// `File` if the source failed, or 2^64 - 1 lines were passed. `NoMemory` if out of memory.
+pub(crate) fn peek<R: Source>(
+    alloc: Global,
+    source: &mut R,
+    unread: &mut Unread,
+) -> Result<(Entry, usize), ReadAllFault>
+    ensures same { OnOk result (Consumes (ahead (R.remaining source.old) unread.old) (ahead (R.remaining source.new) unread.new) []) }
+    ensures found { IfOk result (λ next. Peeks (ahead (R.remaining source.old) unread.old) (R.remaining source.new) unread.new next.0 next.1) }
+    ensures lines { unread.new.lines ≡ unread.old.lines }
+    ensures countable { OnOk result (unread.old.lines < 2 ^ 64 - 1) }
+    ensures kept { OnOk result (R.failures source.new ≡ R.failures source.old) }
+    ensures file { result ≡ Err ReadAllFault.File → HasFailedOrIsFull (R.failures source.old) (R.failures source.new) unread.old }
+    ensures memory { result ≡ Err ReadAllFault.NoMemory → R.failures source.new ≡ R.failures source.old }
+{
+    match find_line(alloc, source, unread) {
+        Ok(Found::End) => Ok((Entry::End, 0)),
+        Ok(Found::TooLong) => Ok((Entry::Bad(LineRefusal::TooLong), 0)),
+        Ok(Found::Line(size)) => match entry_of(alloc, &unread.rest()[..size]) {
+            Ok(entry) => Ok((entry, size)),
+            Err(NoMemory) => Err(ReadAllFault::NoMemory),
+        },
+        Err(fault) => Err(fault),
+    }
+}
+
+/// Returns whether a line that says this is blank or an accepted request.
+fn is_followed(entry: &Entry) -> bool
+    ensures { result ≡ is_followed entry.now }
+{
+    matches!(entry, Entry::Blank | Entry::Accepted(_))
+}
+
+/// Reads what the next line says. Passes it if it is blank or an accepted request.
+///
+/// # Errors
+///
+/// As `peek`.
+pub(crate) fn next_entry<R: Source>(
+    alloc: Global,
+    source: &mut R,
+    unread: &mut Unread,
+) -> Result<Entry, ReadAllFault>
+    ensures taken { IfOk result (λ entry. Takes (ahead (R.remaining source.old) unread.old) (ahead (R.remaining source.new) unread.new)
+        unread.old.lines unread.new.lines entry) }
+    ensures countable { OnOk result (unread.old.lines < 2 ^ 64 - 1) }
+    ensures kept { OnOk result (R.failures source.new ≡ R.failures source.old) }
+    ensures file { result ≡ Err ReadAllFault.File → HasFailedOrIsFull (R.failures source.old) (R.failures source.new) unread.old }
+    ensures memory { result ≡ Err ReadAllFault.NoMemory → R.failures source.new ≡ R.failures source.old }
+{
+    match peek(alloc, source, unread) {
+        Ok((entry, size)) => {
+            if is_followed(&entry) {
+                unread.pass(size);
+            }
+            Ok(entry)
+        }
+        Err(fault) => Err(fault),
+    }
+}

@@ -1,0 +1,107 @@
+//! Acts on the accepted requests of a record, and compares the replies.
+
+ghost use Rattle.std.specs.Prelude.{◌≡◌, ◌≢◌, ◌⊎◌, ◌<◌, ◌+◌, ◌-◌, ◌^◌, ℕ, List, Bool, true, false, IfErr, IfOk, OnErr, OnOk, Err, Ok, None, Some};
+ghost use Rattle.sqlite.specs.State.{HasCleanDisk};
+ghost use Rattle.registry_rules.specs.History.{History};
+ghost use Rattle.registry_rules.specs.Run.{after_one, reply_to};
+ghost use Rattle.registry_rules.specs.declared.verdict.Reply.TheVariants as replies;
+ghost use Rattle.registry_tables.specs.Rows.{newest};
+ghost use Rattle.registry_store.specs.Promise.{Endures, Leaves, Represents, is_poisoned, state_of};
+ghost use Rattle.registry_commands.specs.RecordLines.{ahead};
+ghost use Rattle.registry_commands.specs.Replayed.{Differs, IsOfActing, IsReplayOf};
+
+use crate::entries::{Entry, LineRefusal, next_entry};
+use crate::messages::{Failure, failure_of, input_failure};
+use crate::unread::Unread;
+use byte_streams::Source;
+use registry_rules::{Accepted, Reply};
+use registry_store::Registry;
+use sqlite::Alter;
+use std::alloc::Global;
+
+/// Why a replay ends before the end of the record.
+#[derive(Debug, Drop)]
+pub enum ReplayStop {
+    /// The line with this number, from 1, is refused, and nothing was done for it. Blank lines
+    /// count too.
+    Line(u64, LineRefusal),
+    /// The request of the line with this number got this reply, and not the one in the line. If it
+    /// was accepted, it has taken effect.
+    Reply(u64, Reply),
+    /// A failure of the record, the registry or memory.
+    Failure(Failure),
+}
+
+/// Returns whether the reply is the one in the record.
+fn is_as_recorded(reply: &Reply, accepted: &Accepted) -> bool
+    ensures same { result ≡ true → reply.now ≡ replies.Done accepted.now.reply }
+    ensures differs { result ≡ false → reply.now ≢ replies.Done accepted.now.reply }
+{
+    match reply {
+        Reply::Done(text) => text.as_str() == accepted.reply.as_str(),
+        Reply::Refused(_) => false,
+    }
+}
+
+/// Acts on an accepted request. Returns its reply if that is not the one in the record.
+fn follow<S: Alter>(
+    registry: &mut Registry<S>,
+    accepted: &Accepted,
+) -> Result<Option<Reply>, Failure>
+    ensures replied { (h : History) → Represents registry.old h → HasCleanDisk (state_of registry.new)
+        → IfOk result (λ other. Represents registry.new (after_one h accepted.now.request) × Differs (reply_to h accepted.now.request) accepted.now.reply other) }
+    ensures other { IfOk result (λ other. (reply : _) → other ≡ Some reply → reply ≢ replies.Done accepted.now.reply) }
+    ensures crash { (h : History) → Represents registry.old h → HasCleanDisk (state_of registry.new)
+        → OnErr result (Leaves newest (state_of registry.new) (λ x. (x ≡ h) ⊎ (x ≡ after_one h accepted.now.request))) }
+    ensures failure { IfErr result (IsOfActing registry.old registry.new) }
+    ensures goes_on { OnOk result ((is_poisoned registry.old ≡ false) × (is_poisoned registry.new ≡ false)) }
+    ensures endures { Endures (state_of registry.old) (state_of registry.new) }
+{
+    match registry.act(&accepted.request) {
+        Ok(reply) => {
+            if is_as_recorded(&reply, accepted) {
+                Ok(None)
+            } else {
+                Ok(Some(reply))
+            }
+        }
+        Err(fault) => Err(failure_of(fault)),
+    }
+}
+
+/// Acts on the accepted requests of the lines that follow, one after another, and compares each
+/// reply with the one in its line. Reads the next line once that is done.
+///
+/// # Errors
+///
+/// `Line` at the first line that is no accepted request and not blank, or is too long. `Reply` at
+/// the first one whose reply differs. `Failure` after a failure of the source, of the registry or
+/// of memory. The lines before were acted on, and got their replies.
+pub fn follow_lines<R: Source, S: Alter>(
+    alloc: Global,
+    source: &mut R,
+    unread: &mut Unread,
+    registry: &mut Registry<S>,
+) -> Result<(), ReplayStop>
+    ensures { IsReplayOf (ahead (R.remaining source.old) unread.old) unread.old.lines (R.failures source.old) (R.failures source.new)
+        registry.old registry.new result }
+{
+    loop {
+        match next_entry(alloc, source, unread) {
+            Ok(Entry::End) => return Ok(()),
+            Ok(Entry::Blank) => {}
+            Ok(Entry::Accepted(accepted)) => match follow(registry, &accepted) {
+                Ok(None) => {}
+                Ok(Some(reply)) => return Err(ReplayStop::Reply(unread.lines(), reply)),
+                Err(failure) => return Err(ReplayStop::Failure(failure)),
+            },
+            Ok(Entry::Founding(_)) => {
+                return Err(ReplayStop::Line(unread.lines() + 1, LineRefusal::LateFounding));
+            }
+            Ok(Entry::Bad(refusal)) => {
+                return Err(ReplayStop::Line(unread.lines() + 1, refusal));
+            }
+            Err(fault) => return Err(ReplayStop::Failure(input_failure(fault))),
+        }
+    }
+}

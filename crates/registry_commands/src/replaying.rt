@@ -1,0 +1,189 @@
+//! Replays a record over a registry: its founding, and then its accepted requests.
+
+ghost use Rattle.std.specs.Prelude.{◌≡◌, ◌≢◌, IfErr, IfOk, Ok, true, false, option_copied};
+ghost use Rattle.registry_wire.specs.Record.{founding_line};
+ghost use Rattle.registry_commands.specs.Ends.{output_of};
+ghost use Rattle.registry_commands.specs.RecordLines.{ahead};
+ghost use Rattle.registry_commands.specs.Replayed.{Begins, IsChecked, IsFollowedFrom, IsFoundOrOpen, IsLeftFound, IsOpen, IsReplayed, IsReplayedOn};
+
+use crate::entries::{Entry, LineRefusal, peek};
+use crate::following::{ReplayStop, follow_lines};
+use crate::messages::{Failure, fail, failure_of, input_failure};
+use crate::status::ExitStatus;
+use crate::stops::tell_stop;
+use crate::unread::Unread;
+use byte_streams::{Sink, Source};
+use registry_rules::Founding;
+use registry_store::{Fault, Registry};
+use registry_wire::founding_line;
+use sqlite::{Alter, Connection};
+use std::alloc::Global;
+use usbnum_core::NoMemory;
+
+/// Reads the founding in the first line that is not blank, and passes the lines up to it. Returns
+/// none if that line is an accepted request or if there is none, and then passes the blank lines
+/// alone.
+///
+/// # Errors
+///
+/// `Line` if it is no line of a record. `Failure` if the source failed, or out of memory.
+pub fn take_founding<R: Source>(
+    alloc: Global,
+    source: &mut R,
+    unread: &mut Unread,
+) -> Result<Option<Founding>, ReplayStop>
+    ensures { Begins (ahead (R.remaining source.old) unread.old) (ahead (R.remaining source.new) unread.new) unread.old.lines unread.new.lines
+        (R.failures source.old) (R.failures source.new) result }
+{
+    loop {
+        match peek(alloc, source, unread) {
+            Ok((entry, size)) => match entry {
+                Entry::Blank => unread.pass(size),
+                Entry::Founding(founding) => {
+                    unread.pass(size);
+                    return Ok(Some(founding));
+                }
+                Entry::Bad(refusal) => return Err(ReplayStop::Line(unread.lines() + 1, refusal)),
+                Entry::Accepted(_) => return Ok(None),
+                Entry::End => return Ok(None),
+            },
+            Err(fault) => return Err(ReplayStop::Failure(input_failure(fault))),
+        }
+    }
+}
+
+/// Checks that the registry was founded like this. The number is that of the founding's line.
+///
+/// # Errors
+///
+/// `Line` if it was founded otherwise. `Failure` after a failure of the registry or of memory.
+fn check_founding<S: Alter>(
+    alloc: Global,
+    number: u64,
+    founding: &Founding,
+    registry: &mut Registry<S>,
+) -> Result<(), ReplayStop>
+    ensures { IsChecked registry.old registry.new number founding.now result }
+{
+    let first = match registry.first_founding() {
+        Ok(first) => first,
+        Err(fault) => return Err(ReplayStop::Failure(failure_of(fault))),
+    };
+    match has_same_line(alloc, &first, founding) {
+        Ok(true) => Ok(()),
+        Ok(false) => Err(ReplayStop::Line(number, LineRefusal::OtherFounding)),
+        Err(NoMemory) => Err(ReplayStop::Failure(Failure::Memory)),
+    }
+}
+
+/// Returns whether two foundings have the same line, and so are the same.
+fn has_same_line(alloc: Global, a: &Founding, b: &Founding) -> Result<bool, NoMemory>
+    ensures same { result ≡ Ok true → founding_line a.now ≡ founding_line b.now }
+    ensures other { result ≡ Ok false → founding_line a.now ≢ founding_line b.now }
+{
+    let a = founding_line(alloc, a)?;
+    let b = founding_line(alloc, b)?;
+    Ok(a.as_str() == b.as_str())
+}
+
+/// Checks the founding, if one is given, and acts on the lines that follow.
+fn follow_record<R: Source, S: Alter>(
+    alloc: Global,
+    source: &mut R,
+    unread: &mut Unread,
+    founding: Option<&Founding>,
+    registry: &mut Registry<S>,
+) -> Result<(), ReplayStop>
+    ensures { IsFollowedFrom (option_copied founding.entry) (ahead (R.remaining source.old) unread.old) unread.old.lines (R.failures source.old) (R.failures source.new)
+        registry.old registry.new result }
+{
+    match founding {
+        None => follow_lines(alloc, source, unread, registry),
+        Some(founding) => match check_founding(alloc, unread.lines(), founding, registry) {
+            Ok(()) => follow_lines(alloc, source, unread, registry),
+            Err(stop) => Err(stop),
+        },
+    }
+}
+
+/// Replays the lines that follow over a registry: acts on their accepted requests one after another,
+/// and compares each reply with the one in its line. If a founding is given, which is the last line
+/// that was passed, the registry must have been founded like this.
+///
+/// The status is `Success` if all requests got the replies that their lines say. It is `Rejected`
+/// at the first line that is not an accepted request, is refused, or gets another reply, and if the
+/// registry was founded otherwise: the error output names the line, and says why. The lines before
+/// it were acted on, and the line itself if its request was accepted with another reply. The status
+/// is `Failed` after a failure of the source, the registry or memory, which the error output names.
+/// After that run it again over the same record: what was accepted is not acted on again.
+pub fn replay<R: Source, S: Alter, E: Sink>(
+    alloc: Global,
+    source: &mut R,
+    unread: &mut Unread,
+    founding: Option<&Founding>,
+    registry: &mut Registry<S>,
+    errors: &mut E,
+) -> ExitStatus
+    ensures { IsReplayed (option_copied founding.entry) (ahead (R.remaining source.old) unread.old) unread.old.lines (R.failures source.old) (R.failures source.new)
+        registry.old registry.new (output_of E.Sink errors.old errors.new) result }
+{
+    match follow_record(alloc, source, unread, founding, registry) {
+        Ok(()) => ExitStatus::Success,
+        Err(stop) => tell_stop(alloc, errors, stop),
+    }
+}
+
+/// Opens the registry that a connection shows.
+fn open_there<S: Alter>(
+    alloc: Global,
+    conn: Connection<S>,
+) -> Result<Registry<S>, (Failure, Connection<S>)>
+    ensures ok { IfOk result (IsOpen S.Store conn) }
+    ensures err { IfErr result (λ e. IsLeftFound S.Store conn e.1) }
+{
+    match Registry::open(alloc, conn) {
+        Ok(registry) => Ok(registry),
+        Err((fault, conn)) => Err((failure_of(fault), conn)),
+    }
+}
+
+/// Founds a registry on a connection, or opens the one that is there.
+fn found_or_open<S: Alter>(
+    alloc: Global,
+    conn: Connection<S>,
+    founding: &Founding,
+) -> Result<Registry<S>, (Failure, Connection<S>)>
+    ensures ok { IfOk result (IsFoundOrOpen S.Store conn founding.now) }
+    ensures err { IfErr result (λ e. IsLeftFound S.Store conn e.1) }
+{
+    match Registry::found(alloc, conn, founding) {
+        Ok(registry) => Ok(registry),
+        Err((Fault::Taken, conn)) => match open_there(alloc, conn) {
+            Ok(registry) => Ok(registry),
+            Err(left) => Err(left),
+        },
+        Err((fault, conn)) => Err((failure_of(fault), conn)),
+    }
+}
+
+/// Replays a record that begins with this founding over a connection: founds the registry if there
+/// is none. Returns the exit status, as `replay` does, and the connection.
+pub fn replay_on<R: Source, S: Alter, E: Sink>(
+    alloc: Global,
+    source: &mut R,
+    unread: &mut Unread,
+    founding: &Founding,
+    conn: Connection<S>,
+    errors: &mut E,
+) -> (ExitStatus, Connection<S>)
+    ensures { IsReplayedOn S.Store founding.now (ahead (R.remaining source.old) unread.old) unread.old.lines (R.failures source.old) (R.failures source.new)
+        conn result.1 (output_of E.Sink errors.old errors.new) result.0 }
+{
+    match found_or_open(alloc, conn, founding) {
+        Ok(mut registry) => {
+            let status = replay(alloc, source, unread, Some(founding), &mut registry, errors);
+            (status, registry.into_connection())
+        }
+        Err((failure, conn)) => (fail(errors, failure), conn),
+    }
+}

@@ -1,0 +1,294 @@
+-- What the files of a store hold after a record was replayed.
+use Rattle.std.proofs.Common.{◌≡◌, ◌⊎◌, inl, inr, ℕ, ◌+◌, ◌≤◌, true, false, List, [], ◌∷◌, ◌++◌, Option, Some, None, refl, sym, ap, subst, ◌∙◌, arith}
+use Rattle.std.specs.Prelude.{◌≢◌, Result, Ok, Err}
+use Rattle.std.proofs.Math.Logic.{∥∥₁_map, ∥∥₁_elim}
+use Rattle.sqlite_disk.specs.declared.Disk as disk
+use Rattle.sqlite_disk.specs.declared.Files.{Files}
+use Rattle.sqlite_store.specs.declared.store.FileStore.{FileStore}
+use Rattle.sqlite.specs.Files.{file_state, over_files}
+use Rattle.sqlite.specs.Held.{Held}
+use Rattle.sqlite.specs.State.{HasCleanDisk, IsLive}
+use Rattle.sqlite.specs.Store.{Ghosts}
+use Rattle.byte_streams.specs.declared.streams.Source as source
+use Rattle.registry_rules.specs.declared.accepted.Accepted.{Accepted}
+use Rattle.registry_rules.specs.declared.founding.Founding.{Founding}
+use Rattle.registry_rules.specs.History.{History}
+use Rattle.registry_rules.specs.Run.{Legal, after_one}
+use Rattle.registry_tables.specs.Rows.{Rows, newest}
+use Rattle.registry_store.specs.declared.registry.Registry.{Registry}
+use Rattle.registry_store.specs.Promise.{IsFreshAt, Leaves, Represents, connection_of, state_of}
+use Rattle.registry_store.specs.Reopen.{FilesHoldEither, IsEither}
+use Rattle.registry_store.proofs.CrashLemmas.{closed_clean, in_newest, later_from}
+use Rattle.registry_store.proofs.RunLemmas.{leaves_weaker}
+use Rattle.registry_commands.specs.declared.entries.Entry.{Entry}
+use Rattle.registry_commands.specs.declared.entries.Entry.TheVariants as says
+use Rattle.registry_commands.specs.declared.following.ReplayStop.{ReplayStop}
+use Rattle.registry_commands.specs.declared.following.ReplayStop.TheVariants as stop
+use Rattle.registry_commands.specs.declared.status.ExitStatus.{ExitStatus}
+use Rattle.registry_commands.specs.declared.status.ExitStatus.TheVariants.{Success, Failed, Rejected}
+use Rattle.registry_commands.specs.declared.unread.Unread.{Unread}
+use Rattle.registry_commands.specs.Ends.{Ends, Output, Sunk}
+use Rattle.registry_commands.specs.Entries.{IsFirst, entry_in}
+use Rattle.registry_commands.specs.RecordLines.{MayHaveLines, ahead, unread_of}
+use Rattle.registry_commands.specs.Replayed.{Begins, HasReplayed, IsFoundOrOpen, IsLeftFound, IsReplayOf, IsReplayed, ThenReplays, after_lines}
+use Rattle.registry_commands.specs.Stops.{TellsStop}
+use Rattle.registry_commands.proofs.RecordLineLemmas.{may_have}
+use Rattle.registry_program.specs.declared.host.Host as host
+use Rattle.registry_program.specs.Outputs.{earlier}
+use Rattle.registry_program.specs.Replaying.{GoesOn, IsReplayedIn, ReplaysFrom, ReplaysLines, ReplaysOver, ReplaysRecord}
+use Rattle.registry_program.specs.Stores.{IsClosed}
+use Rattle.registry_program.specs.Whole.{IsAfterRecord, IsNear, IsReplayedTo, IsUnreplayed, IsUsed, ReplaysWholly, ReplaysWhollyFrom}
+use Rattle.registry_program.proofs.LeavesLemmas.{LeavesSome, leaves_itself, same_of_either}
+use Rattle.registry_program.proofs.WholeLemmas.{carried, kept_unless_failed, runs_whole}
+
+-- before anything is read all is to come from the source
+ahead_fresh : (o : Option (List ℕ)) (it : Unread) → unread_of it ≡ [] → ahead o it ≡ o
+ahead_fresh None it none = refl
+ahead_fresh (Some bytes) it none = ap (λ (front : List ℕ). Some (front ++ bytes)) none
+
+pub begun_fresh : (o now : Option (List ℕ)) (fresh : Unread) (count failures failures_new : ℕ) (first : Result (Option Founding) ReplayStop) → unread_of fresh ≡ [] → fresh.lines ≡ 0
+    → Begins (ahead o fresh) now fresh.lines count failures failures_new first → Begins o now 0 count failures failures_new first
+begun_fresh o now fresh count failures failures_new first none start begins =
+    subst (λ (n : ℕ). Begins o now n count failures failures_new first) start
+    (subst (λ (a : Option (List ℕ)). Begins a now fresh.lines count failures failures_new first) (ahead_fresh o fresh none) begins)
+
+-- ---- what a registry leaves
+
+-- only a replay of all lines ends with the status Success
+all_told : (result : Result (Unit {0}) ReplayStop) (errors : Output) (status : ExitStatus) → TellsStop result errors status → status ≡ Success → result ≡ Ok tt
+all_told (Ok done) errors status told success = refl
+all_told (Err (stop.Line number why)) errors status told success = elim told [ inl said ↦ absurd (cc (said.0, success)) | inr failed ↦ absurd (cc (failed.0, success)) ]
+all_told (Err (stop.Reply number reply)) errors status told success = elim told [ inl said ↦ absurd (cc (said.0, success)) | inr failed ↦ absurd (cc (failed.0, success)) ]
+all_told (Err (stop.Failure failure)) errors status told success = absurd (cc (told.0, success))
+
+-- the history after the request of the next line, if that is one
+record HasNext (h : History) (front rest : List (List ℕ)) : Type 0 where
+  pub y : History
+  pub near : IsNear h front rest y
+  pub other : (x : History) → IsNear h front rest x → IsEither (after_lines h front) y x
+
+next_history : (h : History) (front rest : List (List ℕ)) → HasNext h front rest
+next_history h front [] = record {
+  y = after_lines h front;
+  near = inl refl;
+  other = λ x. elim [ inl e ↦ inl e | inr one ↦ absurd cc ];
+}
+next_history h front (line ∷ later) = go (entry_in line) refl
+  where
+    none : (e : Entry) → entry_in line ≡ e → ((a : Accepted) → e ≢ says.Accepted a) → HasNext h front (line ∷ later)
+    none e is not = record {
+      y = after_lines h front;
+      near = inl refl;
+      other = λ x. elim [ inl same ↦ inl same | inr one ↦ absurd (not one.0 (sym is ∙ one.1)) ];
+    }
+
+    go : (e : Entry) → entry_in line ≡ e → HasNext h front (line ∷ later)
+    go (says.Accepted a) is = record {
+      y = after_one (after_lines h front) a.request;
+      near = inr (a, is, refl);
+      other = λ x. elim [ inl same ↦ inl same | inr one ↦ let is_a : one.0 ≡ a = cc (is, one.1) in inr (one.2 ∙ ap (λ (b : Accepted). after_one (after_lines h front) b.request) is_a) ];
+    }
+    go says.End is = none says.End is (λ a e. cc)
+    go says.Blank is = none says.Blank is (λ a e. cc)
+    go (says.Founding f) is = none (says.Founding f) is (λ a e. cc)
+    go (says.Bad r) is = none (says.Bad r) is (λ a e. cc)
+
+module _ {S : Type 0} {g : Ghosts S} where
+  replay_leaves : (lines : List (List ℕ)) (before failures failures_new : ℕ) (it new : Registry S g) (result : Result (Unit {0}) ReplayStop) (errors : Output) (status : ExitStatus)
+      → HasReplayed lines before failures failures_new it new result → TellsStop result errors status
+      → (h : History) → Represents it h → HasCleanDisk (state_of new) → LeavesSome new (IsAfterRecord lines status h)
+  replay_leaves lines before failures failures_new it new (Ok done) errors status did told h stands clean =
+      let left = did.replied h stands clean in
+      let x = after_lines h did.front in (
+        x,
+        x,
+        record { front = did.front; rest = did.rest; split = did.split; replied = left.0; whole = λ _. did.stops; x_is = inl refl; y_is = inl refl },
+        leaves_itself new x left.1 clean,
+      )
+  replay_leaves lines before failures failures_new it new (Err (stop.Line number why)) errors status did told h stands clean =
+      let left = did.replied h stands clean in
+      let x = after_lines h did.front in (
+        x,
+        x,
+        record { front = did.front; rest = did.rest; split = did.split; replied = left.0; whole = λ success. absurd (cc (all_told (Err (stop.Line number why)) errors status told success)); x_is = inl refl; y_is = inl refl },
+        leaves_itself new x left.1 clean,
+      )
+  replay_leaves lines before failures failures_new it new (Err (stop.Reply number reply)) errors status did told h stands clean =
+      let left = did.replied h stands clean in
+      let x = after_one (after_lines h did.front) left.1.0.request in
+      let near : IsNear h did.front did.rest x = inr (left.1.0, left.1.1, refl) in (
+        x,
+        x,
+        record { front = did.front; rest = did.rest; split = did.split; replied = left.0; whole = λ success. absurd (cc (all_told (Err (stop.Reply number reply)) errors status told success)); x_is = near; y_is = near },
+        leaves_itself new x left.1.3 clean,
+      )
+  replay_leaves lines before failures failures_new it new (Err (stop.Failure failure)) errors status did told h stands clean =
+      let left = did.replied h stands clean in
+      let next = next_history h did.front did.rest in (
+        after_lines h did.front,
+        next.y,
+        record { front = did.front; rest = did.rest; split = did.split; replied = left.0; whole = λ success. absurd (cc (all_told (Err (stop.Failure failure)) errors status told success)); x_is = inl refl; y_is = next.near },
+        leaves_weaker newest (state_of new) (IsNear h did.front did.rest) (IsEither (after_lines h did.front) next.y) next.other left.1,
+      )
+
+  -- the lines that were replayed, and what is left for each history
+  record Follows (to_come : Option (List ℕ)) (it new : Registry S g) (status : ExitStatus) : Type 0 where
+    pub lines : List (List ℕ)
+    pub come : MayHaveLines to_come lines
+    pub leaves : (h : History) → Represents it h → HasCleanDisk (state_of new) → LeavesSome new (IsAfterRecord lines status h)
+    pub was_clean : HasCleanDisk (state_of new) → HasCleanDisk (state_of it)
+
+  of_replay : (to_come : Option (List ℕ)) (before failures failures_new : ℕ) (it new : Registry S g) (result : Result (Unit {0}) ReplayStop) (errors : Output) (status : ExitStatus)
+      → IsReplayOf to_come before failures failures_new it new result → TellsStop result errors status → Follows to_come it new status
+  of_replay to_come before failures failures_new it new result errors status is told = record {
+    lines = is.lines;
+    come = is.come;
+    leaves = replay_leaves is.lines before failures failures_new it new result errors status is.replayed told;
+    was_clean = λ clean. omega (arith, is.endures.clean, clean);
+  }
+
+  then_follows : (founding : Founding) (to_come : Option (List ℕ)) (before failures failures_new : ℕ) (it mid new : Registry S g) (checked result : Result (Unit {0}) ReplayStop) (errors : Output) (status : ExitStatus)
+      → (HasCleanDisk (state_of mid) → HasCleanDisk (state_of it)) → ((h : History) → Represents it h → Represents mid h)
+      → ThenReplays to_come before failures failures_new mid new checked result → TellsStop result errors status → Follows to_come it new status
+  then_follows founding to_come before failures failures_new it mid new (Ok done) result errors status was stays then told =
+      let rest = of_replay to_come before failures failures_new mid new result errors status then told in
+      record {
+        lines = rest.lines;
+        come = rest.come;
+        leaves = λ h stands clean. rest.leaves h (stays h stands) clean;
+        was_clean = λ clean. was (rest.was_clean clean);
+      }
+  then_follows founding to_come before failures failures_new it mid new (Err why) result errors status was stays then told =
+      let lines = may_have to_come in
+      record {
+        lines = lines.0;
+        come = lines.1;
+        leaves = λ h stands clean. (
+          h,
+          h,
+          record { front = []; rest = lines.0; split = refl; replied = refl; whole = λ success. absurd (cc (then.1, all_told result errors status told success)); x_is = inl refl; y_is = inl refl },
+          leaves_itself new h (subst (λ (x : Registry S g). Represents x h) (sym then.0) (stays h stands)) clean,
+        );
+        was_clean = λ clean. was (subst (λ (x : Registry S g). HasCleanDisk (state_of x)) then.0 clean);
+      }
+
+  follows : (founding : Option Founding) (to_come : Option (List ℕ)) (before failures failures_new : ℕ) (it new : Registry S g) (errors : Output) (status : ExitStatus)
+      → IsReplayed founding to_come before failures failures_new it new errors status → Follows to_come it new status
+  follows None to_come before failures failures_new it new errors status is = of_replay to_come before failures failures_new it new is.0 errors status is.1 is.2
+  follows (Some founding) to_come before failures failures_new it new errors status is =
+      let from = is.1 in
+      then_follows founding to_come before failures failures_new it from.1 new from.0 is.0 errors status
+      (λ clean. omega (arith, from.2.left.survives.clean, clean)) from.2.left.stays from.3 is.2
+
+-- ---- what the files hold
+
+module _ {H F I : Type 0} (m : host.Ghosts H F I) (d : disk.Ghosts F) where
+  module _ {R : Type 0} (r : source.Ghosts R) (source middle source_new : R) (begun : Unread) (blank : List (List ℕ)) where
+    over_whole : (old new : H) (path : List ℕ) (ends : Ends) → ((lines : List (List ℕ)) → MayHaveLines (ahead (r.remaining middle) begun) lines → MayHaveLines (r.remaining source) (blank ++ lines))
+        → ReplaysOver m d r middle source_new begun old new path ends → ReplaysWhollyFrom m d r source old new path ends
+    over_whole old new path ends passes is =
+        let Does = ReplaysLines r middle source_new begun in
+        elim (runs_whole m d old new path ends Does (IsReplayedTo m d r source old new path false ends) (λ over same.
+        let told = follows None _ _ _ _ over.it over.after _ over.before over.does.1 in
+        let on = carried m d old new path ends Does over same told.was_clean (IsAfterRecord told.lines ends.status)
+        (λ h stands clean. subst (λ (status : ExitStatus). LeavesSome over.after (IsAfterRecord told.lines status h)) (sym same) (told.leaves h stands clean)) in
+        record { before = blank; lines = told.lines; come = passes told.lines told.come; files = on.files; used = on.used; holds = on.holds }) is) [
+          | inl not ↦ inr (inl (not.0, inl not.1, not.2))
+          | inr more ↦ elim more [
+            | inl failed ↦
+                let over = failed.0 in
+                inr (inr (inl (connection_of over.after, over.closes.files, over.errors, subst (λ (b : ExitStatus). IsClosed m d (connection_of over.after) over.closes.files over.errors ends.errors.new b ends.status) failed.1 over.closes.closed, failed.2)))
+            | inr done ↦ inr (inr (inr (inr (false, done))))
+          ]
+        ]
+
+    -- ---- on a connection
+
+    module _ (founding : Founding) (old new : H) (path : List ℕ) (ends : Ends) (passes : (lines : List (List ℕ)) → MayHaveLines (ahead (r.remaining middle) begun) lines → MayHaveLines (r.remaining source) (blank ++ lines))
+        (on : IsReplayedIn m d r founding middle source_new begun old new path ends) where
+      used_in : IsUsed m d old new path true on.closes.files
+      used_in = record { opened = on.opened; first = on.connected.files; opens = on.connected.opens; done = on.opened; lets_go = on.closes.lets_go }
+
+      -- what the connection shows of a history that the files held
+      shown : (h : History) → Legal h → (from : ℕ) → FilesHoldEither from (m.holds old path) h h → HasCleanDisk (file_state on.conn)
+          → ∥ ((v : ℕ) × (from ≤ v) × IsLive (file_state on.conn) × IsFreshAt v (file_state on.conn) h) ∥₁
+      shown h legal from held was =
+          let it = on.connected.connected was in
+          ∥∥₁_map (subst (λ i. FilesHoldEither from i h h) (sym on.connected.opens.found) held) (λ found. (
+            found.4,
+            found.5,
+            it.0.1,
+            subst (IsFreshAt found.4 (file_state on.conn)) (same_of_either h found.2 found.3)
+                (λ _. (it.0.0.is_open, it.0.0.clean, subst (λ db. Rows found.4 db found.2) (sym (it.1.holds found.0 found.1)) found.6)),
+          ))
+
+      replayed : ends.status ≡ on.before → (it after : Registry (FileStore F d) over_files) → IsFoundOrOpen over_files on.conn founding it → on.last ≡ connection_of after
+          → IsReplayed (Some founding) (ahead (r.remaining middle) begun) begun.lines (r.failures middle) (r.failures source_new) it after (earlier ends on.errors on.before).errors on.before
+          → IsReplayedTo m d r source old new path true ends
+      replayed same it after opened last did =
+          let told = follows (Some founding) _ _ _ _ it after _ on.before did in
+          record {
+            before = blank;
+            lines = told.lines;
+            come = passes told.lines told.come;
+            files = on.closes.files;
+            used = used_in;
+            holds = λ h legal _ from held honest.
+                let clean_last : HasCleanDisk (file_state on.last) = closed_clean on.last on.closes.files on.closes.closed.closed honest in
+                let clean : HasCleanDisk (state_of after) = subst (λ c. HasCleanDisk (file_state c)) last clean_last in
+                let was = told.was_clean clean in
+                ∥∥₁_map (shown h legal from held (opened.clean was)) (λ fresh.
+                let left = told.leaves h (opened.opened fresh.2 fresh.0 h legal fresh.3 was) clean in
+                let leaves : Leaves newest (file_state on.last) (IsEither left.0 left.1) = subst (λ c. Leaves newest (file_state c) (IsEither left.0 left.1)) (sym last) left.3 in (
+                  left.0,
+                  left.1,
+                  subst (λ (status : ExitStatus). IsAfterRecord told.lines status h left.0 left.1) (sym same) left.2,
+                  on.closes.closed.holds same newest left.0 left.1 (in_newest (file_state on.last) (IsEither left.0 left.1) (λ _. leaves)) honest,
+                ));
+          }
+
+      unreplayed : ends.status ≡ on.before → on.before ≡ Failed → IsLeftFound over_files on.conn on.last → IsUnreplayed m d old new path ends
+      unreplayed same failed left = record {
+        files = on.closes.files;
+        used = used_in;
+        status_is = same ∙ failed;
+        holds = λ h legal from held honest.
+            let clean : HasCleanDisk (file_state on.last) = closed_clean on.last on.closes.files on.closes.closed.closed honest in
+            let there = ∥∥₁_map (shown h legal from held (left.clean clean)) (λ fresh. later_from from fresh.0 (file_state on.last) h h h (inl refl) fresh.1 (left.leaves fresh.2 fresh.0 h legal fresh.3 clean)) in
+            record {
+              now = ∥∥₁_elim there squash₁ (λ all. (on.closes.closed.holds same from h h (λ _. all) honest).now);
+              crash = λ image may. ∥∥₁_elim there squash₁ (λ all. (on.closes.closed.holds same from h h (λ _. all) honest).crash image may);
+            };
+      }
+
+      in_whole : ReplaysWhollyFrom m d r source old new path ends
+      in_whole = elim (kept_unless_failed m d on.last on.closes.files on.errors ends.errors.new on.before ends.status on.closes.closed) [
+        | inl failed ↦ inr (inr (inl (on.last, on.closes.files, on.errors, subst (λ (b : ExitStatus). IsClosed m d on.last on.closes.files on.errors ends.errors.new b ends.status) failed.0 on.closes.closed, failed.1)))
+        | inr same ↦ elim on.replays [
+          | inl did ↦ inr (inr (inr (inr (true, replayed same did.0 did.1 did.2 did.3 did.4))))
+          | inr not ↦ inr (inr (inr (inl (unreplayed same not.2 not.1))))
+        ]
+      ]
+
+  module _ {R : Type 0} (r : source.Ghosts R) (source source_new : R) (old new : H) (path : List ℕ) (ends : Ends) where
+    replays_whole : ReplaysFrom m d r source source_new old new path ends → ReplaysWhollyFrom m d r source old new path ends
+    replays_whole is = go is.first is.begins is.goes_on
+      where
+        go : (first : Result (Option Founding) ReplayStop) → Begins (r.remaining source) (ahead (r.remaining is.middle) is.begun) 0 is.begun.lines (r.failures source) (r.failures is.middle) first
+            → GoesOn m d r first is.middle source_new is.begun old new path ends → ReplaysWhollyFrom m d r source old new path ends
+        go (Ok (Some founding)) begins goes_on = elim goes_on [
+          | inl not ↦ inr (inl (not.0, inr not.1, not.2))
+          | inr on ↦ in_whole r source is.middle source_new is.begun (begins.0 ++ begins.1 ∷ []) founding old new path ends begins.4 on
+        ]
+        go (Ok None) begins goes_on = over_whole r source is.middle source_new is.begun begins.0 old new path ends begins.2 goes_on
+        go (Err why) begins goes_on = inl goes_on.0
+
+  pub replays_wholly : (s : source.Ghosts I) {IN : Type 0} (i : source.Ghosts IN) (input input_new : IN) (old new : H) (path file : List ℕ) (ends : Ends)
+      → ReplaysRecord m d s i input input_new old new path file ends → ReplaysWholly m d s i input old new path file ends
+  replays_wholly s i input input_new old new path file ends is = (
+    λ standard. replays_whole i input input_new old new path ends (is.standard standard),
+    λ named. elim (is.named named).1 [
+      | inl read ↦ inl (read.0, read.1, read.3, replays_whole s read.1 read.2 read.0 new path ends read.4)
+      | inr not ↦ inr not
+    ],
+  )

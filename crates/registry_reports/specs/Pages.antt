@@ -1,0 +1,29 @@
+-- A page of lines.
+use Rattle.std.specs.Prelude.{◌≡◌, ◌≢◌, ◌⊎◌, ℕ, ◌<◌, ◌≤◌, List, [], ◌∷◌, ◌++◌, length, take}
+use Rattle.std.specs.String.{string_bytes}
+use Rattle.registry_reports.specs.declared.page.Page.{Page}
+
+-- the lines, each ended by a line feed
+abbrev pub lines_text : List (List ℕ) → List ℕ
+lines_text [] = []
+lines_text (line ∷ lines) = line ++ 10 ∷ [] ++ lines_text lines
+
+-- at most 1,000 lines, of at most 1,048,576 bytes
+pub record FitPage (lines : List (List ℕ)) : Type 0 where
+  pub count : length lines ≤ 1000
+  pub bytes : length (lines_text lines) ≤ 1048576
+
+-- the page of the lines: their longest beginning that fits, or the first line alone if it is longer
+pub record IsPage (lines page : List (List ℕ)) : Type 0 where
+  pub beginning : page ≡ take (length page) lines
+  pub fits : 1 < length page → FitPage page
+  pub longest : (n : ℕ) → length page < n → n ≤ length lines → ¬ FitPage (take n lines)
+  pub first : lines ≢ [] → page ≢ []
+
+-- the page has these lines so far
+abbrev pub HasLines : Page → List (List ℕ) → Type 0
+HasLines page lines = (string_bytes page.text ≡ lines_text lines) × (page.count ≡ length lines)
+
+-- the line may follow these lines on a page: it is the first, or all of them fit
+abbrev pub MayFollow : List (List ℕ) → List ℕ → Type 0
+MayFollow lines line = (lines ≡ []) ⊎ FitPage (lines ++ line ∷ [])

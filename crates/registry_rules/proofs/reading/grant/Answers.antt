@@ -1,0 +1,13 @@
+use Rattle.std.proofs.Common.{◌≡◌, ap, rules}
+use Rattle.registry_rules.specs.declared.form_fields.Unread.TheVariants.{NoMemory}
+use Rattle.registry_rules.specs.declared.order.Order.TheVariants as orders
+use Rattle.registry_rules.proofs.reading.grant.Goals as goal
+
+pub returns-in_err-petition : goal.returns-in_err-petition
+returns-in_err-petition c it valid none is =
+    let lost : c.in_err-petition.field-0.0 ≡ NoMemory = c.in_err-petition.ensures (it.petition, (it.number, tt)) (valid.0, (valid.1, tt)) none is in
+    search rules
+
+pub returns : goal.returns
+returns c it valid none is =
+    ap (λ f. orders.Grant (record { petition = f.0; number = f.1.0 })) (c.in_ok-petition.ensures (it.petition, (it.number, tt)) (valid.0, (valid.1, tt)) none is)

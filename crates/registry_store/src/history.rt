@@ -1,0 +1,73 @@
+//! The history of a registry: the founding with its first licences, and the record of accepted
+//! requests.
+
+ghost use Rattle.std.specs.Prelude.{◌≡◌, IfOk};
+
+use crate::fault::{Fault, fault_of};
+use crate::registry::Registry;
+use registry_rules::{Accepted, Founding, Licences};
+use registry_tables::{accepted_after, first_licences};
+use sqlite::Alter;
+use usbnum_core::NoMemory;
+
+// The founding with these licences.
+fn with_licences(founding: &Founding, licences: Licences) -> Result<Founding, NoMemory>
+    ensures { IfOk result (λ it. it ≡ record founding.now { licences = licences }) }
+{
+    Ok(Founding {
+        vendor: founding.vendor,
+        name: founding.name.clone()?,
+        curators: founding.curators.clone()?,
+        licences,
+        fixed: founding.fixed.clone()?,
+    })
+}
+
+impl<S: Alter> Registry<S> {
+    ghost use Rattle.std.specs.Prelude.{◌≡◌, take, drop};
+    ghost use Rattle.registry_rules.specs.Accepted.{AreValid, accepted_of};
+    ghost use Rattle.registry_store.specs.Queries.{IsQuery};
+
+    /// Returns at most `most` accepted requests after the first `after`, oldest first, each with the
+    /// reply that it got.
+    ///
+    /// # Errors
+    ///
+    /// `Fault::Poisoned` if the registry is poisoned, without a store call. `Fault::NoMemory` if
+    /// out of memory for the rows or the list. `Fault::Store` if the store refuses or fails, if it
+    /// holds an order that is not valid, or if `after` is 2^32 or more. `Fault::Foreign` if the rows
+    /// are those of no history, which no registry over a clean disk has. The registry stays as it
+    /// was.
+    pub fn accepted_after(&mut self, after: u64, most: u32) -> Result<Vec<Accepted>, Fault>
+        ensures query { IsQuery self.old self.new result (λ h list. AreValid h.deeds → list.items ≡ take most (drop after (accepted_of h.deeds))) }
+    {
+        self.check_not_poisoned()?;
+        let Ok(after) = u32::try_from(after) else {
+            return Err(Fault::Store);
+        };
+        match accepted_after(self.alloc, &mut self.conn, after, most) {
+            Ok(accepted) => Ok(accepted),
+            Err(fault) => Err(fault_of(fault)),
+        }
+    }
+
+    /// Returns the founding, with its first licences. The store reads the replies to all accepted
+    /// requests.
+    ///
+    /// # Errors
+    ///
+    /// `Fault::Poisoned` if the registry is poisoned, without a store call. `Fault::NoMemory` if
+    /// out of memory for the rows or the founding. `Fault::Store` if the store refuses or fails.
+    /// `Fault::Foreign` if the rows are those of no history, which no registry over a clean disk
+    /// has. The registry stays as it was.
+    pub fn first_founding(&mut self) -> Result<Founding, Fault>
+        ensures query { IsQuery self.old self.new result (λ h founding. AreValid h.deeds → founding ≡ h.founding) }
+    {
+        self.check_not_poisoned()?;
+        let founding = self.totals.founding();
+        match first_licences(self.alloc, &mut self.conn, &founding.licences) {
+            Ok(licences) => Ok(with_licences(founding, licences)?),
+            Err(fault) => Err(fault_of(fault)),
+        }
+    }
+}

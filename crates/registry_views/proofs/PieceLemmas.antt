@@ -1,0 +1,106 @@
+-- Queries for one piece of the record after another.
+use Rattle.std.proofs.Common.{◌≡◌, ℕ, ◌+◌, ◌*◌, ◌<◌, Option, Some, None, Ok, Err, List, [], true, false, refl, sym, ap, ◌∙◌, inl, inr, arith}
+use Rattle.std.specs.Prelude.{MatchOption}
+use Rattle.std.specs.String.{string_bytes}
+use Rattle.std.proofs.lemmas.Bool.{cases_eq}
+use Rattle.sqlite.specs.Store.{Ghosts}
+use Rattle.sqlite.specs.State.{HasCleanDisk}
+use Rattle.registry_rules.specs.Accepted.{AreValid}
+use Rattle.registry_rules.specs.History.{History}
+use Rattle.registry_reports.specs.Pages.{HasLines}
+use Rattle.registry_reports.specs.declared.page.Page.{Page}
+use Rattle.registry_store.specs.declared.fault.Fault.{Fault}
+use Rattle.registry_store.specs.declared.fault.Fault.TheVariants as of
+use Rattle.registry_store.specs.declared.registry.Registry.{Registry}
+use Rattle.registry_store.specs.Promise.{Represents, is_poisoned, state_of}
+use Rattle.registry_store.specs.Queries.{IsUntouched, IsQuery}
+use Rattle.registry_views.specs.Records.{IsBegun, IsPageText, IsRecordPage, lines_after}
+use Rattle.registry_views.proofs.RecordLemmas.{begun_empty, never_full}
+use Rattle.registry_views.proofs.ViewLemmas.{clean_before, left_then, sound}
+
+-- what one piece finds
+abbrev Piece : Page → Page → ℕ → History → Option ℕ → Type 0
+Piece page new place h next = AreValid h.deeds → (after : ℕ) → place ≡ after + page.count → IsBegun (lines_after h after) page
+    → MatchOption next (IsPageText (lines_after h after) (string_bytes new.text)) (λ n. IsBegun (lines_after h after) new × (new.count ≡ page.count + 64) × (n ≡ place + 64))
+
+module _ {S : Type 0} {g : Ghosts S} where
+  -- after some pieces of 64 requests
+  pub record Reads (it now : Registry S g) (after place index : ℕ) (page : Page) : Type 0 where
+    pub start : index ≡ 0 → now ≡ it
+    pub later : 0 < index → is_poisoned it ≡ false
+    pub left : IsUntouched it now
+    pub begun : (h : History) → Represents it h → HasCleanDisk (state_of now) → AreValid h.deeds → IsBegun (lines_after h after) page × (page.count ≡ 64 * index) × (place ≡ after + page.count)
+
+  pub none_read : (it : Registry S g) (after : ℕ) (page : Page) → HasLines page [] → Reads it it after after 0 page
+  none_read it after page none = record {
+    start = λ is. refl;
+    later = λ less. absurd (omega (arith, less));
+    left = record { stays = λ h stands. stands; poisons_nothing = refl; survives = record { clean = omega arith; shield = λ is. is; counts = omega arith; limit = refl; closes = λ clean is. inl is; crash = λ clean db may. inl may } };
+    begun = λ h stands clean valid. let count : page.count ≡ 0 = none.1 in (begun_empty (lines_after h after) page none, omega (arith, count), omega (arith, count));
+  }
+
+  not_poisoned : (it now new : Registry S g) {A : Type 0} {Is : History → A → Type 0} {found : A} → IsUntouched it now → IsQuery now new (Ok found) Is → is_poisoned it ≡ false
+  not_poisoned it now new left q = sym left.poisons_nothing ∙ (sym q.left.poisons_nothing ∙ sound q)
+
+  -- one piece more
+  pub more_read : (it now new : Registry S g) (after place index : ℕ) (page page_new : Page) (n : ℕ) → Reads it now after place index page → IsQuery now new (Ok (Some n)) (Piece page page_new place) → Reads it new after n (index + 1) page_new
+  more_read it now new after place index page page_new n reads q = record {
+    start = λ is. absurd (omega (arith, is));
+    later = λ less. not_poisoned it now new reads.left q;
+    left = left_then it now new reads.left q.left;
+    begun = λ h stands clean valid.
+        let so_far = reads.begun h stands (clean_before now new q.left clean) valid in
+        let piece = q.answered h (reads.left.stays h stands) clean valid after so_far.2 so_far.0 in
+        let count = so_far.1 in
+        let at = so_far.2 in
+        let size = piece.1 in
+        let next = piece.2 in
+        (piece.0, omega (arith, count, size), omega (arith, at, size, next));
+  }
+
+  -- the last piece
+  pub all_read : (it now new : Registry S g) (after place index : ℕ) (page page_new : Page) (text : List ℕ) → Reads it now after place index page → IsQuery now new (Ok None) (Piece page page_new place) → text ≡ string_bytes page_new.text
+      → (h : History) → Represents it h → HasCleanDisk (state_of new) → IsRecordPage h after text
+  all_read it now new after place index page page_new text reads q is h stands clean valid =
+      let so_far = reads.begun h stands (clean_before now new q.left clean) valid in
+      rw is (q.answered h (reads.left.stays h stands) clean valid after so_far.2 so_far.0)
+
+  -- a query over all pieces
+  pub whole : {A : Type 0} (it new : Registry S g) (found : A) (Is : History → A → Type 0) → is_poisoned it ≡ false → IsUntouched it new → ((h : History) → Represents it h → HasCleanDisk (state_of new) → Is h found) → IsQuery it new (Ok found) Is
+  whole it new found Is sane left answered = record {
+    when_poisoned = λ is. absurd (let never : true ≡ false = sym is ∙ sane in cc);
+    only_poisoned = λ never. absurd cc;
+    never_taken = λ never. cc;
+    answered = answered;
+    kind = λ h stands clean. tt;
+    left = left;
+  }
+
+  pub ends_read : {A : Type 0} (it now new : Registry S g) (after place index : ℕ) (page page_new : Page) (found : A) (Is : History → A → Type 0) → Reads it now after place index page → IsQuery now new (Ok None) (Piece page page_new place)
+      → ((h : History) → Represents it h → HasCleanDisk (state_of new) → Is h found) → IsQuery it new (Ok found) Is
+  ends_read it now new after place index page page_new found Is reads q answered = whole it new found Is (not_poisoned it now new reads.left q) (left_then it now new reads.left q.left) answered
+
+  -- a piece that is not read
+  pub fails_read : {A B : Type 0} (it now new : Registry S g) (after place index : ℕ) (page : Page) (e : Fault) {Is : History → A → Type 0} (To : History → B → Type 0) → Reads it now after place index page → IsQuery now new (Err e) Is → IsQuery it new (Err e) To
+  fails_read it now new after place index page e To reads q = record {
+    when_poisoned = λ is.
+        let failed = q.when_poisoned (reads.left.poisons_nothing ∙ is) in
+        let spent : e ≡ of.Poisoned = cc failed.0 in
+        let first : now ≡ it = elim (cases_eq index 0) [
+          | inl none ↦ reads.start none
+          | inr some ↦ absurd (let sane = reads.later (omega (arith, some)) in let never : true ≡ false = sym is ∙ sane in cc)
+        ] in
+        (ap Err spent, failed.1 ∙ first);
+    only_poisoned = λ is. let spent : e ≡ of.Poisoned = cc is in sym reads.left.poisons_nothing ∙ q.only_poisoned (ap Err spent);
+    never_taken = λ is. let taken : e ≡ of.Taken = cc is in q.never_taken (ap Err taken);
+    answered = λ h stands clean. tt;
+    kind = λ h stands clean. q.kind h (reads.left.stays h stands) clean;
+    left = left_then it now new reads.left q.left;
+  }
+
+  -- sixteen pieces do not fit on a page
+  pub too_many : {A : Type 0} (it now : Registry S g) (after place index : ℕ) (page : Page) (found : A) → Reads it now after place index page → index ≡ 16 → (Is : History → A → Type 0) → ((h : History) → (AreValid h.deeds → ⊥) → Is h found) → IsQuery it now (Ok found) Is
+  too_many it now after place index page found reads is Is never = whole it now found Is (reads.later (omega (arith, is))) reads.left (λ h stands clean. never h (λ valid.
+      let so_far = reads.begun h stands clean valid in
+      let count = so_far.1 in
+      never_full (lines_after h after) page so_far.0 (omega (arith, count, is))))

@@ -1,0 +1,6 @@
+use Rattle.std.proofs.Common.{◌≡◌, ◌+◌, ℕ, List}
+use Rattle.registry_views.specs.Records.{AreNext, IsBegun}
+use Rattle.registry_views.proofs.record.put_lines.Given as goal
+
+abbrev pub invariant-loop-one : goal.invariant-loop-one
+invariant-loop-one l = (lines : List (List ℕ)) → IsBegun lines l.initial.page → AreNext lines l.initial.page l.accepted → IsBegun lines l.page × (l.page.count ≡ l.initial.page.count + l.one-index)
