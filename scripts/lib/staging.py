@@ -1,0 +1,160 @@
+"""What stands behind the page while `use_the_page.py` uses it: a store, its server, a relay that loses responses, the proxy
+of the recipe, and the page as `make install` puts it."""
+
+import contextlib
+import signal
+import socket
+import subprocess
+import sys
+import threading
+
+from lib.serving import HOST, free_port, serving
+from lib.usbreg import TOP, apply, content, found, write
+
+CURATOR = "curator-1"
+FOUNDING = f'vendor = "1209"\nname = "Shared products"\ncurators = ["{CURATOR}"]\nlicences = ["GPL-3.0-only", "MIT"]\nfixed = ["0001-0010", "0f00-0fff"]\n'
+# What is there before: another organisation, with a number and an open petition, and a second vendor.
+BEFORE = f"""\
+{{"caller":"bob","key":"b1","order":"enrol","org":"bobs-boards","title":"Bob's boards","site":"https://bob.example/"}}
+{{"caller":"bob","key":"b2","order":"ask","org":"bobs-boards","number":"0033","title":"Serial adapter","licence":"MIT","site":"https://bob.example/s","source":"https://bob.example/src"}}
+{{"caller":"{CURATOR}","key":"c1","order":"grant","petition":1}}
+{{"caller":"bob","key":"b3","order":"ask","org":"bobs-boards","number":"beef","title":"Thermometer","licence":"MIT","site":"https://bob.example/t","source":"https://bob.example/src"}}
+{{"caller":"{CURATOR}","key":"c2","order":"add-vendor","vendor":"cafe","name":"Cafe boards"}}
+"""
+
+
+def by_proxy(status, wait=None):
+    """Returns a response of the proxy itself, which passed nothing on."""
+    body = f'{{"proxy":{status}}}\n'
+    after = f"retry-after: {wait}\r\n" if wait else ""
+    return f"HTTP/1.1 {status} No\r\ncontent-type: application/json\r\ncontent-length: {len(body)}\r\n{after}connection: close\r\n\r\n{body}".encode()
+
+
+def same(what, got, wanted):
+    if got != wanted:
+        sys.exit(f"{what}: {got!r}, where {wanted!r} is wanted")
+
+
+class Relay:
+    """Passes connections on to a server. `losses` says what becomes of the next responses to orders: a number of bytes
+    after which one is cut, other bytes in its place, or a function that is called before it is dropped. `tries` has the
+    key, the body and the response of each order, `callers` the caller of each, and `waiting` counts those that have no
+    response yet."""
+
+    def __init__(self, server_port):
+        self.server_port, self.losses, self.tries, self.callers, self.waiting = server_port, [], [], [], 0
+        self.listener = socket.create_server((HOST, 0), backlog=128)
+        self.port = self.listener.getsockname()[1]
+        threading.Thread(target=self.listen, daemon=True).start()
+
+    def listen(self):
+        while True:
+            connection, _ = self.listener.accept()
+            threading.Thread(target=self.passes, args=(connection,), daemon=True).start()
+
+    def passes(self, connection):
+        with contextlib.suppress(OSError), connection:
+            head, body = whole_message(connection)
+            is_order = head.startswith(b"POST /commands ")
+            self.waiting += is_order
+            got = b""
+            with contextlib.suppress(OSError), socket.create_connection((HOST, self.server_port)) as peer:
+                peer.sendall(head + b"\r\n\r\n" + body)
+                got = b"".join(iter(lambda: peer.recv(1 << 20), b""))
+            self.waiting -= is_order
+            if is_order:
+                got = self.order(head, body, got)
+            connection.sendall(got)
+
+    def order(self, head, body, got):
+        key, caller = (next(it for it in head.decode().split("\r\n") if it.lower().startswith(name)).split(": ")[1] for name in ("registry-key", "registry-caller"))
+        self.tries.append((key, body.decode(), got.partition(b"\r\n\r\n")[2].decode()))
+        self.callers.append(caller)
+        loss = self.losses.pop(0) if self.losses else None
+        if callable(loss):
+            loss()
+            return b""
+        if isinstance(loss, bytes):
+            return loss
+        return got if loss is None else got[:loss]
+
+
+def whole_message(connection):
+    """Returns the head and the body of a message."""
+    sent = b""
+    while b"\r\n\r\n" not in sent:
+        sent += received(connection)
+    head, _, body = sent.partition(b"\r\n\r\n")
+    length = next((int(it[15:]) for it in head.lower().split(b"\r\n") if it.startswith(b"content-length:")), 0)
+    while len(body) < length:
+        body += received(connection)
+    return head, body
+
+
+def received(connection):
+    got = connection.recv(65536)
+    if not got:
+        raise OSError("the message ends early")
+    return got
+
+
+class Stage:
+    """All that stands behind the page, for a `with`: a store in which the requests of `before` were acted on, its server, the
+    relay, a proxy that `recipe` makes of a folder and a server, and the installed page. `edits` are changes to the files of
+    the page, or to usbreg.conf: the file, what it has, and what it gets instead."""
+
+    def __init__(self, usbreg, room, recipe, edits=(), before=BEFORE):
+        self.usbreg, self.room, self.port = usbreg, room, free_port()
+        self.store = found(usbreg, f"{room}/store.db", write(f"{room}/founding.toml", FOUNDING))
+        apply(usbreg, self.store, write(f"{room}/before.jsonl", before))
+        self.relay = Relay(self.port)
+        self.recipe = recipe(room, self.relay)
+        subprocess.run(["make", "-s", "-C", TOP, "install", f"PROGRAM={usbreg}", f"DESTDIR={room}/installed", "PREFIX=/usr/local"], check=True)
+        self.files = f"{room}/installed/usr/local/share/usbreg"
+        self.edit(f"{self.recipe.folder}/usbreg.conf", f"{TOP}/examples/..", self.files)
+        for path, old, new in edits:
+            self.edit(f"{self.recipe.folder}/usbreg.conf" if path == "usbreg.conf" else f"{self.files}/web/{path}", old, new)
+
+    def edit(self, path, old, new):
+        text = content(path).decode()
+        if old not in text:
+            sys.exit(f"{path} has no {old!r}")
+        write(path, text.replace(old, new))
+
+    def start(self):
+        self.server = serving(self.usbreg, self.store, port=self.port).up()
+
+    def kill(self):
+        self.server.kill()
+
+    def stop(self, is_stopped):
+        """Stops the server in the middle of all that it does, or lets it go on."""
+        self.server.process.send_signal(signal.SIGSTOP if is_stopped else signal.SIGCONT)
+
+    def password(self, name, password):
+        users = f"{self.recipe.folder}/usbreg.users"
+        lines = [it for it in content(users).decode().splitlines() if not it.startswith(f"{name}:")]
+        write(users, "".join(f"{it}\n" for it in [*lines, f"{name}:{{PLAIN}}{password}"]))
+
+    def tried(self, what, page, act, replies):
+        """Checks the responses that an order gets, all under one key and with one body, and returns both."""
+        before = len(self.relay.tries)
+        act()
+        page.until(lambda: len(self.relay.tries) >= before + len(replies), f"{what}: {len(replies)} tries")
+        tries = self.relay.tries[before:]
+        same(f"{what}: keys and bodies", len({it[:2] for it in tries}), 1)
+        same(what, [reply.strip() for _, _, reply in tries], replies)
+        return tries[0][:2]
+
+    def __enter__(self):
+        self.start()
+        self.recipe.__enter__()
+        return self
+
+    def __exit__(self, *_):
+        self.recipe.__exit__()
+        self.server.__exit__()
+
+
+def done(text):
+    return f'{{"done":"{text}"}}'

@@ -1,0 +1,161 @@
+#!/usr/bin/env python3
+"""Uses the page in `web/` in Chromium, as `make install` puts it, behind the proxy of examples/nginx.conf and in front of
+`usbreg serve`. It looks, searches, enrols, asks, is refused, grants and declines as people do. Responses are lost, the
+server is killed, passwords change, and two windows send one order: it takes effect once. Titles and links are hostile.
+lib/page_story.py has each part.
+
+Usage: scripts/use_the_page.py [OPTION] [PROGRAM], by default the one that `make` builds. What is missing is named, and the
+script skipped. The exit status is 0 if all of this holds. Each option does something else instead:
+
+  --pictures FOLDER  takes pictures of the main views
+  --many             times the table and the search over all 65,535 numbers, and compares the times with the limits
+  --planted [WORDS]  puts bugs into the page, those whose names have the words, and names the part that catches each"""
+
+import argparse
+import json
+import os
+import statistics
+import sys
+import time
+
+from lib.browsing import Browser, Page, missing
+from lib.page_story import STORY
+from lib.planted import PLANTED
+from lib.proxy import Recipe
+from lib.serving import HOST
+from lib.staging import BEFORE, CURATOR, Stage
+from lib.usbreg import done, folder, program, write
+
+# The seconds that a person waits for what the page should show.
+PATIENCE = 30
+# The milliseconds until the table of all numbers stands there, and until a search is on the screen.
+TABLE, SEARCH = 1000, 100
+# A store takes lists of so many devices.
+LIST = 8190
+
+
+def tell(usbreg, edits=()):
+    """Tells the story, and returns the name of the part that failed and why; None if all parts passed."""
+    with folder() as room, Stage(usbreg, room, Recipe, edits) as stage, Browser(room) as browser:
+        page = Page(browser, f"http://{HOST}:{stage.recipe.port}/", PATIENCE)
+        for part in STORY:
+            began = time.monotonic()
+            try:
+                part(page, stage)
+            except SystemExit as why:
+                return part.__name__, why
+            print(f"{time.monotonic() - began:5.1f} s  {part.__name__}", file=sys.stderr)
+    return None
+
+
+def plant(usbreg, some):
+    """Puts each bug into the page by itself, of those whose name has these words."""
+    others = []
+    for what, catcher, *edits in PLANTED:
+        if some in what:
+            name, why = tell(usbreg, edits) or ("nobody", "")
+            print(f"{what}: caught by {name}: {str(why)[:100]}", flush=True)
+            others += [f"{what}: caught by {name}, not by {catcher}"] * (name != catcher)
+    sys.exit("\n".join(others) or None)
+
+
+def imported(usbreg, store, room, org, pids, title):
+    """Imports numbers with titles for an organisation, as a curator does."""
+    lines = "".join(f"\t{pid:04x}  {title.format(pid)}\n" for pid in pids)
+    done([usbreg, "import", store, write(f"{room}/list.ids", f"1209  x\n{lines}"), "--caller", CURATOR, "--key", f"i{pids[0]}", "--org", org])
+
+
+def lines(*requests):
+    return "".join(f"{json.dumps(it)}\n" for it in requests)
+
+
+def pictured():
+    """Returns requests after which there is something to see."""
+    terms = {"licence": "MIT", "site": "https://acme.example/product", "source": "https://git.example/acme"}
+    asks = (("0011", "Blinker"), ("00ab", "Logic analyser"), (None, "Clock \u202egpj.exe"), ("0c0c", "Motor driver"))
+    yield {"caller": "ann", "key": "a0", "order": "enrol", "org": "acme", "title": "Acme Tools", "site": "https://acme.example/"}
+    for at, (number, title) in enumerate(asks):
+        yield {"caller": "ann", "key": f"a{at + 1}", "order": "ask", "org": "acme", "title": title, **terms} | ({"number": number} if number else {})
+    for petition in (3, 4):
+        yield {"caller": CURATOR, "key": f"g{petition}", "order": "grant", "petition": petition}
+    yield {"caller": "ann", "key": "a9", "order": "return", "number": "00ab"}
+    yield {"caller": CURATOR, "key": "r1", "order": "reserve", "first": "8000", "last": "8fff"}
+
+
+def picture(usbreg, into):
+    """Takes pictures of the main views."""
+    with folder() as room, Stage(usbreg, room, Recipe, before=BEFORE + lines(*pictured())) as stage:
+        stage.kill()
+        imported(usbreg, stage.store, room, "bobs-boards", range(0x3000, 0x5000, 3), "Board {:04x} of an older list")
+        stage.start()
+        with Browser(room) as browser:
+            page = Page(browser, f"http://{HOST}:{stage.recipe.port}/", PATIENCE)
+            page.load()
+            for name, view, width, dark in (("numbers", "numbers", 1100, False), ("map", "map?at=3000", 1100, True), ("number", "number/1209/0011", 1100, False)):
+                page.open(view)
+                page.picture(f"{into}/web-{name}.png", width, dark, 900)
+            page.sign_in("ann")
+            page.open("do/ask?number=0033")
+            page.fill(title="Lamp", licence="MIT")
+            page.picture(f"{into}/web-ask.png", 420)
+            page.sign_in(CURATOR)
+            page.open("decide")
+            page.has("Keeper", "[aria-label='Petition 6']")
+            page.picture(f"{into}/web-decide.png", 1100, False, 900)
+
+
+# Resolves to the milliseconds since the page was asked for, once the table stands there.
+UNTIL_TABLE = """const done = arguments[0], look = () => document.querySelector('#rows tbody tr') ? setTimeout(() => done(performance.now())) : requestAnimationFrame(look); look()"""
+# Resolves to the milliseconds until a search is on the screen, and to what it found.
+UNTIL_FOUND = """const [words, done] = arguments, box = document.querySelector('#query'), began = performance.now();
+box.value = words; box.dispatchEvent(new Event('input'));
+requestAnimationFrame(() => setTimeout(() => done([performance.now() - began, document.querySelector('#count').textContent])))"""
+
+
+def time_many(usbreg):
+    """Times the page over a registry in which each number has an owner or is reserved."""
+    with folder() as room, Stage(usbreg, room, Recipe) as stage:
+        stage.kill()
+        for first in range(1, 65536, LIST):
+            imported(usbreg, stage.store, room, "bobs-boards", range(first, min(first + LIST, 65536)), "Logic analyser board {:04x}")
+        stage.start()
+        with Browser(room) as browser:
+            page = Page(browser, f"http://{HOST}:{stage.recipe.port}/", PATIENCE)
+            page.load()
+            times = []
+            for _ in range(5):
+                page.driver.get("about:blank")
+                page.driver.get(page.address)
+                times.append(page.driver.execute_async_script(UNTIL_TABLE))
+            searches = [page.driver.execute_async_script(UNTIL_FOUND, words) for words in ("logic", "board 7f0", "nothing", "bob's", "a", "")]
+    for taken, found in searches:
+        print(f"a search takes {taken:.0f} ms: {found}")
+    print(f"the table stands there after {statistics.median(times):.0f} ms ({', '.join(f'{it:.0f}' for it in times)})")
+    if statistics.median(times) > TABLE or statistics.median(it for it, _ in searches) > SEARCH:
+        sys.exit(f"more than {TABLE} ms for the table, or {SEARCH} ms for a search")
+
+
+def main():
+    options = argparse.ArgumentParser(usage=__doc__)
+    options.add_argument("program", nargs="?")
+    options.add_argument("--pictures", metavar="FOLDER")
+    options.add_argument("--many", action="store_true")
+    options.add_argument("--planted", nargs="?", const="", metavar="WORDS")
+    given = options.parse_args()
+    usbreg = program(*filter(None, [given.program]))
+    if lacking := missing():
+        print(f"SKIPPED: not installed: {', '.join(lacking)}; so the page was not used")
+    elif given.pictures:
+        picture(usbreg, os.path.abspath(given.pictures))
+    elif given.many:
+        time_many(usbreg)
+    elif given.planted is not None:
+        plant(usbreg, given.planted)
+    elif failed := tell(usbreg):
+        sys.exit(f"{failed[0]}: {failed[1]}")
+    else:
+        print(f"web: the {len(STORY)} parts of the story are as they should be")
+
+
+if __name__ == "__main__":
+    main()
