@@ -1,21 +1,25 @@
-# all:     proves and builds the program usbreg, and prints its version. This is what `make` does.
+# all:     proves and builds the program usbreg, prints its version, and writes its SHA-256 beside it. This is what
+#          `make` does.
 # trial:   compiles usbreg without proving it, and acts on three request lines over a
 #          registry in memory.
 # test:    the gate: `rt ci`, which proves every crate and its tests, tries the must-fail edits, and runs the tests and
 #          each program, built by two compilers; then the scripts that try the program over files.
 # mutants: tries the wrong bodies in mutants/, as many in one check as possible. A release runs it beside the gate.
-# install: puts the program that `make` built into PREFIX/bin, and its page into PREFIX/share/man/man1.
+# install: puts the program that `make` built into PREFIX/bin, its man page into PREFIX/share/man/man1, and the page for
+#          makers and curators into PREFIX/share/usbreg/web.
 # bench:   reads and writes lists and looks devices up beside plain readers, acts on requests and serves messages
-#          beside plain registries, and prints ratios; opens a large store of an older schema. Not part of the gate;
-#          it says which packages are missing.
+#          beside plain registries, and prints ratios; times each kind of order on a full store; opens a large store of an
+#          older schema. Not part of the gate; it says which packages are missing.
+# deb:     makes the Debian package of what `make` built, in out/. It needs dpkg-deb and readelf.
 
 PREFIX ?= /usr/local
 PROGRAM := crates/registry_cli/out/registry_cli
 
-.PHONY: all trial test mutants install bench
+.PHONY: all trial test mutants install deb bench
 
 all:
 	@cd crates/registry_cli && rt run -- --version
+	@cd $(dir $(PROGRAM)) && sha256sum $(notdir $(PROGRAM)) > $(notdir $(PROGRAM)).sha256
 
 trial:
 	@echo "Compiling usbreg without proving it. This takes some minutes on a busy machine." >&2
@@ -33,11 +37,16 @@ install:
 	@test -x $(PROGRAM) || { echo "$(PROGRAM) is not there: 'make' builds it" >&2; exit 1; }
 	install -D $(PROGRAM) "$(DESTDIR)$(PREFIX)/bin/usbreg"
 	install -D -m 644 man/usbreg.1 "$(DESTDIR)$(PREFIX)/share/man/man1/usbreg.1"
+	install -D -m 644 -t "$(DESTDIR)$(PREFIX)/share/usbreg/web" web/*
 
 bench:
 	bench/run.sh
 	bench/look_up.py
 	bench/registry.py
 	bench/serve.py
+	bench/worst_orders.py
 	bench/open_older.py
 	bench/page_sizes.py
+
+deb:
+	@package/build.py --program $(PROGRAM)
