@@ -3,22 +3,30 @@
 
 `usbreg serve` serves a list with titles of all kinds of characters. The script fetches it, and `systemd-hwdb query` must
 give the name of the vendor and of each device; a new title must arrive, and a page that is no list, an address that
-doesn't answer or a list that is cut must change nothing. Then two readers of usb.ids, with the rules of the one in systemd
+doesn't answer or a list that is cut must change nothing. A server that compresses the list and tags it, as the proxy does,
+must be asked with the tag of the list that the names are of, and with none if they are gone, or if the database could not be
+updated; what becomes too long when it is decompressed must change nothing. Then two readers of usb.ids, with the rules of the one in systemd
 (`hwdb.d/ids_parser.py`) and of `lshw` (`usb.cc`), must take the same names from the list.
 
 Usage: scripts/name_devices.py [PROGRAM], by default the one that `make` builds. If curl or systemd-hwdb is not installed
 it says that this part was skipped. The exit status is 0 if all of this holds."""
 
+import contextlib
+import gzip
+import http.server
 import os
 import re
 import shutil
 import sys
+import threading
 
 from lib.serving import command, exchange, free_port, get, serving
 from lib.usbreg import EXAMPLES, content, done, folder, found, program, run, write
 
 LINK = "https://acme.example/"
 VENDOR, SECOND = "1209", "cafe"
+# The most bytes of a list that update-names takes.
+LONGEST = 64 * 1024 * 1024
 TITLES = {"0011": "Blinker", "0abc": "Lamp = 2; *?[x]", "beef": "Größe \u4e2d # c 01", "ffff": "0013  Clock\\n"}
 
 
@@ -92,8 +100,8 @@ class Host:
     def update(self, address):
         return run([f"{EXAMPLES}/update-names", address], env=self.env)
 
-    def must_update(self, server):
-        ended = self.update(f"http://127.0.0.1:{server.port}/list")
+    def must_update(self, port):
+        ended = self.update(f"http://127.0.0.1:{port}/list")
         if ended != (0, b"", b""):
             sys.exit(f"update-names ended with {ended}")
 
@@ -112,12 +120,12 @@ class Host:
 
 def on_a_host(server, room):
     host = Host(f"{room}/host")
-    host.must_update(server)
+    host.must_update(server.port)
     host.has(named(TITLES))
     if host.name((VENDOR, "0012")):
         sys.exit("a number that is not listed has a name")
     send(server, amended("0011", "Blinker 2"))
-    host.must_update(server)
+    host.must_update(server.port)
     host.has(named(TITLES) | {(VENDOR, "0011"): "Blinker 2"})
     before = content(host.names)
     listed = content_of(server)
@@ -125,6 +133,65 @@ def on_a_host(server, room):
     for address in (f"http://127.0.0.1:{server.port}/reports/census", f"http://127.0.0.1:{free_port()}/list", f"file://{half}"):
         if host.update(address)[0] == 0 or content(host.names) != before:
             sys.exit(f"{address} was taken for a list")
+    with Tagged(listed) as tagged:
+        by_tag(host, tagged)
+
+
+class Tagged(contextlib.AbstractContextManager):
+    """A server of a list that only has it compressed, tags it by its length, and keeps the statuses that it sent."""
+
+    def __init__(self, listed):
+        self.listed, self.sent, outer = listed, [], self
+
+        class Handler(http.server.BaseHTTPRequestHandler):
+            def do_GET(self):
+                tag = f'"{len(outer.listed):x}"'
+                has, reads = self.headers["if-none-match"] == tag, "gzip" in (self.headers["accept-encoding"] or "")
+                outer.sent.append(304 if has else 200 if reads else 406)
+                self.send_response(outer.sent[-1])
+                self.send_header("etag", tag)
+                self.send_header("content-encoding", "gzip")
+                self.end_headers()
+                if outer.sent[-1] == 200:
+                    self.wfile.write(gzip.compress(outer.listed))
+
+            def log_message(self, *_):
+                pass
+
+        self.server = http.server.HTTPServer(("127.0.0.1", 0), Handler)
+        self.port = self.server.server_port
+        threading.Thread(target=self.server.serve_forever, daemon=True).start()
+
+    def __exit__(self, *_):
+        self.server.shutdown()
+
+
+def by_tag(host, tagged):
+    """Updates from a server that tags its list, and checks when the list itself is sent."""
+    def sends(what, status, ended=0):
+        got = host.update(f"http://127.0.0.1:{tagged.port}/list")[0]
+        if (got, tagged.sent[-1]) != (ended, status):
+            sys.exit(f"{what}: update-names ended with {got} and was sent {tagged.sent[-1]}, where {ended} and {status} are wanted")
+
+    sends("the first list with a tag", 200)
+    sends("the same list", 304)
+    os.remove(host.names)
+    sends("a list whose names are gone", 200)
+    host.has({(VENDOR, "0011"): "Blinker 2"})
+    tagged.listed = tagged.listed.replace(b"Blinker 2", b"Blinker three")
+    failing = f"{host.room}/bin/systemd-hwdb"
+    working = content(failing).decode()
+    write(failing, "#!/bin/sh\nexit 1\n")
+    sends("a list that the database does not take", 200, 1)
+    write(failing, working)
+    sends("the same list after that", 200)
+    host.has({(VENDOR, "0011"): "Blinker three"})
+    sends("the same list once more", 304)
+    names = content(host.names)
+    tagged.listed += b"# \n" * (LONGEST // 3)
+    sends("a list that is too long", 200, 1)
+    if content(host.names) != names:
+        sys.exit("a list that is too long was taken")
 
 
 def content_of(server):

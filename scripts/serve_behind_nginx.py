@@ -2,206 +2,54 @@
 """Runs the proxy of examples/nginx.conf in front of `usbreg serve`, by the commands at the top of examples/nginx-trial.conf.
 
 Only the ports are others. The server gets the name that nginx has authenticated, whatever name the client sends; no
-order passes without one. Bodies of the greatest sizes pass, and greater ones do not. Clients that stop in the middle,
-even 600 of them, keep nobody waiting, of 240 clients at once all are served or refused at once, and 100 wait for a
-server that is busy. A maker that floods the registry, and an address that does, are refused, and the orders of others
-pass; who doesn't know a password uses up nobody's orders, and the addresses of one network of IPv6 count as one. The
-proxy keeps the list and the reports, the list also while the server is down. What it refuses itself is JSON, and its
-log has the name and the key of each order. With the configuration of Debian's package around it, it serves the same.
+order passes without one, nor one of a name that is no slug, nor a list of who is no curator. Bodies of the greatest sizes
+pass, and greater ones do not. Clients that stop in the middle, even 600 of them, keep nobody waiting, of 240 clients at
+once all are served or refused at once, and 100 wait for a server that is busy. A maker that floods the registry, and an
+address that does, are refused, and the orders of others pass; who doesn't know a password uses up nobody's orders, and the
+addresses of one network of IPv6 count as one.
 
-Usage: scripts/serve_behind_nginx.py [PROGRAM], by default the one that `make` builds. If nginx is not installed it says
-that it was skipped. The exit status is 0 if all of this holds."""
+Then, with 56,000 numbers, 60 refused orders over all of them, 60 refused lists, and a storm of messages that a limit
+refuses each go on while another user's order comes within half a second, and refusals add nothing to the logs.
 
-import base64
+The proxy has the list as a file and a compressed one, by examples/publish-list, and before that it keeps it as it does
+the reports, also while the server is down. What it refuses itself is JSON, also without TLS where there is TLS. Its log
+has the name and the key of each order, and keeps them by examples/usbreg.logrotate. The history can be kept to some
+addresses. With the configuration of Debian's package around it, it serves the same.
+
+Usage: scripts/serve_behind_nginx.py [PROGRAM [NUMBERS]], by default the one that `make` builds, and 56000 numbers. If
+nginx is not installed it says that it was skipped, and likewise for what needs `logrotate` or `openssl`. The exit status
+is 0 if all of this holds."""
+
 import collections
 import concurrent.futures
+import gzip
 import os
-import pty
 import re
 import select
 import shutil
 import signal
-import socket
 import subprocess
 import sys
 import time
+from email.utils import formatdate
 
-from lib.serving import HOST, PATIENCE, command, free_port, get, listens, message, post, read_to_end, refused, serving
+from lib.floods import filled, floods
+from lib.proxy import CURATOR, DEBIAN, NO_CURATOR, NO_SLUG, ByField, Gate, Guarded, Packaged, Recipe, by_proxy, closing, connected, refusal, shell, signed, told
+from lib.serving import HOST, PATIENCE, command, get, message, post, read_to_end, serving
 from lib.usbreg import EXAMPLES, content, folder, found, program, write
 from talk_to_the_desk import ENROL, LIST, ORDER, ask, asked, same
 
-CURATOR = "curator-1"
-NAMES = ("ann", "bob", "mallory", CURATOR)
 FOUNDING = f'vendor = "1209"\nname = "Shared products"\ncurators = ["{CURATOR}"]\nlicences = ["MIT"]\nfixed = ["0001-0010"]\n'
-PORTS = (8000, 8081, 8080)
 # The clients that stop in the middle of a head, and those that ask at once, each from one of several addresses; and how
 # many of these reach the server at the same time.
 HALF, MANY, ALL = 600, 240, 100
 # The seconds that a report is kept, and one more.
 KEPT = 11
-DEBIAN = "/etc/nginx/nginx.conf"
+# The numbers of the registry that is flooded.
+NUMBERS = 56000
 
 
-def signed(name, sent, password=None):
-    """Returns the same message with a name and a password."""
-    pair = base64.b64encode(f"{name}:{password or name}".encode())
-    return sent.replace(b"\r\n", b"\r\nauthorization: Basic " + pair + b"\r\n", 1)
-
-
-# The commands of the recipe.
-
-
-def commands(path):
-    """Returns the commands at the top of a configuration."""
-    return [it.replace("/path/to/examples", EXAMPLES) for it in re.findall(r"^#   (.*)$", content(path).decode(), re.MULTILINE)]
-
-
-def typed(line, at, answers):
-    """Runs a command at a terminal, in a folder, and types an answer at each prompt."""
-    process, terminal = pty.fork()
-    if not process:
-        os.chdir(at)
-        os.execvp("sh", ["sh", "-c", line])
-    for answer in answers:
-        while not os.read(terminal, 1000).rstrip().endswith(b":"):
-            pass
-        os.write(terminal, f"{answer}\n".encode())
-    while True:
-        try:
-            if not os.read(terminal, 1000):
-                break
-        except OSError:
-            break
-    same(line, os.waitpid(process, 0)[1], 0)
-
-
-def shell(line, at):
-    """Runs a command in a folder as it is written."""
-    ran = subprocess.run(["sh", "-c", line], cwd=at, capture_output=True, timeout=PATIENCE, check=False)
-    if ran.returncode:
-        sys.exit(f"{line}: status {ran.returncode}, {ran.stderr!r}")
-
-
-def let_in(line, at):
-    """Runs the command of the recipe that adds a name, and adds the other names as it does."""
-    for number, name in enumerate(NAMES):
-        said = line.replace(" ann", f" {name}").replace(" -c", " -c" if number == 0 else "")
-        if shutil.which("htpasswd"):
-            typed(said, at, [name, name])
-        else:
-            with open(f"{at}/{line.split()[-2]}", "a", encoding="utf-8") as users:
-                users.write(f"{name}:{{PLAIN}}{name}\n")
-
-
-def with_ports(path, ports):
-    """Puts other ports into a configuration."""
-    text = content(path).decode()
-    for port, other in zip(PORTS, ports):
-        if f":{port};" not in text:
-            sys.exit(f"{path} has no :{port};")
-        text = text.replace(f":{port};", f":{other};")
-    write(path, text)
-
-
-class Recipe:
-    """The proxy as the recipe starts it, for a `with`."""
-
-    def __init__(self, room, server):
-        make, *lines, self.start, self.stop = commands(f"{EXAMPLES}/nginx-trial.conf")
-        self.folder, self.port = f"{room}/trial", free_port()
-        same("the first command", make, "mkdir trial && cd trial")
-        os.mkdir(self.folder)
-        # if root starts nginx its workers are another user
-        os.chmod(room, 0o755)
-        for line in lines:
-            if line.startswith("htpasswd"):
-                let_in(line, self.folder)
-            else:
-                shell(line, self.folder)
-        with_ports(f"{self.folder}/usbreg.conf", (self.port, free_port(), server.port))
-
-    def __enter__(self):
-        shell(self.start, self.folder)
-        wait(self.port, True)
-        return self
-
-    def __exit__(self, *_):
-        shell(self.stop, self.folder)
-        wait(self.port, False)
-
-    def log(self):
-        return content(f"{self.folder}/usbreg.log").decode()
-
-
-class ByField(Recipe):
-    """The same, but it takes the address of a client from a field of the head: a machine has only one address of IPv6."""
-
-    def __init__(self, room, server):
-        super().__init__(room, server)
-        listen = f":{self.port};"
-        text = content(f"{self.folder}/usbreg.conf").decode().replace(listen, f"{listen} set_real_ip_from {HOST}; real_ip_header x-address;")
-        write(f"{self.folder}/usbreg.conf", text)
-
-
-class Packaged(Recipe):
-    """The same in Debian's configuration, whose folders and pid are those of the room."""
-
-    def __init__(self, room, server):
-        super().__init__(room, server)
-        text = content(DEBIAN).decode().replace("/etc/nginx/conf.d/*.conf", f"{self.folder}/usbreg.conf")
-        text = text.replace("include /etc/nginx/sites-enabled", "#").replace("/var/log/nginx", self.folder).replace("/run/nginx.pid", f"{self.folder}/debian.pid")
-        write(f"{self.folder}/debian.conf", text)
-        self.start, self.stop = (it.replace("nginx-trial.conf", "debian.conf") for it in (self.start, self.stop))
-
-
-def wait(port, is_up):
-    until = time.monotonic() + PATIENCE
-    while listens(port) != is_up:
-        if time.monotonic() > until:
-            sys.exit(f"port {port} is {'not ' * is_up}open after {PATIENCE} seconds")
-        time.sleep(0.01)
-
-
-# What a client gets.
-
-
-def told(reply):
-    return f'{{"done":"{reply}"}}\n'.encode()
-
-
-def refusal(number):
-    """Returns the status and the body of a refusal."""
-    head, _, body = refused(number).partition(b"\r\n\r\n")
-    return int(head.split()[1]), body
-
-
-def by_proxy(status):
-    """Returns the status and the body of a refusal by the proxy itself."""
-    return status, f'{{"proxy":{status}}}\n'.encode()
-
-
-def connected(port, address=HOST):
-    """Opens a connection from an address of this machine."""
-    return socket.create_connection((HOST, port), timeout=PATIENCE, source_address=(address, 0))
-
-
-class Gate:
-    """What a client gets from the proxy: a status, a body and the head. The client asks for the connection to be closed."""
-
-    def __init__(self, port):
-        self.port = port
-
-    def ask(self, sent, address=HOST):
-        with connected(self.port, address) as connection:
-            connection.sendall(sent.replace(b"\r\n", b"\r\nconnection: close\r\n", 1))
-            head, _, body = read_to_end(connection).partition(b"\r\n\r\n")
-        lines = head.decode().lower().splitlines()
-        return int(lines[0].split()[1]), body, lines[1:]
-
-    def gives(self, what, sent, status, body=None, address=HOST):
-        got, text, _ = self.ask(sent, address)
-        if got != status or body not in (None, text):
-            sys.exit(f"{what}: status {got}, {text!r}, where {status} {body!r} is wanted")
+# What clients get.
 
 
 def names(gate):
@@ -209,6 +57,11 @@ def names(gate):
     gate.gives("no name", command(ENROL), *by_proxy(401))
     gate.gives("a wrong password", signed("ann", command(ENROL), "bob"), *by_proxy(401))
     gate.gives("no name for a list", post(CURATOR, "i1", b"1209  x\n", "/imports/acme"), *by_proxy(401))
+    for name in ("Zoe", "anna_b"):
+        gate.gives(f"the name {name}", signed(name, command(ENROL)), *by_proxy(403, NO_SLUG))
+    for name in ("ann", "Zoe"):
+        gate.gives(f"a list of {name}", signed(name, post("", "i1", b"1209  x\n", "/imports/acme")), *by_proxy(403, NO_CURATOR))
+    gate.gives("a long list with a wrong password", signed(CURATOR, post("", "i1", b"# \n" * 100_000, "/imports/acme"), "ann"), *by_proxy(401))
     gate.gives("nothing passed", get("/orgs/acme"), *refusal(4))
     gate.gives("another's name", signed("ann", command(ENROL | {"caller": CURATOR})), 200, told("enrolled acme"))
     gate.gives("the keeper", get("/orgs/acme"), 200, b'{"keeper":"ann","org":"acme","site":"https://acme.example/","title":"Acme Tools"}\n')
@@ -272,7 +125,7 @@ def clients_of_a_busy_server(gate, server):
     server.process.send_signal(signal.SIGSTOP)
     clients = [connected(gate.port, f"127.0.3.{number + 1}") for number in range(ALL + 20)]
     for client in clients:
-        client.sendall(get("/numbers/0012").replace(b"\r\n", b"\r\nconnection: close\r\n", 1))
+        client.sendall(closing(get("/numbers/0012")))
     until = time.monotonic() + 5
     while len(select.select(clients, [], [], 0.1)[0]) < 20 and time.monotonic() < until:
         pass
@@ -283,22 +136,31 @@ def clients_of_a_busy_server(gate, server):
     same("clients of a busy server", sorted(statuses.items()), [(200, ALL), (503, 20)])
 
 
-def floods(gate):
+def orders_without_end(gate):
     """Checks that a maker and an address that send many orders are refused, that others are not, and that who doesn't
     know a password uses up nobody's orders."""
     def enrol(name, number, address, password=None):
         sent = command({"caller": name, "key": f"f{number}", "order": "enrol", "org": f"{name}{number}", "title": "Flood", "site": "https://flood.example/"})
         return gate.ask(signed(name, sent, password), address)[:2]
 
+    def waits(what, name, address, seconds):
+        status, _, lines = gate.ask(signed(name, command(ask("w"))), address)
+        same(what, (status, f"retry-after: {seconds}" in lines), (429, True))
+
     replies = [enrol("mallory", number, f"127.0.2.{number % 8 + 1}") for number in range(120)]
     accepted = sum(status == 200 for status, _ in replies)
     if {*replies[accepted:]} != {by_proxy(429)} or not 60 <= accepted <= 62:
         sys.exit(f"of 120 orders of one maker {accepted} were accepted, then {replies[accepted:][:3]}")
+    waits("the time of a maker", "mallory", HOST, 60)
+    # a field that the second server reads
+    for _ in range(100):
+        gate.ask(get("/numbers/0012").replace(b"\r\n", b"\r\nusbreg-maker: bob\r\n", 1), "127.0.0.8")
     guesses = [enrol("bob", number, "127.0.0.4", "wrong")[0] for number in range(200)]
     if {*guesses} != {401, 429}:
         sys.exit(f"wrong passwords of one address get {set(guesses)}")
-    same("another maker's order", enrol("bob", 1, HOST), (200, told("enrolled bob1")))
     same("an address that has sent too many", enrol("bob", 2, "127.0.0.4"), by_proxy(429))
+    waits("the time of an address", "bob", "127.0.0.4", 1)
+    same("another maker's order", enrol("bob", 1, HOST), (200, told("enrolled bob1")))
 
 
 def networks(gate):
@@ -332,40 +194,135 @@ def what_is_kept(gate, server, census, began):
 
 
 def logged(recipe):
-    """Checks that the log says who asked what. nginx writes a line once the response is gone."""
+    """Checks that the log says who ordered what, and has nothing else. nginx writes a line once the response is gone."""
     until = time.monotonic() + 5
     while not re.search(r'^\S+T\S+ 127\.0\.0\.1 "ann" "k2" "POST /commands HTTP/1\.1" 200 ', recipe.log(), re.MULTILINE):
         if time.monotonic() > until:
             sys.exit(f"the log has no order of ann: {recipe.log()[:2000]}")
         time.sleep(0.01)
+    others = [it for it in recipe.log().splitlines() if not re.search(r'^\S+ \S+ "(ann|bob|curator-1)" "\w+" "POST /+(commands|imports)', it) or " 429 " in it]
+    same("other lines of the log", others, [])
+
+
+def rotated(gate, recipe):
+    """Checks that the log goes on in a new file, by examples/usbreg.logrotate, and that the old one stays."""
+    if not shutil.which("logrotate"):
+        print("SKIPPED: logrotate is not installed, so examples/usbreg.logrotate was not run")
+        return
+    order, before = signed("ann", command(ask("k2", number="0011"))), recipe.log()
+    again = recipe.stop.replace("-s stop", "-s reopen")
+    stanza = content(f"{EXAMPLES}/usbreg.logrotate").decode()
+    for text, other in (("/var/log/usbreg", recipe.folder), (" www-data adm", ""), ("invoke-rc.d nginx rotate > /dev/null 2>&1", f'cd "{recipe.folder}" && {again}')):
+        if text not in stanza:
+            sys.exit(f"examples/usbreg.logrotate has no {text!r}")
+        stanza = stanza.replace(text, other)
+    write(f"{recipe.folder}/rotate", stanza)
+    os.chmod(f"{recipe.folder}/rotate", 0o644)
+    shell("PATH=$PATH:/usr/sbin logrotate --force --state state rotate", recipe.folder)
+    until, sent = time.monotonic() + 5, 0
+    while not recipe.log():
+        gate.gives("an order while the log is rotated", order, 200, told("petition 1"))
+        sent += 1
+        if time.monotonic() > until:
+            sys.exit("the log does not go on in a new file")
+        time.sleep(0.1)
+    (old,) = (it for it in os.listdir(recipe.folder) if it.startswith("orders.log-"))
+    whole = content(f"{recipe.folder}/{old}").decode()
+    same("the old log", (whole.startswith(before), (whole + recipe.log()).count("\n")), (True, before.count("\n") + sent))
+
+
+def a_list_as_a_file(gate, recipe, server):
+    """Checks what hosts get of the list once it is a file, also while the server is down."""
+    at = f"{recipe.folder}/usbreg-list"
+    os.mkdir(at)
+
+    def publish():
+        ran = subprocess.run([f"{EXAMPLES}/publish-list", f"http://{HOST}:{server.port}/list", at], capture_output=True, check=False, timeout=PATIENCE)
+        return ran.returncode
+
+    def asks(*fields):
+        return gate.ask(get("/list").replace(b"\r\n", b"".join(f"\r\n{it}".encode() for it in fields) + b"\r\n", 1))
+
+    def both(titles):
+        """Returns the tag of the list, which must have these titles, and of the compressed one."""
+        listed = b"# List of USB numbers in the syntax of usb.ids\n\n1209  Shared products\n\t0011  %s\n" % titles
+        tags = []
+        for fields, read in (((), bytes), (("accept-encoding: gzip",), gzip.decompress)):
+            status, body, lines = asks(*fields)
+            same(f"the list as a file, {fields}", (status, read(body), "content-type: text/plain; charset=utf-8" in lines), (200, listed, True))
+            tags += [it.removeprefix("etag: ") for it in lines if it.startswith("etag: ")]
+            for known in (f"if-none-match: {tags[-1]}", f"if-modified-since: {formatdate(os.stat(f'{at}/list').st_mtime, usegmt=True)}"):
+                same(f"a list that is known by {known}", asks(*fields, known)[:2], (304, b""))
+        same("a part of the list", asks("range: bytes=2-5")[:2], (206, listed[2:6]))
+        return tags
+
+    same("the list is published", publish(), 0)
+    first, times = both(b"Lamp"), [os.stat(f"{at}/{it}").st_mtime_ns for it in ("list", "list.gz")]
+    same("the list is published again", publish(), 0)
+    same("the times of a list that is as before", [os.stat(f"{at}/{it}").st_mtime_ns for it in ("list", "list.gz")], times)
+    gate.gives("the head of the file", message("HEAD", "/list"), 200, b"")
+    gate.gives("an order to the list", message("POST", "/list", b""), *by_proxy(405))
+    amended = asked("t1", "amend", number="0011", title="Blinker", licence="MIT", site="https://acme.example/", source="https://acme.example/")
+    gate.gives("a title", signed("ann", command(amended)), 200, told("amended 0011"))
+    same("another list is published", publish(), 0)
+    if set(both(b"Blinker")) & set(first):
+        sys.exit("another list has the tag of the first")
+    server.kill()
+    same("the list is not published without the server", publish(), 1)
+    both(b"Blinker")
+
+
+def guarded(recipe):
+    """Checks a proxy with TLS that keeps the history to some addresses."""
+    gate = Gate(recipe.port, has_tls=True)
+    gate.gives("over TLS", get("/numbers/0012"), 200, b'{"number":"0012","state":"free"}\n')
+    Gate(recipe.port).gives("without TLS", get("/numbers/0012"), *by_proxy(400))
+    for path in ("/history/0", "/%68istory/0", "//history/0", "/orgs/../history/0"):
+        gate.gives(f"{path} from elsewhere", get(path), *by_proxy(403), address="127.0.0.9")
+        if gate.ask(get(path))[1] == by_proxy(403)[1]:
+            sys.exit(f"{path}: the history is refused to all")
+    gate.gives("a number from elsewhere", get("/numbers/0012"), 200, address="127.0.0.9")
+
+
+def in_debians(recipe):
+    """Checks that the proxy serves within Debian's configuration."""
+    Gate(recipe.port).gives("in Debian's configuration", signed("ann", command(ask("k2", number="0011"))), 200, told("petition 1"))
+    logged(recipe)
 
 
 def main():
     usbreg = program(*sys.argv[1:2])
+    numbers = int(sys.argv[2]) if len(sys.argv) > 2 else NUMBERS
     if not shutil.which("nginx"):
         print("SKIPPED: nginx is not installed, so examples/nginx.conf was not run")
         return
     with folder() as room:
         store = found(usbreg, f"{room}/store.db", write(f"{room}/founding.toml", FOUNDING))
+        full = filled(found(usbreg, f"{room}/full.db", f"{room}/founding.toml"), numbers)
         with serving(usbreg, store).up() as server, Recipe(room, server) as recipe:
             gate = Gate(recipe.port)
             began, census = time.monotonic(), gate.ask(get("/reports/census"))[1]
             for cases in (names, sizes, slow_clients, many_clients):
                 cases(gate)
             clients_of_a_busy_server(gate, server)
-            what_is_kept(gate, server, census, began)
             logged(recipe)
+            rotated(gate, recipe)
+            what_is_kept(gate, server, census, began)
+        with serving(usbreg, store, port=server.port).up() as server, recipe:
+            a_list_as_a_file(gate, recipe, server)
         with serving(usbreg, store, port=server.port).up(), recipe:
-            floods(gate)
-        shutil.rmtree(recipe.folder)
-        with serving(usbreg, store).up() as server, ByField(room, server) as recipe:
-            networks(Gate(recipe.port))
-        if os.path.exists(DEBIAN):
+            orders_without_end(gate)
+        with serving(usbreg, full, port=server.port).up(), recipe:
+            flooded = floods(gate, recipe)
+        for kind, cases in ((ByField, lambda proxy: networks(Gate(proxy.port))), (Guarded, guarded), (Packaged, in_debians)):
             shutil.rmtree(recipe.folder)
-            with serving(usbreg, store).up() as server, Packaged(room, server) as packaged:
-                Gate(packaged.port).gives("in Debian's configuration", signed("ann", command(ask("k2", number="0011"))), 200, told("petition 1"))
-                logged(packaged)
-    print("examples/nginx.conf: names, sizes, slow and many clients, floods, the list and the reports are as they should be")
+            if kind is Guarded and not shutil.which("openssl"):
+                print("SKIPPED: openssl is not installed, so examples/nginx.conf was not run with TLS")
+            elif kind is not Packaged or os.path.exists(DEBIAN):
+                with serving(usbreg, store).up() as server, kind(room, server) as recipe:
+                    cases(recipe)
+    print("examples/nginx.conf: names, sizes, slow and many clients, floods, the list, the reports and the log are as they should be;")
+    print(flooded)
 
 
 if __name__ == "__main__":
