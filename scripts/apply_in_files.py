@@ -193,8 +193,8 @@ def words(room):
 # Arguments, a part of what they print, and the exit status.
 TOLD = (
     (["--help"], "usbreg [COMMAND]", 0),
-    (["--help"], "lookup  Print the name of a device in a list", 0),
-    (["--help"], "`found`, `apply`, `import` and `serve` change a registry", 0),
+    (["--help"], "lookup   Print the name of a device in a list", 0),
+    (["--help"], "`found`, `apply`, `import`, `replay` and `serve` change a registry", 0),
     (["--version"], "usbreg 0.1.0", 0),
     (["apply", "--help"], "usbreg apply numbers.db examples/first.jsonl --answered 3", 0),
     (["help", "found"], "usbreg found <STORE> <FOUNDING>", 0),

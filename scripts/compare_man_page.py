@@ -2,7 +2,8 @@
 """Compares man/usbreg.1 with the help of `usbreg`.
 
 The page must have exactly the version and the commands of `usbreg --help`, and for each command the usage line, the
-arguments and the options with their values of its own help.
+arguments and the options with their values of its own help. Its forms of requests must be those of docs/requests.md, and
+its requests, their replies and its founding file those of the examples.
 
 Usage: scripts/compare_man_page.py [PROGRAM [PAGE]], by default the program that `make` builds, and man/usbreg.1.
 The exit status is 0 if they agree.
@@ -11,7 +12,7 @@ The exit status is 0 if they agree.
 import re
 import sys
 
-from lib.usbreg import TOP, content, done, program
+from lib.usbreg import EXAMPLES, TOP, content, done, program, run
 
 # What each command's help has, and the page has once.
 COMMON = {"-h, --help", "-V, --version"}
@@ -62,6 +63,18 @@ def documented(page):
     return told
 
 
+def blocks(page):
+    """Returns the texts that the page shows as they are."""
+    return [it.replace("\\-", "-") for it in re.findall(r"^\.nf\n\.RS\n(.*?)^\.RE\n\.fi$", page, re.MULTILINE | re.DOTALL)]
+
+
+def forms():
+    """Returns the fields of each order in the first table of docs/requests.md, as the page shows them."""
+    rows = re.findall(r"^\| `([a-z-]+)` \| ([a-z, ?]+) \| `", content(f"{TOP}/docs/requests.md").decode(), re.MULTILINE)
+    told = "".join(f"{order:<12} {fields}\n" for order, fields in rows)
+    return re.sub(r"(\w+)[?]", r"[\1]", told)
+
+
 def main():
     usbreg = program(*sys.argv[1:2])
     page = content(sys.argv[2] if len(sys.argv) > 2 else f"{TOP}/man/usbreg.1").decode()
@@ -72,6 +85,10 @@ def main():
     for command in [*wanted, *there]:
         if wanted.get(command) != there.get(command):
             sys.exit(f"usbreg {command}: the page has {there.get(command)}, the help {wanted.get(command)}")
+    first = content(f"{EXAMPLES}/first.jsonl")
+    for shown in (forms(), first.decode(), run([usbreg, "trial"], first)[1].decode(), content(f"{EXAMPLES}/founding.toml").decode()):
+        if shown not in blocks(page):
+            sys.exit(f"the page does not show\n{shown}")
     print(f"the man page has the version, the {len(wanted) - 1} commands, and their arguments and options")
 
 

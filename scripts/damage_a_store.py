@@ -36,7 +36,7 @@ def shown(usbreg, store):
     exported = run([usbreg, "export", store])
     if exported[0]:
         return [exported]
-    return [exported, *(run([usbreg, "report", store, it]) for it in ("census", "holders", "petitions"))]
+    return [exported, *(run([usbreg, "report", store, it]) for it in ("census", "holders", "petitions", "numbers", "organisations"))]
 
 
 def damage(usbreg, store, changed, room, wanted):

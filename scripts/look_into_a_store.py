@@ -95,7 +95,7 @@ def rows_of(store):
 
 def shown(usbreg, store, first):
     """Returns what the program shows of a store: its list, each report, and the reply to a request that it keeps."""
-    reports = [done([usbreg, "report", store, name]) for name in ("census", "holders", "petitions")]
+    reports = [done([usbreg, "report", store, name]) for name in ("census", "holders", "petitions", "numbers", "organisations")]
     return [done([usbreg, "export", store]), *reports, apply(usbreg, store, first)]
 
 

@@ -32,7 +32,7 @@ from lib.usbreg import (
 )
 from look_into_a_store import asked, documented_texts, same
 
-REPORTS = ("census", "holders", "petitions")
+REPORTS = ("census", "holders", "petitions", "numbers", "organisations")
 LINK = "https://acme.example/"
 # The tables of the newest schema that replace older ones, and the numbers of tables of the older schemas.
 NEW = {"vendors", "spans3", "entries3", "petitions3"}

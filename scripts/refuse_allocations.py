@@ -30,7 +30,7 @@ from lib.serving import command, exchange, free_port, get, post, refused, servin
 from lib.usbreg import EXAMPLES, FOUNDING, apply, content, copy, done, found, older, program, remove, run, tables, write
 
 FAULTS = {b"fault: memory\n", b"fault: store\n"}
-REPORTS = ("census", "holders", "petitions")
+REPORTS = ("census", "holders", "petitions", "numbers", "organisations")
 # One allocation of this many is refused.
 EVERY = 1
 LIST = """# a list

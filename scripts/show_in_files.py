@@ -75,14 +75,24 @@ def census(vendor, free, reserved, held, returned):
     return "".join(f"{label:<10}{value:>6}\n" for label, value in rows)
 
 
+def numbers(*rows):
+    """Returns the report `numbers` of rows: vendor, product, state, and organisation and title if it has an owner."""
+    return "".join(f"{vid}  {pid}  {state:<8}" + "".join(f"  {org:<32}  {title}" for org, title in owner) + "\n" for vid, pid, state, *owner in rows)
+
+
+FIXED = [("1209", f"{number:04x}", "reserved") for number in range(1, 17)]
+
+
 def reports(room):
     """Reports on an empty registry, on the first one, after another petition, on two vendors, and with a returned number."""
     empty, store = room.founded("unused"), first(room, "reported")
-    for name, text in (("census", census("1209", 65519, 16, 0, 0)), ("holders", ""), ("petitions", "")):
+    for name, text in (("census", census("1209", 65519, 16, 0, 0)), ("holders", ""), ("petitions", ""), ("numbers", numbers(*FIXED)), ("organisations", "")):
         room.case(["report", empty, name], output=text)
     holder = f"{'acme':<32}"
     for name, text in (("census", census("1209", 65518, 16, 1, 0)), ("holders", f"{holder}     1     0\n"), ("petitions", "")):
         room.case(["report", store, name], output=text)
+    room.case(["report", store, "numbers"], output=numbers(*FIXED, ("1209", "0011", "held", ("acme", "Blinker"))))
+    room.case(["report", store, "organisations"], output=f"{'acme':<32}  {'ann':<32}  Acme Tools\n")
     act(room, store, [ask("k4", "Lamp")], ["petition 2"])
     room.case(["report", store, "petitions"], output=f"      2  {holder}  any   Lamp\n")
     lines = [
@@ -101,7 +111,11 @@ def reports(room):
     room.case(["report", other, "census"], output=census("1209", 65518, 16, 0, 1) + census("cafe", 65534, 0, 1, 0))
     room.case(["report", other, "holders"], output=f"{holder}     1     1\n")
     room.case(["report", other, "petitions"], output=f"      3  {holder}  cafe:any  Drive\n      4  {holder}  cafe:00ff  Clock\n")
-    for bad in ("list", "Census", ""):
+    taken = (*FIXED, ("1209", "0011", "returned", ("acme", "Blinker")), ("cafe", "0001", "held", ("acme", "Lamp")))
+    room.case(["report", other, "numbers"], output=numbers(*taken))
+    act(room, other, [line("cora", "cafe-reserved", "reserve", first="0002", last="0003", vendor="cafe")], ["reserved cafe:0002-0003"])
+    room.case(["report", other, "numbers"], output=numbers(*taken, ("cafe", "0002", "reserved"), ("cafe", "0003", "reserved")))
+    for bad in ("list", "Census", "number", ""):
         room.case(["report", store, bad], 2, errors="bad word: name\n")
     room.case(["report", f"{room.folder}/none.db", "census"], 1, errors="fault: file\n")
     room.case(["report", room.file("empty2.db", ""), "census"], 1, errors="fault: foreign\n")

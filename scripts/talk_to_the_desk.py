@@ -36,6 +36,8 @@ ENROLLED = done("enrolled acme")
 OF_RESOURCES = {30, 31}
 # The greatest numbers of bytes of a message's head, of an order and of a list.
 HEAD, ORDER, LIST = 8192, 16384, 4194304
+# The most lines of a page of the record.
+PAGE = 1000
 # The number of connections made one after another, and of organisations that enrol, ask and are granted during the kills.
 MANY, ROUNDS = 200, 100
 
@@ -140,10 +142,10 @@ def by_messages(desk):
     enrol = fields("ann", "k9")
     desk.refuses(20, *itertools.chain(*(("-H", f"x-{number}: 1") for number in range(65))), "/list")
     desk.refuses(20, "-H", "x: " + "a" * HEAD, "/list")
-    for path in ("/", "/lists", "/list/", "/numbers/12", "/numbers/0000", "/orgs/Acme", "/petitions/0", "/petitions/01", "/reports/all", "/numbers/%30%30%31%31"):
+    for path in ("/", "/lists", "/list/", "/numbers/12", "/numbers/0000", "/orgs/Acme", "/petitions/0", "/petitions/01", "/reports/all", "/history", "/history/", "/history/01", "/history/-1", "/history/4294967296", "/founding/", "/numbers/%30%30%31%31"):
         desk.refuses(24, path)
     desk.refuses(24, "-d", "", "/imports/Acme")
-    for method, path, allow in (("DELETE", "/list", "GET"), ("POST", "/numbers/0011", "GET"), ("GET", "/commands", "POST"), ("PUT", "/imports/acme", "POST")):
+    for method, path, allow in (("DELETE", "/list", "GET"), ("POST", "/numbers/0011", "GET"), ("POST", "/history/0", "GET"), ("POST", "/founding", "GET"), ("GET", "/commands", "POST"), ("PUT", "/imports/acme", "POST")):
         desk.refuses(25, "-X", method, path, allow=allow)
     desk.refuses(21, *enrol, "-H", "transfer-encoding: chunked", "-d", "{}", "/commands")
     desk.refuses(21, *enrol, "-X", "POST", "/commands")
@@ -228,6 +230,33 @@ def early(desk):
             same("5 MB by curl", desk.curl("-H", expect, *fields("ann", "k9"), "--data-binary", f"@{path}", "/commands"), refused(22))
 
 
+FOUNDED = {
+    "curators": ["cora"], "fixed": ["0001-0010"], "licences": ["GPL-3.0-only", "MIT"], "name": "Shared products", "vendor": "1209",
+    "vendors": [{"name": "Shared products", "vendor": "1209"}],
+}
+
+
+def record_line(request, reply):
+    """Returns the line of an accepted request in a record."""
+    return compact({**request, "done": reply}) + b"\n"
+
+
+def compact(fields):
+    return json.dumps(fields, sort_keys=True, separators=(",", ":"), ensure_ascii=False).encode()
+
+
+def record(port):
+    """Asks for the founding and for pages of the record: as many lines as fit, from a place on, and from behind its end."""
+    same("the founding", exchange(port, get("/founding")), response(compact(FOUNDED) + b"\n"))
+    lines = [record_line(ENROL, "enrolled acme")]
+    for number in range(1, PAGE + 10):
+        request = asked(f"h{number}", "amend-org", org="acme", title="Acme", site=LINK)
+        same(f"amendment {number}", exchange(port, command(request)), done("amended organisation acme"))
+        lines.append(record_line(request, "amended organisation acme"))
+    for after in (0, 1, 63, 64, 65, 10, 11, len(lines) - 1, len(lines), 10**6, 2**32 - 1):
+        same(f"the record after {after}", exchange(port, get(f"/history/{after}")), response(b"".join(lines[after : after + PAGE]), kind=TEXT))
+
+
 def own_client(usbreg, room):
     """Sends messages in many pieces, cut, early, late and many."""
     store = found(usbreg, f"{room}/pieces.db")
@@ -241,6 +270,7 @@ def own_client(usbreg, room):
         same("an order once more", exchange(port, command(ENROL)), ENROLLED)
         same("a query with a body", exchange(port, message("GET", "/petitions/1", b"x" * 100)), refused(6))
         same("no petition", exchange(port, get("/reports/petitions?x=1")), response(b"", kind=TEXT))
+        record(port)
         for number in range(1, MANY + 1):
             same(f"connection {number}", exchange(port, command(asked(f"m{number}", "enrol", org=f"m{number}", title="Many", site=LINK))), done(f"enrolled m{number}"))
     with serving(usbreg, store, count=1).up() as server:

@@ -2,8 +2,8 @@
 # Runs the scripts that try what was built: cases over stores in files, a plain history beside it, the man page, the
 # examples in docstrings and those in the help, the index of the definitions, what SQLite sees of a store, new stores,
 # damaged ones, stores of older schemas, Debian's list of USB numbers, each allocation refused in turn, kills at random
-# moments, power cuts, clients that talk HTTP to it, with nginx in front and without, a backup and its restore, and the
-# names on a host.
+# moments, power cuts, clients that talk HTTP to it, with nginx in front and without, a backup and its restore, the names
+# on a host, and the Debian package. Not among them yet: record_and_replay.py, use_the_page.py and move_pid_codes.py.
 # It shows the output of a script only if it fails or says that it was skipped. The last line counts the scripts.
 # Needs python3 and cc, and fails if one is missing; with SKIP=1 the scripts are skipped.
 cd "$(dirname "$0")" || exit 1
@@ -20,6 +20,7 @@ scripts=(
     damage_a_store.py
     open_older_stores.py
     use_debian_list.py
+    try_the_package.py
     "refuse_allocations.py --only trial"
     refuse_in_tests.py
     stop_a_founding.py
