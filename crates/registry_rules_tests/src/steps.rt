@@ -1,7 +1,7 @@
 //! Requests through the steps of the rules.
 
 use registry_rules::{
-    Deed, Facts, Holdings, Order, Org, Refusal, Request, Totals, Verdict, changes, judge,
+    Deed, Facts, Founding, Holdings, Order, Org, Refusal, Request, Totals, Verdict, changes, judge,
     numbers_concerned, reply_text, request_bytes, settled, slug_concerned, vid_concerned,
 };
 use row_records::{founding_of, request_of};
@@ -57,14 +57,26 @@ fn answer(alloc: Global, facts: &Facts<'_>, request: &Request) -> Result<Vec<u8>
     verdict_text(alloc, judge(alloc, facts, request)?)
 }
 
+fn settled_text(alloc: Global, found: Option<Verdict>) -> Result<Vec<u8>, RowFault> {
+    match found {
+        Some(verdict) => verdict_text(alloc, verdict),
+        None => text_of(alloc, "open"),
+    }
+}
+
+fn settled_by_caller(
+    alloc: Global,
+    founding: &Founding,
+    request: &Request,
+) -> Result<Vec<u8>, RowFault> {
+    settled_text(alloc, settled(alloc, None, founding, request)?)
+}
+
 /// Shows the verdict on a request under a new key that its caller alone decides, or `open`.
 pub(crate) fn settled_alone(alloc: Global, line: &str) -> Result<Vec<u8>, RowFault> {
     let request = request_of(alloc, line)?;
     let founding = founding_of(alloc, FOUNDING)?;
-    match settled(alloc, None, &founding, &request)? {
-        Some(verdict) => verdict_text(alloc, verdict),
-        None => text_of(alloc, "open"),
-    }
+    settled_by_caller(alloc, &founding, &request)
 }
 
 fn answer_at(
