@@ -29,13 +29,17 @@ fn form_of(alloc: Global, order: Order) -> Result<Vec<u8>, RowFault> {
     Ok(request_bytes(alloc, &request)?.as_bytes().to_vec(alloc)?)
 }
 
-/// Shows the canonical form of the order that is read from a canonical form, if one is.
-pub(crate) fn read(alloc: Global, bytes: &[u8]) -> Result<Vec<u8>, RowFault> {
-    let form = CanonicalForm::new(bytes.to_vec(alloc)?);
-    match order_of_form(alloc, &form)? {
+fn read_text(alloc: Global, found: Option<Order>) -> Result<Vec<u8>, RowFault> {
+    match found {
         Some(order) => form_of(alloc, order),
         None => text_of(alloc, "none"),
     }
+}
+
+/// Shows the canonical form of the order that is read from a canonical form, if one is.
+pub(crate) fn read(alloc: Global, bytes: &[u8]) -> Result<Vec<u8>, RowFault> {
+    let form = CanonicalForm::new(bytes.to_vec(alloc)?);
+    read_text(alloc, order_of_form(alloc, &form)?)
 }
 
 /// Shows the text of the copy of a reply.
