@@ -36,8 +36,8 @@ from email.utils import formatdate
 from lib.floods import filled, floods
 from lib.proxy import CURATOR, DEBIAN, NO_CURATOR, NO_SLUG, ByField, Gate, Guarded, Packaged, Recipe, by_proxy, closing, connected, refusal, shell, signed, told
 from lib.serving import HOST, PATIENCE, command, get, message, post, read_to_end, serving
-from lib.usbreg import EXAMPLES, content, folder, found, program, write
-from talk_to_the_desk import ENROL, LIST, ORDER, ask, asked, same
+from lib.usbreg import EXAMPLES, content, folder, found, program, same, write
+from talk_to_the_desk import ENROL, LIST, ORDER, ask, asked
 
 FOUNDING = f'vendor = "1209"\nname = "Shared products"\ncurators = ["{CURATOR}"]\nlicences = ["MIT"]\nfixed = ["0001-0010"]\n'
 # The clients that stop in the middle of a head, and those that ask at once, each from one of several addresses; and how

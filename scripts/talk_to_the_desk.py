@@ -26,7 +26,7 @@ import time
 
 from lib.plain_history import MOST_OPEN
 from lib.serving import PATIENCE, TEXT, command, connected, done, exchange, free_port, get, message, post, read_to_end, refusals, refused, response, serving
-from lib.usbreg import apply, done as printed, folder, found, program, rounds, run, tables, write, write_requests
+from lib.usbreg import apply, done as printed, folder, found, program, rounds, run, same, tables, write, write_requests
 from stop_and_go_on import kept, look
 
 LINK = "https://acme.example/"
@@ -40,11 +40,6 @@ HEAD, ORDER, LIST = 8192, 16384, 4194304
 PAGE = 1000
 # The number of connections made one after another, and of organisations that enrol, ask and are granted during the kills.
 MANY, ROUNDS = 200, 100
-
-
-def same(what, got, wanted):
-    if got != wanted:
-        sys.exit(f"{what}: {got[:600]!r}, where {wanted[:600]!r} is wanted")
 
 
 def asked(key, order, caller="ann", **fields):

@@ -20,7 +20,7 @@ import stat
 import sys
 
 from lib.serving import Serving, done as reply, command, exchange, free_port, get
-from lib.usbreg import TOP, content, done, folder, program, rounds, run, write
+from lib.usbreg import TOP, content, done, folder, program, rounds, run, same, write
 
 PAGE = f"{TOP}/docs/operating.md"
 NEEDED = ("dpkg", "dpkg-deb", "readelf", "git", "setpriv", "systemd-sysusers", "systemd-tmpfiles")
@@ -28,11 +28,6 @@ NEEDED = ("dpkg", "dpkg-deb", "readelf", "git", "setpriv", "systemd-sysusers", "
 QUICK = {"DPKG_DEB_COMPRESSOR_TYPE": "gzip", "DPKG_DEB_COMPRESSOR_LEVEL": "1"}
 ON_PATH = {"PATH": f"{os.environ['PATH']}:/usr/sbin:/sbin"}
 STORE, FOUNDING, UNIT = "var/lib/usbreg/numbers.db", "etc/usbreg/founding.toml", "lib/systemd/system/usbreg.service"
-
-
-def same(what, got, wanted):
-    if got != wanted:
-        sys.exit(f"{what}: {got!r}, where {wanted!r} is wanted")
 
 
 def made(usbreg, room, version):

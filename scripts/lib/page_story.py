@@ -4,7 +4,8 @@ import contextlib
 import sys
 
 from lib.serving import refused
-from lib.staging import CURATOR, by_proxy, done, same
+from lib.staging import CURATOR, done, sent_by_proxy
+from lib.usbreg import same
 
 HOSTILE = "<script>document.title='owned'</script><img src=x onerror=alert(1)> \u202egpj.exe"
 SHOWN = HOSTILE.replace("\u202e", "U+202E")
@@ -121,14 +122,14 @@ def loses_responses(page, stage):
 
 def is_refused_by_the_proxy(page, stage):
     """What the proxy refuses itself says nothing of a try before."""
-    stage.relay.losses = [0, by_proxy(429), by_proxy(413)]
+    stage.relay.losses = [0, sent_by_proxy(429), sent_by_proxy(413)]
     key, _ = stage.tried("refusals by the proxy", page, lambda: page.ask(number="0024", title="Limited"), [done("petition 7")] * 3)
     page.answer("This is too long. It may have been acted on.")
     same("orders that are kept", [it["isUnsure"] for it in page.kept()], [True])
     same("the key of the same order", stage.tried("the same order again", page, page.submit, [done("petition 7")])[0], key)
     page.answer("Done: petition 7.")
     same("what is kept at the end", page.kept(), [])
-    stage.relay.losses = [by_proxy(429, 60)]
+    stage.relay.losses = [sent_by_proxy(429, 60)]
     stage.tried("a long wait", page, lambda: page.ask(number="0025", title="Too many"), [done("petition 8")])
     page.answer("There were too many messages from you. Wait 60 seconds. It was not acted on.")
     page.has("It was not acted on.", "#pending")

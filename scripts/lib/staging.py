@@ -8,8 +8,9 @@ import subprocess
 import sys
 import threading
 
+from lib.proxy import by_proxy
 from lib.serving import HOST, free_port, serving
-from lib.usbreg import TOP, apply, content, found, write
+from lib.usbreg import TOP, apply, content, found, same, write
 
 CURATOR = "curator-1"
 FOUNDING = f'vendor = "1209"\nname = "Shared products"\ncurators = ["{CURATOR}"]\nlicences = ["GPL-3.0-only", "MIT"]\nfixed = ["0001-0010", "0f00-0fff"]\n'
@@ -23,16 +24,11 @@ BEFORE = f"""\
 """
 
 
-def by_proxy(status, wait=None):
-    """Returns a response of the proxy itself, which passed nothing on."""
-    body = f'{{"proxy":{status}}}\n'
+def sent_by_proxy(status, wait=None):
+    """Returns the whole response of a refusal by the proxy itself, which passed nothing on."""
+    _, body = by_proxy(status)
     after = f"retry-after: {wait}\r\n" if wait else ""
-    return f"HTTP/1.1 {status} No\r\ncontent-type: application/json\r\ncontent-length: {len(body)}\r\n{after}connection: close\r\n\r\n{body}".encode()
-
-
-def same(what, got, wanted):
-    if got != wanted:
-        sys.exit(f"{what}: {got!r}, where {wanted!r} is wanted")
+    return f"HTTP/1.1 {status} No\r\ncontent-type: application/json\r\ncontent-length: {len(body)}\r\n{after}connection: close\r\n\r\n".encode() + body
 
 
 class Relay:

@@ -48,6 +48,12 @@ def write(path, text):
     return path
 
 
+def same(what, got, wanted):
+    """Ends the script if two values that should be the same are not."""
+    if got != wanted:
+        sys.exit(f"{what}: {got!r:.1000}, where {wanted!r:.1000} is wanted")
+
+
 def run(words, given=b"", env=None):
     """Returns status, output and errors of a program that reads the given bytes."""
     ran = subprocess.run(words, input=given, capture_output=True, env={**os.environ, **(env or {})}, check=False, timeout=120)
