@@ -1,6 +1,7 @@
 #!/usr/bin/env python3
 """Makes the Debian package of the program that `make` built: out/usbreg_VERSION_ARCHITECTURE.deb, at the top of the
-repository. It holds what `make install` installs, the unit, the documents with the examples, and the scripts for a move.
+repository. It holds what `make install` installs, the unit, the documents with the examples, and the scripts in
+scripts/users for a move and for stores without checksums.
 
 Usage: package/build.py [--program PATH] [--version VERSION] [--into FOLDER]. It prints the path of the package. The version
 is that of the program, with the time and the hash of the commit. The maintainer is DEBFULLNAME <DEBEMAIL>, or else the
@@ -20,8 +21,11 @@ HERE = os.path.dirname(os.path.abspath(__file__))
 TOP = os.path.dirname(HERE)
 BUILT = f"{TOP}/crates/registry_cli/out/registry_cli"
 DOCUMENTS, SHARED = "usr/share/doc/usbreg", "usr/share/usbreg"
-# What the scripts for a move are made of.
-USERS = ("take_pid_codes.py", "write_pages.py", "pid_codes.py", "read_pid_codes.py", "move_report.py", "licence_aliases.tsv")
+# The scripts for users, and what they are made of.
+SCRIPTS = (
+    "users/take_pid_codes.py", "users/write_pages.py", "users/pid_codes.py", "users/read_pid_codes.py", "users/move_report.py",
+    "users/licence_aliases.tsv", "users/renew_a_store.py", "lib/usbreg.py",
+)
 # The unit of a service whose user the package makes. What DynamicUser= implies, and the unit does not say, is said.
 UNIT = (
     ("/usr/local/bin/usbreg serve", "/usr/bin/usbreg serve"),
@@ -91,8 +95,9 @@ def put_files(stage, program, commit, version):
     write(f"{stage}/usr/lib/tmpfiles.d/usbreg.conf", read(f"{HERE}/tmpfiles"))
     write(f"{stage}/usr/share/lintian/overrides/usbreg", read(f"{HERE}/lintian-overrides"))
     os.makedirs(f"{stage}/etc/usbreg")
-    for name in USERS:
-        write(f"{stage}/{SHARED}/users/{name}", read(f"{TOP}/scripts/users/{name}"), 0o755 if os.access(f"{TOP}/scripts/users/{name}", os.X_OK) else 0o644)
+    for name in SCRIPTS:
+        path = f"{TOP}/scripts/{name}"
+        write(f"{stage}/{SHARED}/{name}", read(path), 0o755 if os.access(path, os.X_OK) else 0o644)
     for folder in ("docs", "examples"):
         shutil.copytree(f"{TOP}/{folder}", f"{stage}/{DOCUMENTS}/{folder}")
     for name in ("README.md", "CHANGELOG.md"):

@@ -20,7 +20,7 @@ import stat
 import sys
 
 from lib.serving import Serving, done as reply, command, exchange, free_port, get
-from lib.usbreg import TOP, content, done, folder, program, rounds, run, same, write
+from lib.usbreg import PAGE_SIZE, SUM_SIZE, TOP, content, done, folder, form, found_without_sums, program, rounds, run, same, write
 
 PAGE = f"{TOP}/docs/operating.md"
 NEEDED = ("dpkg", "dpkg-deb", "readelf", "git", "setpriv", "systemd-sysusers", "systemd-tmpfiles")
@@ -46,7 +46,7 @@ def compare_files(package, usbreg):
         if owner != "root/root" or mode not in ("drwxr-xr-x", "-rwxr-xr-x", "-rw-r--r--"):
             sys.exit(f"{package}: {mode} {owner} {name}")
     wanted = {"usr/bin/usbreg", "usr/share/man/man1/usbreg.1.gz", UNIT, "usr/lib/sysusers.d/usbreg.conf", "usr/lib/tmpfiles.d/usbreg.conf"}
-    wanted |= {f"usr/share/usbreg/users/{it}" for it in ("take_pid_codes.py", "write_pages.py", "licence_aliases.tsv")}
+    wanted |= {f"usr/share/usbreg/users/{it}" for it in ("take_pid_codes.py", "write_pages.py", "licence_aliases.tsv", "renew_a_store.py")}
     for top, target in (("docs", "usr/share/doc/usbreg/docs"), ("examples", "usr/share/doc/usbreg/examples"), ("web", "usr/share/usbreg/web")):
         if os.path.isdir(f"{TOP}/{top}"):
             wanted |= {f"{target}/{it}" for it in os.listdir(f"{TOP}/{top}")}
@@ -131,6 +131,14 @@ def install_and_serve(root, package, summed):
     same("whose the store is", (os.stat(root.path(STORE)).st_uid, os.stat(root.path(STORE)).st_gid), root.owner())
     status, _, errors = run([sys.executable, root.path("usr/share/usbreg/users/write_pages.py")])
     same("the script for pages says how it is called", (status, b"Usage: write_pages.py" in errors), (1, True))
+    renew(root)
+
+
+def renew(root):
+    """Renews a store without checksums by the script in the package."""
+    old, new = found_without_sums(root.path("usr/bin/usbreg"), f"{root.room}/old.db"), f"{root.room}/renewed.db"
+    same("a store is renewed", run([root.path("usr/share/usbreg/users/renew_a_store.py"), old, new, root.path("usr/bin/usbreg")]), (0, b"", b""))
+    same("the pages of the renewed store", form(new), (PAGE_SIZE, SUM_SIZE))
 
 
 def upgrade(root, package, orders):
@@ -165,7 +173,7 @@ def main():
         upgrade(root, second, orders)
         before = root.kept()
         root.dpkg("--remove", "usbreg")
-        same("the program after the removal", os.path.exists(root.path("usr/bin/usbreg")), False)
+        same("what is there after the removal", [it for it in ("usr/bin/usbreg", "usr/share/usbreg") if os.path.exists(root.path(it))], [])
         same("the store after the removal", root.kept(), before)
         root.dpkg("--install", second)
         same("the store after another installation", root.kept(), before)

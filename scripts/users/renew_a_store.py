@@ -1,4 +1,4 @@
-#!/usr/bin/env python3
+#!/usr/bin/python3
 """Makes a store with small pages and sums of one with the same tables that has none. Both are closed.
 
 SQLite reads the tables of the old store, and writes them, in the same order, to an empty database that has the first page
