@@ -10,7 +10,7 @@ import time
 
 from lib.proxy import CURATOR, NO_CURATOR, by_proxy, closing, connected, parts, refusal, signed, told
 from lib.serving import command, get, post, read_to_end
-from lib.usbreg import opened, remove, seal
+from lib.usbreg import put_rows
 
 # The least number of the registry; the messages at once; the seconds in which another user's order must come; the bytes of
 # a list; and the seconds of a storm.
@@ -18,16 +18,11 @@ FIRST, AT_ONCE, SOON, LONG, STORM = 0x2000, 60, 0.5, 2_800_000, 2
 
 
 def filled(store, numbers):
-    """Puts an organisation with so many numbers into a store that nobody has open, and returns its path."""
-    with opened(store) as connection:
-        connection.execute("INSERT INTO orgs VALUES ('full', 'Full', 'https://full.example/', 'mallory')")
-        rows = ((it, f"Device {it}") for it in range(FIRST, FIRST + numbers))
-        connection.executemany("INSERT INTO entries3 VALUES (0x1209, ?, 'full', 1, ?, NULL, NULL, NULL)", rows)
-        connection.commit()
-        connection.execute("PRAGMA wal_checkpoint(TRUNCATE)")
-    remove(f"{store}-wal")
-    seal(store)
-    return store
+    """Puts an organisation with so many numbers into a closed store, and returns its path."""
+    return put_rows(store, (
+        ("INSERT INTO orgs VALUES (?, 'Full', 'https://full.example/', 'mallory')", [("full",)]),
+        ("INSERT INTO entries3 VALUES (0x1209, ?, 'full', 1, ?, NULL, NULL, NULL)", ((it, f"Device {it}") for it in range(FIRST, FIRST + numbers))),
+    ))
 
 
 def enrol(org):

@@ -143,6 +143,18 @@ def seal(store):
             file.write(b"".join(it[:-SUM_SIZE] + sum_of(it) for it in pages))
 
 
+def put_rows(store, statements):
+    """Puts rows into a closed store, those that are given with each statement, and returns its path."""
+    with opened(store) as connection:
+        for statement, rows in statements:
+            connection.executemany(statement, rows)
+        connection.commit()
+        connection.execute("PRAGMA wal_checkpoint(TRUNCATE)")
+    remove(f"{store}-wal")
+    seal(store)
+    return store
+
+
 def apply(usbreg, store, lines):
     """Returns the reply lines of a run, which must succeed."""
     return done([usbreg, "apply", store, lines])
