@@ -1,6 +1,6 @@
 //! The checks of orders on spans, and their acts if they pass.
 
-ghost use Rattle.std.specs.Prelude.{◌≡◌, ◌≤◌, ◌+◌, ℕ, ◌&&◌, not, true, false, find, MatchOption};
+ghost use Rattle.std.specs.Prelude.{◌≡◌, ◌≤◌, ◌↔◌, ◌+◌, ℕ, ◌&&◌, not, true, false, find, IsTrue, MatchOption};
 ghost use Rattle.usbnum_core.specs.Spans.{span_has, spans_have};
 ghost use Rattle.registry_rules.specs.Gives.{Gives};
 ghost use Rattle.registry_rules.specs.Number.{numbers_in};
@@ -56,11 +56,29 @@ fn next_in(part: &Span, span: &Span) -> Option<Pid>
     }
 }
 
+// Whether the part has the whole span.
+fn has_all(part: &Span, span: &Span) -> bool
+    ensures { IsTrue result ↔ ((part.now.first ≤ span.now.first) × (span.now.last ≤ part.now.last)) }
+{
+    part.first() <= span.first() && span.last() <= part.last()
+}
+
+// Whether the part of the set at this place has the whole span.
+fn has_at(set: &Spans, place: usize, span: &Span) -> bool
+    ensures { IsTrue result → (n : ℕ) → IsTrue (span_has span.now n) → IsTrue (spans_have set.now n) }
+{
+    let parts = set.parts();
+    place < parts.len() && has_all(&parts[place], span)
+}
+
 // The least number of the span that is outside the set. The sets of totals have many parts, so it
-// asks first whether the set has the whole span, which takes one search.
-fn least_outside(set: &Spans, span: &Span) -> Option<Pid>
+// tries the part at `place`, which may be any, and then searches for one that has the whole span.
+fn least_outside(set: &Spans, place: usize, span: &Span) -> Option<Pid>
     ensures { result ≡ find (λ pid. not (spans_have set.now pid)) (numbers_in span.now) }
 {
+    if has_at(set, place, span) {
+        return None;
+    }
     if set.covers(*span) {
         return None;
     }
@@ -72,15 +90,20 @@ fn least_outside(set: &Spans, span: &Span) -> Option<Pid>
     Some(span.first())
 }
 
-// The least product ID of the span whose number is owned.
+// The least product ID of the span whose number is owned. Up to it the parts of both sets are the
+// same, so that each is tried at the place after the last one.
 fn least_owned(taken: &Spans, reserved: &Spans, span: &Span) -> Option<Pid>
     ensures { result ≡ least_owned_in taken.now reserved.now span.now }
 {
+    let mut place = reserved
+        .parts()
+        .partition_point(|part| part.last() < span.first());
     for part in taken.parts() {
         if let Some(both) = common(part, span) {
-            if let Some(pid) = least_outside(reserved, &both) {
+            if let Some(pid) = least_outside(reserved, place, &both) {
                 return Some(pid);
             }
+            place = place.saturating_add(1);
         }
     }
     None

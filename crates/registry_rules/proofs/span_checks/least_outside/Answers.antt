@@ -1,4 +1,4 @@
--- The first number of the span, or the one after the part that has it.
+-- None if a part has the whole span; otherwise the first number of the span, or the one after the part that has it.
 use Rattle.std.proofs.Common.{◌≡◌, ◌≤◌, Some, false, ap, sym, ◌∙◌}
 use Rattle.std.specs.Prelude.{find}
 use Rattle.std.proofs.lemmas.List.{take_all}
@@ -7,6 +7,9 @@ use Rattle.usbnum_core.specs.Spans.{spans_have}
 use Rattle.registry_rules.specs.Number.{numbers_in}
 use Rattle.registry_rules.proofs.LeastOwnedLemmas.{is_outside, none_outside, next_outside, first_outside}
 use Rattle.registry_rules.proofs.span_checks.least_outside.Goals as goal
+
+pub returns-then-has_at : goal.returns-then-has_at
+returns-then-has_at c = none_outside c.args.set.now c.args.span.now (c.has_at.ensures c.if-has_at.true)
 
 pub returns-then-covers : goal.returns-then-covers
 returns-then-covers c = none_outside c.args.set.now c.args.span.now (c.covers.ensures.0 c.if-covers.true)
