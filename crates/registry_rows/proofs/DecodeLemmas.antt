@@ -9,6 +9,7 @@ use Rattle.sqlite_keyed.proofs.ListLemmas.{all-slice_get}
 use Rattle.table_laws.proofs.ReadLemmas.{some_there}
 use Rattle.registry_schema.specs.declared.fault.TableFault.{TableFault}
 use Rattle.registry_schema.specs.declared.fault.TableFault.TheVariants.{Foreign}
+use Rattle.registry_rows.specs.Columns.{HasColumns, AreShown}
 
 module _ {X : Type 0} (IsValid : X → Type 0) (show : X → Row) (values : List X) (rows : List Row) (all : AllByRecursion IsValid values) (same : rows ≡ map show values) where
   -- the row at a place stores the value there
@@ -30,3 +31,10 @@ module _ {X : Type 0} (IsValid : X → Type 0) (show : X → Row) (values : List
 
   pub as_many : length values ≡ length rows
   as_many = sym (length-map values show) ∙ ap length (sym same)
+
+-- one more row shows one more value
+pub shown_more : {X : Type 0} (show : X → Row) (rows : List Row) (values : List X) (row : Row) (value : X) → AreShown show rows values → HasColumns row 0 (show value) → AreShown show (rows ++ row ∷ []) (values ++ value ∷ [])
+shown_more show [] [] row value all one = (one, tt)
+shown_more show (r ∷ rs) (x ∷ xs) row value all one = (all.0, shown_more show rs xs row value all.1 one)
+shown_more show [] (x ∷ xs) row value all one = absurd all
+shown_more show (r ∷ rs) [] row value all one = absurd all

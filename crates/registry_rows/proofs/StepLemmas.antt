@@ -18,6 +18,7 @@ use Rattle.registry_schema.specs.Faults.{IsFaultOf}
 use Rattle.registry_schema.specs.declared.fault.TableFault.{TableFault}
 use Rattle.registry_schema.specs.declared.fault.TableFault.TheVariants.{Foreign}
 use Rattle.registry_rows.specs.Steps.{Decodes, Tells, Changes, Writes, Reads, ReadsRows}
+use Rattle.registry_rows.specs.Columns.{DecodesFirst, DecodesAll}
 use Rattle.registry_rows.specs.Tables.{Tables, Holds}
 
 module _ {S : Type 0} {g : Ghosts S} {old new : MutBor (Held S)} (same : new.ghost_name ≡ old.ghost_name) (quiet : CommitsNothing (state g old.now) (state g new.now)) where
@@ -71,17 +72,21 @@ tells_as old new Held Says Also (Err e) means h = h
 
 module _ {S : Type 0} {g : Ghosts S} {old new : MutBor (Held S)} {V X : Type 0} (IsValid : V → Type 0) (show : V → Row) {Is : Database → X → Type 0} {rows : Vec Row Global} where
   -- all rows read as all values
-  pub reads_all : (pick : X → List V) → ReadsRows g old new (Ok rows) Is (λ x. map show (pick x)) → ((x : X) → Is (state g old.now).now x → AllByRecursion IsValid (pick x)) → {A : Type 0} (items : A → List V) {result : Result A TableFault}
+  pub reads_all_by : (pick : X → List V) → ReadsRows g old new (Ok rows) Is (λ x. map show (pick x)) → ((x : X) → Is (state g old.now).now x → AllByRecursion IsValid (pick x)) → {A : Type 0} (items : A → List V) {result : Result A TableFault}
       → ((values : List V) → AllByRecursion IsValid values → rows.items ≡ map show values → MatchResult result (λ all. items all ≡ values) (λ fault. fault ≢ Foreign)) → Reads g old new result Is (λ x all. items all ≡ pick x)
-  reads_all pick read valid {A} items {result} decodes =
+  reads_all_by pick read valid {A} items {result} decodes =
       record { same_reference = read.reads.same_reference; told = λ clean inside. tells_all IsValid show (state g old.now) (state g new.now) (Is (state g old.now).now) rows.items pick (read.reads.told clean inside) valid items result decodes; survives = read.reads.survives }
+
+  pub reads_all : (pick : X → List V) → ReadsRows g old new (Ok rows) Is (λ x. map show (pick x)) → ((x : X) → Is (state g old.now).now x → AllByRecursion IsValid (pick x)) → {A : Type 0} (items : A → List V) {result : Result A TableFault}
+      → DecodesAll IsValid show rows.items items result → Reads g old new result Is (λ x all. items all ≡ pick x)
+  reads_all pick read valid items decoded = reads_all_by pick read valid items decoded.decodes
 
   -- the first of them reads as the value that the test finds
   pub reads_first : (test : V → Bool) (all : X → List V) → ReadsRows g old new (Ok rows) Is (λ x. map show (filter test (all x))) → ((x : X) → Is (state g old.now).now x → AllByRecursion IsValid (all x)) → {result : Result (Option V) TableFault}
-      → ((values : List V) → AllByRecursion IsValid values → rows.items ≡ map show values → Decodes result (slice_get values 0)) → Reads g old new result Is (λ x found. found ≡ find test (all x))
-  reads_first test all read valid {result} decodes = record {
+      → DecodesFirst IsValid show rows.items result → Reads g old new result Is (λ x found. found ≡ find test (all x))
+  reads_first test all read valid {result} decoded = record {
     same_reference = read.reads.same_reference;
-    told = λ clean inside. tells_as (state g old.now) (state g new.now) (Is (state g old.now).now) (λ x found. found ≡ slice_get (filter test (all x)) 0) (λ x found. found ≡ find test (all x)) result (λ x found is. is ∙ slice_get-filter test (all x)) (tells_first IsValid show (state g old.now) (state g new.now) (Is (state g old.now).now) rows.items (λ x. filter test (all x)) (read.reads.told clean inside) (λ x has. all-filter IsValid test (all x) (valid x has)) result decodes);
+    told = λ clean inside. tells_as (state g old.now) (state g new.now) (Is (state g old.now).now) (λ x found. found ≡ slice_get (filter test (all x)) 0) (λ x found. found ≡ find test (all x)) result (λ x found is. is ∙ slice_get-filter test (all x)) (tells_first IsValid show (state g old.now) (state g new.now) (Is (state g old.now).now) rows.items (λ x. filter test (all x)) (read.reads.told clean inside) (λ x has. all-filter IsValid test (all x) (valid x has)) result decoded.decodes);
     survives = read.reads.survives;
   }
 

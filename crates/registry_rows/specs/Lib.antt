@@ -1,3 +1,4 @@
 pub mod Rows
 pub mod Tables
 pub mod Steps
+pub mod Columns

@@ -1,9 +1,9 @@
 //! Rows as values.
 
-ghost use Rattle.std.specs.Prelude.{◌≡◌, ◌≢◌, List, map, slice_get, MatchResult};
-ghost use Rattle.std.specs.List.{AllByRecursion};
+ghost use Rattle.std.specs.Prelude.{◌≡◌, IfOk};
 ghost use Rattle.sqlite.specs.Order.{Row as Columns};
 ghost use Rattle.registry_rows.specs.Steps.{Decodes};
+ghost use Rattle.registry_rows.specs.Columns.{HasColumns, DecodesFirst, DecodesAll};
 
 use registry_schema::TableFault;
 use sqlite::Row;
@@ -17,12 +17,17 @@ pub trait FromRow: Sized {
     ghost columns: { Self → Columns };
 
     fn from_row(alloc: Global, row: &Row) -> Result<Self, TableFault>
-        ensures { (value : Self) → is_valid value → row.now ≡ columns value → Decodes result value };
+        ensures decodes { (value : Self) → is_valid value → row.now ≡ columns value → Decodes result value }
+        ensures shown { IfOk result (λ value. HasColumns row.now 0 (columns value)) };
 }
 
 /// Reads the value of the first row, if any.
+///
+/// # Errors
+///
+/// `TableFault::Foreign` if that row stores no such value, `TableFault::NoMemory` if out of memory.
 pub fn first_from<T: FromRow>(alloc: Global, rows: &[Row]) -> Result<Option<T>, TableFault>
-    ensures { (values : List T) → AllByRecursion T.is_valid values → rows.now ≡ map T.columns values → Decodes result (slice_get values 0) }
+    ensures { DecodesFirst T.is_valid T.columns rows.now result }
 {
     match rows.first() {
         None => Ok(None),
@@ -34,8 +39,12 @@ pub fn first_from<T: FromRow>(alloc: Global, rows: &[Row]) -> Result<Option<T>, 
 }
 
 /// Reads the values of all rows, in their order.
+///
+/// # Errors
+///
+/// `TableFault::Foreign` if a row stores no such value, `TableFault::NoMemory` if out of memory.
 pub fn all_from<T: FromRow + Drop>(alloc: Global, rows: &[Row]) -> Result<Vec<T>, TableFault>
-    ensures { (values : List T) → AllByRecursion T.is_valid values → rows.now ≡ map T.columns values → MatchResult result (λ all. all.items ≡ values) (λ fault. fault ≢ TableFault.Foreign) }
+    ensures { DecodesAll T.is_valid T.columns rows.now (λ all. all.items) result }
 {
     let mut all = Vec::new(alloc);
     for row in rows {

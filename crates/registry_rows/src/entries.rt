@@ -1,11 +1,13 @@
 //! The numbers that have an owner.
 
-ghost use Rattle.std.specs.Prelude.{◌≡◌, [], ◌∷◌, ◌++◌, map, filter, find, IfSome};
+ghost use Rattle.std.specs.Prelude.{◌≡◌, [], ◌∷◌, ◌++◌, map, filter, find, IfOk, IfSome};
 ghost use Rattle.std.specs.Option.{option_map, option_copied};
 ghost use Rattle.usbnum_core.specs.Text.{IsTitle, IsLink};
 ghost use Rattle.sqlite_keyed.specs.Lists.{update_where, delete_where, sort_by};
 ghost use Rattle.registry_rules.specs.Records.{with_held, with_card};
-ghost use Rattle.registry_rows.specs.Rows.{IsEntry, entry_row, is_of, is_between, by_number};
+ghost use Rattle.registry_rows.specs.Rows.{IsEntry, whole, entry_row, is_of, is_between, by_number};
+ghost use Rattle.registry_rows.specs.Columns.{HasColumns, terms_columns, entry_columns};
+ghost use Rattle.sqlite.specs.declared.types.Value.TheVariants.{Text};
 ghost use Rattle.registry_rows.specs.Steps.{Changes, Decodes, Reads, ReadsRows, Writes};
 ghost use Rattle.registry_rows.specs.Tables.{Holds};
 
@@ -18,7 +20,8 @@ use std::alloc::Global;
 use usbnum_core::{Number, Pid, Vid};
 
 fn terms_from(alloc: Global, row: &Row) -> Result<Option<Terms>, TableFault>
-    ensures { (e : _) → IsEntry e → row.now ≡ entry_row e → Decodes result e.1.card.terms }
+    ensures decodes { (e : _) → IsEntry e → row.now ≡ entry_row e → Decodes result e.1.card.terms }
+    ensures shown { IfOk result (λ terms. HasColumns row.now 5 (terms_columns terms)) }
 {
     let licence = text_or_null_at(alloc, row, 5)?;
     let site = text_or_null_at(alloc, row, 6)?;
@@ -35,7 +38,8 @@ fn terms_from(alloc: Global, row: &Row) -> Result<Option<Terms>, TableFault>
 }
 
 fn card_from(alloc: Global, row: &Row) -> Result<Card, TableFault>
-    ensures { (e : _) → IsEntry e → row.now ≡ entry_row e → Decodes result e.1.card }
+    ensures decodes { (e : _) → IsEntry e → row.now ≡ entry_row e → Decodes result e.1.card }
+    ensures shown { IfOk result (λ card. HasColumns row.now 4 (Text card.title ∷ terms_columns card.terms)) }
 {
     Ok(Card {
         title: text_at(alloc, row, 4)?,
@@ -44,7 +48,8 @@ fn card_from(alloc: Global, row: &Row) -> Result<Card, TableFault>
 }
 
 fn entry_from(alloc: Global, row: &Row) -> Result<Entry, TableFault>
-    ensures { (e : _) → IsEntry e → row.now ≡ entry_row e → Decodes result e.1 }
+    ensures decodes { (e : _) → IsEntry e → row.now ≡ entry_row e → Decodes result e.1 }
+    ensures shown { IfOk result (λ entry. HasColumns row.now 2 (entry_columns entry)) }
 {
     Ok(Entry {
         org: text_at(alloc, row, 2)?,
@@ -54,7 +59,8 @@ fn entry_from(alloc: Global, row: &Row) -> Result<Entry, TableFault>
 }
 
 fn number_from(row: &Row) -> Result<Number, TableFault>
-    ensures { (e : _) → IsEntry e → row.now ≡ entry_row e → Decodes result e.0 }
+    ensures decodes { (e : _) → IsEntry e → row.now ≡ entry_row e → Decodes result e.0 }
+    ensures shown { IfOk result (λ number. HasColumns row.now 0 (whole number.vid ∷ whole number.pid ∷ [])) }
 {
     Ok(Number {
         vid: vid_at(row, 0)?,

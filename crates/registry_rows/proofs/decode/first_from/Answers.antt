@@ -3,6 +3,9 @@ use Rattle.registry_rows.proofs.DecodeLemmas.{value_at}
 use Rattle.registry_rows.proofs.decode.first_from.Goals as goal
 
 pub returns-in-Err : goal.returns-in-Err
-returns-in-Err g c values valid same foreign =
-    let it = value_at g.T.FromRow.is_valid g.T.FromRow.columns values c.args.rows.now valid same 0 c.in-Some.row.now (sym c.in-Some.ensures.value) in
-    c.in-Err.ensures it.0 it.3 it.2 foreign
+returns-in-Err g c = record {
+  decodes = λ values valid same foreign.
+      (let it = value_at g.T.FromRow.is_valid g.T.FromRow.columns values c.args.rows.now valid same 0 c.in-Some.row.now (sym c.in-Some.ensures.value) in
+      c.in-Err.ensures.decodes it.0 it.3 it.2 foreign);
+  there = tt;
+}

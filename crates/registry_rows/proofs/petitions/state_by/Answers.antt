@@ -21,13 +21,13 @@ without_number (Granted pid) code same number a b d = absurd cc
 without_number Declined code same number a b d = b same
 without_number Withdrawn code same number a b d = d same
 
-pub returns-in_default : goal.returns-in_default
-returns-in_default c p valid same code foreign =
+pub returns-in_default-clause-decodes : goal.returns-in_default-clause-decodes
+returns-in_default-clause-decodes c p valid same code foreign =
     let shown = sym (ap (λ (row : Row). column row 9) same) ∙ rw c.in-Some.is at c.in_ok-pid.ensures.ok in
     let is = with_number p.1.state c.args.code c.in-Some.pid code shown in
     absurd (omega (arith, is, c.in_default))
 
-pub returns-in_default-code : goal.returns-in_default-code
-returns-in_default-code c p valid same code foreign =
+pub returns-in_default-code-clause-decodes : goal.returns-in_default-code-clause-decodes
+returns-in_default-code-clause-decodes c p valid same code foreign =
     let shown = sym (ap (λ (row : Row). column row 9) same) ∙ rw c.in-None.is at c.in_ok-pid.ensures.ok in
     without_number p.1.state c.args.code code shown (λ is. absurd (omega (arith, is, c.in_default-code))) (λ is. absurd (omega (arith, is, c.in_default-code))) (λ is. absurd (omega (arith, is, c.in_default-code)))

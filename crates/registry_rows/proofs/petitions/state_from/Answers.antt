@@ -11,5 +11,5 @@ code_small (Granted pid) = omega arith
 code_small Declined = omega arith
 code_small Withdrawn = omega arith
 
-pub returns-in-Err : goal.returns-in-Err
-returns-in-Err c p valid same foreign = c.in-Err.ensures.foreign (ap Err foreign) (state_code p.1.state) (code_small p.1.state) (ap (λ (row : Row). column row 8) same)
+pub returns-in-Err-clause-decodes : goal.returns-in-Err-clause-decodes
+returns-in-Err-clause-decodes c p valid same foreign = c.in-Err.ensures.foreign (ap Err foreign) (state_code p.1.state) (code_small p.1.state) (ap (λ (row : Row). column row 8) same)
