@@ -57,11 +57,11 @@ founding_rows db founding valid holds = goes_out db (founded founding) (all_held
 -- what the transaction of a founding shows at its end
 pub founding_shown : {S A : Type 0} {g : Ghosts S} {mid last : MutBor (Held S)} {x : A} (old begun : Held S) (founding : Founding) → begun ≡ record old { in_transaction = true } → (state g old).now.schema ≡ no_schema → IsLive (state g old)
     → (HasCleanDisk (state g mid.now) → IsTrue (state g begun).in_transaction → Adds no_schema schema_3 (state g begun) (state g mid.now)) → WritesTables g mid last (Ok x) (Changes (with_founding founding)) → IsFounding founding
-    → HasCleanDisk (state g last.now) → IsTrue (state g old).is_open × HasNoMeta (state g old).now × Rows newest (state g last.now).now.trees (founded founding)
+    → HasCleanDisk (state g last.now) → IsTrue (state g old).is_open × ((state g old).now.schema ≡ no_schema) × Rows newest (state g last.now).now.trees (founded founding)
 founding_shown {S} {A} {g} {mid} {last} old begun founding started is live made wrote valid fine =
     let one = made (omega (arith, wrote.survives.clean)) (rw started refl) in
     let was : IsTrue (state g old).is_open = rw started at one.0.was_open in
     let blank = blank_of (state g old).now is (live was).0 in
     let filled = one.1 (rw started blank) in
     let two = wrote.done fine one.0.mode in
-    (was, no_meta (state g old).now is, founding_rows (state g last.now).now founding valid (two.1 no_rows (blank_holds (state g mid.now).now filled)))
+    (was, is, founding_rows (state g last.now).now founding valid (two.1 no_rows (blank_holds (state g mid.now).now filled)))

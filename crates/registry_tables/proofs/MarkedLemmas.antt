@@ -1,5 +1,7 @@
 -- A read of `meta` returns the schema version of the store.
-use Rattle.std.proofs.Common.{◌≡◌, ◌≢◌, ◌<◌, ℕ, inl, List, [], ◌∷◌, ◌++◌, length, Result, Ok, Err, MatchResult, sym, ap, subst, ◌∙◌, arith}
+use Rattle.std.proofs.Common.{◌≡◌, ◌≢◌, ◌<◌, ℕ, inl, Bool, true, nat_eq, List, [], ◌∷◌, ◌++◌, length, Result, Ok, Err, OnOk, MatchResult, sym, ap, subst, ◌∙◌, arith}
+use Rattle.std.specs.List.{list_any}
+use Rattle.std.proofs.lemmas.Bool.Decides.{nat_tests}
 use Rattle.std.specs.Borrow.{MutBor}
 use Rattle.sqlite_trees.specs.declared.store.Store.{Ghosts}
 use Rattle.sqlite.specs.Held.{Held}
@@ -11,7 +13,9 @@ use Rattle.registry_rows.specs.declared.meta.Meta.{Meta}
 use Rattle.registry_old_rows.specs.Steps.{Second, IsHeld}
 use Rattle.registry_rows.specs.Steps.{Tells, Reads}
 use Rattle.registry_rows.proofs.StepLemmas.{reads_by}
+use Rattle.registry_tables.proofs.NewestLemmas.{last_passes}
 use Rattle.registry_tables.proofs.OpeningLemmas.{last_is_only}
+use Rattle.registry_tables.specs.Known.{SaysVersion}
 use Rattle.registry_tables.specs.Raising.{IsMarked}
 
 module _ (version : ℕ) (old new : State) (all : List Meta) (read : GoesOn old new × ((x : Second) → IsHeld old.now x → IsUnchanged old new × (all ≡ x.tables.metas))) where
@@ -36,6 +40,15 @@ module _ (version : ℕ) (old new : State) (all : List Meta) (read : GoesOn old 
     ),
     inl read.0,
   )
+
+  -- and so a row of meta names the version
+  pub marked_says : (rest : List Meta) (meta : Meta) → all ≡ rest ++ meta ∷ [] → (result : Result Meta TableFault)
+      → MatchResult result (λ same. (same ≡ meta) × (meta.version ≡ version)) (λ fault. (fault ≡ Foreign) × (meta.version ≢ version)) → OnOk result (SaysVersion version old.now)
+  marked_says rest meta is (Ok m) says = λ x held.
+      (let same : all ≡ x.tables.metas = (read.1 x held).1 in
+      let names = λ (m : Meta). nat_eq m.version version in
+      subst (λ metas. list_any names metas ≡ true) (sym is ∙ same) (last_passes names rest meta (grind (arith, nat_tests, says.1))))
+  marked_says rest meta is (Err e) says = tt
 
   pub none_marked : (0 < length all → ⊥) → Tells old new (IsMarked version old.now) (Err Foreign) (λ x (m : Meta). x.tables.metas ≡ m ∷ [])
   none_marked none = (λ _. (read.0, λ x marked. (let it = read.1 x marked.held in absurd (none (subst (λ l. 0 < length l) (sym (it.1 ∙ marked.only)) (omega arith))))), inl read.0)

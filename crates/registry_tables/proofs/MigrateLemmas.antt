@@ -70,6 +70,10 @@ two_later a db step = (step.0, λ h rows. one_of h (step.1 h rows))
     one_of h (inl two) = (2, omega arith, two)
     one_of h (inr three) = (3, omega arith, three)
 
+pub on_ok : {X E P : Type 0} (result : Result X E) → P → OnOk result P
+on_ok (Ok x) p = p
+on_ok (Err e) p = tt
+
 -- ---- a test of the returned version
 
 pub option_is : (told : Option ℕ) (n : ℕ) → option_eq nat_eq told (Some n) ≡ true → told ≡ Some n

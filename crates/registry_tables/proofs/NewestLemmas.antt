@@ -24,7 +24,7 @@ use Rattle.registry_tables.proofs.ReadLemmas.{rows_pass, rows_refuse}
 abbrev is_newest : Meta → Bool
 is_newest meta = nat_eq meta.version newest
 
-last_passes : {X : Type 0} (p : X → Bool) (xs : List X) (x : X) → p x ≡ true → list_any p (xs ++ x ∷ []) ≡ true
+pub last_passes : {X : Type 0} (p : X → Bool) (xs : List X) (x : X) → p x ≡ true → list_any p (xs ++ x ∷ []) ≡ true
 last_passes p xs x is = grind (arith, list_any-append p xs (x ∷ []), is)
 
 -- the last row read is the row of meta, if its version is the newest

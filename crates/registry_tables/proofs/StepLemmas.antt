@@ -1,6 +1,7 @@
 -- A migration step in a transaction, and its commit.
 use Rattle.std.proofs.Common.{◌≡◌, ◌+◌, ℕ, IsTrue, true, false, Result, Ok, Err, OnOk, refl, sym, subst, ◌∙◌, arith}
 use Rattle.sqlite.specs.Tree.{Trees}
+use Rattle.sqlite.specs.Effect.{Database}
 use Rattle.sqlite.specs.Store.{Ghosts}
 use Rattle.sqlite.specs.State.{HasCleanDisk, Survives, Shows, IsLive}
 use Rattle.sqlite.specs.Held.{Held, state}
@@ -53,6 +54,12 @@ module _ {S : Type 0} (g : Ghosts S) (version : ℕ) (old begun mid : Held S) (i
       pub step_made : {E : Type 0} (result : Result (Unit {0}) E) → (HasCleanDisk (state g end) → OnOk result (Shows (state g mid) (state g end) (state g mid).now (state g mid).now false))
           → HasCleanDisk (state g ended) → OnOk result (IsMadeBy Commits (state g ended))
       step_made result ok = subst (λ e. HasCleanDisk (state g e) → OnOk result (IsMadeBy Commits (state g e))) same (made result ok)
+
+  -- what a read of meta says is said of the connection before the transaction
+  pub step_named : {E : Type 0} (Says : Database → Type 0) → (HasCleanDisk (state g mid) → IsTrue (state g begun).in_transaction → Says (state g begun).now) → HasCleanDisk (state g mid)
+      → (result : Result (Unit {0}) E) → OnOk result (Says (state g old).now)
+  step_named Says named clean (Err e) = tt
+  step_named Says named clean (Ok x) = subst (λ b. Says (state g b).now) is (named clean inside)
 
   -- Foreign comes only from the rows of no history
   pub step_foreign : (HasCleanDisk (state g mid) → IsTrue (state g begun).in_transaction → Raises version (state g begun) (state g mid) {A = Unit {0}} (Err Foreign)) → HasCleanDisk (state g mid)

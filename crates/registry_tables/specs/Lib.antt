@@ -8,3 +8,4 @@ pub mod Version
 pub mod Versions
 pub mod Raising
 pub mod FirstLicences
+pub mod Known

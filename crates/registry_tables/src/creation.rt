@@ -6,7 +6,6 @@ ghost use Rattle.sqlite.specs.Held.{state};
 ghost use Rattle.table_laws.specs.Making.{no_schema};
 ghost use Rattle.registry_rules.specs.History.{founded};
 ghost use Rattle.registry_tables.specs.Rows.{newest, Rows};
-ghost use Rattle.registry_tables.specs.Calls.{HasNoMeta};
 
 use crate::TableFault;
 use crate::committing::commit;
@@ -23,11 +22,11 @@ fn create_in_empty<S: Alter>(
     requires idle { conn.old.in_transaction ≡ false }
     requires empty { (state S.Store conn.old).now.schema ≡ no_schema }
     ensures idle { conn.new.in_transaction ≡ false }
-    ensures made { HasCleanDisk (state S.Store conn.new) → OnOk result (IsTrue (state S.Store conn.old).is_open × HasNoMeta (state S.Store conn.old).now
+    ensures made { HasCleanDisk (state S.Store conn.new) → OnOk result (IsTrue (state S.Store conn.old).is_open × ((state S.Store conn.old).now.schema ≡ no_schema)
         × IsTrue (state S.Store conn.new).is_open × ((state S.Store conn.new).now ≡ (state S.Store conn.new).committed)
         × Rows newest (state S.Store conn.new).committed.trees (founded founding.now)) }
     ensures kind { result ≢ Err TableFault.Foreign }
-    ensures survives { Survives (state S.Store conn.old) (state S.Store conn.new) (λ db. IsTrue (state S.Store conn.old).is_open × HasNoMeta (state S.Store conn.old).now
+    ensures survives { Survives (state S.Store conn.old) (state S.Store conn.new) (λ db. IsTrue (state S.Store conn.old).is_open × ((state S.Store conn.old).now.schema ≡ no_schema)
         × Rows newest db (founded founding.now)) }
 {
     // For the proof only: the schema that the connection shows.
@@ -49,11 +48,12 @@ fn create_in_empty<S: Alter>(
 pub fn create<S: Alter>(conn: &mut Connection<S>, founding: &Founding) -> Result<(), TableFault>
     requires { conn.old.in_transaction ≡ false }
     ensures idle { conn.new.in_transaction ≡ false }
-    ensures made { HasCleanDisk (state S.Store conn.new) → OnOk result (IsTrue (state S.Store conn.old).is_open × HasNoMeta (state S.Store conn.old).now
+    ensures empty { OnOk result ((state S.Store conn.old).now.schema ≡ no_schema) }
+    ensures made { HasCleanDisk (state S.Store conn.new) → OnOk result (IsTrue (state S.Store conn.old).is_open × ((state S.Store conn.old).now.schema ≡ no_schema)
         × IsTrue (state S.Store conn.new).is_open × ((state S.Store conn.new).now ≡ (state S.Store conn.new).committed)
         × Rows newest (state S.Store conn.new).committed.trees (founded founding.now)) }
     ensures kind { result ≢ Err TableFault.Foreign }
-    ensures survives { Survives (state S.Store conn.old) (state S.Store conn.new) (λ db. IsTrue (state S.Store conn.old).is_open × HasNoMeta (state S.Store conn.old).now
+    ensures survives { Survives (state S.Store conn.old) (state S.Store conn.new) (λ db. IsTrue (state S.Store conn.old).is_open × ((state S.Store conn.old).now.schema ≡ no_schema)
         × Rows newest db (founded founding.now)) }
 {
     if is_empty(conn) {

@@ -1,7 +1,10 @@
 //! The schema version that the table `meta` names.
 
-ghost use Rattle.std.specs.Prelude.{◌≡◌, ◌≢◌, [], ◌∷◌, MatchResult};
+ghost use Rattle.std.specs.Prelude.{◌≡◌, ◌≢◌, [], ◌∷◌, MatchResult, IsTrue, OnOk};
+ghost use Rattle.sqlite.specs.State.{HasCleanDisk};
+ghost use Rattle.sqlite.specs.Held.{state};
 ghost use Rattle.registry_rows.specs.Steps.{Reads};
+ghost use Rattle.registry_tables.specs.Known.{SaysVersion};
 ghost use Rattle.registry_tables.specs.Raising.{IsMarked};
 
 use registry_old_rows::list_old_metas;
@@ -26,6 +29,7 @@ pub(crate) fn old_meta<S: Alter>(
     tx: &mut Transaction<'_, S>,
     version: u32,
 ) -> Result<Meta, TableFault>
+    ensures named { HasCleanDisk (state S.Store tx.new.conn.now) → IsTrue (state S.Store tx.old.conn.now).in_transaction → OnOk result (SaysVersion version (state S.Store tx.old.conn.now).now) }
     ensures reads { Reads S.Store tx.old.conn tx.new.conn result (IsMarked version) (λ x meta. x.tables.metas ≡ meta ∷ []) }
 {
     let mut metas = list_old_metas(alloc, tx)?;

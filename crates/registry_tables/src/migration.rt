@@ -8,6 +8,7 @@ ghost use Rattle.table_laws.specs.Making.{HasTables};
 ghost use Rattle.registry_schema.specs.Texts.{texts_3};
 ghost use Rattle.registry_rules.specs.History.{History};
 ghost use Rattle.registry_tables.specs.Calls.{WritesTables};
+ghost use Rattle.registry_tables.specs.Known.{SaysFirst, IsNamed, IsKnownOlder};
 ghost use Rattle.registry_tables.specs.Rows.{newest, Rows};
 ghost use Rattle.registry_tables.specs.Raising.{IsMadeBy, CommitsTwo, EndsTwo, CommitsLater, IsAtRest, IsNamedOlder, StaysOpen};
 
@@ -22,6 +23,7 @@ fn first_to_third<S: Alter>(alloc: Global, conn: &mut Connection<S>) -> Result<(
     requires { conn.old.in_transaction ≡ false }
     ensures idle { conn.new.in_transaction ≡ false }
     ensures made { HasCleanDisk (state S.Store conn.new) → OnOk result (IsMadeBy (EndsTwo (state S.Store conn.old)) (state S.Store conn.new)) }
+    ensures named { HasCleanDisk (state S.Store conn.new) → OnOk result (SaysFirst (state S.Store conn.old).now) }
     ensures foreign { HasCleanDisk (state S.Store conn.new) → result ≡ Err TableFault.Foreign → IsTrue (state S.Store conn.old).is_open × ((h : History) → ¬ Rows 1 (state S.Store conn.old).now.trees h) }
     ensures survives { Survives (state S.Store conn.old) (state S.Store conn.new) (CommitsTwo (state S.Store conn.old)) }
 {
@@ -63,6 +65,8 @@ pub fn migrate<S: Alter>(alloc: Global, conn: &mut Connection<S>) -> Result<(), 
     ensures idle { conn.new.in_transaction ≡ false }
     ensures raised { HasCleanDisk (state S.Store conn.new) → OnOk result (StaysOpen (state S.Store conn.old) (state S.Store conn.new)
         × ((h : History) (version : ℕ) → IsAtRest version (state S.Store conn.old) h → IsAtRest newest (state S.Store conn.new) h)) }
+    // Only tables with the names of a schema are accepted, and in an older one `meta` says its version.
+    ensures known { HasCleanDisk (state S.Store conn.new) → OnOk result (IsKnownOlder (state S.Store conn.old).now ⊎ (IsNamed newest (state S.Store conn.old).now × (conn.new ≡ conn.old))) }
     ensures newest { IsTrue (state S.Store conn.old).is_open → HasTables texts_3 (state S.Store conn.old).now.trees → (result ≡ Ok _) × (conn.new ≡ conn.old) }
     ensures foreign { HasCleanDisk (state S.Store conn.new) → result ≡ Err TableFault.Foreign → IsTrue (state S.Store conn.old).is_open × ((h : History) (version : ℕ) → ¬ Rows version (state S.Store conn.old).now.trees h) }
     ensures survives { Survives (state S.Store conn.old) (state S.Store conn.new) (CommitsLater (state S.Store conn.old)) }

@@ -12,6 +12,7 @@ ghost use Rattle.registry_rules.specs.History.{History};
 ghost use Rattle.registry_old_rows.specs.Old.{old_span_key};
 ghost use Rattle.registry_old_rows.specs.Steps.{Rewrites};
 ghost use Rattle.registry_tables.specs.Calls.{WritesTablesOpen};
+ghost use Rattle.registry_tables.specs.Known.{SaysFirst};
 ghost use Rattle.registry_tables.specs.Rows.{Rows};
 ghost use Rattle.registry_tables.specs.Raising.{Raises, CommitsStep, IsMadeBy};
 
@@ -57,6 +58,7 @@ fn put_spans<S: Alter>(tx: &mut Transaction<'_, S>, parts: &[Span]) -> Result<()
 fn raise_second<S: Alter>(alloc: Global, tx: &mut Transaction<'_, S>) -> Result<(), TableFault>
     ensures same_reference { tx.new.conn.ghost_name ≡ tx.old.conn.ghost_name }
     ensures raised { HasCleanDisk (state S.Store tx.new.conn.now) → IsTrue (state S.Store tx.old.conn.now).in_transaction → Raises 1 (state S.Store tx.old.conn.now) (state S.Store tx.new.conn.now) result }
+    ensures named { HasCleanDisk (state S.Store tx.new.conn.now) → IsTrue (state S.Store tx.old.conn.now).in_transaction → OnOk result (SaysFirst (state S.Store tx.old.conn.now).now) }
     ensures survives { CommitsNothing (state S.Store tx.old.conn.now) (state S.Store tx.new.conn.now) }
 {
     add_second(tx)?;
@@ -77,6 +79,7 @@ pub(crate) fn first_to_second<S: Alter>(
     requires { conn.old.in_transaction ≡ false }
     ensures idle { conn.new.in_transaction ≡ false }
     ensures made { HasCleanDisk (state S.Store conn.new) → OnOk result (IsMadeBy (CommitsStep 1 (state S.Store conn.old)) (state S.Store conn.new)) }
+    ensures named { HasCleanDisk (state S.Store conn.new) → OnOk result (SaysFirst (state S.Store conn.old).now) }
     ensures foreign { HasCleanDisk (state S.Store conn.new) → result ≡ Err TableFault.Foreign → IsTrue (state S.Store conn.old).is_open × ((h : History) → ¬ Rows 1 (state S.Store conn.old).now.trees h) }
     ensures survives { Survives (state S.Store conn.old) (state S.Store conn.new) (CommitsStep 1 (state S.Store conn.old)) }
 {

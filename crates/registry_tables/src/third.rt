@@ -6,6 +6,7 @@ ghost use Rattle.sqlite.specs.Held.{state};
 ghost use Rattle.table_laws.specs.Inside.{CommitsNothing};
 ghost use Rattle.registry_rules.specs.History.{History};
 ghost use Rattle.registry_tables.specs.Calls.{WritesTables};
+ghost use Rattle.registry_tables.specs.Known.{SaysVersion};
 ghost use Rattle.registry_tables.specs.Rows.{Rows};
 ghost use Rattle.registry_tables.specs.Raising.{MovesAll, Raises, CommitsStep, IsMadeBy};
 
@@ -37,6 +38,7 @@ fn move_rows<S: Alter>(tx: &mut Transaction<'_, S>, vid: Vid) -> Result<(), Tabl
 fn raise_third<S: Alter>(alloc: Global, tx: &mut Transaction<'_, S>) -> Result<(), TableFault>
     ensures same_reference { tx.new.conn.ghost_name ≡ tx.old.conn.ghost_name }
     ensures raised { HasCleanDisk (state S.Store tx.new.conn.now) → IsTrue (state S.Store tx.old.conn.now).in_transaction → Raises 2 (state S.Store tx.old.conn.now) (state S.Store tx.new.conn.now) result }
+    ensures named { HasCleanDisk (state S.Store tx.new.conn.now) → IsTrue (state S.Store tx.old.conn.now).in_transaction → OnOk result (SaysVersion 2 (state S.Store tx.old.conn.now).now) }
     ensures survives { CommitsNothing (state S.Store tx.old.conn.now) (state S.Store tx.new.conn.now) }
 {
     let meta = old_meta(alloc, tx, 2)?;
@@ -55,6 +57,7 @@ pub(crate) fn second_to_third<S: Alter>(
     requires { conn.old.in_transaction ≡ false }
     ensures idle { conn.new.in_transaction ≡ false }
     ensures made { HasCleanDisk (state S.Store conn.new) → OnOk result (IsMadeBy (CommitsStep 2 (state S.Store conn.old)) (state S.Store conn.new)) }
+    ensures named { HasCleanDisk (state S.Store conn.new) → OnOk result (SaysVersion 2 (state S.Store conn.old).now) }
     ensures foreign { HasCleanDisk (state S.Store conn.new) → result ≡ Err TableFault.Foreign → IsTrue (state S.Store conn.old).is_open × ((h : History) → ¬ Rows 2 (state S.Store conn.old).now.trees h) }
     ensures survives { Survives (state S.Store conn.old) (state S.Store conn.new) (CommitsStep 2 (state S.Store conn.old)) }
 {

@@ -1,4 +1,5 @@
-use Rattle.std.proofs.Common.{◌≡◌, inl, inr, Some, IsTrue, sym, ◌∙◌, subst, rules}
+use Rattle.std.proofs.Common.{◌≡◌, inl, inr, Some, IsTrue, refl, sym, ◌∙◌, subst, rules}
+use Rattle.std.proofs.lemmas.Result.{on_ok_weaker}
 use Rattle.sqlite.specs.Held.{state}
 use Rattle.registry_tables.specs.Rows.{Rows}
 use Rattle.registry_tables.specs.Raising.{CommitsStep, CommitsTwo, EndsTwo}
@@ -76,3 +77,18 @@ pub returns-then-eq-2-clause-untouched : goal.returns-then-eq-2-clause-untouched
 returns-then-eq-2-clause-untouched g c =
     let is : c.version_of-version.result ≡ Some 2 = option_is c.version_of-version.result 2 (sym c.eq-else-eq.ensures ∙ c.if-eq-2.true) in
     inl (inr (sym c.version_of-version.ensures.named ∙ is))
+
+pub returns-then-eq-clause-known : goal.returns-then-eq-clause-known
+returns-then-eq-clause-known g c clean =
+    let is : c.version_of-version.result ≡ Some 1 = option_is c.version_of-version.result 1 (sym c.eq.ensures ∙ c.if-eq.true) in
+    on_ok_weaker c.first_to_third.result (λ says. inl (inl (sym c.version_of-version.ensures.named ∙ is, says))) (c.first_to_third.ensures.named clean)
+
+pub returns-then-eq-2-clause-known : goal.returns-then-eq-2-clause-known
+returns-then-eq-2-clause-known g c clean =
+    let is : c.version_of-version.result ≡ Some 2 = option_is c.version_of-version.result 2 (sym c.eq-else-eq.ensures ∙ c.if-eq-2.true) in
+    on_ok_weaker c.second_to_third.result (λ says. inl (inr (sym c.version_of-version.ensures.named ∙ is, says))) (c.second_to_third.ensures.named clean)
+
+pub returns-then-eq-3-clause-known : goal.returns-then-eq-3-clause-known
+returns-then-eq-3-clause-known g c clean =
+    let is : c.version_of-version.result ≡ Some 3 = option_is c.version_of-version.result 3 (sym c.eq-else-eq-2.ensures ∙ c.if-eq-3.true) in
+    inr (sym c.version_of-version.ensures.named ∙ is, refl)

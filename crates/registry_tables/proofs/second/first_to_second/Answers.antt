@@ -3,8 +3,9 @@ use Rattle.sqlite.specs.State.{HasCleanDisk}
 use Rattle.sqlite.specs.Held.{state}
 use Rattle.table_laws.specs.Inside.{CommitsNothing}
 use Rattle.registry_schema.specs.declared.fault.TableFault.TheVariants.{Foreign}
+use Rattle.registry_tables.specs.Known.{SaysFirst}
 use Rattle.registry_tables.specs.Raising.{Raises}
-use Rattle.registry_tables.proofs.StepLemmas.{step_survives, step_made, step_foreign}
+use Rattle.registry_tables.proofs.StepLemmas.{step_survives, step_made, step_named, step_foreign}
 use Rattle.registry_tables.proofs.second.first_to_second.Goals as goal
 
 pub returns-clause-made : goal.returns-clause-made
@@ -27,3 +28,10 @@ returns-in_err-raise_second-clause-foreign g c clean foreign =
     let early : HasCleanDisk (state g.S.Store mid) = omega (arith, ends.clean) in
     step_foreign g.S.Store 1 c.args.conn.now begun mid c.transaction-tx.ensures.begun c.schema-schema.ensures.live
     (λ mids inside. subst (λ x. Raises 1 (state g.S.Store begun) (state g.S.Store mid) x) was (c.raise_second.ensures.raised mids inside)) early
+
+pub returns-clause-named : goal.returns-clause-named
+returns-clause-named g c clean =
+    let same : c.commit.new.tx.0 ≡ c.conn-2-1.given.0 = search rules in
+    let late : HasCleanDisk (state g.S.Store c.commit.new.tx.0) = search rules in
+    let mids : HasCleanDisk (state g.S.Store c.raise_second.new.tx.conn.now) = omega (arith, c.commit.ensures.survives.clean) in
+    step_named g.S.Store 1 c.args.conn.now c.transaction-tx.result.conn.now c.raise_second.new.tx.conn.now c.transaction-tx.ensures.begun c.schema-schema.ensures.live SaysFirst c.in_ok-raise_second.ensures.named mids c.commit.result

@@ -7,7 +7,7 @@ use Rattle.usbnum_core.specs.Spans.{spans_have}
 use Rattle.registry_old_rows.specs.declared.second.Reserved.{Reserved}
 use Rattle.registry_tables.specs.Raising.{Raises}
 use Rattle.registry_tables.proofs.SpreadLemmas.{one_id}
-use Rattle.registry_tables.proofs.SecondLemmas.{first_raised, first_refused, numbers_refused}
+use Rattle.registry_tables.proofs.SecondLemmas.{first_raised, first_refused, numbers_refused, second_begins, unspanned}
 use Rattle.registry_tables.proofs.second.raise_second.Goals as goal
 
 pub returns-in_err-meta-clause-raised : goal.returns-in_err-meta-clause-raised
@@ -58,3 +58,13 @@ returns-clause-raised g c clean inside =
           (λ n. ap (λ l. spans_have l n) c.parts.ensures.parts ∙ c.in_ok-set.ensures.same n ∙ ap (λ l. list_any (nat_eq n) (map (λ (one : Reserved). one.pid) l)) c.deref.ensures.value)
           (λ vid own. (c.in_ok-put_spans.ensures.writes.done c4 three.0.mode three.0.is_open vid own).1) (λ vid. (c.in_ok-empty_reserved.ensures.writes.done c5 four.0.mode vid).1) (λ vid. (c.in_ok-put_old_meta.ensures.writes.done clean five.0.mode vid).1),
     )
+
+pub returns-clause-named : goal.returns-clause-named
+returns-clause-named g c clean inside vid t numbers has =
+    let a = state g.S.Store c.args.tx.now.conn.now in
+    let s1 = state g.S.Store c.add_second.new.tx.conn.now in
+    let s2 = state g.S.Store c.old_meta.new.tx.conn.now in
+    let c2 : HasCleanDisk s2 = omega (arith, clean, c.list_reserved.ensures.reads.survives.clean, c.put_spans.ensures.writes.survives.clean, c.empty_reserved.ensures.writes.survives.clean, c.put_old_meta.ensures.writes.survives.clean) in
+    let c1 : HasCleanDisk s1 = omega (arith, c.old_meta.ensures.reads.survives.clean) in
+    let one = c.in_ok-add_second.ensures.made c1 inside in
+    c.in_ok-meta.ensures.named c2 one.0.mode (record { vid = vid; tables = unspanned t; numbers = numbers }) (second_begins vid a.now s1.now t numbers (one.1 has.schema) has)

@@ -31,3 +31,7 @@ returns-clause-raised g c clean inside =
     let four = c.in_ok-put_vendor.ensures.writes.done c4 three.0.mode in
     let five = c.in_ok-put_meta.ensures.writes.done clean four.0.mode in
     (goes_then a s4 s5 (goes_then a s3 s4 (goes_then a s2 s3 (goes_then a s1 s2 one.0 two.0) three.0) four.0) five.0, third_raised a s1 s2 s3 s4 s5 c.in_ok-meta.meta one.1 two.1 three.1 four.1 five.1)
+
+pub returns-clause-named : goal.returns-clause-named
+returns-clause-named g c clean inside =
+    c.in_ok-meta.ensures.named (omega (arith, clean, c.add_third.ensures.survives.clean, c.move_rows.ensures.writes.survives.clean, c.put_vendor.ensures.writes.survives.clean, c.put_meta.ensures.writes.survives.clean)) inside
