@@ -4,8 +4,8 @@
 SQLite makes the stores: from examples/schema1.sql and examples/schema2.sql, whose texts are those of docs/schema.md and
 whose rows are those of a plain history after examples/one_vendor.requests; then from the rows of the cases in `cases/`
 and of random requests, except for those that name a vendor. Whichever command opens such a store first, it prints what it
-prints for a registry that was founded today by the same requests, and the rows of all tables are the same. Each accepted
-request gets its first reply again, and later requests do the same to both.
+prints for a registry that was founded today by the same requests: the list, the reports, and the record in its order. The
+rows of all tables are the same. Each accepted request gets its first reply again, and later requests do the same to both.
 
 The program is killed at random moments while it opens a store with many rows. The file that is left is sound and holds
 the history in the older schema, in the one between, or in the newest; opened again it is as without a stop.
@@ -88,7 +88,7 @@ def same_rows(what, there, wanted):
 
 def views(usbreg, store):
     """Returns the commands that show a store."""
-    return [[usbreg, "export", store], *([usbreg, "report", store, it] for it in REPORTS)]
+    return [[usbreg, "export", store], [usbreg, "history", store], *([usbreg, "report", store, it] for it in REPORTS)]
 
 
 def keeps_bytes(what, store, ran, wanted):
@@ -136,7 +136,7 @@ class Stores:
         same_rows(f"{what} in schema {version}, and more", rows_of(older), rows_of(today.store))
         shown = [[done(words) for words in views(self.program, it)] for it in (older, today.store)]
         if shown[0] != shown[1]:
-            sys.exit(f"{what} in schema {version} shows another list or other reports than founded today")
+            sys.exit(f"{what} in schema {version} shows another list, other reports or another record than founded today")
         self.opened += 1
 
 
@@ -311,7 +311,7 @@ def newest(stores):
             keeps_bytes("the newest schema", store, words, (0, done(words), b""))
         shown.append((replies, rows_of(store), [done(words) for words in views(stores.program, store)]))
     if shown[0] != shown[1]:
-        sys.exit("a store without sums shows other rows, replies, lists or reports than a new one")
+        sys.exit("a store without sums shows other rows, replies, lists, reports or records than a new one")
 
 
 def main():
