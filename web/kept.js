@@ -72,8 +72,8 @@ async function tryOnce(order, person) {
 const isDone = ({ status, body }) => status === 200 && typeof body.done === 'string';
 const isRefused = ({ status, body }) => status !== 200 && status !== 503 && typeof body.refused === 'number';
 // The proxy itself said no, and passed nothing on.
-const isStopped = ({ status, body }) => [400, 401, 413, 429, 503].includes(status) && body.proxy === status;
-const isOver = ({ status }) => [400, 401, 413].includes(status);
+const isStopped = ({ status, body }) => [400, 401, 403, 413, 429, 503].includes(status) && body.proxy === status;
+const isOver = ({ status }) => [400, 401, 403, 413].includes(status);
 
 // Tries until there is an answer. An order is marked as unsure before each try, since the page may end during it; what the
 // proxy refuses says nothing of the tries before. If somebody else signs in meanwhile, it waits for its own caller.

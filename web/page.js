@@ -20,11 +20,14 @@ const VIEWS = {
 
 const NONE = ['No such page', h('p', {}, h('a', { href: '#/' }, 'All numbers'))];
 
-function addressNow() {
-  const [path, given = ''] = location.hash.replace(/^#\/?/, '').split(/\?([^]*)/);
+function addressIn(hash) {
+  const [path, given = ''] = hash.replace(/^#\/?/, '').split(/\?([^]*)/);
   const [name, ...parts] = path.split('/');
   return { path, name, parts, given: new URLSearchParams(given) };
 }
+
+// What an address shows, whichever vendor it names: a view, or the form of an order.
+const kindOf = ({ path, name }) => name === 'do' ? path : name || 'numbers';
 
 async function viewNow({ name, parts, given }) {
   try {
@@ -39,9 +42,9 @@ async function viewNow({ name, parts, given }) {
 // by a link, so that it is read aloud.
 let turn = 0;
 async function go(isFollowed = false) {
-  const mine = turn += 1, address = addressNow();
+  const mine = turn += 1, address = addressIn(location.hash);
   for (const link of document.querySelectorAll('nav a')) {
-    if (link.getAttribute('href') === `#/${address.path}`) link.setAttribute('aria-current', 'page');
+    if (kindOf(addressIn(link.hash)) === kindOf(address)) link.setAttribute('aria-current', 'page');
     else link.removeAttribute('aria-current');
   }
   byId('main').setAttribute('aria-busy', 'true');

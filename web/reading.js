@@ -42,6 +42,7 @@ const STATUSES = {
   0: 'There was no whole answer: the connection failed.',
   400: 'The registry could not read the message.',
   401: 'The name or the password is wrong.',
+  403: 'This is not for everybody.',
   413: 'This is too long.',
   429: 'There were too many messages from you.',
   502: 'The registry is down for the moment.',
