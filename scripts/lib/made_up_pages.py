@@ -41,8 +41,8 @@ class Oddity:
 ODDITIES = [
     Oddity(bytes_of=crlf), Oddity(bytes_of=marked), Oddity(upper=True),
     Oddity({"title": "Zähler {at}", "owner": "acme-labs"}, {"title": "Zähler {at}", "owner": "acme-labs"}, ("read as Latin-1",), bytes_of=latin),
-    Oddity(files=("picture.jpg",), told=("other files: picture.jpg",)),
-    Oddity(below="It has \"quotes\", 'more' and --- dashes.\n\n---\n\nText {at}.\n", told=("text below the front matter",)),
+    Oddity(files=("picture.jpg",), told=("other files are not taken: picture.jpg",)),
+    Oddity(below="It has \"quotes\", 'more' and --- dashes.\n\n---\n\nText {at}.\n", told=("the text below its fields, ",)),
     Oddity({"date": "2020-02-02"}, told=("the field date",)),
     Oddity({"links": "{home: there}"}, told=("the field links",)),
     # licences
@@ -73,11 +73,11 @@ ODDITIES = [
     Oddity({"site": "www.example.org/{at}"}, {"site": "http://www.example.org/{at}"}, ("its site is taken as http://www.",)),
     Oddity({"site": None}, SOURCE, ("its source stands for its site, since it has none",)),
     Oddity({"site": "mailto:me@example.org"}, SOURCE, ("since its site mailto:me@example.org is no link",)),
-    Oddity({"site": "http://my site.example/{at}"}, SOURCE, ("since the program takes its site",)),
+    Oddity({"site": "http://my site.example/{at}"}, SOURCE, ("since usbreg does not take its site",)),
     Oddity({"source": None}, BY_LIST, ("since it has no source",)),
     Oddity({"source": "ftp://example.org/{at}"}, BY_LIST, ("since its source ftp:",)),
-    Oddity({"source": "https://example.org/" + "x" * 420}, BY_LIST, ("since the program takes its source",)),
-    Oddity({"site": None, "source": "http://a b/"}, BY_LIST, ("stands for its site", "takes its source http://a b/ for no link")),
+    Oddity({"source": "https://example.org/" + "x" * 420}, BY_LIST, ("since usbreg does not take its source",)),
+    Oddity({"site": None, "source": "http://a b/"}, BY_LIST, ("stands for its site", "does not take its source http://a b/ as a link")),
     # owners
     Oddity({"owner": "Nobody{at}"}, {"owner": "Nobody{at}"}, ("owner Nobody{at} has no page",)),
     Oddity({"owner": "bÜCHEREI"}, {"owner": "Bücherei"}, ("owner bÜCHEREI is taken as Bücherei",)),
@@ -94,9 +94,9 @@ OTHERS = {
     **{f"{pid:04x}/index.md": "---\nlayout: pid\ntitle: For tests\nowner: pidcodes\n---\n" for pid in range(1, 0x11)},
 }
 TOLD = {
-    "0000/index.md": "not named by four", "12345/index.md": "not named by four", "README.md": "it is no folder", "c0de": "it has no index.md",
-    "beef/index.md": "no front matter", "dead/index.md": "it has the number of 1209/DEAD/index.md",
-    **{f"{pid:04x}/index.md": "its number stays reserved" for pid in range(1, 0x11)},
+    "0000/index.md": "or is 0000", "12345/index.md": "not named by four", "README.md": "it is no folder", "c0de": "it has no index.md",
+    "beef/index.md": "does not begin with fields", "dead/index.md": "1209/DEAD/index.md has the same number",
+    **{f"{pid:04x}/index.md": "one of those that stay reserved" for pid in range(1, 0x11)},
 }
 # By name of an organisation: its slug, the page, title and site that are kept, and what the report says of it.
 HOME = "https://pid.codes/org"
@@ -107,7 +107,7 @@ ORGANISATIONS = {
     "株式会社": ("org", "layout: org\ntitle: 株式会社\nsite: http://jp.example/", "株式会社", "http://jp.example/", ("no letter",)),
     "curator-1": ("org-curator-1", "layout: org\ntitle: One\nsite: http://one.example/", "One", "http://one.example/", ("a curator's name",)),
     "NoSite": ("nosite", "layout: org\ntitle: None", "None", f"{HOME}/nosite/", ("since it has none",)),
-    "BadSite": ("badsite", "layout: org\ntitle: Bad\nsite: http://a b/", "Bad", f"{HOME}/badsite/", ("the program takes its site",)),
+    "BadSite": ("badsite", "layout: org\ntitle: Bad\nsite: http://a b/", "Bad", f"{HOME}/badsite/", ("usbreg does not take its site",)),
     "NoTitle": ("notitle", "layout: page\nsite: http://no.example/", "NoTitle", "http://no.example/", ("its layout is page", "its name stands")),
     "AnOrganisationWithAVeryLongNameOfMoreThan32Letters": ("anorganisationwithaverylongnameo", "layout: org\ntitle: Long\nsite: http://l.example/", "Long", "http://l.example/", ("a slug has at most 32",)),
 }

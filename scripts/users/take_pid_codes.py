@@ -126,7 +126,7 @@ class Judge:
         """Returns whether a draft is to be tried again. If not, it comes by a list."""
         if isinstance(draft, Number) and field == "site" and draft.site == draft.source:
             field = "source"
-        why = f"the program takes its {field} {getattr(draft, field, '')} for no link"
+        why = f"usbreg does not take its {field} {getattr(draft, field, '')} as a link"
         if isinstance(draft, Organisation) and field == "site" and not draft.site.startswith(f"{self.home}org/"):
             self.put_home(draft, why)
         elif isinstance(draft, Organisation) or field not in ("site", "source"):
