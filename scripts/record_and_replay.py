@@ -4,20 +4,25 @@
 The record must be the founding and the accepted requests of a plain history in Python (`plain_history.py`), line by line:
 for each kind of order, the cases in `cases/`, and random requests. Replayed into a new store it must give the same tables
 and the same record, also if it is replayed line by line, from standard input, after random kills, or a second time. A
-record that was changed is refused at its line, with status 2, and the lines before that one stand. Stores of the older
-schemas have their whole record too.
+record that was changed is refused at its line, with status 2, and the lines before that one stand; memory does not grow
+with a line that is too long. Stores of the older schemas have their whole record too.
 
-Usage: scripts/record_and_replay.py [PROGRAM], by default the one that `make` builds. The exit status is 0 if all of this
-holds."""
+The commands for the record in docs/operating.md run as they are written, but for folders, addresses, `apt-get`, `systemctl`
+and `runuser`, while orders come: the copy and the registry on the second machine end equal to the first.
+
+Usage: scripts/record_and_replay.py [PROGRAM], by default the one that `make` builds. The commands for the record are skipped
+if curl or Git is not installed. The exit status is 0 if all of this holds."""
 
 import json
 import os
 import random
+import shutil
 import subprocess
 import sys
 import time
 
 from compare_with_plain_history import Chance, Room, all_cases, enrol, request, requests_in
+from lib.machine import Machine, Orders, block
 from lib.plain_history import FIELDS, History, items
 from lib.usbreg import (
     EXAMPLES, FOUNDING, content, done, folder, found, older, opened, program, remove, rounds, run, tables, write,
@@ -27,6 +32,11 @@ from lib.usbreg import (
 # The random requests, and the most bytes of a line.
 ORDERS_IN_CHANCE = 10_000
 MOST = 4_194_304
+# The kibibytes of address space in which a line of two gigabytes has to be refused.
+ROOM_FOR_A_LINE = 65_536
+STOPS = 20
+# How often the copy and the second machine follow while orders come, and the requests that come before.
+FOLLOWED, BEFORE = 5, 1_100
 BAD_JSON = '{"name":"BadJson","refused":27}'
 
 
@@ -58,6 +68,13 @@ def same(what, there, wanted):
         sys.exit(f"{what}: {str(there)[:2000]} and not {str(wanted)[:2000]}")
 
 
+def lines_in(text):
+    """Returns the lines of a text. They end at line feeds alone: a title may have U+2028."""
+    *lines, rest = text.decode().split("\n")
+    same("what follows the last line feed", rest, "")
+    return lines
+
+
 class Records:
     """A folder with a program, for one record after another."""
 
@@ -69,7 +86,7 @@ class Records:
         return f"{self.folder}/record{self.count}.{ending}"
 
     def history(self, store, *words):
-        return done([self.program, "history", store, *words]).decode().splitlines()
+        return lines_in(done([self.program, "history", store, *words]))
 
     def replay(self, store, lines, status=0, said=""):
         """Replays these lines, and checks how that ends. Nothing is printed but what is said."""
@@ -127,6 +144,8 @@ def small(room):
         request("cora", "g1", "grant", petition=2), request("cora", "v", "add-vendor", vendor="cafe", name="Café"),
         request("cora", "l", "add-licence", licence="0BSD"), request("cora", "i", "import", org="acme", list=listed),
         request("cora", "none", "import", org="acme", list="1209  Vendor\n"),
+        request("cora", "other", "import", org="bolt", vendor="cafe", list="cafe  Café\n\t0001  One\n\t0001  Again\n\t0002  \n"),
+        request("bob", "r", "enrol", org="coil", title="U+2028: \u2028", site="https://c.example/"),
     ]
     registry.send("small", requests)
     return registry, record_of(registry.history)
@@ -137,25 +156,36 @@ def changed(room, records):
     registry, record = small(room)
     founded = record[0]
 
-    def refused(what, lines, number, said, made):
-        """Checks that line `number` is named, and that the copy has the record `made`."""
+    def refused(what, lines, number, said, made, over=()):
+        """Checks that line `number` is named, and that the copy has the record `made`, twice. `over` is replayed before."""
         copy = records.path("db")
-        records.replay(copy, lines, 2, f"line {number}: {said}\n")
-        same(f"{what}: the record of the copy", records.history(copy), made)
-        records.replay(copy, lines, 2, f"line {number}: {said}\n")
-        same(f"{what}: the same again", records.history(copy), made)
+        if over:
+            records.replay(copy, over)
+        for _ in range(2):
+            records.replay(copy, lines, 2, f"line {number}: {said}\n")
+            same(f"{what}: the record of the copy", records.history(copy), made)
 
-    bad_field = compact({"detail": "caller", "name": "BadField", "refused": 28})
-    other = record[5].replace("petition 3", "petition 4")
-    refused("another reply", [*record[:5], other, *record[6:]], 6, 'another reply: {"done":"petition 3"}', record[:6])
-    refused("dropped", [*record[:4], *record[5:]], 5, 'another reply: {"done":"petition 2"}', [*record[:4], record[5].replace("petition 3", "petition 2")])
+    def bad_field(detail):
+        return compact({"detail": detail, "name": "BadField", "refused": 28})
+
+    first, second, third = record[3:6]
+    renumbered = third.replace("petition 3", "petition 2")
     taken = compact({"name": "OrgTaken", "refused": 5})
-    refused("refused", [*record[:3], record[1].replace("enrol-acme", "again"), *record[3:]], 4, f"another reply: {taken}", record[:3])
+    refused("another reply", [*record[:5], third.replace("petition 3", "petition 4"), *record[6:]], 6, 'another reply: {"done":"petition 3"}', record[:6])
+    refused("dropped", [*record[:4], *record[5:]], 5, 'another reply: {"done":"petition 2"}', [*record[:4], renumbered])
+    swapped = [*record[:3], second.replace("petition 2", "petition 1")]
+    refused("swapped", [*record[:3], second, first, *record[5:]], 4, 'another reply: {"done":"petition 1"}', swapped)
+    refused("under another key", [*record[:3], record[1].replace("enrol-acme", "again"), *record[3:]], 4, f"another reply: {taken}", record[:3])
     refused("no JSON", [*record[:3], "[]", *record[3:]], 4, BAD_JSON, record[:3])
-    refused("cut", [*record[:3], record[3][:20]], 4, BAD_JSON, record[:3])
-    refused("a field is missing", [*record[:2], '{"order":"enrol"}'], 3, bad_field, record[:2])
-    refused("a late founding", [*record[:3], founded], 4, "a founding after the first line", record[:3])
+    refused("cut", [*record[:3], first[:20]], 4, BAD_JSON, record[:3])
+    refused("a field is missing", [*record[:2], '{"order":"enrol"}'], 3, bad_field("caller"), record[:2])
+    refused("the reply is missing", [*record[:2], record[2].replace('"done"', '"other"')], 3, bad_field("done"), record[:2])
+    refused("a late founding", [*record[:3], founded, *record[3:]], 4, "a founding after the first line", record[:3])
     refused("too long", [*record[:3], " " * (MOST + 1)], 4, "more than 4194304 bytes", record[:3])
+    # the record of another registry that was founded like this one
+    other = [founded, first.replace('"a0"', '"b0"').replace("Lamp", "Other")]
+    refused("another registry's record", other, 2, 'another reply: {"done":"petition 4"}', [*record, other[1].replace("petition 1", "petition 4")], record)
+
     for what, lines in (
         ("doubled", [line for line in record for _ in range(2 if line != founded else 1)]),
         ("blank lines", ["", "  ", founded, *(part for line in record[1:] for part in (line, " \t\r"))]),
@@ -166,23 +196,22 @@ def changed(room, records):
         records.replay(copy, lines)
         same(what, sorted(records.history(copy)), sorted(record))
 
-    copy = records.path("db")
-    swapped = [*record[:6], record[7], record[6].replace("by petition 2", "by petition 9"), *record[8:]]
-    records.replay(copy, swapped, 2, f"line 8: another reply: {compact({'done': json.loads(record[6])['done']})}\n")
-
-    # Another registry's record leaves a store as it is, and a bad one leaves none behind.
+    # Another founding leaves a store as it is, and a bad record leaves none behind.
     there = tables(registry.store)
     records.replay(registry.store, [founded.replace("Shared", "Other"), *record[1:]], 2, "line 1: the registry was founded otherwise\n")
-    same("another registry's record", tables(registry.store), there)
-    for lines, number in (([BAD_JSON.replace("name", "order")], 1), (["", "{"], 2)):
-        store, path = records.path("db"), write(records.path("jsonl"), "\n".join(lines))
-        status, output, errors = run([records.program, "replay", store, path])
-        if (status, output) != (2, b"") or not errors.startswith(f"line {number}: ".encode()) or os.path.exists(store):
-            sys.exit(f"a bad record: {status}, {output}, {errors}, and a store: {os.path.exists(store)}")
-    same("no record", run([records.program, "replay", copy + "-none", f"{records.folder}/none"]), (1, b"", b"fault: file\n"))
-    if os.path.exists(copy + "-none"):
-        sys.exit("a missing record leaves a store behind")
-    same("no store", run([records.program, "replay", f"{records.folder}/none.db", write(records.path("jsonl"), record[1])]), (1, b"", b"fault: file\n"))
+    same("another founding", tables(registry.store), there)
+    bad_founding = compact({"detail": "curators", "name": "BadFounding", "refused": 32})
+    for lines, number, said in (
+        (['{"order":"BadJson"}'], 1, bad_field("caller")), (["", "{"], 2, BAD_JSON), (["{}"], 1, compact({"detail": "vendor", "name": "BadFounding", "refused": 32})),
+        ([founded.replace('["cora"]', "[]")], 1, bad_founding),
+    ):
+        store = records.path("db")
+        records.replay(store, lines, 2, f"line {number}: {said}\n")
+        same(f"a store of {lines}", os.path.exists(store), False)
+    no_file = (1, b"", b"fault: file\n")
+    same("no record", run([records.program, "replay", f"{records.folder}/none.db", f"{records.folder}/none"]), no_file)
+    same("no store and no founding", run([records.program, "replay", f"{records.folder}/none.db", write(records.path("jsonl"), record[1])]), no_file)
+    same("a store of no record", os.path.exists(f"{records.folder}/none.db"), False)
 
 
 def in_pieces(room, records):
@@ -203,33 +232,40 @@ def in_pieces(room, records):
     same("nothing new", run([records.program, "replay", copy, "-"]), (0, b"", b""))
 
 
-def one_long_line(records):
-    """Gives two gigabytes of one line, which are refused once the limit is passed."""
-    copy = found(records.program, records.path("db"))
-    ended = run(["sh", "-c", f"head -c 2000000000 /dev/zero | {records.program} replay {copy} -"])
-    same("two gigabytes of one line", ended, (2, b"", b"line 1: more than 4194304 bytes\n"))
+def one_long_line(room, records):
+    """Gives two gigabytes of one line, which are refused once the limit is passed, in little memory."""
+    _, record = small(room)
+    copy, begun = records.path("db"), write(records.path("jsonl"), "".join(f"{it}\n" for it in record[:3]))
+    lines = f"{{ cat {begun}; head -c 2000000000 /dev/zero; }}"
+    ended = run(["sh", "-c", f"ulimit -v {ROOM_FOR_A_LINE}; {lines} | {records.program} replay {copy} -"])
+    same("two gigabytes of one line", ended, (2, b"", b"line 4: more than 4194304 bytes\n"))
+    same("what stands before it", records.history(copy), record[:3])
 
 
 def stopped(records, seed):
-    """Kills replays at random moments, and runs them again over what is left."""
+    """Kills replays at random moments, and runs them again over what is left. Returns how many were killed."""
     dice = random.Random(seed)
     whole = found(records.program, records.path("db"))
     done([records.program, "apply", whole, write_requests(records.path("jsonl"), rounds(1, 200))])
     record = records.history(whole)
     path, copy, stops = write(records.path("jsonl"), "\n".join(record)), records.path("db"), 0
-    for _ in range(20):
+    began = time.monotonic()
+    done([records.program, "replay", records.path("db"), path])
+    seconds = time.monotonic() - began
+    for _ in range(10 * STOPS):
         running = subprocess.Popen([records.program, "replay", copy, path])
         try:
-            if running.wait(dice.uniform(0, 0.15)):
-                sys.exit(f"a replay after {stops} stops failed")
-            break
+            same("the status of a replay after stops", running.wait(dice.uniform(0, seconds)), 0)
+            remove(copy)
         except subprocess.TimeoutExpired:
             running.kill()
             running.wait()
             stops += 1
-        if os.path.exists(copy) and os.path.getsize(copy):
-            there = records.history(copy)
-            same("what a stop leaves", there, record[: len(there)])
+            if os.path.exists(copy) and run([records.program, "report", copy, "census"])[0] == 0:
+                there = records.history(copy)
+                same("what a stop leaves", there, record[: len(there)])
+        if stops == STOPS:
+            break
     same("after the stops", run([records.program, "replay", copy, path]), (0, b"", b""))
     same("the tables after the stops", rows(copy), rows(whole))
     return stops
@@ -246,22 +282,88 @@ def older_stores(records):
         remove(store)
 
 
+def fork(org):
+    """Returns orders of an organisation after which a petition of another one has another number."""
+    link = "https://fork.example/"
+    return [enrol(org), request("ann", f"ask-{org}", "ask", org=org, title="Lamp", licence="MIT", site=link, source=link)]
+
+
+def follows(usbreg, made):
+    """Runs the commands of docs/operating.md for a copy of the record, a second machine and an audit, while orders come."""
+    first = Machine(usbreg, f"{made}/first")
+    record = f"{first.lib}-record/record.jsonl"
+    elsewhere = {"https://registry.example": f"http://127.0.0.1:{first.port}", "/etc/usbreg/record.jsonl": record}
+    second, auditor = (Machine(usbreg, f"{made}/{it}", elsewhere) for it in ("second", "auditor"))
+    other, requests = f"{second.lib}/record.jsonl", list(rounds(1, 4 * BEFORE))
+    started = (first, "systemctl start usbreg-record.service"), (second, "systemctl start usbreg-follow.service")
+    found(usbreg, first.store)
+    first.must_run("systemctl start usbreg")
+    try:
+        first.send(requests[:30])
+        first.must_run(block("Backup"))
+        first.must_run(block("A copy of the record"))
+        second.must_run(block("A second machine"))
+        first.send(requests[30:BEFORE])
+        with Orders(first, requests[BEFORE:]) as orders:
+            for _ in range(FOLLOWED):
+                orders.go_on(5)
+                least = BEFORE + orders.done + 1
+                for machine, words in started:
+                    machine.must_run(words)
+                for path in (record, other):
+                    same("what is followed", least <= content(path).count(b"\n") <= BEFORE + orders.done + 2, True)
+        # what a power cut may leave: a part of a line, and lines that were replayed and not appended
+        write(record, content(record).decode()[:-20])
+        write(other, "".join(f"{it}\n" for it in lines_in(content(other))[:-7]))
+        for machine, words in started:
+            machine.must_run(words)
+        same("the copies", content(other), content(record))
+        shutil.copy(record, auditor.room)
+        auditor.must_run(block("An audit"), auditor.room)
+    finally:
+        first.must_run("systemctl stop usbreg")
+    same("the copy of the record", content(record), done([usbreg, "history", first.store]))
+    same("the second machine's tables", second.rows(), first.rows())
+    same("what Git has", done(["git", "-C", os.path.dirname(record), "show", "HEAD:record.jsonl"]), content(record))
+    take_over(first, second, requests[:3], started[1][1])
+
+
+def take_over(first, second, requests, following):
+    """Lets the second machine take over, and then both take orders, which is noticed."""
+    kept = content(f"{second.lib}/record.jsonl")
+    for machine, start, org in ((second, block("A second machine", 1), "later"), (first, "systemctl start usbreg", "fork")):
+        machine.must_run(start)
+        machine.send([*requests, *fork(org)])
+        if machine == second:
+            machine.must_run("systemctl stop usbreg")
+    try:
+        status, said = second.runs(following)
+        same("two that took orders", (status, b"line 2: another reply: " in said, content(f"{second.lib}/record.jsonl")), (2, True, kept))
+    finally:
+        first.must_run("systemctl stop usbreg")
+
+
 def main():
     began, seed = time.monotonic(), int(time.time())
+    lacking = [it for it in ("curl", "git") if not shutil.which(it)]
     with folder() as made:
         usbreg = program(*sys.argv[1:2])
         room, records = Room(usbreg, made), Records(usbreg, made)
         each_kind(room, records)
         changed(room, records)
         in_pieces(room, records)
-        one_long_line(records)
+        one_long_line(room, records)
         stops = stopped(records, seed)
         older_stores(records)
+        if not lacking:
+            follows(usbreg, made)
         made_up(room, records)
-        print(
-            f"{room.count} records and those of two older schemas are those of a plain history, and their replays make the same"
-            f" registries; {stops} replays were killed (seed {seed}); {time.monotonic() - began:.0f} s"
-        )
+    print(
+        f"{room.count} records and those of two older schemas are those of a plain history, and their replays make the same"
+        f" registries; {stops} replays were killed (seed {seed}); {time.monotonic() - began:.0f} s"
+    )
+    if lacking:
+        print(f"SKIPPED: not installed: {', '.join(lacking)}; so the commands for the record were not run")
 
 
 if __name__ == "__main__":

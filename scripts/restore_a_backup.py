@@ -18,70 +18,18 @@ it was skipped. The exit status is 0 if all of this holds."""
 import os
 import re
 import shutil
-import subprocess
 import sys
-import threading
 import time
 
-from lib.serving import PATIENCE, command, exchange, free_port, listens
-from lib.usbreg import TOP, content, copy, folder, form, found, opened, program, rounds, tables, write
+from lib.machine import Machine, Orders, block
+from lib.usbreg import content, copy, folder, form, found, opened, program, rounds
 
-PAGE = f"{TOP}/docs/operating.md"
-SYSTEMCTL = """#!/bin/sh
-case "$*" in
-"start usbreg") "$USBREG" serve "$LIB/numbers.db" --port "$PORT" 2> "$LIB/../errors" & echo $! > "$LIB/../pid" ;;
-"stop usbreg") kill "$(cat "$LIB/../pid")"; while kill -0 "$(cat "$LIB/../pid")" 2> /dev/null; do sleep 0.01; done ;;
-"show -p MainPID --value usbreg") cat "$LIB/../pid" ;;
-"start "*.service) sh -c "$(sed -n 's/^ExecStart=//p' "$LIB/../units/$2" | sed -f "$LIB/../places")" ;;
-esac
-"""
 # The backups that are made while orders come, and the rounds of orders that are sent before, and after.
 BACKUPS, ROUNDS = 5, 40
 
 
-def block(title):
-    """Returns the commands below a title."""
-    below = content(PAGE).decode().split(f"# {title}\n", 1)[1]
-    return re.search(r"^```sh\n(.*?)^```$", below, re.MULTILINE | re.DOTALL)[1]
-
-
-class Machine:
-    """Folders and programs in place of those of a machine."""
-
-    def __init__(self, usbreg, room):
-        self.room, self.lib, self.port = room, f"{room}/lib", free_port()
-        self.store = f"{self.lib}/numbers.db"
-        for name in ("bin", "lib", "units"):
-            os.mkdir(f"{room}/{name}")
-        self.places = {"/var/lib/usbreg": self.lib, "/var/backups/usbreg": f"{room}/backups", "/usr/local/lib/usbreg": f"{room}/programs", "/etc/systemd/system": f"{room}/units"}
-        write(f"{room}/places", "".join(f"s:{path}:{other}:g\n" for path, other in self.places.items()))
-        os.symlink(usbreg, f"{room}/bin/usbreg")
-        os.chmod(write(f"{room}/bin/systemctl", SYSTEMCTL), 0o755)
-        self.env = {**os.environ, "PATH": f"{room}/bin:{os.environ['PATH']}", "USBREG": usbreg, "LIB": self.lib, "PORT": str(self.port)}
-
-    def runs(self, commands):
-        """Returns the exit status and the output of commands, the first of which that fails ends them."""
-        for path, other in (self.places | {":8080": f":{self.port}", "--retry-delay 1": "--retry-delay 0"}).items():
-            commands = commands.replace(path, other)
-        with open(f"{self.room}/said", "w+b") as said:
-            status = subprocess.run(["sh", "-ec", commands], cwd=TOP, env=self.env, stdout=said, stderr=said, check=False, timeout=120).returncode
-        return status, content(f"{self.room}/said")
-
-    def must_run(self, commands):
-        ended = self.runs(commands)
-        if ended != (0, b""):
-            sys.exit(f"{commands}\nended with {ended}")
-
-    def send(self, requests):
-        """Sends orders, once the port is open."""
-        while not listens(self.port):
-            pass
-        for it in requests:
-            if not (got := exchange(self.port, command(it))).startswith(b"HTTP/1.1 200 "):
-                sys.exit(f"{it}: {got!r}")
-
-    def rows(self, store=None):
-        return tables(copy(store or self.store, f"{self.room}/looked.db"))
+class BackedUp(Machine):
+    """A machine with backups."""
 
     def backups(self):
         """Returns the names of the backups, and of their lists."""
@@ -92,44 +40,6 @@ class Machine:
         day = [it for it in self.backups() if re.fullmatch(r"\d{4}-\d\d-\d\d", it)][-1]
         with opened(copy(f"{self.room}/backups/{day}/numbers.db", f"{self.room}/looked.db")) as connection:
             return [tuple(row) for row in connection.execute("SELECT caller, request_key FROM kept ORDER BY rowid")]
-
-
-class Orders:
-    """Orders that come one after another, for a `with`. One whose response does not come is sent again."""
-
-    def __init__(self, machine, requests):
-        self.machine, self.requests, self.done, self.ended = machine, requests, 0, threading.Event()
-        self.thread = threading.Thread(target=self.run)
-
-    def run(self):
-        for it in self.requests:
-            while not self.acknowledged(it):
-                pass
-            self.done += 1
-            if self.ended.is_set():
-                return
-
-    def acknowledged(self, request):
-        try:
-            return exchange(self.machine.port, command(request)).startswith(b"HTTP/1.1 200 ")
-        except OSError:
-            return False
-
-    def go_on(self, count):
-        """Waits until so many more are done."""
-        until, wanted = time.monotonic() + PATIENCE, self.done + count
-        while self.done < wanted:
-            if time.monotonic() > until:
-                sys.exit("no orders come while backups are made")
-            time.sleep(0.001)
-
-    def __enter__(self):
-        self.thread.start()
-        return self
-
-    def __exit__(self, *_):
-        self.ended.set()
-        self.thread.join()
 
 
 def back_up_in_motion(machine, again):
@@ -195,7 +105,7 @@ def main():
     restore = restore.replace(given[1], day)
     (again,) = (it for it in backup.splitlines() if it.startswith("systemctl start "))
     with folder() as room:
-        machine = Machine(usbreg, room)
+        machine = BackedUp(usbreg, room)
         found(usbreg, machine.store)
         machine.must_run("systemctl start usbreg")
         try:
