@@ -9,7 +9,7 @@
 #          makers and curators into PREFIX/share/usbreg/web.
 # bench:   reads and writes lists and looks devices up beside plain readers, acts on requests and serves messages
 #          beside plain registries, and prints ratios; times each kind of order on a full store; opens a large store of an
-#          older schema. Not part of the gate; it says which packages are missing.
+#          older schema; prints and replays a long record. Not part of the gate; it says which packages are missing.
 # deb:     makes the Debian package of what `make` built, in out/. It needs dpkg-deb and readelf.
 
 PREFIX ?= /usr/local
@@ -47,6 +47,7 @@ bench:
 	bench/worst_orders.py
 	bench/open_older.py
 	bench/page_sizes.py
+	bench/record.py
 
 deb:
 	@package/build.py --program $(PROGRAM)
