@@ -1,9 +1,10 @@
 #!/usr/bin/env bash
 # Runs the scripts that try what was built: cases over stores in files, a plain history beside it, the man page, the
 # examples in docstrings and those in the help, the index of the definitions, what SQLite sees of a store, new stores,
-# damaged ones, stores of older schemas, Debian's list of USB numbers, each allocation refused in turn, kills at random
-# moments, power cuts, clients that talk HTTP to it, with nginx in front and without, a backup and its restore, the names
-# on a host, and the Debian package. Not among them yet: record_and_replay.py, use_the_page.py and move_pid_codes.py.
+# damaged ones, stores of older schemas, Debian's list of USB numbers, records that are printed and replayed, a repository
+# of pages that is moved in and out, each allocation refused in turn, kills at random moments, power cuts, clients that talk
+# HTTP to it, with nginx in front and without, the page in a browser, a backup and its restore, the names on a host, and the
+# Debian package.
 # It shows the output of a script only if it fails or says that it was skipped. The last line counts the scripts.
 # Needs python3 and cc, and fails if one is missing; with SKIP=1 the scripts are skipped.
 cd "$(dirname "$0")" || exit 1
@@ -19,6 +20,8 @@ scripts=(
     make_new_stores.py
     damage_a_store.py
     open_older_stores.py
+    record_and_replay.py
+    move_pid_codes.py
     use_debian_list.py
     try_the_package.py
     "refuse_allocations.py --only trial"
@@ -29,6 +32,7 @@ scripts=(
     run_http_examples.py
     talk_to_the_desk.py
     serve_behind_nginx.py
+    use_the_page.py
     restore_a_backup.py
     name_devices.py
 )
