@@ -11,7 +11,7 @@ use registry_rules::{
 use row_records::{founding_of, slug};
 use row_texts::{RowFault, text_of};
 use std::alloc::Global;
-use usbnum_core::Key;
+use usbnum_core::{Key, Slug};
 
 /// Shows the bytes of the copy of a canonical form.
 pub(crate) fn form(alloc: Global, bytes: &[u8]) -> Result<Vec<u8>, RowFault> {
@@ -20,26 +20,32 @@ pub(crate) fn form(alloc: Global, bytes: &[u8]) -> Result<Vec<u8>, RowFault> {
     Ok(copy.as_bytes().to_vec(alloc)?)
 }
 
-fn form_of(alloc: Global, order: Order) -> Result<Vec<u8>, RowFault> {
-    let request = Request {
-        caller: slug(alloc, "ann")?,
-        key: Key::new(alloc, b"k1")?.ok_or(RowFault::BadRow)?,
-        order,
-    };
-    Ok(request_bytes(alloc, &request)?.as_bytes().to_vec(alloc)?)
+fn sender(alloc: Global) -> Result<(Slug, Key), RowFault> {
+    let key = Key::new(alloc, b"k1")?.ok_or(RowFault::BadRow)?;
+    Ok((slug(alloc, "ann")?, key))
 }
 
-fn read_text(alloc: Global, found: Option<Order>) -> Result<Vec<u8>, RowFault> {
+fn form_of(alloc: Global, request: &Request) -> Result<Vec<u8>, RowFault> {
+    Ok(request_bytes(alloc, request)?.as_bytes().to_vec(alloc)?)
+}
+
+fn read_text(
+    alloc: Global,
+    caller: Slug,
+    key: Key,
+    found: Option<Order>,
+) -> Result<Vec<u8>, RowFault> {
     match found {
-        Some(order) => form_of(alloc, order),
+        Some(order) => form_of(alloc, &Request { caller, key, order }),
         None => text_of(alloc, "none"),
     }
 }
 
 /// Shows the canonical form of the order that is read from a canonical form, if one is.
 pub(crate) fn read(alloc: Global, bytes: &[u8]) -> Result<Vec<u8>, RowFault> {
+    let (caller, key) = sender(alloc)?;
     let form = CanonicalForm::new(bytes.to_vec(alloc)?);
-    read_text(alloc, order_of_form(alloc, &form)?)
+    read_text(alloc, caller, key, order_of_form(alloc, &form)?)
 }
 
 /// Shows the text of the copy of a reply.
