@@ -2,12 +2,16 @@
 use Rattle.std.proofs.Common.{◌≡◌, IsTrue, ℕ, inl, inr, Result, Ok, Err, IfErr, MatchResult, IfOk, ◌⊎◌, sym, subst, arith}
 use Rattle.sqlite_disk.specs.Disk.{MoreFaults}
 use Rattle.sqlite_trees.specs.Tree.{Trees}
+use Rattle.sqlite.specs.Store.{Ghosts}
+use Rattle.sqlite.specs.Held.{Held, state}
 use Rattle.sqlite.specs.State.{State, HasCleanDisk, Survives}
 use Rattle.sqlite.proofs.StateLemmas.{survives_then}
 use Rattle.table_laws.specs.Inside.{CommitsNothing}
 use Rattle.registry_rules.specs.History.{History}
 use Rattle.registry_rules.specs.Run.{Legal}
 use Rattle.registry_tables.specs.Rows.{newest, Rows}
+use Rattle.registry_tables.specs.Known.{IsNamed, IsKnownOlder, IsKnown}
+use Rattle.registry_tables.specs.Version.{SaysNewest}
 use Rattle.registry_tables.specs.Raising.{CommitsLater, IsAtRest, StaysOpen}
 use Rattle.registry_store.specs.declared.fault.Fault.{Fault}
 use Rattle.registry_store.specs.declared.fault.Fault.TheVariants.{Foreign}
@@ -61,3 +65,13 @@ open_then a b P of st first same (Ok x) quiet was = λ clean.
     let later : MoreFaults b.faults (of x).faults → MoreFaults a.faults (of x).faults = λ more. omega (arith, more, first.counts) in
     ((same early).1 shown.0, elim shown.1 [ inl now ↦ inl now | inr more ↦ inr (later more) ]))
 open_then a b P of st first same (Err e) quiet was = tt
+
+-- the version that the migration found, and that of a store of the newest schema, which it leaves alone
+pub known_then : {S X E : Type 0} (g : Ghosts S) (old new : Held S) (of : X → State) (st : E → State)
+    → (HasCleanDisk (state g new) → IsKnownOlder (state g old).now ⊎ (IsNamed newest (state g old).now × (new ≡ old))) → (told : Result X E)
+    → MatchResult told (λ x. CommitsNothing (state g new) (of x)) (λ e. CommitsNothing (state g new) (st e)) → IfOk told (λ x. HasCleanDisk (of x) → SaysNewest (state g new).now)
+    → IfOk told (λ x. HasCleanDisk (of x) → IsKnown (state g old).now)
+known_then g old new of st known (Ok x) quiet says = λ clean.
+    (let early : HasCleanDisk (state g new) = omega (arith, quiet.clean) in
+    elim (known early) [ inl older ↦ inl older | inr third ↦ inr (third.0, subst (λ c. SaysNewest (state g c).now) third.1 (says clean)) ])
+known_then g old new of st known (Err e) quiet says = tt

@@ -1,5 +1,5 @@
 -- How the calls of a transaction compose.
-use Rattle.std.proofs.Common.{◌≡◌, inl, inr, ℕ, IsTrue, true, false, refl, sym, ap, subst, ◌∙◌, arith, List, Result, Ok, Err, OnOk}
+use Rattle.std.proofs.Common.{◌≡◌, ◌≢◌, inl, inr, ℕ, IsTrue, true, false, refl, sym, ap, subst, ◌∙◌, arith, List, Result, Ok, Err, OnOk}
 use Rattle.sqlite.specs.Tree.{Trees}
 use Rattle.sqlite.specs.Store.{Ghosts}
 use Rattle.sqlite.specs.State.{State, HasCleanDisk, Survives, Shows, IsLive, IsRolledBack}
@@ -134,6 +134,18 @@ module _ {S : Type 0} (g : Ghosts S) (old begun mid : Held S) (is : begun ≡ re
           let outer = survives_begin g old (state g last) _ (subst (λ b. CommitsNothing (state g b) (state g last)) is inner) in
           quiet_to (state g old) (state g last) (state g end) _ (CommitsOne (state g old) before r)
           (λ clean db it. let early : HasCleanDisk (state g last) = omega (arith, third.clean) in subst (CommitsOne (state g old) before r) (sym it) (commits_one early)) outer third
+
+      commits_new : (h : History) → IsLegalWith before h → IsAt newest (state g old) h → HasCleanDisk (state g end) → (db : Trees) → CommitsOne (state g old) before r db → verdict h r ≡ New d
+      commits_new h counts at clean db one =
+          let late : HasCleanDisk (state g last) = omega (arith, third.clean) in
+          let mids : HasCleanDisk (state g mid) = omega (arith, second.clean) in
+          let start : HasCleanDisk (state g begun) = omega (arith, first.clean) in
+          let start_old : HasCleanDisk (state g old) = subst (λ b. HasCleanDisk (state g b)) is start in
+          says_new late h counts (holds h one.0 (rows_now (state g old) h at start_old one.0))
+
+      -- so nothing was committed for a request that adds no deed
+      pub never_here : (h : History) → IsLegalWith before h → IsAt newest (state g old) h → verdict h r ≢ New d → CommitsNothing (state g old) (state g end)
+      never_here h counts at not_new = survives_weaker (state g old) (state g end) (CommitsOne (state g old) before r) (λ _. ⊥) (λ clean db one. not_new (commits_new h counts at clean db one)) one_at_most
 
       -- after a successful commit
       pub answered : (settled : (s : S) (db : Trees) → IsTrue (g.view s).is_open → g.recovers s db → db ≡ (g.view s).committed)

@@ -1,5 +1,5 @@
 -- One request in one transaction.
-use Rattle.std.specs.Prelude.{◌≡◌, true, IsTrue}
+use Rattle.std.specs.Prelude.{◌≡◌, ◌≢◌, true, IsTrue}
 use Rattle.sqlite.specs.Tree.{Trees}
 use Rattle.sqlite.specs.State.{State, Shows}
 use Rattle.registry_rules.specs.declared.totals.Totals.{Totals}
@@ -16,6 +16,10 @@ use Rattle.registry_store.specs.Promise.{IsLegalWith}
 -- what one request may commit
 abbrev pub CommitsOne : State → Totals → Request → Trees → Type 0
 CommitsOne old totals r db = IsTrue old.is_open × ((h : History) → IsLegalWith totals h → Rows newest old.now.trees h → Rows newest db (after_one h r))
+
+-- the request is a repeat or is refused, so it adds no deed
+abbrev pub AddsNoDeed : History → Request → Type 0
+AddsNoDeed h r = (d : Deed) → verdict h r ≢ New d
 
 -- the transaction shows the rows of the deed and its reply, and nothing is committed
 pub record Wrote (old new : State) (before after : Totals) (r : Request) (d : Deed) : Type 0 where

@@ -14,7 +14,7 @@ ghost use Rattle.registry_rules.specs.TotalsOf.{AreTotalsOf};
 ghost use Rattle.registry_tables.specs.Finds.{Finds, ReadsHistoryOpen};
 ghost use Rattle.registry_tables.specs.Rows.{HoldsRows, newest};
 ghost use Rattle.registry_store.specs.Promise.{IsLegalWith, IsAt};
-ghost use Rattle.registry_store.specs.Attempt.{CommitsOne, Wrote};
+ghost use Rattle.registry_store.specs.Attempt.{CommitsOne, AddsNoDeed, Wrote};
 
 use registry_rules::{
     Deed, KeptReply, Reply, ReplyText, Request, Totals, Verdict, changes, judge, reply_text,
@@ -106,6 +106,7 @@ pub(crate) fn attempt<S: Alter>(
         → verdict h request.now ≡ verdicts.New deed → IsTrue (state S.Store conn.new).is_open) }
     ensures foreign { HasCleanDisk (state S.Store conn.new) → result ≡ Err TableFault.Foreign → (h : History) → IsLegalWith totals.old h → IsAt newest (state S.Store conn.old) h → ⊥ }
     ensures survives { Survives (state S.Store conn.old) (state S.Store conn.new) (CommitsOne (state S.Store conn.old) totals.old request.now) }
+    ensures no_deed { (h : History) → IsLegalWith totals.old h → IsAt newest (state S.Store conn.old) h → AddsNoDeed h request.now → CommitsNothing (state S.Store conn.old) (state S.Store conn.new) }
 {
     // For the proof only: the schema that the connection shows.
     let _schema = conn.schema();

@@ -5,6 +5,7 @@ mod attempt;
 pub mod fault;
 mod history;
 mod queries;
+pub mod recovery;
 pub mod registry;
 pub mod reopen;
 pub mod replies;
@@ -12,6 +13,7 @@ pub mod resume;
 pub mod run;
 
 pub use fault::Fault;
+pub use recovery::{Abandoned, run_and_recover};
 pub use registry::Registry;
 pub use reopen::{
     Closed, abandon, close_files, leave, leave_store, open_files, open_files_or_return, take_up,

@@ -13,6 +13,8 @@ mod older;
 #[cfg(test)]
 mod queries;
 #[cfg(test)]
+mod recovery;
+#[cfg(test)]
 mod starts;
 #[cfg(test)]
 mod steps;

@@ -1,5 +1,5 @@
 -- A read of `meta` returns the schema version of the store.
-use Rattle.std.proofs.Common.{◌≡◌, ◌≢◌, ◌<◌, ℕ, inl, Bool, true, nat_eq, List, [], ◌∷◌, ◌++◌, length, Result, Ok, Err, OnOk, MatchResult, sym, ap, subst, ◌∙◌, arith}
+use Rattle.std.proofs.Common.{◌≡◌, ◌≢◌, ◌<◌, ℕ, inl, true, nat_eq, List, [], ◌∷◌, ◌++◌, length, Result, Ok, Err, OnOk, MatchResult, sym, ap, subst, ◌∙◌, arith}
 use Rattle.std.specs.List.{list_any}
 use Rattle.std.proofs.lemmas.Bool.Decides.{nat_tests}
 use Rattle.std.specs.Borrow.{MutBor}

@@ -1,5 +1,5 @@
-use Rattle.std.proofs.Common.{◌≡◌, ◌+◌, true, take, ◌++◌, ◌∷◌, [], is_ok, sym, ap, subst, ◌∙◌, arith, rules}
-use Rattle.std.proofs.lemmas.List.{take_more, take_all}
+use Rattle.std.proofs.Common.{◌≡◌, ◌+◌, true, take, ◌++◌, ◌∷◌, [], is_ok, sym, ap, subst, ◌∙◌, rules}
+use Rattle.std.proofs.lemmas.List.{take_more}
 use Rattle.registry_rows.specs.Columns.{AreShown}
 use Rattle.registry_rows.proofs.DecodeLemmas.{one_more, not_foreign, shown_more}
 use Rattle.registry_rows.proofs.decode.all_from.Goals as goal

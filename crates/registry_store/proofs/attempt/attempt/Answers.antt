@@ -10,7 +10,7 @@ use Rattle.registry_tables.specs.Rows.{newest}
 use Rattle.registry_schema.specs.declared.fault.TableFault.TheVariants.{Foreign}
 use Rattle.registry_store.specs.Promise.{IsAt}
 use Rattle.registry_store.specs.Attempt.{CommitsOne}
-use Rattle.registry_store.proofs.TransactionLemmas.{answered, one_at_most, as_before, never_foreign, commits_none, quiet_then, said_of}
+use Rattle.registry_store.proofs.TransactionLemmas.{answered, never_here, one_at_most, as_before, never_foreign, commits_none, quiet_then, said_of}
 use Rattle.registry_store.proofs.attempt.attempt.Goals as goal
 
 pub returns-in_ok-commit-in-New-clause-answered : goal.returns-in_ok-commit-in-New-clause-answered
@@ -112,3 +112,60 @@ returns-in_err-write-in-New-clause-survives g c =
     let ends : CommitsNothing (state g.S.Store last) (state g.S.Store end) = search rules in
     let before = quiet_then (state g.S.Store c.transaction-tx.result.conn.now) (state g.S.Store mid) (state g.S.Store last) c.judged.ensures.survives c.write.ensures.survives in
     commits_none g.S.Store c.args.conn.now c.transaction-tx.result.conn.now last end c.transaction-tx.ensures.begun before ends _
+
+pub returns-in_ok-commit-in-New-clause-no_deed : goal.returns-in_ok-commit-in-New-clause-no_deed
+returns-in_ok-commit-in-New-clause-no_deed g c h counts at none =
+    let old = c.args.conn.now in
+    let r = c.args.request.now in
+    let whole = never_here g.S.Store old c.transaction-tx.result.conn.now c.judged.new.tx.conn.now c.transaction-tx.ensures.begun c.schema-schema.ensures.live c.args.totals.now r c.in_ok-verdict.verdict
+    c.in_ok-verdict.ensures.found c.judged.ensures.survives c.write.new.tx.conn.now c.write.new.totals c.in-New.deed c.in-New.is
+    c.in_ok-write-in-New.ensures.ok c.write.ensures.survives c.commit.new.tx.0 c.commit.ensures.survives h counts at (none c.in-New.deed) in
+    let same : c.commit.new.tx.0 ≡ c.conn-in-New-1.given.0 = search rules in
+    subst (λ x. CommitsNothing (state g.S.Store old) (state g.S.Store x)) same whole
+
+pub returns-in_err-commit-in-New-clause-no_deed : goal.returns-in_err-commit-in-New-clause-no_deed
+returns-in_err-commit-in-New-clause-no_deed g c h counts at none =
+    let old = c.args.conn.now in
+    let r = c.args.request.now in
+    let whole = never_here g.S.Store old c.transaction-tx.result.conn.now c.judged.new.tx.conn.now c.transaction-tx.ensures.begun c.schema-schema.ensures.live c.args.totals.now r c.in_ok-verdict.verdict
+    c.in_ok-verdict.ensures.found c.judged.ensures.survives c.write.new.tx.conn.now c.write.new.totals c.in-New.deed c.in-New.is
+    c.in_ok-write-in-New.ensures.ok c.write.ensures.survives c.commit.new.tx.0 c.commit.ensures.survives h counts at (none c.in-New.deed) in
+    let same : c.commit.new.tx.0 ≡ c.conn-in-New-1.given.0 = search rules in
+    subst (λ x. CommitsNothing (state g.S.Store old) (state g.S.Store x)) same whole
+
+pub returns-in_err-write-in-New-clause-no_deed : goal.returns-in_err-write-in-New-clause-no_deed
+returns-in_err-write-in-New-clause-no_deed g c h counts at none =
+    let mid = c.judged.new.tx.conn.now in
+    let last = c.write.new.tx.conn.now in
+    let end = c.conn-in_err-write-in-New-1.given.0 in
+    let ends : CommitsNothing (state g.S.Store last) (state g.S.Store end) = search rules in
+    let before = quiet_then (state g.S.Store c.transaction-tx.result.conn.now) (state g.S.Store mid) (state g.S.Store last) c.judged.ensures.survives c.write.ensures.survives in
+    commits_none g.S.Store c.args.conn.now c.transaction-tx.result.conn.now last end c.transaction-tx.ensures.begun before ends (λ _. ⊥)
+
+pub returns-in-Refused-clause-no_deed : goal.returns-in-Refused-clause-no_deed
+returns-in-Refused-clause-no_deed g c h counts at none =
+    let mid = c.judged.new.tx.conn.now in
+    let end = c.conn-in-Refused-1.given.0 in
+    let ends : CommitsNothing (state g.S.Store mid) (state g.S.Store end) = search rules in
+    commits_none g.S.Store c.args.conn.now c.transaction-tx.result.conn.now mid end c.transaction-tx.ensures.begun c.judged.ensures.survives ends (λ _. ⊥)
+
+pub returns-in-Kept-clause-no_deed : goal.returns-in-Kept-clause-no_deed
+returns-in-Kept-clause-no_deed g c h counts at none =
+    let mid = c.judged.new.tx.conn.now in
+    let end = c.conn-in-Kept-1.given.0 in
+    let ends : CommitsNothing (state g.S.Store mid) (state g.S.Store end) = search rules in
+    commits_none g.S.Store c.args.conn.now c.transaction-tx.result.conn.now mid end c.transaction-tx.ensures.begun c.judged.ensures.survives ends (λ _. ⊥)
+
+pub returns-in_default-clause-no_deed : goal.returns-in_default-clause-no_deed
+returns-in_default-clause-no_deed g c h counts at none =
+    let mid = c.judged.new.tx.conn.now in
+    let end = c.conn-in_default-1.given.0 in
+    let ends : CommitsNothing (state g.S.Store mid) (state g.S.Store end) = search rules in
+    commits_none g.S.Store c.args.conn.now c.transaction-tx.result.conn.now mid end c.transaction-tx.ensures.begun c.judged.ensures.survives ends (λ _. ⊥)
+
+pub returns-in_err-verdict-clause-no_deed : goal.returns-in_err-verdict-clause-no_deed
+returns-in_err-verdict-clause-no_deed g c h counts at none =
+    let mid = c.judged.new.tx.conn.now in
+    let end = c.conn-1.given.0 in
+    let ends : CommitsNothing (state g.S.Store mid) (state g.S.Store end) = search rules in
+    commits_none g.S.Store c.args.conn.now c.transaction-tx.result.conn.now mid end c.transaction-tx.ensures.begun c.judged.ensures.survives ends (λ _. ⊥)

@@ -5,7 +5,7 @@ use Rattle.table_laws.specs.Inside.{CommitsNothing}
 use Rattle.registry_schema.specs.declared.fault.TableFault.TheVariants.{Foreign}
 use Rattle.registry_tables.specs.Raising.{CommitsLater, StaysOpen}
 use Rattle.registry_store.specs.Promise.{state_of}
-use Rattle.registry_store.proofs.MigrationLemmas.{leaves_then, quiet_after, commits_then, foreign_after, open_then}
+use Rattle.registry_store.proofs.MigrationLemmas.{leaves_then, quiet_after, commits_then, foreign_after, open_then, known_then}
 use Rattle.registry_store.proofs.OpeningLemmas.{at_rest}
 use Rattle.registry_store.proofs.registry.Registry.open.Goals as goal
 
@@ -66,6 +66,10 @@ returns-in-Ok-clause-untouched g c = elim c.migrate.ensures.untouched [
   | inl older ↦ inl older
   | inr quiet ↦ inr (commits_then (state g.S.Store c.args.conn) (state g.S.Store c.migrate.new.conn) (λ _. ⊥) state_of (λ e. state g.S.Store e.1) quiet c.open_newest.result c.open_newest.ensures.survives)
 ]
+
+pub returns-in-Ok-clause-known : goal.returns-in-Ok-clause-known
+returns-in-Ok-clause-known g c =
+    known_then g.S.Store c.args.conn c.migrate.new.conn state_of (λ e. state g.S.Store e.1) c.in-Ok.ensures.known c.open_newest.result c.open_newest.ensures.survives c.open_newest.ensures.says_newest
 
 -- ---- the same of a connection that was just opened
 
