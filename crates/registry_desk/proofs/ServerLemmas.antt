@@ -4,13 +4,14 @@ use Rattle.std.specs.Prelude.{true, Option, Some, None, Result, Ok, Err, OnOk, O
 use Rattle.sqlite.specs.Store.{Ghosts}
 use Rattle.sqlite.specs.State.{HasCleanDisk}
 use Rattle.byte_streams.specs.declared.streams.Broken.{Broken}
-use Rattle.byte_streams.specs.Streams.{HasFailed, MayGive}
+use Rattle.byte_streams.specs.Streams.{MayGive}
 use Rattle.registry_rules.specs.History.{History}
 use Rattle.registry_store.specs.declared.fault.Fault.{Fault}
 use Rattle.registry_store.specs.declared.registry.Registry.{Registry as TheRegistry}
 use Rattle.registry_tables.specs.Rows.{newest}
 use Rattle.registry_store.specs.Promise.{Represents, Leaves, is_poisoned, state_of}
 use Rattle.registry_http.specs.declared.response.Response.{Response}
+use Rattle.registry_http.specs.Incomplete.{FailsAfter, IsIncomplete}
 use Rattle.registry_http.specs.Responses.{response_bytes, unavailable_response}
 use Rattle.registry_desk.specs.declared.fault.DeskFault.{DeskFault}
 use Rattle.registry_desk.specs.declared.fault.DeskFault.TheVariants.{NoMemory, Registry}
@@ -128,7 +129,7 @@ module _ {C R W : Type 0} (opens : C → C → R → W → Type 0) (closes : C �
   -- a connection was opened, this was served, and it was closed
   visit_with : (old opened new : C) (reader reader_new : R) (writer writer_new : W) (visit : Visit) (status : Option ℕ)
       → opens old opened reader writer → closes opened new reader_new writer_new status → status ≡ status_of visit.end → MayGive (remaining reader) visit.bytes
-      → IsRead reads_failed reader reader_new visit → IsWritten contents writes_failed writer writer_new visit → IsVisit opens closes remaining reads_failed contents writes_failed old new visit
+      → IsRead remaining reads_failed reader reader_new visit → IsWritten contents writes_failed writer writer_new visit → IsVisit opens closes remaining reads_failed contents writes_failed old new visit
   visit_with old opened new reader reader_new writer writer_new visit status opens_with closes_with status_is gives read written = record {
     opened = opened;
     reader = reader;
@@ -159,7 +160,7 @@ module _ {S C R W : Type 0} {g : Ghosts S} (opens : C → C → R → W → Type
       → IfOk served (λ served. (response : Response) × Sends contents writes_failed writer writer_new response served.status
       × ((h : History) → Represents mid h → HasCleanDisk (state_of last) → AreTextsOf h kept → IsServed last h bytes response served.fault × AreTextsAfter h bytes kept_new)
       × (is_poisoned mid ≡ true → kept ≡ no_texts → IsTurnedAway bytes response served.fault × (last ≡ mid) × (kept_new ≡ no_texts)))
-      → OnErr served (HasFailed (reads_failed reader) (reads_failed reader_new) × (writer_new ≡ writer) × (last ≡ mid) × (kept_new ≡ kept))
+      → OnErr served (FailsAfter (remaining reader) (remaining reader_new) (reads_failed reader) (reads_failed reader_new) IsIncomplete × (writer_new ≡ writer) × (last ≡ mid) × (kept_new ≡ kept))
       → OnOk served (reads_failed reader_new ≡ reads_failed reader)
       → (visit : Visit)
       × IsVisit opens closes remaining reads_failed contents writes_failed old new visit

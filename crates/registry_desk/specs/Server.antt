@@ -6,7 +6,7 @@
 use Rattle.std.specs.Prelude.{◌≡◌, ◌≢◌, ◌⊎◌, ⊤, ℕ, List, [], ◌∷◌, ◌++◌, Option, Some, None, Result, Ok, Err, IfOk}
 use Rattle.std.specs.Result.{result_ok}
 use Rattle.sqlite.specs.Store.{Ghosts}
-use Rattle.byte_streams.specs.Streams.{HasFailed, MayGive}
+use Rattle.byte_streams.specs.Streams.{MayGive}
 use Rattle.registry_rules.specs.History.{History}
 use Rattle.registry_store.specs.declared.fault.Fault.{Fault}
 use Rattle.registry_store.specs.declared.registry.Registry.{Registry as TheRegistry}
@@ -15,6 +15,7 @@ use Rattle.registry_http.specs.declared.response.Response.{Response}
 use Rattle.registry_http.specs.declared.refusal.HttpRefusal.{HttpRefusal}
 use Rattle.registry_http.specs.declared.message.Message.{Message}
 use Rattle.registry_http.specs.Responses.{response_bytes, unavailable_response}
+use Rattle.registry_http.specs.Incomplete.{FailsAfter, IsIncomplete}
 use Rattle.registry_http.specs.Messages.{Says}
 use Rattle.byte_streams.specs.declared.streams.Broken.{Broken}
 use Rattle.registry_desk.specs.declared.fault.DeskFault.TheVariants.{Registry, NoMemory}
@@ -53,13 +54,13 @@ IsWritten contents failures old new visit = WrittenAt visit.end
     WrittenAt (Ok served) = (response : Response) × (visit.text ≡ response_bytes response) × Sends contents failures old new response served.status
     WrittenAt (Err broken) = new ≡ old
 
--- a message came, and its reader did not fail; or the reader failed
-abbrev pub IsRead : {R : Type 0} → (R → ℕ) → R → R → Visit → Type 0
-IsRead failures old new visit = ReadAt visit.end
+-- a message came, and its reader did not fail; or the reader failed before the message was complete
+abbrev pub IsRead : {R : Type 0} → (R → Option (List ℕ)) → (R → ℕ) → R → R → Visit → Type 0
+IsRead remaining failures old new visit = ReadAt visit.end
   where
     ReadAt : Result Served Broken → Type 0
     ReadAt (Ok served) = failures new ≡ failures old
-    ReadAt (Err broken) = HasFailed (failures old) (failures new)
+    ReadAt (Err broken) = FailsAfter (remaining old) (remaining new) (failures old) (failures new) IsIncomplete
 
 -- a message came, and if its response was written whole, it has this status
 abbrev pub IsSentWith : Result Served Broken → ℕ → Type 0
@@ -76,7 +77,7 @@ module _ {C R W : Type 0} (opens : C → C → R → W → Type 0) (closes : C �
     pub writer_new : W
     pub opens_with : opens old opened reader writer
     pub gives : MayGive (remaining reader) visit.bytes
-    pub read : IsRead reads_failed reader reader_new visit
+    pub read : IsRead remaining reads_failed reader reader_new visit
     pub written : IsWritten contents writes_failed writer writer_new visit
     pub status : Option ℕ
     pub status_is : status ≡ status_of visit.end

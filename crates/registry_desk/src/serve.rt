@@ -2,11 +2,12 @@
 
 ghost use Rattle.std.specs.Prelude.{◌≡◌, true, List, ℕ, Option, Some, IfOk, OnOk, OnErr};
 ghost use Rattle.sqlite.specs.State.{HasCleanDisk};
-ghost use Rattle.byte_streams.specs.Streams.{HasFailed, MayGive};
+ghost use Rattle.byte_streams.specs.Streams.{MayGive};
 ghost use Rattle.registry_rules.specs.History.{History};
 ghost use Rattle.registry_store.specs.Promise.{Represents, Endures, is_poisoned, state_of};
 ghost use Rattle.registry_store.specs.declared.fault.Fault.TheVariants as faults;
 ghost use Rattle.registry_http.specs.declared.response.Response.{Response as TheResponse};
+ghost use Rattle.registry_http.specs.Incomplete.{FailsAfter, IsIncomplete};
 ghost use Rattle.registry_http.specs.Responses.{unavailable_response};
 ghost use Rattle.registry_desk.specs.Faults.{unavailable_of, registry_fault};
 ghost use Rattle.registry_desk.specs.Serving.{IsSent, IsTold, IsServed, IsTurnedAway, Sends};
@@ -68,8 +69,8 @@ fn send<W: Sink>(alloc: Global, sink: &mut W, done: &Result<Response, DeskFault>
 /// Reads one message from the source, acts on it, and writes its response to the sink. The list or
 /// a report that is kept is written again, and a new one is kept.
 ///
-/// Returns `Broken` only if the source failed in this call: then nothing is written and nothing
-/// was acted on.
+/// Returns `Broken` only if the source failed in this call, before the message was complete: then
+/// nothing is written and nothing was acted on.
 pub(crate) fn serve_message<R: Source, W: Sink, S: Alter>(
     alloc: Global,
     routes: &mut Routes,
@@ -83,7 +84,7 @@ pub(crate) fn serve_message<R: Source, W: Sink, S: Alter>(
         × ((h : History) → Represents registry.old h → HasCleanDisk (state_of registry.new) → AreTextsOf h kept.old → IsServed registry.new h bytes response served.fault × AreTextsAfter h bytes kept.new)
         × (is_poisoned registry.old ≡ true → kept.old ≡ no_texts → IsTurnedAway bytes response served.fault × (registry.new ≡ registry.old) × (kept.new ≡ no_texts))) }
     ensures poisoned { IfOk result (λ served. served.fault ≡ Some faults.Poisoned → is_poisoned registry.old ≡ true) }
-    ensures read { OnErr result (HasFailed (R.failures source.old) (R.failures source.new) × (sink.new ≡ sink.old) × (registry.new ≡ registry.old) × (kept.new ≡ kept.old)) }
+    ensures read { OnErr result (FailsAfter (R.remaining source.old) (R.remaining source.new) (R.failures source.old) (R.failures source.new) IsIncomplete × (sink.new ≡ sink.old) × (registry.new ≡ registry.old) × (kept.new ≡ kept.old)) }
     ensures kept { OnOk result (R.failures source.new ≡ R.failures source.old) }
     ensures endures { Endures (state_of registry.old) (state_of registry.new) }
 {
@@ -105,9 +106,9 @@ pub(crate) fn serve_message<R: Source, W: Sink, S: Alter>(
 
 /// Reads one message from the source, acts on it, and writes its response to the sink.
 ///
-/// Returns `Broken` only if the source failed in this call: then nothing is written and nothing
-/// was acted on. If the sink failed, a prefix of the response was written, and an order may have
-/// been acted on; sent again under its key it gets the same reply.
+/// Returns `Broken` only if the source failed in this call, before the message was complete: then
+/// nothing is written and nothing was acted on. If the sink failed, a prefix of the response was
+/// written, and an order may have been acted on; sent again under its key it gets the same reply.
 ///
 /// A message needs at most 8,192 bytes of memory for its head, and an order in JSON at most 16,384
 /// for its body besides the request itself; an imported list needs the memory of its document.
@@ -123,7 +124,7 @@ pub fn serve_one<R: Source, W: Sink, S: Alter>(
         × ((h : History) → Represents registry.old h → HasCleanDisk (state_of registry.new) → IsServed registry.new h bytes response served.fault)
         × (is_poisoned registry.old ≡ true → IsTurnedAway bytes response served.fault × (registry.new ≡ registry.old))) }
     ensures poisoned { IfOk result (λ served. served.fault ≡ Some faults.Poisoned → is_poisoned registry.old ≡ true) }
-    ensures read { OnErr result (HasFailed (R.failures source.old) (R.failures source.new) × (sink.new ≡ sink.old) × (registry.new ≡ registry.old)) }
+    ensures read { OnErr result (FailsAfter (R.remaining source.old) (R.remaining source.new) (R.failures source.old) (R.failures source.new) IsIncomplete × (sink.new ≡ sink.old) × (registry.new ≡ registry.old)) }
     ensures kept { OnOk result (R.failures source.new ≡ R.failures source.old) }
     ensures endures { Endures (state_of registry.old) (state_of registry.new) }
 {

@@ -4,5 +4,6 @@ pub mod PartLemmas
 pub mod AsciiLemmas
 pub mod BodyLemmas
 pub mod MessageLemmas
+pub mod IncompleteLemmas
 pub mod ObjectLemmas
 pub mod FoundingLemmas

@@ -79,7 +79,7 @@ message_says_one_thing founding bytes a b (inr x) (inr y) =
     let head_says = subst (λ (h : RequestHead). HeadSays founding (head_reading h) x.1 a) same.0 x.3 in
     head_says_one_thing founding (head_reading y.0) y.1 a b (subst (λ (rest : List ℕ). HeadSays founding (head_reading y.0) rest a) same.1 head_says) y.3
 
-head_at_spans : (buf : List ℕ) (spans : List HeaderSpan) (r : RequestSpans) (h : RequestHead) → IsRequestAt buf spans r h
+pub head_at_spans : (buf : List ℕ) (spans : List HeaderSpan) (r : RequestSpans) (h : RequestHead) → IsRequestAt buf spans r h
     → head_in (span_bytes buf r.method) (span_bytes buf r.path) (map (header_bytes buf) (take r.headers spans)) ≡ head_reading h
 head_at_spans buf spans r h at = rw (at.method, at.path, at.fields) refl
 

@@ -7,6 +7,7 @@ pub mod Refusals
 pub mod Reading
 pub mod Bodies
 pub mod Messages
+pub mod Incomplete
 pub mod Statuses
 pub mod Responses
 pub mod Objects

@@ -1,10 +1,11 @@
 //! Reads the body of a message, after its head.
 
 ghost use Rattle.std.specs.Prelude.{Err, ◌≡◌, ◌≤◌, ◌<◌, ◌+◌, ◌++◌, [], true, false, ℕ, List, length, drop, nat_le, IfOk, OnOk};
-ghost use Rattle.std.specs.Io.KnownBytes.{Consumes, IsAtEnd};
+ghost use Rattle.std.specs.Io.KnownBytes.{Consumes, IsAtEnd, Keeps};
 ghost use Rattle.byte_streams.specs.Streams.{HasFailed, MayGive};
 ghost use Rattle.usbids_text.specs.Readers.{WasFed};
 ghost use Rattle.registry_http.specs.Bodies.{IsBuffered, IsFed};
+ghost use Rattle.registry_http.specs.Incomplete.{FailsAfter};
 
 use crate::head::{MessageFault, take_at_most};
 use byte_streams::{Broken, Source};
@@ -22,7 +23,7 @@ fn read_up_to<R: Source>(
         × (whole ≡ nat_le wanted (length buffer.new.items)) × (whole ≡ false → IsAtEnd (R.remaining source.new))) }
     ensures kept { OnOk result (R.failures source.new ≡ R.failures source.old) }
     ensures short { result ≡ Err MessageFault.NoMemory → R.failures source.new ≡ R.failures source.old }
-    ensures broken { result ≡ Err MessageFault.Broken → HasFailed (R.failures source.old) (R.failures source.new) }
+    ensures broken { result ≡ Err MessageFault.Broken → FailsAfter (R.remaining source.old) (R.remaining source.new) (R.failures source.old) (R.failures source.new) (λ more. length (buffer.old.items ++ more) < wanted) }
 {
     while buffer.len() < wanted {
         let count = take_at_most(source, buffer, wanted - buffer.len())?;
@@ -48,7 +49,7 @@ pub(crate) fn read_body<R: Source>(
         × IsBuffered whole buffer.new.items start count (drop start buffer.old.items ++ rest)) }
     ensures kept { OnOk result (R.failures source.new ≡ R.failures source.old) }
     ensures short { result ≡ Err MessageFault.NoMemory → R.failures source.new ≡ R.failures source.old }
-    ensures broken { result ≡ Err MessageFault.Broken → HasFailed (R.failures source.old) (R.failures source.new) }
+    ensures broken { result ≡ Err MessageFault.Broken → FailsAfter (R.remaining source.old) (R.remaining source.new) (R.failures source.old) (R.failures source.new) (λ more. length (drop start buffer.old.items ++ more) < count) }
 {
     read_up_to(source, buffer, start.saturating_add(count))
 }
@@ -66,7 +67,7 @@ fn feed_more<R: Source>(
         × ((t : List ℕ) → WasFed reader.old t → WasFed reader.new (t ++ more))) }
     ensures kept { OnOk result (R.failures source.new ≡ R.failures source.old) }
     ensures short { result ≡ Err MessageFault.NoMemory → R.failures source.new ≡ R.failures source.old }
-    ensures broken { result ≡ Err MessageFault.Broken → HasFailed (R.failures source.old) (R.failures source.new) }
+    ensures broken { result ≡ Err MessageFault.Broken → HasFailed (R.failures source.old) (R.failures source.new) × Keeps (R.remaining source.old) (R.remaining source.new) }
 {
     let mut chunk = [0u8; 4096];
     let room = most.min(chunk.len());
@@ -91,7 +92,7 @@ fn feed_from<R: Source>(
         × ((t : List ℕ) → WasFed reader.old t → WasFed reader.new (t ++ more))) }
     ensures kept { OnOk result (R.failures source.new ≡ R.failures source.old) }
     ensures short { result ≡ Err MessageFault.NoMemory → R.failures source.new ≡ R.failures source.old }
-    ensures broken { result ≡ Err MessageFault.Broken → HasFailed (R.failures source.old) (R.failures source.new) }
+    ensures broken { result ≡ Err MessageFault.Broken → FailsAfter (R.remaining source.old) (R.remaining source.new) (R.failures source.old) (R.failures source.new) (λ more. length more < wanted) }
 {
     let mut left = wanted;
     while left > 0 {
@@ -116,7 +117,7 @@ pub(crate) fn feed_body<R: Source>(
     ensures ok { IfOk result (λ whole. (rest : List ℕ) × MayGive (R.remaining source.old) rest × IsFed whole reader.new count (come.now ++ rest)) }
     ensures kept { OnOk result (R.failures source.new ≡ R.failures source.old) }
     ensures short { result ≡ Err MessageFault.NoMemory → R.failures source.new ≡ R.failures source.old }
-    ensures broken { result ≡ Err MessageFault.Broken → HasFailed (R.failures source.old) (R.failures source.new) }
+    ensures broken { result ≡ Err MessageFault.Broken → FailsAfter (R.remaining source.old) (R.remaining source.new) (R.failures source.old) (R.failures source.new) (λ more. length (come.now ++ more) < count) }
 {
     let first = come.len().min(count);
     let _ = reader.feed(&come[..first]);

@@ -1,12 +1,13 @@
 //! Reads the head of a message.
 
 ghost use Rattle.std.specs.Prelude.{Err, Some, ◌≡◌, ◌≤◌, ◌<◌, ℕ, List, [], ◌++◌, length, drop, IfOk, OnOk};
-ghost use Rattle.std.specs.Io.KnownBytes.{Consumes, IsAtEnd};
+ghost use Rattle.std.specs.Io.KnownBytes.{Consumes, IsAtEnd, Keeps};
 ghost use Rattle.httparse.specs.Spans.{IsRequestAt, IsRequestWithin};
 ghost use Rattle.httparse.specs.Grammar.{RequestHead};
 ghost use Rattle.byte_streams.specs.Streams.{MayGive, HasFailed};
 ghost use Rattle.registry_http.specs.Heads.{HasHead, HasNoHead};
 ghost use Rattle.registry_http.specs.HeadEnds.{IfWhole, OnMissing};
+ghost use Rattle.registry_http.specs.Incomplete.{FailsAfter, IsIncomplete};
 ghost use Rattle.registry_http.specs.Refusals.{message_fault_text};
 
 use byte_streams::{Broken, Source};
@@ -62,7 +63,7 @@ pub(crate) fn take_at_most<R: Source>(
         × Consumes (R.remaining source.old) (R.remaining source.new) more × (n ≡ 0 → IsAtEnd (R.remaining source.new))
         × (R.failures source.new ≡ R.failures source.old)) }
     ensures short { result ≡ Err MessageFault.NoMemory → R.failures source.new ≡ R.failures source.old }
-    ensures broken { result ≡ Err MessageFault.Broken → HasFailed (R.failures source.old) (R.failures source.new) }
+    ensures broken { result ≡ Err MessageFault.Broken → HasFailed (R.failures source.old) (R.failures source.new) × Keeps (R.remaining source.old) (R.remaining source.new) }
 {
     let mut chunk = [0u8; 2048];
     let room = most.min(chunk.len());
@@ -90,7 +91,7 @@ pub(crate) fn read_head<R: Source>(
     ensures missing { IfOk result (λ end. OnMissing end ((bytes : List ℕ) × MayGive (R.remaining source.old) bytes × HasNoHead bytes)) }
     ensures kept { OnOk result (R.failures source.new ≡ R.failures source.old) }
     ensures short { result ≡ Err MessageFault.NoMemory → R.failures source.new ≡ R.failures source.old }
-    ensures broken { result ≡ Err MessageFault.Broken → HasFailed (R.failures source.old) (R.failures source.new) }
+    ensures broken { result ≡ Err MessageFault.Broken → FailsAfter (R.remaining source.old) (R.remaining source.new) (R.failures source.old) (R.failures source.new) IsIncomplete }
 {
     while buffer.len() < MOST_HEAD {
         let count = take_at_most(source, buffer, MOST_HEAD - buffer.len())?;

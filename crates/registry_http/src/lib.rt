@@ -21,7 +21,7 @@ mod write;
 
 pub use founding::founding_response;
 pub use head::MessageFault;
-pub use message::{Message, read_message, says_one_thing};
+pub use message::{Message, read_message, refuses_an_incomplete_message, says_one_thing};
 pub use refusal::{Allow, HttpRefusal};
 pub use resources::{number_response, org_response, petition_response};
 pub use response::{Body, ContentType, Response, refusal_response, reply_response, text_response};

@@ -1,18 +1,21 @@
 //! Reads a message as a query or a request.
 
-ghost use Rattle.std.specs.Prelude.{Ok, Err, Result, ◌≡◌, ◌≤◌, ◌<◌, ◌++◌, ℕ, List, length, drop, take, map, IfOk, OnOk};
-ghost use Rattle.byte_streams.specs.Streams.{HasFailed, MayGive};
+ghost use Rattle.std.specs.Prelude.{Ok, Err, Result, ◌≡◌, ◌⊎◌, ◌≤◌, ◌<◌, ◌++◌, ℕ, List, length, drop, take, map, IfOk, OnOk};
+ghost use Rattle.byte_streams.specs.Streams.{MayGive};
 ghost use Rattle.httparse.specs.Spans.{IsRequestWithin, span_bytes, header_bytes};
 ghost use Rattle.registry_wire.specs.Reading.{body_reading};
 ghost use Rattle.registry_wire.specs.declared.refusal.WireRefusal.{WireRefusal};
+ghost use Rattle.registry_wire.specs.declared.refusal.WireRefusal.TheVariants.{BadHead, ShortBody};
 ghost use Rattle.registry_rules.specs.declared.order.Request.{Request};
 ghost use Rattle.registry_http.specs.Bodies.{body_in, IsFed};
 ghost use Rattle.registry_http.specs.declared.route.Endpoint.TheVariants as endpoints;
 ghost use Rattle.registry_http.specs.Reading.{head_in};
+ghost use Rattle.registry_http.specs.Incomplete.{FailsAfter, HasOpenBody, IsIncomplete};
 ghost use Rattle.registry_http.specs.Routes.{templates};
 ghost use Rattle.registry_http.specs.Messages.{BodySays, HeadSays, Says};
 ghost use Rattle.registry_http.specs.declared.message.Message.{Message};
 ghost use Rattle.registry_http.specs.declared.refusal.HttpRefusal.{HttpRefusal};
+ghost use Rattle.registry_http.specs.declared.refusal.HttpRefusal.TheVariants.{Wire};
 
 use crate::body::{feed_body, read_body};
 use crate::head::{HeadEnd, MessageFault, read_head};
@@ -97,7 +100,7 @@ fn read_import<R: Source>(
     ensures ok { IfOk result (λ said. (rest : List ℕ) × MayGive (R.remaining source.old) rest × BodySays founding (endpoints.Imports org vendor) caller key (body_in count (come.now ++ rest)) said) }
     ensures kept { OnOk result (R.failures source.new ≡ R.failures source.old) }
     ensures short { result ≡ Err MessageFault.NoMemory → R.failures source.new ≡ R.failures source.old }
-    ensures broken { result ≡ Err MessageFault.Broken → HasFailed (R.failures source.old) (R.failures source.new) }
+    ensures broken { result ≡ Err MessageFault.Broken → FailsAfter (R.remaining source.old) (R.remaining source.new) (R.failures source.old) (R.failures source.new) (λ more. length (come.now ++ more) < count) }
 {
     let mut reader = Reader::new(alloc);
     match feed_body(source, &mut reader, come, count) {
@@ -122,7 +125,7 @@ fn read_command<R: Source>(
     ensures ok { IfOk result (λ said. (rest : List ℕ) × MayGive (R.remaining source.old) rest × ((founding : ℕ) → BodySays founding endpoints.Commands caller key (body_in count (drop start buffer.old.items ++ rest)) said)) }
     ensures kept { OnOk result (R.failures source.new ≡ R.failures source.old) }
     ensures short { result ≡ Err MessageFault.NoMemory → R.failures source.new ≡ R.failures source.old }
-    ensures broken { result ≡ Err MessageFault.Broken → HasFailed (R.failures source.old) (R.failures source.new) }
+    ensures broken { result ≡ Err MessageFault.Broken → FailsAfter (R.remaining source.old) (R.remaining source.new) (R.failures source.old) (R.failures source.new) (λ more. length (drop start buffer.old.items ++ more) < count) }
 {
     match read_body(source, buffer, start, count) {
         Ok(true) => command_in(alloc, caller, key, &buffer[start..start + count]),
@@ -146,7 +149,7 @@ fn read_order<R: Source>(
         × BodySays founding order.endpoint order.caller order.key (body_in order.length (drop start buffer.old.items ++ rest)) said) }
     ensures kept { OnOk result (R.failures source.new ≡ R.failures source.old) }
     ensures short { result ≡ Err MessageFault.NoMemory → R.failures source.new ≡ R.failures source.old }
-    ensures broken { result ≡ Err MessageFault.Broken → HasFailed (R.failures source.old) (R.failures source.new) }
+    ensures broken { result ≡ Err MessageFault.Broken → FailsAfter (R.remaining source.old) (R.remaining source.new) (R.failures source.old) (R.failures source.new) (λ more. length (drop start buffer.old.items ++ more) < order.length) }
 {
     let OrderHead {
         endpoint,
@@ -213,7 +216,7 @@ fn read_rest<R: Source>(
     ensures ok { IfOk result (λ said. (rest : List ℕ) × MayGive (R.remaining source.old) rest × HeadSays founding (Ok call) (drop start buffer.old.items ++ rest) said) }
     ensures kept { OnOk result (R.failures source.new ≡ R.failures source.old) }
     ensures short { result ≡ Err MessageFault.NoMemory → R.failures source.new ≡ R.failures source.old }
-    ensures broken { result ≡ Err MessageFault.Broken → HasFailed (R.failures source.old) (R.failures source.new) }
+    ensures broken { result ≡ Err MessageFault.Broken → FailsAfter (R.remaining source.old) (R.remaining source.new) (R.failures source.old) (R.failures source.new) (λ more. HasOpenBody (Ok call) (drop start buffer.old.items ++ more)) }
 {
     match call {
         Head::Query(query) => Ok(Ok(Message::Query(query))),
@@ -242,7 +245,7 @@ fn read_after_head<R: Source>(
         × HeadSays founding (head_in (span_bytes buffer.old.items head.method) (span_bytes buffer.old.items head.path) (map (header_bytes buffer.old.items) (take head.headers spans.now))) (drop head.len buffer.old.items ++ rest) said) }
     ensures kept { OnOk result (R.failures source.new ≡ R.failures source.old) }
     ensures short { result ≡ Err MessageFault.NoMemory → R.failures source.new ≡ R.failures source.old }
-    ensures broken { result ≡ Err MessageFault.Broken → HasFailed (R.failures source.old) (R.failures source.new) }
+    ensures broken { result ≡ Err MessageFault.Broken → FailsAfter (R.remaining source.old) (R.remaining source.new) (R.failures source.old) (R.failures source.new) (λ more. HasOpenBody (head_in (span_bytes buffer.old.items head.method) (span_bytes buffer.old.items head.path) (map (header_bytes buffer.old.items) (take head.headers spans.now))) (drop head.len buffer.old.items ++ more)) }
 {
     match head_at(alloc, router, buffer, spans, head) {
         Ok(Ok(call)) => read_rest(alloc, source, buffer, head.len, founding, call),
@@ -252,15 +255,18 @@ fn read_after_head<R: Source>(
 }
 
 /// Reads one message to a registry with this founding vendor. Returns a query, a request, or the
-/// refusal of the first fault. Reads no further once the bytes read decide the result. The first
-/// message makes the table of the served paths.
+/// refusal of the first fault. The first message makes the table of the served paths.
+///
+/// Reads only while the message is incomplete: bytes that follow can complete its head within 8,192
+/// bytes, or its head is that of an order whose body is not complete. So it never waits for a peer
+/// that has sent its whole message.
 ///
 /// A message needs at most 8,192 bytes of memory for its head and 16,384 for the body of an order
 /// in JSON, besides the request itself. An imported list is read in pieces and needs the memory of
 /// its document.
 ///
-/// Returns `Broken` only if the source failed during this call, and `NoMemory` only when it runs
-/// out of memory.
+/// Returns `Broken` only if the source failed during this call, before the message was complete, and
+/// `NoMemory` only when it runs out of memory.
 pub fn read_message<R: Source>(
     alloc: Global,
     routes: &mut Routes,
@@ -270,7 +276,7 @@ pub fn read_message<R: Source>(
     ensures ok { IfOk result (λ said. (bytes : List ℕ) × MayGive (R.remaining source.old) bytes × Says founding bytes said) }
     ensures kept { OnOk result (R.failures source.new ≡ R.failures source.old) }
     ensures short { result ≡ Err MessageFault.NoMemory → R.failures source.new ≡ R.failures source.old }
-    ensures broken { result ≡ Err MessageFault.Broken → HasFailed (R.failures source.old) (R.failures source.new) }
+    ensures broken { result ≡ Err MessageFault.Broken → FailsAfter (R.remaining source.old) (R.remaining source.new) (R.failures source.old) (R.failures source.new) IsIncomplete }
 {
     let mut buffer = Vec::new(alloc);
     let mut spans = [EMPTY_HEADER_SPAN; 64];
@@ -295,4 +301,10 @@ pub fn read_message<R: Source>(
 /// The bytes of a message have one meaning, however they are cut into pieces.
 pub fn says_one_thing()
     ensures { (founding : ℕ) (bytes : List ℕ) (a b : Result Message HttpRefusal) → Says founding bytes a → Says founding bytes b → a ≡ b }
+{}
+
+/// The bytes of an incomplete message alone are refused: they have no head, or their body ends
+/// early. So a message that says anything else is complete.
+pub fn refuses_an_incomplete_message()
+    ensures { (founding : ℕ) (bytes : List ℕ) (said : Result Message HttpRefusal) → IsIncomplete bytes → Says founding bytes said → (said ≡ Err (Wire BadHead)) ⊎ (said ≡ Err (Wire ShortBody)) }
 {}

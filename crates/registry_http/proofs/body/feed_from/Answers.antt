@@ -1,7 +1,10 @@
-use Rattle.std.proofs.Common.{◌≡◌, ◌++◌, length, sym, subst, ◌∙◌, append_assoc, arith, length-append}
+use Rattle.std.proofs.Common.{rules, ◌≡◌, ◌<◌, ◌++◌, ℕ, List, length, ap, sym, subst, ◌∙◌, append_assoc, arith, length-append}
+use Rattle.std.specs.Prelude.{Err}
 use Rattle.std.proofs.lemmas.Bool.{lt-leb}
 use Rattle.usbids_text.specs.Readers.{WasFed}
 use Rattle.byte_streams.proofs.StreamLemmas.{consumes_then}
+use Rattle.registry_http.specs.declared.head.MessageFault.TheVariants.{Broken}
+use Rattle.registry_http.proofs.IncompleteLemmas.{fails_after, same_error}
 use Rattle.registry_http.proofs.body.feed_from.Goals as goal
 
 pub returns-then-count-eq0-clause-ok : goal.returns-then-count-eq0-clause-ok
@@ -31,3 +34,13 @@ loop-left-preserved g c =
       );
       same_failures = c.in_ok-count.ensures.kept ∙ c.loop-left.invariant.same_failures;
     }
+
+pub returns-in_err-count-clause-broken : goal.returns-in_err-count-clause-broken
+returns-in_err-count-clause-broken g c = λ broken.
+    let read = c.loop-left.invariant.read in
+    let is : c.from_residual.result ≡ Err c.in_err-count.field-0.0 = search rules in
+    let failed = c.in_err-count.ensures.broken (ap Err (same_error c.from_residual.result c.in_err-count.field-0.0 Broken is broken)) in
+    fails_after (g.R.Source.remaining c.args.source.now) (g.R.Source.remaining c.loop-left.source) (g.R.Source.remaining c.feed_more.new.source)
+    (g.R.Source.failures c.args.source.now) (g.R.Source.failures c.loop-left.source) (g.R.Source.failures c.feed_more.new.source) read.0
+    (λ (more : List ℕ). length more < c.args.wanted)
+    read.2 c.loop-left.invariant.same_failures failed.0 failed.1 (omega (arith, read.1, c.loop-left-test.true))
