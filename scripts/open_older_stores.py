@@ -172,7 +172,8 @@ def examples(stores):
     lines = [it for it in accepted if it[0]["order"] != "import"]
     repeats = write_requests(f"{stores.folder}/repeats.jsonl", [it for it, _ in lines])
     commands = [([stores.program, "apply", today.store, repeats], "".join(f"{it}\n" for _, it in lines).encode())]
-    commands += [(it, done(it)) for it in views(stores.program, today.store)]
+    # The rows of the texts are in the order of the requests, so the record is the same too.
+    commands += [(it, done(it)) for it in [*views(stores.program, today.store), [stores.program, "history", today.store]]]
     for version, count in COUNTS.items():
         what = f"examples/schema{version}.sql"
         store = older(f"{stores.folder}/older{version}.db", version)

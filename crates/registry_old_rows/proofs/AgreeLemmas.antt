@@ -3,7 +3,7 @@ use Rattle.std.proofs.Common.{ℕ, List, [], refl, sym, subst}
 use Rattle.sqlite_trees.specs.Tree.{Trees}
 use Rattle.usbnum_core.specs.Number.{IsId}
 use Rattle.usbnum_core.specs.Text.{IsSlug, IsTitle}
-use Rattle.table_laws.specs.Stored.{Stores, StoresUnnumbered}
+use Rattle.table_laws.specs.Stored.{Stores, StoresWithRowids, StoresUnnumbered}
 use Rattle.table_laws.proofs.SetLemmas.{IsUntied, AgreeOn}
 use Rattle.registry_schema.specs.Schema.{schema_1, schema_2, schema_3}
 use Rattle.registry_rows.specs.Rows.{meta_key, meta_row, IsMeta, name_row, fixed_key, fixed_row, IsSpan, org_row, IsOrg, kept_row, IsKept, vendor_key, vendor_row, IsVendor, span_row, IsVendorSpan, entry_row, IsEntry, petition_key, petition_row, IsPetition}
@@ -27,7 +27,7 @@ agree_1 vid a b t numbers same has = record {
     licences = subst (λ rows. StoresUnnumbered IsTitle name_row rows t.licences) (sym same.1.1.0) has.lasting.licences;
     fixed = subst (λ rows. Stores IsSpan fixed_key fixed_row rows t.fixed) (sym same.1.1.1.0) has.lasting.fixed;
     orgs = subst (λ rows. StoresUnnumbered IsOrg org_row rows t.orgs) (sym same.1.1.1.1.0) has.lasting.orgs;
-    kept = subst (λ rows. StoresUnnumbered IsKept kept_row rows t.kept) (sym same.1.1.1.1.1.1.1.1.0) has.lasting.kept;
+    kept = subst (λ rows. StoresWithRowids IsKept kept_row rows t.kept) (sym same.1.1.1.1.1.1.1.1.0) has.lasting.kept;
   };
   petitions = subst (λ rows. Stores (IsPetitionOf vid) petition_key old_petition_row rows t.petitions) (sym same.1.1.1.1.1.0) has.petitions;
   entries = subst (λ rows. Stores (IsEntryOf vid) old_entry_key old_entry_row rows t.entries) (sym same.1.1.1.1.1.1.0) has.entries;

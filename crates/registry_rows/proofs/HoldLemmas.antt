@@ -1,5 +1,5 @@
 -- A statement that sets the rows of one table does not change the values of the others.
-use Rattle.std.proofs.Common.{ℕ, List, refl, sym, subst, ◌∙◌}
+use Rattle.std.proofs.Common.{ℕ, ℤ, List, refl, sym, subst, ◌∙◌}
 use Rattle.sqlite.specs.Order.{Row}
 use Rattle.sqlite.specs.Effect.{Database}
 use Rattle.sqlite_trees.specs.Tree.{Trees}
@@ -10,7 +10,7 @@ use Rattle.registry_rules.specs.declared.record.Org.{Org}
 use Rattle.registry_rules.specs.declared.record.Entry.{Entry}
 use Rattle.registry_rules.specs.declared.record.Petition.{Petition}
 use Rattle.registry_rules.specs.declared.record.Vendor.{Vendor}
-use Rattle.table_laws.specs.Stored.{Stores, StoresUnnumbered}
+use Rattle.table_laws.specs.Stored.{Stores, StoresWithRowids, StoresUnnumbered}
 use Rattle.table_laws.proofs.SetLemmas.{IsUntied, Sets, AgreeOn, with_rows, sets_agree}
 use Rattle.registry_schema.specs.Schema.{schema_3}
 use Rattle.registry_rows.specs.declared.kept.KeptRow.{KeptRow}
@@ -33,7 +33,7 @@ agree a b t same has = record {
   no_petitions = same.1.1.1.1.1.0 ∙ has.no_petitions;
   no_entries = same.1.1.1.1.1.1.0 ∙ has.no_entries;
   no_reserved = same.1.1.1.1.1.1.1.0 ∙ has.no_reserved;
-  kept = subst (λ rows. StoresUnnumbered IsKept kept_row rows t.kept) (sym same.1.1.1.1.1.1.1.1.0) has.kept;
+  kept = subst (λ rows. StoresWithRowids IsKept kept_row rows t.kept) (sym same.1.1.1.1.1.1.1.1.0) has.kept;
   no_spans = same.1.1.1.1.1.1.1.1.1.0 ∙ has.no_spans;
   vendors = subst (λ rows. Stores IsVendor vendor_key vendor_row rows t.vendors) (sym same.1.1.1.1.1.1.1.1.1.1.0) has.vendors;
   spans = subst (λ rows. StoresUnnumbered IsVendorSpan span_row rows t.spans) (sym same.1.1.1.1.1.1.1.1.1.1.1.0) has.spans;
@@ -81,7 +81,7 @@ holds_orgs old new t rows xs has sets stored = record {
       (record { metas = has.rows.metas; curators = has.rows.curators; licences = has.rows.licences; fixed = has.rows.fixed; orgs = stored; no_petitions = has.rows.no_petitions; no_entries = has.rows.no_entries; no_reserved = has.rows.no_reserved; kept = has.rows.kept; no_spans = has.rows.no_spans; vendors = has.rows.vendors; spans = has.rows.spans; entries = has.rows.entries; petitions = has.rows.petitions });
 }
 
-pub holds_kept : (old new : Database) (t : Tables) (rows : List Row) (xs : List (KeptRow)) → Holds old t → Sets schema_3 11 old new rows → StoresUnnumbered IsKept kept_row rows xs → Holds new (record t { kept = xs })
+pub holds_kept : (old new : Database) (t : Tables) (rows : List Row) (xs : List (ℤ × KeptRow)) → Holds old t → Sets schema_3 11 old new rows → StoresWithRowids IsKept kept_row rows xs → Holds new (record t { kept = xs })
 holds_kept old new t rows xs has sets stored = record {
   schema = sets.same_schema;
   sound = sets.sound;

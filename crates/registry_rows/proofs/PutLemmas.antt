@@ -3,7 +3,7 @@ use Rattle.std.proofs.Common.{ℕ, List, [], ◌∷◌, ◌++◌, Ok, refl, ap}
 use Rattle.sqlite.specs.Edit.{with_rowid}
 use Rattle.sqlite.specs.Rowids.TheVariants.{Chosen}
 use Rattle.sqlite.specs.State.{State, Executes}
-use Rattle.sqlite_keyed.specs.Keyed.{insert_by}
+use Rattle.sqlite_keyed.specs.Keyed.{insert_by, next_key}
 use Rattle.sqlite_keyed.specs.Lists.{delete_where}
 use Rattle.usbnum_core.specs.Text.{IsSlug, IsTitle}
 use Rattle.usbnum_core.specs.declared.number.Number.{Number}
@@ -12,7 +12,7 @@ use Rattle.registry_rules.specs.declared.record.Org.{Org}
 use Rattle.registry_rules.specs.declared.record.Entry.{Entry}
 use Rattle.registry_rules.specs.declared.record.Petition.{Petition}
 use Rattle.registry_rules.specs.declared.record.Vendor.{Vendor}
-use Rattle.table_laws.proofs.StatementLemmas.{puts_numbered, puts_unnumbered}
+use Rattle.table_laws.proofs.StatementLemmas.{puts_numbered, puts_with_rowids, puts_unnumbered}
 use Rattle.registry_schema.specs.Schema.{schema_3, meta, curators, licences, fixed, orgs, kept, vendors, entries3, petitions3}
 use Rattle.registry_rows.specs.declared.kept.KeptRow.{KeptRow}
 use Rattle.registry_rows.specs.declared.meta.Meta.{Meta}
@@ -68,9 +68,9 @@ puts_org old new x count valid h t has =
     holds_orgs old.now new.now t done.0 _ has done.1 done.2
 
 pub puts_kept : (old new : State) (x : KeptRow) (count : ℕ) → IsKept x → Executes put_kept_text (kept_row x) old new (Ok count) → (t : Tables) → Holds old.now t
-    → Holds new.now (record t { kept = delete_where (λ y. is_kept_under x.caller x.key y) t.kept ++ x ∷ [] })
+    → Holds new.now (record t { kept = delete_where (λ y. is_kept_under x.caller x.key y.1) t.kept ++ (next_key (λ y. y.0) t.kept, x) ∷ [] })
 puts_kept old new x count valid h t has =
-    let done = puts_unnumbered schema_3 untied 8 11 kept.name kept.columns IsKept (1 ∷ 2 ∷ []) refl kept_row put_kept_text put_kept_terms 5 put_kept_is (λ y x. is_kept_under x.caller x.key y) kept_shared (kept_row x) x refl
+    let done = puts_with_rowids schema_3 untied 8 11 kept.name kept.columns IsKept (1 ∷ 2 ∷ []) refl kept_row put_kept_text put_kept_terms 5 put_kept_is (λ y x. is_kept_under x.caller x.key y) kept_shared (kept_row x) x refl
     (λ rows. ap (with_rowid Chosen rows) (cast_kept x)) (cast_kept_numbered x) old new has.schema t.kept has.rows.kept valid count h in
     holds_kept old.now new.now t done.0 _ has done.1 done.2
 

@@ -98,7 +98,7 @@ reads_by retell read = record { same_reference = read.same_reference; told = λ 
 -- ---- values picked from valid ones are valid
 
 module _ {X : Type 0} (IsValid : X → Type 0) where
-  valid_first : (most : ℕ) (values : List X) → AllByRecursion IsValid values → AllByRecursion IsValid (take most values)
+  pub valid_first : (most : ℕ) (values : List X) → AllByRecursion IsValid values → AllByRecursion IsValid (take most values)
   valid_first zero values all = tt
   valid_first (suc most) [] all = tt
   valid_first (suc most) (x ∷ xs) all = (all.0, valid_first most xs all.1)

@@ -1,5 +1,5 @@
 -- The tables of a store as lists of values.
-use Rattle.std.specs.Prelude.{◌≡◌, ℕ, List, []}
+use Rattle.std.specs.Prelude.{◌≡◌, ℕ, ℤ, List, [], map, filter}
 use Rattle.sqlite.specs.Effect.{Database}
 use Rattle.sqlite_trees.specs.Tree.{Trees}
 use Rattle.sqlite_catalog.specs.Listing.{IsSound}
@@ -11,25 +11,34 @@ use Rattle.registry_rules.specs.declared.record.Entry.{Entry}
 use Rattle.registry_rules.specs.declared.record.Petition.{Petition}
 use Rattle.registry_rules.specs.declared.record.Vendor.{Vendor}
 use Rattle.table_laws.specs.Making.{HasTables}
-use Rattle.table_laws.specs.Stored.{Stores, StoresUnnumbered}
+use Rattle.table_laws.specs.Stored.{Stores, StoresWithRowids, StoresUnnumbered}
 use Rattle.registry_schema.specs.Texts.{texts_3}
 use Rattle.registry_schema.specs.Schema.{schema_3}
 use Rattle.registry_rows.specs.declared.kept.KeptRow.{KeptRow}
 use Rattle.registry_rows.specs.declared.meta.Meta.{Meta}
-use Rattle.registry_rows.specs.Rows.{meta_key, meta_row, IsMeta, name_row, fixed_key, fixed_row, IsSpan, org_row, IsOrg, kept_row, IsKept, vendor_key, vendor_row, IsVendor, span_row, IsVendorSpan, entry_row, IsEntry, petition_key, petition_row, IsPetition}
+use Rattle.registry_rows.specs.Rows.{meta_key, meta_row, IsMeta, name_row, fixed_key, fixed_row, IsSpan, org_row, IsOrg, kept_row, IsKept, is_after, vendor_key, vendor_row, IsVendor, span_row, IsVendorSpan, entry_row, IsEntry, petition_key, petition_row, IsPetition}
 
--- the values of the tables: in the order of their keys if the key is the rowid, otherwise in the order of insertion
+-- The values of the tables: in the order of their keys if the key is the rowid, otherwise in the order of insertion. The
+-- kept replies have the rowids of their rows beside them.
 pub record Tables : Type 0 where
   pub metas : List Meta
   pub curators : List (List ℕ)
   pub licences : List (List ℕ)
   pub fixed : List Span
   pub orgs : List Org
-  pub kept : List KeptRow
+  pub kept : List (ℤ × KeptRow)
   pub vendors : List Vendor
   pub spans : List (ℕ × Span)
   pub entries : List (Number × Entry)
   pub petitions : List (ℕ × Petition)
+
+-- the kept replies without the rowids
+abbrev pub replies : Tables → List KeptRow
+replies t = map (λ k. k.1) t.kept
+
+-- those whose rowid is greater than the number
+abbrev pub replies_after : ℕ → Tables → List KeptRow
+replies_after n t = map (λ k. k.1) (filter (is_after n) t.kept)
 
 -- the rows of each table store these values, and the tables of older schemas that were replaced are empty
 pub record AreRows (db : Trees) (t : Tables) : Type 0 where
@@ -41,7 +50,7 @@ pub record AreRows (db : Trees) (t : Tables) : Type 0 where
   pub no_petitions : db 8 ≡ []
   pub no_entries : db 9 ≡ []
   pub no_reserved : db 10 ≡ []
-  pub kept : StoresUnnumbered IsKept kept_row (db 11) t.kept
+  pub kept : StoresWithRowids IsKept kept_row (db 11) t.kept
   pub no_spans : db 13 ≡ []
   pub vendors : Stores IsVendor vendor_key vendor_row (db 14) t.vendors
   pub spans : StoresUnnumbered IsVendorSpan span_row (db 15) t.spans

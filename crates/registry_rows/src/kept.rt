@@ -1,10 +1,11 @@
 //! The kept replies.
 
-ghost use Rattle.std.specs.Prelude.{◌≡◌, [], ◌∷◌, ◌++◌, map, filter, find, take, drop};
+ghost use Rattle.std.specs.Prelude.{◌≡◌, [], ◌∷◌, ◌++◌, map, filter, find, take};
+ghost use Rattle.sqlite_keyed.specs.Keyed.{next_key};
 ghost use Rattle.sqlite_keyed.specs.Lists.{delete_where};
 ghost use Rattle.registry_rows.specs.Rows.{kept_row, is_kept_under, has_reply_within};
 ghost use Rattle.registry_rows.specs.Steps.{Changes, Reads, ReadsRows, Writes};
-ghost use Rattle.registry_rows.specs.Tables.{Holds};
+ghost use Rattle.registry_rows.specs.Tables.{Holds, replies, replies_after};
 
 use crate::columns::{canonical_form_at, reply_at, text_at};
 use crate::decode::{FromRow, all_from, first_from};
@@ -44,7 +45,8 @@ impl FromRow for KeptRow {
     }
 }
 
-/// Keeps the canonical form and the reply under the caller and key.
+/// Keeps the canonical form and the reply under the caller and key. The row replaces one with this
+/// caller and key, and its rowid is one above the greatest of all rows.
 pub fn put_kept<S: Alter>(
     tx: &mut Transaction<'_, S>,
     caller: &Slug,
@@ -52,7 +54,7 @@ pub fn put_kept<S: Alter>(
     order: &CanonicalForm,
     reply: &ReplyText,
 ) -> Result<(), TableFault>
-    ensures writes { Writes S.Store tx.old.conn tx.new.conn result (Changes (λ t. record t { kept = delete_where (λ other. is_kept_under caller.now key.now other) t.kept ++ record { caller = caller.now; key = key.now; kept = record { order = order.now; reply = reply.now } } ∷ [] })) }
+    ensures writes { Writes S.Store tx.old.conn tx.new.conn result (Changes (λ t. record t { kept = delete_where (λ other. is_kept_under caller.now key.now other.1) t.kept ++ (next_key (λ other. other.0) t.kept, record { caller = caller.now; key = key.now; kept = record { order = order.now; reply = reply.now } }) ∷ [] })) }
 {
     tx.execute(
         "INSERT OR REPLACE INTO kept (caller, request_key, request, reply) VALUES (?1, ?2, ?3, ?4)",
@@ -71,7 +73,7 @@ fn kept_rows<S: Alter>(
     caller: &Slug,
     key: &Key,
 ) -> Result<Vec<Row>, TableFault>
-    ensures reads { ReadsRows S.Store tx.old.conn tx.new.conn result Holds (λ t. map kept_row (filter (is_kept_under caller.now key.now) t.kept)) }
+    ensures reads { ReadsRows S.Store tx.old.conn tx.new.conn result Holds (λ t. map kept_row (filter (is_kept_under caller.now key.now) (replies t))) }
 {
     Ok(tx.query_all(
         "SELECT caller, request_key, request, reply FROM kept WHERE caller = ?1 AND request_key = ?2 ORDER BY rowid",
@@ -86,7 +88,7 @@ pub fn find_kept<S: Alter>(
     caller: &Slug,
     key: &Key,
 ) -> Result<Option<KeptRow>, TableFault>
-    ensures reads { Reads S.Store tx.old.conn tx.new.conn result Holds (λ t found. found ≡ find (is_kept_under caller.now key.now) t.kept) }
+    ensures reads { Reads S.Store tx.old.conn tx.new.conn result Holds (λ t found. found ≡ find (is_kept_under caller.now key.now) (replies t)) }
 {
     let rows = kept_rows(tx, caller, key)?;
     first_from(alloc, &rows)
@@ -97,22 +99,23 @@ fn rows_after<S: Alter>(
     after: u32,
     most: u32,
 ) -> Result<Vec<Row>, TableFault>
-    ensures reads { ReadsRows S.Store tx.old.conn tx.new.conn result Holds (λ t. map kept_row (take most (drop after t.kept))) }
+    ensures reads { ReadsRows S.Store tx.old.conn tx.new.conn result Holds (λ t. map kept_row (take most (replies_after after t))) }
 {
     Ok(tx.query_all(
-        "SELECT caller, request_key, request, reply FROM kept ORDER BY rowid LIMIT ?1 OFFSET ?2",
-        params![most, after],
+        "SELECT caller, request_key, request, reply FROM kept WHERE rowid > ?1 ORDER BY rowid LIMIT ?2",
+        params![after, most],
     )?)
 }
 
-/// Returns at most `most` of what is kept after the first `after`, in order of insertion.
+/// Returns at most `most` of what is kept with a rowid greater than `after`, in order of insertion.
+/// The store reads only these rows.
 pub fn kept_after<S: Alter>(
     alloc: Global,
     tx: &mut Transaction<'_, S>,
     after: u32,
     most: u32,
 ) -> Result<Vec<KeptRow>, TableFault>
-    ensures reads { Reads S.Store tx.old.conn tx.new.conn result Holds (λ t all. all.items ≡ take most (drop after t.kept)) }
+    ensures reads { Reads S.Store tx.old.conn tx.new.conn result Holds (λ t all. all.items ≡ take most (replies_after after t)) }
 {
     let rows = rows_after(tx, after, most)?;
     all_from(alloc, &rows)
@@ -123,7 +126,7 @@ fn rows_with_replies<S: Alter>(
     low: &str,
     high: &str,
 ) -> Result<Vec<Row>, TableFault>
-    ensures reads { ReadsRows S.Store tx.old.conn tx.new.conn result Holds (λ t. map kept_row (filter (has_reply_within low.now high.now) t.kept)) }
+    ensures reads { ReadsRows S.Store tx.old.conn tx.new.conn result Holds (λ t. map kept_row (filter (has_reply_within low.now high.now) (replies t))) }
 {
     Ok(tx.query_all(
         "SELECT caller, request_key, request, reply FROM kept WHERE reply BETWEEN ?1 AND ?2 ORDER BY rowid",
@@ -139,7 +142,7 @@ pub fn kept_with_replies<S: Alter>(
     low: &str,
     high: &str,
 ) -> Result<Vec<KeptRow>, TableFault>
-    ensures reads { Reads S.Store tx.old.conn tx.new.conn result Holds (λ t all. all.items ≡ filter (has_reply_within low.now high.now) t.kept) }
+    ensures reads { Reads S.Store tx.old.conn tx.new.conn result Holds (λ t all. all.items ≡ filter (has_reply_within low.now high.now) (replies t)) }
 {
     let rows = rows_with_replies(tx, low, high)?;
     all_from(alloc, &rows)

@@ -38,7 +38,7 @@ blank_holds db blank = record {
     no_petitions = blank.none.1.1.1.1.1.0;
     no_entries = blank.none.1.1.1.1.1.1.0;
     no_reserved = blank.none.1.1.1.1.1.1.1.0;
-    kept = record { numbered = []; stores = record { rows_are = blank.none.1.1.1.1.1.1.1.1.0; keyed = tt; valid = tt }; values_are = refl };
+    kept = record { rows_are = blank.none.1.1.1.1.1.1.1.1.0; keyed = tt; valid = tt };
     no_spans = blank.none.1.1.1.1.1.1.1.1.1.0;
     vendors = record { rows_are = blank.none.1.1.1.1.1.1.1.1.1.1.0; keyed = tt; valid = tt };
     spans = record { numbered = []; stores = record { rows_are = blank.none.1.1.1.1.1.1.1.1.1.1.1.0; keyed = tt; valid = tt }; values_are = refl };

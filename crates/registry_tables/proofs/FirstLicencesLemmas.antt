@@ -1,5 +1,5 @@
 -- The licences of the founding are the allowed ones that no order added.
-use Rattle.std.proofs.Common.{◌≡◌, ◌≢◌, ℕ, suc, ◌+◌, ◌<◌, length, get_or, drop, append_assoc, Bool, true, false, cond, not, ◌&&◌, ◌||◌, List, [], ◌∷◌, ◌++◌, Option, Some, None, Result, Ok, Err, IfOk, Vec, Global, codes, filter, map, refl, sym, ap, ap₂, subst, ◌∙◌, nat_cmp, arith}
+use Rattle.std.proofs.Common.{◌≡◌, ◌≢◌, ℕ, ℤ, suc, ◌+◌, ◌<◌, length, get_or, drop, append_assoc, Bool, true, false, cond, not, ◌&&◌, ◌||◌, List, [], ◌∷◌, ◌++◌, Option, Some, None, Result, Ok, Err, IfOk, Vec, Global, codes, filter, map, refl, sym, ap, ap₂, subst, ◌∙◌, nat_cmp, arith}
 use Rattle.std.specs.Borrow.{MutBor}
 use Rattle.std.specs.List.{AllByRecursion, IsDistinct, list_any}
 use Rattle.std.specs.Option.{option_to_list}
@@ -29,10 +29,11 @@ use Rattle.registry_rules.proofs.RunLemmas.{legal_licences}
 use Rattle.registry_rows.specs.declared.kept.KeptRow.{KeptRow}
 use Rattle.registry_rows.specs.Rows.{has_reply_within}
 use Rattle.registry_rows.specs.Steps.{Reads}
-use Rattle.registry_rows.specs.Tables.{Holds}
+use Rattle.registry_rows.specs.Tables.{Holds, replies}
 use Rattle.registry_tables.specs.Finds.{ReadsHistory}
 use Rattle.registry_tables.specs.FirstLicences.{is_reply_of, was_added}
 use Rattle.registry_tables.specs.Rows.{kept_row_of}
+use Rattle.registry_tables.proofs.NumberingLemmas.{numbered_values}
 use Rattle.registry_tables.proofs.OpeningLemmas.{same_names}
 use Rattle.registry_tables.proofs.ReadLemmas.{rows_pass, rows_short}
 use Rattle.registry_tables.proofs.ViewLemmas.{same_bytes, bytes_same}
@@ -141,10 +142,10 @@ first_is h legal rows is names first allowed sorted =
 
 pub first_tell : {S : Type 0} {g : Ghosts S} {a b : MutBor (Held S)} (names : List (List ℕ)) {rows : Vec KeptRow Global} (result : Result (List (List ℕ)) TableFault)
     → IfOk result (λ left. AreSorted (filter (λ licence. not (was_added rows.items licence)) names) left) → result ≢ Err Foreign
-    → Reads g a b (Ok rows) Holds (λ t all. all.items ≡ filter names_licence t.kept)
+    → Reads g a b (Ok rows) Holds (λ t all. all.items ≡ filter names_licence (replies t))
     → ReadsHistory g a b result (λ h first. ((licence : List ℕ) → list_any (bytes_eq licence) names ≡ is_licence h licence) → first ≡ h.founding.licences)
 first_tell names {rows} (Ok first) sorted kind = rows_pass (λ h t legal has had kept is allowed.
-    first_is h legal rows.items (is ∙ ap (filter names_licence) kept.in_order) names first allowed sorted)
+    first_is h legal rows.items (is ∙ ap (filter names_licence) (ap (map (λ (k : ℤ × KeptRow). k.1)) kept.in_order ∙ numbered_values 1 (map kept_row_of (accepted_of h.deeds)))) names first allowed sorted)
 first_tell names (Err e) sorted kind = rows_short (λ foreign. kind (ap Err foreign))
 
 -- ---- one licence after another

@@ -1,13 +1,15 @@
 -- With the kept reply the rows are those of the history with the deed.
-use Rattle.std.proofs.Common.{◌≡◌, ℕ, Bool, true, false, cond, ◌&&◌, List, [], ◌∷◌, ◌++◌, Option, Some, None, Result, map, find, refl, sym, ap, ◌∙◌}
+use Rattle.std.proofs.Common.{◌≡◌, ℕ, ℤ, Bool, true, false, cond, ◌&&◌, List, [], ◌∷◌, ◌++◌, Option, Some, None, Result, map, find, refl, sym, ap, subst, ◌∙◌}
 use Rattle.std.proofs.lemmas.List.{map-append}
 use Rattle.registry_rules.specs.Accepted.{accepted_of, accepted_by}
 use Rattle.std.specs.Option.{option_map}
 use Rattle.std.specs.Str.{bytes_eq}
 use Rattle.std.proofs.lemmas.Bool.{and_parts}
 use Rattle.sqlite.specs.State.{State}
+use Rattle.sqlite_keyed.specs.Keyed.{next_key}
 use Rattle.sqlite_keyed.specs.Lists.{delete_where}
 use Rattle.table_laws.proofs.FoundLemmas.{apart_put}
+use Rattle.table_laws.proofs.UnnumberedLemmas.{values_after}
 use Rattle.registry_rules.specs.History.{History, with_deed, sooner}
 use Rattle.registry_rules.specs.Query.{deed_under, answer_if}
 use Rattle.registry_rules.specs.Run.{Legal}
@@ -23,8 +25,9 @@ use Rattle.registry_rules.specs.declared.verdict.Verdict.TheVariants.{Kept as Ve
 use Rattle.registry_rows.specs.declared.kept.KeptRow.{KeptRow}
 use Rattle.registry_rows.specs.Rows.{is_kept_under}
 use Rattle.registry_rows.specs.Tables.{Tables, Holds}
-use Rattle.registry_tables.specs.Rows.{newest, AreKeptReplies, kept_row_of, HoldsRows, HoldsUnkept}
+use Rattle.registry_tables.specs.Rows.{newest, NoTwo, numbered_from, AreKeptReplies, kept_row_of, HoldsRows, HoldsUnkept}
 use Rattle.registry_tables.specs.Calls.{IsKeptAs}
+use Rattle.registry_tables.proofs.NumberingLemmas.{next_in_turn}
 use Rattle.registry_tables.proofs.ViewLemmas.{same_bytes, kept_put}
 
 never_new : (b : Bool) (text : List ℕ) (refusal : Refusal) (deed : Deed) → cond b (VerdictKept text) (Refused refusal) ≡ New deed → ⊥
@@ -49,14 +52,15 @@ one_step : (b : Bool) (earlier : Option Deed) (deed : Deed) (x : KeptRow) (row :
 one_step true earlier deed x row none is = rw (none refl) (ap Some (is refl))
 one_step false earlier deed x row none is = refl
 
-step_unless : {X : Type 0} (p : X → Bool) (x : X) (xs : List X) (b : Bool) → p x ≡ b → cond b (Some x) (find p xs) ≡ None → (find p xs ≡ None → delete_where p xs ≡ xs) → delete_where p (x ∷ xs) ≡ x ∷ xs
-step_unless p x xs true is none rest = absurd cc
-step_unless p x xs false is none rest = rw is (ap (λ ys. x ∷ ys) (rest none))
+step_unless : {X : Type 0} (p : X → Bool) (row : ℤ × X) (rows : List (ℤ × X)) (b : Bool) → p row.1 ≡ b → cond b (Some row.1) (find p (map (λ (k : ℤ × X). k.1) rows)) ≡ None
+    → (find p (map (λ (k : ℤ × X). k.1) rows) ≡ None → delete_where (λ (k : ℤ × X). p k.1) rows ≡ rows) → delete_where (λ (k : ℤ × X). p k.1) (row ∷ rows) ≡ row ∷ rows
+step_unless p row rows true is none rest = absurd cc
+step_unless p row rows false is none rest = rw is (ap (λ ys. row ∷ ys) (rest none))
 
 -- what is not found is not deleted
-none_deleted : {X : Type 0} (p : X → Bool) (xs : List X) → find p xs ≡ None → delete_where p xs ≡ xs
+none_deleted : {X : Type 0} (p : X → Bool) (rows : List (ℤ × X)) → find p (map (λ (k : ℤ × X). k.1) rows) ≡ None → delete_where (λ (k : ℤ × X). p k.1) rows ≡ rows
 none_deleted p [] none = refl
-none_deleted p (x ∷ xs) none = step_unless p x xs (p x) refl none (none_deleted p xs)
+none_deleted p (row ∷ rows) none = step_unless p row rows (p row.1) refl none (none_deleted p rows)
 
 no_row : {X Y : Type 0} (found : Option X) (f : X → Y) → found ≡ None → option_map f found ≡ None
 no_row found f none = ap (option_map f) none
@@ -74,34 +78,47 @@ module _ (h : History) (deed : Deed) (legal : Legal (with_deed h deed)) (request
       ap (λ o. record { order = o; reply = reply }) (spelled ∙ ap canonical_form (sym keeps.order)) ∙ ap (λ r. record { order = canonical_form deed.order; reply = r }) keeps.said in
       ap (λ (k : KeptReply). under request.caller request.key k) kept_is ∙ ap (λ c. under c request.key (kept_of deed)) a ∙ ap (λ k. under caller k (kept_of deed)) b
 
-  kept_after : (rows : List KeptRow) → AreKeptReplies h rows → AreKeptReplies (with_deed h deed) (delete_where (λ other. is_kept_under request.caller request.key other) rows ++ row ∷ [])
-  kept_after rows was = record {
-    in_order =
-        let unfound : find (is_kept_under request.caller request.key) rows ≡ None =
-        was.each request.caller request.key ∙ no_row (kept_under h request.caller request.key) (under request.caller request.key) (no_row (deed_under h request.caller request.key) kept_of (rw (sym keeps.caller, sym keeps.key) (unkept h deed legal))) in
-        ap (λ kept. kept ++ row ∷ []) (none_deleted (is_kept_under request.caller request.key) rows unfound ∙ was.in_order)
-        ∙ ap (λ r. map kept_row_of (accepted_of h.deeds) ++ r ∷ []) (row_is deed.caller deed.key (sym keeps.caller) (sym keeps.key))
-        ∙ sym (map-append kept_row_of (accepted_of h.deeds) (accepted_by deed ∷ []));
-    each = λ caller key.
-        let b = bytes_eq request.caller caller && bytes_eq request.key key in
-        let both = λ (yes : b ≡ true). and_parts (bytes_eq request.caller caller) (bytes_eq request.key key) yes in
-        let none : b ≡ true → deed_under h caller key ≡ None = λ yes.
-        (let a = keeps.caller ∙ same_bytes request.caller caller (both yes).0 in let k = keeps.key ∙ same_bytes request.key key (both yes).1 in
-        rw (sym a, sym k) (unkept h deed legal)) in
-        let test : (bytes_eq deed.caller caller && bytes_eq deed.key key) ≡ b = rw (keeps.caller, keeps.key) refl in
-        kept_put row rows caller key ∙ ap (λ o. cond b (Some row) o) (was.each caller key)
-        ∙ one_step b (deed_under h caller key) deed row (under caller key) none (λ yes. row_is caller key (same_bytes request.caller caller (both yes).0) (same_bytes request.key key (both yes).1))
-        ∙ ap (λ t. option_map (under caller key) (option_map kept_of (sooner (deed_under h caller key) (answer_if t deed)))) (sym test);
-    once = apart_put (λ a b. is_kept_under b.caller b.key a) row rows was.once;
-  }
+  -- the row is new, and its number is the next
+  abbrev rows_after : List (ℤ × KeptRow) → List (ℤ × KeptRow)
+  rows_after rows = delete_where (λ (other : ℤ × KeptRow). is_kept_under request.caller request.key other.1) rows ++ (next_key (λ (other : ℤ × KeptRow). other.0) rows, row) ∷ []
 
-  pub kept_now : (old new : State) → ((t : Tables) → Holds old.now t → Holds new.now (record t { kept = delete_where (λ other. is_kept_under request.caller request.key other) t.kept ++ row ∷ [] }))
+  abbrev values : List (ℤ × KeptRow) → List KeptRow
+  values rows = map (λ (k : ℤ × KeptRow). k.1) rows
+
+  kept_after : (rows : List (ℤ × KeptRow)) → AreKeptReplies h rows → AreKeptReplies (with_deed h deed) (rows_after rows)
+  kept_after rows was =
+      let values_are : values (rows_after rows) ≡ delete_where (is_kept_under request.caller request.key) (values rows) ++ row ∷ [] =
+      values_after (is_kept_under request.caller request.key) rows (next_key (λ (other : ℤ × KeptRow). other.0) rows) row in
+      record {
+        in_order =
+            let unfound : find (is_kept_under request.caller request.key) (values rows) ≡ None =
+            was.each request.caller request.key ∙ no_row (kept_under h request.caller request.key) (under request.caller request.key) (no_row (deed_under h request.caller request.key) kept_of (rw (sym keeps.caller, sym keeps.key) (unkept h deed legal))) in
+            ap (λ left. left ++ (next_key (λ (other : ℤ × KeptRow). other.0) rows, row) ∷ []) (none_deleted (is_kept_under request.caller request.key) rows unfound)
+            ∙ ap (λ (l : List (ℤ × KeptRow)). l ++ (next_key (λ (other : ℤ × KeptRow). other.0) l, row) ∷ []) was.in_order
+            ∙ next_in_turn 1 (map kept_row_of (accepted_of h.deeds)) row
+            ∙ ap (λ r. numbered_from 1 (map kept_row_of (accepted_of h.deeds) ++ r ∷ [])) (row_is deed.caller deed.key (sym keeps.caller) (sym keeps.key))
+            ∙ ap (numbered_from 1) (sym (map-append kept_row_of (accepted_of h.deeds) (accepted_by deed ∷ [])));
+        each = λ caller key.
+            let b = bytes_eq request.caller caller && bytes_eq request.key key in
+            let both = λ (yes : b ≡ true). and_parts (bytes_eq request.caller caller) (bytes_eq request.key key) yes in
+            let none : b ≡ true → deed_under h caller key ≡ None = λ yes.
+            (let a = keeps.caller ∙ same_bytes request.caller caller (both yes).0 in let k = keeps.key ∙ same_bytes request.key key (both yes).1 in
+            rw (sym a, sym k) (unkept h deed legal)) in
+            let test : (bytes_eq deed.caller caller && bytes_eq deed.key key) ≡ b = rw (keeps.caller, keeps.key) refl in
+            ap (find (is_kept_under caller key)) values_are
+            ∙ kept_put row (values rows) caller key ∙ ap (λ o. cond b (Some row) o) (was.each caller key)
+            ∙ one_step b (deed_under h caller key) deed row (under caller key) none (λ yes. row_is caller key (same_bytes request.caller caller (both yes).0) (same_bytes request.key key (both yes).1))
+            ∙ ap (λ t. option_map (under caller key) (option_map kept_of (sooner (deed_under h caller key) (answer_if t deed)))) (sym test);
+        once = subst (NoTwo (λ a b. is_kept_under b.caller b.key a)) (sym values_are) (apart_put (λ a b. is_kept_under b.caller b.key a) row (values rows) was.once);
+      }
+
+  pub kept_now : (old new : State) → ((t : Tables) → Holds old.now t → Holds new.now (record t { kept = rows_after t.kept }))
       → HoldsUnkept old.now h (with_deed h deed) → HoldsRows newest new.now (with_deed h deed)
   unfolding HoldsUnkept HoldsRows
   kept_now old new after had =
       let records = had.2 in (
         refl,
-        record had.0 { kept = delete_where (λ other. is_kept_under request.caller request.key other) had.0.kept ++ row ∷ [] },
+        record had.0 { kept = rows_after had.0.kept },
         after had.0 had.1,
         record { founding = records.founding; metas = records.metas; curators = records.curators; licences = records.licences; fixed = records.fixed; orgs = records.orgs; vendors = records.vendors; spans = records.spans; entries = records.entries; petitions = records.petitions },
         kept_after had.0.kept had.3,

@@ -1,5 +1,5 @@
 -- The record of accepted requests.
-use Rattle.std.proofs.Common.{◌≡◌, ◌≢◌, ℕ, ◌+◌, ◌<◌, arith, List, [], ◌∷◌, ◌++◌, Option, Some, None, Result, Ok, Err, IfOk, Vec, Global, map, take, drop, length, get_or, slice_get, refl, sym, ap, ◌∙◌}
+use Rattle.std.proofs.Common.{◌≡◌, ◌≢◌, ℕ, ℤ, ◌+◌, ◌<◌, arith, List, [], ◌∷◌, ◌++◌, Option, Some, None, Result, Ok, Err, IfOk, Vec, Global, map, filter, take, drop, length, get_or, slice_get, refl, sym, ap, ◌∙◌}
 use Rattle.std.specs.Borrow.{MutBor}
 use Rattle.std.specs.List.{AllByRecursion}
 use Rattle.std.specs.Option.{option_map}
@@ -18,10 +18,12 @@ use Rattle.registry_rules.specs.declared.accepted.Accepted.{Accepted}
 use Rattle.registry_rules.specs.declared.deed.Deed.{Deed}
 use Rattle.registry_rows.specs.declared.kept.KeptRow.{KeptRow}
 use Rattle.registry_rows.specs.Steps.{Reads}
-use Rattle.registry_rows.specs.Tables.{Holds}
+use Rattle.registry_rows.specs.Rows.{is_after}
+use Rattle.registry_rows.specs.Tables.{Holds, replies_after}
 use Rattle.registry_rows.proofs.StepLemmas.{valid_part}
 use Rattle.registry_tables.specs.Finds.{ReadsHistory}
 use Rattle.registry_tables.specs.Rows.{kept_row_of, HasValidOrder}
+use Rattle.registry_tables.proofs.NumberingLemmas.{replies_past}
 use Rattle.registry_tables.proofs.ReadLemmas.{rows_pass, rows_short}
 
 orders_valid : (deeds : List Deed) → AllByRecursion IsValid deeds → AllByRecursion HasValidOrder (accepted_of deeds)
@@ -34,10 +36,11 @@ rows_part most after accepted = ap (take most) (drop-map kept_row_of after accep
 
 pub accepted_tell : {S : Type 0} {g : Ghosts S} {a b : MutBor (Held S)} (most after : ℕ) {rows : Vec KeptRow Global} (result : Result (Vec Accepted Global) TableFault)
     → ((values : List Accepted) → AllByRecursion HasValidOrder values → rows.items ≡ map kept_row_of values → IfOk result (λ all. all.items ≡ values)) → result ≢ Err Foreign
-    → Reads g a b (Ok rows) Holds (λ t all. all.items ≡ take most (drop after t.kept)) → ReadsHistory g a b result (λ h list. AreValid h.deeds → list.items ≡ take most (drop after (accepted_of h.deeds)))
+    → Reads g a b (Ok rows) Holds (λ t all. all.items ≡ take most (replies_after after t)) → ReadsHistory g a b result (λ h list. AreValid h.deeds → list.items ≡ take most (drop after (accepted_of h.deeds)))
 accepted_tell most after (Ok list) reads kind = rows_pass (λ h t legal has had kept is valid.
     reads (take most (drop after (accepted_of h.deeds))) (valid_part HasValidOrder most after (accepted_of h.deeds) (orders_valid h.deeds (recursion_from_All IsValid h.deeds valid)))
-    (is ∙ ap (λ rows. take most (drop after rows)) kept.in_order ∙ rows_part most after (accepted_of h.deeds)))
+    (is ∙ ap (λ (rows : List (ℤ × KeptRow)). take most (map (λ (k : ℤ × KeptRow). k.1) (filter (is_after after) rows))) kept.in_order
+    ∙ ap (take most) (replies_past after (map kept_row_of (accepted_of h.deeds))) ∙ rows_part most after (accepted_of h.deeds)))
 accepted_tell most after (Err e) reads kind = rows_short (λ foreign. kind (ap Err foreign))
 
 -- ---- the rows one by one

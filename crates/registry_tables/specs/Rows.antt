@@ -1,5 +1,5 @@
 -- The rows of a history in a store.
-use Rattle.std.specs.Prelude.{◌≡◌, ◌≢◌, ℕ, ◌+◌, ◌<◌, ◌⊎◌, Bool, false, List, [], ◌∷◌, map, ◌&&◌, nat_eq, find}
+use Rattle.std.specs.Prelude.{◌≡◌, ◌≢◌, ℕ, suc, ℤ, pos, ◌+◌, ◌<◌, ◌⊎◌, Bool, false, List, [], ◌∷◌, map, ◌&&◌, nat_eq, find}
 use Rattle.std.specs.Option.{option_map}
 use Rattle.std.specs.List.{list_any}
 use Rattle.std.specs.Str.{bytes_eq}
@@ -58,6 +58,11 @@ kept_row_of accepted = record { caller = accepted.request.caller; key = accepted
 abbrev pub HasValidOrder : Accepted → Type 0
 HasValidOrder accepted = IsOrder accepted.request.order
 
+-- the values beside their numbers, which rise by one from this one
+abbrev pub numbered_from : {X : Type 0} → ℕ → List X → List (ℤ × X)
+numbered_from n [] = []
+numbered_from n (x ∷ xs) = (pos n, x) ∷ numbered_from (suc n) xs
+
 -- each key finds what the history says, and no key has two rows
 module _ (h : History) where
   pub record AreCurators (names : List (List ℕ)) : Type 0 where
@@ -87,10 +92,11 @@ module _ (h : History) where
   abbrev pub AreVendors : List Vendor → Type 0
   AreVendors vendors = (vid : ℕ) → find (λ vendor. nat_eq vendor.vid vid) vendors ≡ vendor_of h vid
 
-  pub record AreKeptReplies (rows : List KeptRow) : Type 0 where
-    pub in_order : rows ≡ map kept_row_of (accepted_of h.deeds)
-    pub each : (caller key : List ℕ) → find (is_kept_under caller key) rows ≡ option_map (λ kept. record { caller = caller; key = key; kept = kept }) (kept_under h caller key)
-    pub once : NoTwo (λ a b. is_kept_under b.caller b.key a) rows
+  -- the accepted requests, oldest first: the first row has the rowid 1, and each other row the next
+  pub record AreKeptReplies (rows : List (ℤ × KeptRow)) : Type 0 where
+    pub in_order : rows ≡ numbered_from 1 (map kept_row_of (accepted_of h.deeds))
+    pub each : (caller key : List ℕ) → find (is_kept_under caller key) (map (λ k. k.1) rows) ≡ option_map (λ kept. record { caller = caller; key = key; kept = kept }) (kept_under h caller key)
+    pub once : NoTwo (λ a b. is_kept_under b.caller b.key a) (map (λ k. k.1) rows)
 
 -- the one row of meta
 abbrev pub meta_of : History → Meta

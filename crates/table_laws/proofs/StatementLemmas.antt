@@ -25,13 +25,13 @@ use Rattle.sqlite_rules.specs.Calls.{ids_of}
 use Rattle.sqlite_rules.specs.Keys.{AreConflicts, shares}
 use Rattle.sqlite_value.specs.declared.keys.Key.{Key}
 use Rattle.sqlite_keyed.specs.Lists.{update_where, delete_where}
-use Rattle.sqlite_keyed.specs.Keyed.{insert_by}
+use Rattle.sqlite_keyed.specs.Keyed.{insert_by, next_key}
 use Rattle.table_laws.specs.Shape.{numbered_table, keyed_table}
-use Rattle.table_laws.specs.Stored.{Stores, StoresUnnumbered}
+use Rattle.table_laws.specs.Stored.{Stores, StoresWithRowids, StoresUnnumbered}
 use Rattle.table_laws.proofs.SetLemmas.{IsUntied, Sets}
 use Rattle.table_laws.proofs.WriteLemmas.{replaces, updates, deletes}
 use Rattle.table_laws.proofs.NumberedLemmas.{replaces_numbered}
-use Rattle.table_laws.proofs.UnnumberedLemmas.{numbered_row, replaces_unnumbered, deletes_unnumbered}
+use Rattle.table_laws.proofs.UnnumberedLemmas.{numbered_row, replaces_with_rowids, values_after, deletes_unnumbered}
 use Rattle.table_laws.proofs.DeleteLemmas.{ids_query}
 use Rattle.table_laws.proofs.UpdateLemmas.{update_query, updates_unnumbered}
 use Rattle.table_laws.proofs.InsideLemmas.{query_keeps}
@@ -109,24 +109,41 @@ module _ (schema : Schema) (untied : IsUntied schema) (at tree : ℕ) (name : Li
     abbrev keyed_by : Table
     keyed_by = keyed_table tree name primary columns
 
-    pub puts_unnumbered : (sql : List ℕ) (terms : List Term) (width : ℕ) → IsPut schema at sql terms width
-        → (same : X → X → Bool) → ((new old : ℤ × X) → list_any (shares None keyed_by (numbered_row IsValid row new) (numbered_row IsValid row old)) schema.indexes ≡ same old.1 new.1)
-        → (params : Row) (x : X) → value_rows params width (length terms / width) terms ≡ (Null ∷ row x) ∷ []
-        → ((rows : List Row) → with_rowid Chosen rows (cast_row keyed_by (mended Replace keyed_by (Null ∷ row x))) ≡ Int (next_rowid rows) ∷ row x)
-        → ((id : ℤ) → cast_row keyed_by (Int id ∷ row x) ≡ Int id ∷ row x)
-        → (old new : State) → old.now.schema ≡ schema → (xs : List X) → StoresUnnumbered IsValid row (old.now.trees tree) xs → IsValid x → (count : ℕ) → Executes sql params old new (Ok count)
-        → (rows : List Row) × Sets schema tree old.now new.now rows × StoresUnnumbered IsValid row rows (delete_where (λ y. same y x) xs ++ x ∷ [])
-    puts_unnumbered sql terms width text same shared params x given made cast old new has xs stored valid count h =
-        let w = runs_as sql params old new schema has _ text.is text.plain count h in
-        let rows = old.now.trees tree in
-        let done = replaces schema untied at tree name columns None primary (primary ∷ []) is old new has _ params count terms width (Null ∷ row x) given w in
-        let one = made rows in
-        let after = put_all (without_all rows (ids_of done.0)) (cast_row keyed_by (with_rowid Chosen rows (cast_row keyed_by (mended Replace keyed_by (Null ∷ row x)))) ∷ []) in
-        let now = replaces_unnumbered IsValid row schema.indexes keyed_by same shared rows xs x done.0 stored valid (subst (λ r. AreConflicts None schema.indexes keyed_by rows r done.0) one done.1) in (
-          after,
-          done.2,
-          subst (λ r. StoresUnnumbered IsValid row (put_all (without_all rows (ids_of done.0)) (r ∷ [])) (delete_where (λ y. same y x) xs ++ x ∷ [])) (sym (ap (cast_row keyed_by) one ∙ cast (next_rowid rows))) now,
-        )
+    -- INSERT OR REPLACE of a value
+    module _ (sql : List ℕ) (terms : List Term) (width : ℕ) (text : IsPut schema at sql terms width)
+        (same : X → X → Bool) (shared : (new old : ℤ × X) → list_any (shares None keyed_by (numbered_row IsValid row new) (numbered_row IsValid row old)) schema.indexes ≡ same old.1 new.1)
+        (params : Row) (x : X) (given : value_rows params width (length terms / width) terms ≡ (Null ∷ row x) ∷ [])
+        (made : (rows : List Row) → with_rowid Chosen rows (cast_row keyed_by (mended Replace keyed_by (Null ∷ row x))) ≡ Int (next_rowid rows) ∷ row x)
+        (cast : (id : ℤ) → cast_row keyed_by (Int id ∷ row x) ≡ Int id ∷ row x)
+        (old new : State) (has : old.now.schema ≡ schema) where
+      pub puts_with_rowids : (all : List (ℤ × X)) → StoresWithRowids IsValid row (old.now.trees tree) all → IsValid x → (count : ℕ) → Executes sql params old new (Ok count)
+          → (rows : List Row) × Sets schema tree old.now new.now rows × StoresWithRowids IsValid row rows (delete_where (λ (p : ℤ × X). same p.1 x) all ++ (next_key (λ (p : ℤ × X). p.0) all, x) ∷ [])
+      puts_with_rowids all stored valid count h =
+          let w = runs_as sql params old new schema has _ text.is text.plain count h in
+          let rows = old.now.trees tree in
+          let done = replaces schema untied at tree name columns None primary (primary ∷ []) is old new has _ params count terms width (Null ∷ row x) given w in
+          let one = made rows in
+          let after = put_all (without_all rows (ids_of done.0)) (cast_row keyed_by (with_rowid Chosen rows (cast_row keyed_by (mended Replace keyed_by (Null ∷ row x)))) ∷ []) in
+          let now = replaces_with_rowids IsValid row schema.indexes keyed_by same shared rows all x done.0 stored valid (subst (λ r. AreConflicts None schema.indexes keyed_by rows r done.0) one done.1) in (
+            after,
+            done.2,
+            subst (λ r. StoresWithRowids IsValid row (put_all (without_all rows (ids_of done.0)) (r ∷ [])) (delete_where (λ (p : ℤ × X). same p.1 x) all ++ (next_key (λ (p : ℤ × X). p.0) all, x) ∷ [])) (sym (ap (cast_row keyed_by) one ∙ cast (next_rowid rows))) now,
+          )
+
+      pub puts_unnumbered : (xs : List X) → StoresUnnumbered IsValid row (old.now.trees tree) xs → IsValid x → (count : ℕ) → Executes sql params old new (Ok count)
+          → (rows : List Row) × Sets schema tree old.now new.now rows × StoresUnnumbered IsValid row rows (delete_where (λ y. same y x) xs ++ x ∷ [])
+      puts_unnumbered xs stored valid count h =
+          let all = stored.numbered in
+          let done = puts_with_rowids all stored.stores valid count h in
+          let rank = next_key (λ (p : ℤ × X). p.0) all in (
+            done.0,
+            done.1,
+            record {
+              numbered = delete_where (λ (p : ℤ × X). same p.1 x) all ++ (rank, x) ∷ [];
+              stores = done.2;
+              values_are = values_after (λ y. same y x) all rank x ∙ ap (λ l. delete_where (λ y. same y x) l ++ x ∷ []) stored.values_are;
+            },
+          )
 
     pub removes_unnumbered : ((db : Trees) → overlay db [] tree ≡ db tree) → (sql : List ℕ) (terms : List Term) → IsDelete schema at tree sql terms → (params : Row) (p : X → Bool)
         → ((id : ℤ) (x : X) → list_all (holds (params ∷ (Int id ∷ row x) ∷ [])) terms ≡ p x)

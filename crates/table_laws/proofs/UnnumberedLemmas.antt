@@ -23,7 +23,7 @@ use Rattle.sqlite_keyed.specs.Keyed.{insert_by, next_key, IsKeyedBy}
 use Rattle.sqlite_keyed.proofs.ListLemmas.{all-filter, filter-map, map-map}
 use Rattle.sqlite_keyed.proofs.KeyedLemmas.{Less-from_lt, same_int, above_all, IsKeyedBy-insert_by, IsKeyedBy-delete_where}
 use Rattle.sqlite_typed.proofs.RowLemmas.{puts-map, deletes-map}
-use Rattle.table_laws.specs.Stored.{StoresUnnumbered}
+use Rattle.table_laws.specs.Stored.{StoresWithRowids, StoresUnnumbered}
 use Rattle.table_laws.proofs.ReadLemmas.{shows_rows}
 use Rattle.table_laws.proofs.NumberedLemmas.{equal_ints}
 use Rattle.table_laws.proofs.DeleteLemmas.{ids_query, deletes_stored}
@@ -159,30 +159,35 @@ module _ {X : Type 0} (IsValid : X → Type 0) (row : X → Row) (indexes : List
           let under : z.0.0 <ℤ new.0 = all_has (λ (w : ℤ × X). w.0 <ℤ new.0) all z.0 below z.1 in
           ap (λ (w : ℤ × X). same w.1 new.1) one ∙ sym (shared new z.0) ∙ by_index new z.0 under hits
 
-  -- INSERT OR REPLACE removes the row with the key and appends its own
-  pub replaces_unnumbered : (rows : List Row) (xs : List X) (x : X) (found : List Row) → StoresUnnumbered IsValid row rows xs → IsValid x
+  -- INSERT OR REPLACE removes the row with the key, and appends its own with the next rowid
+  pub replaces_with_rowids : (rows : List Row) (all : List (ℤ × X)) (x : X) (found : List Row) → StoresWithRowids IsValid row rows all → IsValid x
       → AreConflicts None indexes table rows (Int (next_rowid rows) ∷ row x) found
-      → StoresUnnumbered IsValid row (put_all (without_all rows (ids_of found)) ((Int (next_rowid rows) ∷ row x) ∷ [])) (delete_where (λ y. same y x) xs ++ x ∷ [])
-  replaces_unnumbered rows xs x found h valid is =
-      let all = h.numbered in
+      → StoresWithRowids IsValid row (put_all (without_all rows (ids_of found)) ((Int (next_rowid rows) ∷ row x) ∷ [])) (delete_where (λ (p : ℤ × X). same p.1 x) all ++ (next_key place all, x) ∷ [])
+  replaces_with_rowids rows all x found h valid is =
       let new : ℤ × X = (next_rowid rows, x) in
-      let next : next_rowid rows ≡ next_key place all = ap next_rowid h.stores.rows_are ∙ next_is IsValid row (pos 1) all in
-      let below = subst (λ k. AllByRecursion (λ (y : ℤ × X). y.0 <ℤ k) all) (sym next) (below_next place all h.stores.keyed) in
+      let next : next_rowid rows ≡ next_key place all = ap next_rowid h.rows_are ∙ next_is IsValid row (pos 1) all in
+      let below = subst (λ k. AllByRecursion (λ (y : ℤ × X). y.0 <ℤ k) all) (sym next) (below_next place all h.keyed) in
       let left = delete_where (λ (p : ℤ × X). same p.1 x) all in
-      let gone : fold (without_key place) all (ids_of found) ≡ left = takes all new found h.stores.keyed below (subst (λ l. AreConflicts None indexes table l (as_row new) found) h.stores.rows_are is) in
+      let gone : fold (without_key place) all (ids_of found) ≡ left = takes all new found h.keyed below (subst (λ l. AreConflicts None indexes table l (as_row new) found) h.rows_are is) in
       let placed : insert_by place left new ≡ left ++ new ∷ [] = insert_above place left new (all-filter _ _ all below) in
-      record {
-        numbered = left ++ new ∷ [];
-        stores = record {
-          rows_are = ap (λ l. put_all (without_all l (ids_of found)) (as_row new ∷ [])) h.stores.rows_are
-              ∙ ap (λ l. put_row (as_row new) l) (deletes-map place as_row (λ _. refl) (ids_of found) all ∙ ap (map as_row) gone)
-              ∙ puts-map place as_row (λ _. refl) (new ∷ []) left ∙ ap (map as_row) placed;
-          keyed = subst (IsKeyedBy place) placed (IsKeyedBy-insert_by place left new (IsKeyedBy-delete_where place (λ (p : ℤ × X). same p.1 x) all h.stores.keyed));
-          valid = all_added IsValid row left new (all-filter _ _ all h.stores.valid) valid;
-        };
-        values_are = map-append (λ (p : ℤ × X). p.1) left (new ∷ [])
-            ∙ ap (λ l. l ++ x ∷ []) (sym (filter-map (λ y. not (same y x)) (λ (p : ℤ × X). p.1) all) ∙ ap (delete_where (λ y. same y x)) h.values_are);
-      }
+      let after = put_all (without_all rows (ids_of found)) (as_row new ∷ []) in
+      let stored : StoresWithRowids IsValid row after (left ++ new ∷ []) = record {
+        rows_are = ap (λ l. put_all (without_all l (ids_of found)) (as_row new ∷ [])) h.rows_are
+            ∙ ap (λ l. put_row (as_row new) l) (deletes-map place as_row (λ _. refl) (ids_of found) all ∙ ap (map as_row) gone)
+            ∙ puts-map place as_row (λ _. refl) (new ∷ []) left ∙ ap (map as_row) placed;
+        keyed = subst (IsKeyedBy place) placed (IsKeyedBy-insert_by place left new (IsKeyedBy-delete_where place (λ (p : ℤ × X). same p.1 x) all h.keyed));
+        valid = all_added IsValid row left new (all-filter _ _ all h.valid) valid;
+      } in
+      subst (λ k. StoresWithRowids IsValid row after (left ++ (k, x) ∷ [])) next stored
+
+-- the values after it, whatever the rowids
+pub values_after : {X : Type 0} (p : X → Bool) (all : List (ℤ × X)) (rank : ℤ) (x : X) → map (λ (y : ℤ × X). y.1) (delete_where (λ (y : ℤ × X). p y.1) all ++ (rank, x) ∷ []) ≡ delete_where p (map (λ (y : ℤ × X). y.1) all) ++ x ∷ []
+values_after {X} p all rank x =
+    map-append (λ (y : ℤ × X). y.1) (delete_where (λ (y : ℤ × X). p y.1) all) ((rank, x) ∷ []) ∙ ap (λ l. l ++ x ∷ []) (sym (filter-map (λ y. not (p y)) (λ (y : ℤ × X). y.1) all))
+
+-- without the rowids
+pub without_rowids : {X : Type 0} (IsValid : X → Type 0) (row : X → Row) (rows : List Row) (all : List (ℤ × X)) → StoresWithRowids IsValid row rows all → StoresUnnumbered IsValid row rows (map (λ (p : ℤ × X). p.1) all)
+without_rowids IsValid row rows all stored = record { numbered = all; stores = stored; values_are = refl }
 
 -- ---- DELETE and SELECT
 

@@ -11,8 +11,12 @@ pub record Stores {X : Type 0} (IsValid : X → Type 0) (key : X → ℤ) (row :
   pub keyed : IsKeyedBy key values
   pub valid : AllByRecursion IsValid values
 
--- the same for a table whose values do not contain the rowid: some numbering of them gives the rows
+-- the same for a table whose values do not contain the rowid: each stands beside the rowid of its row
+abbrev pub StoresWithRowids : {X : Type 0} → (X → Type 0) → (X → Row) → List Row → List (ℤ × X) → Type 0
+StoresWithRowids {X} IsValid row = Stores (λ (p : ℤ × X). IsValid p.1) (λ (p : ℤ × X). p.0) (λ (p : ℤ × X). Int p.0 ∷ row p.1)
+
+-- the same without the rowids: some numbering of the values gives the rows
 pub record StoresUnnumbered {X : Type 0} (IsValid : X → Type 0) (row : X → Row) (rows : List Row) (values : List X) : Type 0 where
   pub numbered : List (ℤ × X)
-  pub stores : Stores (λ (p : ℤ × X). IsValid p.1) (λ (p : ℤ × X). p.0) (λ (p : ℤ × X). Int p.0 ∷ row p.1) rows numbered
+  pub stores : StoresWithRowids IsValid row rows numbered
   pub values_are : map (λ (p : ℤ × X). p.1) numbered ≡ values
