@@ -44,7 +44,7 @@ class Size:
 
 def sizes():
     # The accepted orders add one organisation, vendor or licence each run, and fill the store to the last.
-    yield Size("full", 65535 // SCALE, 65536 // SCALE - RUNS, 100000 // SCALE, 256 - RUNS, 1024 - RUNS)
+    yield Size("full", 65535 // SCALE, 65536 // SCALE - RUNS, 100000 // SCALE, 256 // SCALE - RUNS, 1024 // SCALE - RUNS)
     yield Size("small", 10, 10, 16, 10, 10)
 
 

@@ -1,9 +1,10 @@
-"""Floods of messages that are refused, through the proxy of examples/nginx.conf to a registry with many numbers: another user's
-order must come soon, and the logs must not grow."""
+"""Floods of messages that are refused, and of the longest queries, through the proxy of examples/nginx.conf to a registry with
+many numbers: another user's order must come soon, and the logs must not grow."""
 
 import collections
 import concurrent.futures
 import re
+import select
 import sys
 import threading
 import time
@@ -15,13 +16,18 @@ from lib.usbreg import put_rows
 # The least number of the registry; the messages at once; the seconds in which another user's order must come; the bytes of
 # a list; and the seconds of a storm.
 FIRST, AT_ONCE, SOON, LONG, STORM = 0x2000, 60, 0.5, 2_800_000, 2
+# The canonical form of the accepted requests of the registry.
+AMENDED = b"amend-org\tfull\tFull\thttps://full.example/"
+REPORTS = ("census", "holders", "petitions", "numbers", "organisations")
 
 
 def filled(store, numbers):
-    """Puts an organisation with so many numbers into a closed store, and returns its path."""
+    """Puts an organisation with so many numbers and twice as many accepted requests into a closed store, and returns its
+    path."""
     return put_rows(store, (
         ("INSERT INTO orgs VALUES (?, 'Full', 'https://full.example/', 'mallory')", [("full",)]),
         ("INSERT INTO entries3 VALUES (0x1209, ?, 'full', 1, ?, NULL, NULL, NULL)", ((it, f"Device {it}") for it in range(FIRST, FIRST + numbers))),
+        ("INSERT INTO kept VALUES ('mallory', ?, ?, 'amended organisation full')", ((f"a{it}", AMENDED) for it in range(2 * numbers))),
     ))
 
 
@@ -79,6 +85,31 @@ def refused_lists(gate, others):
     return took
 
 
+def long_queries(gate, numbers, others):
+    """Asks for each report and for pages of the record at many places, all at once, and sends orders of another user for a
+    while. Returns how long these take at most, and how many queries were answered meanwhile."""
+    paths = [f"/reports/{it}" for it in REPORTS] + [f"/history/{max(0, 2 * numbers - 1000 * number)}" for number in range(AT_ONCE)]
+    clients = [connected(gate.port, f"127.0.7.{number % 4 + 1}") for number in range(len(paths))]
+    for client, path in zip(clients, paths):
+        client.sendall(closing(get(path)))
+    took = meanwhile(others, f"{len(paths)} long queries")
+    statuses = collections.Counter(parts(read_to_end(client))[0] for client in select.select(clients, [], [], 0)[0])
+    if set(statuses) - {200, 429} or not statuses[200] >= len(REPORTS):
+        sys.exit(f"{len(paths)} long queries get {statuses}")
+    for client in clients:
+        client.close()
+    return took, statuses[200]
+
+
+def meanwhile(others, what):
+    """Sends orders of another user for the seconds of a storm, and returns how long one takes at most."""
+    until, took = time.monotonic() + STORM, 0
+    while time.monotonic() < until:
+        took = max(took, others.order(what))
+        time.sleep(0.2)
+    return took
+
+
 def storm(gate, recipe, others):
     """Sends messages without end from an address, most of which a limit refuses, and orders of another user meanwhile.
     Returns how long these take at most, how many messages were refused, and by how many bytes the logs grew."""
@@ -95,10 +126,7 @@ def storm(gate, recipe, others):
     before, first = recipe.logged(), others.count
     for it in threads:
         it.start()
-    until, took = time.monotonic() + STORM, 0
-    while time.monotonic() < until:
-        took = max(took, others.order("a storm of refused messages"))
-        time.sleep(0.2)
+    took = meanwhile(others, "a storm of refused messages")
     ended.set()
     for it in threads:
         it.join()
@@ -108,10 +136,15 @@ def storm(gate, recipe, others):
     return took, count, grown
 
 
-def floods(gate, recipe):
+def floods(gate, recipe, numbers):
+    """Returns what another user's orders took beside each flood, in words."""
     others = Others(gate)
-    others.order("nothing")
-    took = [refused_spans(gate, others), refused_lists(gate, others)]
+    alone = others.order("nothing")
+    spans, lists = refused_spans(gate, others), refused_lists(gate, others)
+    queries, answered = long_queries(gate, numbers, others)
     slowest, count, grown = storm(gate, recipe, others)
     refusals = ", ".join(f"{count[it]} times {it.decode()}" for it in sorted(count))
-    return f"beside refused orders, refused lists and a storm ({refusals}; {grown} bytes of logs) another's order took {took[0]:.3f}, {took[1]:.3f} and {slowest:.3f} s"
+    return (
+        f"another user's order takes {alone:.3f} s alone, {spans:.3f} beside refused orders, {lists:.3f} beside refused lists, at most "
+        f"{queries:.3f} beside {answered} long queries, and at most {slowest:.3f} beside a storm ({refusals}; {grown} bytes of logs)"
+    )
