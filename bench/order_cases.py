@@ -36,6 +36,9 @@ class Orders:
     def __init__(self, size, server):
         self.size, self.server, self.count, self.left = size, server, itertools.count(1), []
 
+    def new_key(self):
+        return f"x{next(self.count)}"
+
     def send(self, *messages):
         """Sends messages that are not timed, and returns the response to the last."""
         return [exchange(self.server.port, it) for it in messages][-1]
@@ -47,10 +50,10 @@ class Orders:
         return petition
 
     def order(self, caller, kind, key=None, **fields):
-        return command({"caller": caller, "key": key or f"x{next(self.count)}", "order": kind, **fields})
+        return command({"caller": caller, "key": key or self.new_key(), "order": kind, **fields})
 
     def imported(self, caller, vendor, codes, org="o1", key=None, last="Lamp"):
-        return post(caller, key or f"x{next(self.count)}", listed(vendor, codes, last), f"/imports/{org}/{vendor}")
+        return post(caller, key or self.new_key(), listed(vendor, codes, last), f"/imports/{org}/{vendor}")
 
 
 class Case:
@@ -207,8 +210,8 @@ def imports():
         yield Case(long, name, outcome, listing(caller, vendor, many, org), aim=MOST_IMPORT)
     yield Case(long, "curator", 1, listing(CURATOR, FULL, many, key="i1", last="Other"), aim=MOST_IMPORT)
     yield Case(f"import of {MOST_ITEMS + 1:,} devices", "curator", 19, listing(CURATOR, FULL, range(1, MOST_ITEMS + 2)), aim=MOST_IMPORT)
-    yield Case(f"import of {(LIST - 8) // 9:,} devices, the longest list", "curator", 19, lambda o, run: post(CURATOR, f"l{run}", most, f"/imports/o1/{FULL}"), aim=MOST_IMPORT)
-    yield Case(f"import of {LIST:,} bytes without devices", "stranger", 2, lambda o, run: post(STRANGER, f"l{run}", blank, "/imports/o1"), aim=MOST_IMPORT)
+    yield Case(f"import of {(LIST - 8) // 9:,} devices, the longest list", "curator", 19, lambda o, run: post(CURATOR, o.new_key(), most, f"/imports/o1/{FULL}"), aim=MOST_IMPORT)
+    yield Case(f"import of {LIST:,} bytes without devices", "stranger", 2, lambda o, run: post(STRANGER, o.new_key(), blank, "/imports/o1"), aim=MOST_IMPORT)
     yield Case(f"{long}, owned in the full store", "curator", "accepted", listing(CURATOR, FULL, many), aim=MOST_IMPORT)
     yield Case(f"{long}, all fresh", "curator", "accepted", fresh(FRESH, many), aim=MOST_IMPORT)
     yield Case(f"{long}, each second number, backwards", "curator", "accepted", fresh(SCATTERED, range(2 * ITEMS, 0, -2)), aim=MOST_IMPORT)
@@ -234,7 +237,7 @@ def no_orders():
         ("an array in an array", b"[" * ORDER, 27),
         ("one text", b'{"order":"' + b"\\u0041" * 2700 + b'"}', 28),
     ):
-        yield Case(f"{ORDER:,} bytes, {what}", "stranger", outcome, lambda o, run, body=body: post(STRANGER, f"y{run}", body))
+        yield Case(f"{ORDER:,} bytes, {what}", "stranger", outcome, lambda o, run, body=body: post(STRANGER, o.new_key(), body))
 
 
 def queries():
@@ -260,6 +263,6 @@ def queries():
 
 
 def cases():
-    """All cases; a store that is scaled down has none that needs all numbers of a vendor."""
-    every = itertools.chain(enrolments(), asks(), decisions(), given_numbers(), spans(), imports(), additions(), no_orders(), queries())
+    """All cases, those that fill both stores last; a store that is scaled down has none that needs all numbers of a vendor."""
+    every = itertools.chain(queries(), enrolments(), asks(), decisions(), given_numbers(), additions(), no_orders(), spans(), imports())
     return (it for it in every if SCALE == 1 or not it.only_full)

@@ -318,7 +318,7 @@ def main():
         with serving(usbreg, store, port=server.port).up(), recipe:
             orders_without_end(gate)
         with serving(usbreg, full, port=server.port).up(), recipe:
-            flooded = floods(gate, recipe, numbers)
+            flooded = floods(gate, recipe)
         for kind, cases in ((ByField, lambda proxy: networks(Gate(proxy.port))), (Guarded, guarded), (Packaged, in_debians)):
             shutil.rmtree(recipe.folder)
             if kind is Guarded and not shutil.which("openssl"):

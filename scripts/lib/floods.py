@@ -16,18 +16,17 @@ from lib.usbreg import put_rows
 # The least number of the registry; the messages at once; the seconds in which another user's order must come; the bytes of
 # a list; and the seconds of a storm.
 FIRST, AT_ONCE, SOON, LONG, STORM = 0x2000, 60, 0.5, 2_800_000, 2
-# The canonical form of the accepted requests of the registry.
-AMENDED = b"amend-org\tfull\tFull\thttps://full.example/"
+# How many accepted requests the registry has, and the canonical form of each.
+ACCEPTED, AMENDED = 10_000, b"amend-org\tfull\tFull\thttps://full.example/"
 REPORTS = ("census", "holders", "petitions", "numbers", "organisations")
 
 
 def filled(store, numbers):
-    """Puts an organisation with so many numbers and twice as many accepted requests into a closed store, and returns its
-    path."""
+    """Puts an organisation with so many numbers, and some accepted requests, into a closed store, and returns its path."""
     return put_rows(store, (
         ("INSERT INTO orgs VALUES (?, 'Full', 'https://full.example/', 'mallory')", [("full",)]),
         ("INSERT INTO entries3 VALUES (0x1209, ?, 'full', 1, ?, NULL, NULL, NULL)", ((it, f"Device {it}") for it in range(FIRST, FIRST + numbers))),
-        ("INSERT INTO kept VALUES ('mallory', ?, ?, 'amended organisation full')", ((f"a{it}", AMENDED) for it in range(2 * numbers))),
+        ("INSERT INTO kept VALUES ('mallory', ?, ?, 'amended organisation full')", ((f"a{it}", AMENDED) for it in range(ACCEPTED))),
     ))
 
 
@@ -85,10 +84,10 @@ def refused_lists(gate, others):
     return took
 
 
-def long_queries(gate, numbers, others):
-    """Asks for each report and for pages of the record at many places, all at once, and sends orders of another user for a
+def long_queries(gate, others):
+    """Asks for each report and for many pages near the end of the record, all at once, and sends orders of another user for a
     while. Returns how long these take at most, and how many queries were answered meanwhile."""
-    paths = [f"/reports/{it}" for it in REPORTS] + [f"/history/{max(0, 2 * numbers - 1000 * number)}" for number in range(AT_ONCE)]
+    paths = [f"/reports/{it}" for it in REPORTS] + [f"/history/{ACCEPTED - 1000 - number}" for number in range(AT_ONCE)]
     clients = [connected(gate.port, f"127.0.7.{number % 4 + 1}") for number in range(len(paths))]
     for client, path in zip(clients, paths):
         client.sendall(closing(get(path)))
@@ -136,12 +135,12 @@ def storm(gate, recipe, others):
     return took, count, grown
 
 
-def floods(gate, recipe, numbers):
+def floods(gate, recipe):
     """Returns what another user's orders took beside each flood, in words."""
     others = Others(gate)
     alone = others.order("nothing")
     spans, lists = refused_spans(gate, others), refused_lists(gate, others)
-    queries, answered = long_queries(gate, numbers, others)
+    queries, answered = long_queries(gate, others)
     slowest, count, grown = storm(gate, recipe, others)
     refusals = ", ".join(f"{count[it]} times {it.decode()}" for it in sorted(count))
     return (
