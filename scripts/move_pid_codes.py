@@ -129,7 +129,7 @@ def move_in_and_out(mover, entries):
     pages_of(mover, record, "slugs")
     again = mover.take("slugs", "again", TAKEN)
     same("the counts of the second time", {it: again["numbers"][it] for it in ("granted", "imported")}, {it: counts["numbers"][it] for it in ("granted", "imported")})
-    same("what is reported of the second time", {what.split(",")[0] for _, _, what, _ in table(f"{mover.room}/again/report.tsv")}, {"licence"})
+    same("what is reported of the second time", {what.split(",")[0] for _, _, what, _ in table(f"{mover.room}/again/report.tsv")}, {"it comes without licence"})
     same("the rows of the second time", mover.rows("again"), mover.rows("moved"))
     return counts, time.monotonic() - began
 

@@ -35,8 +35,9 @@ MOST = 4_194_304
 # The kibibytes of address space in which a line of two gigabytes has to be refused.
 ROOM_FOR_A_LINE = 65_536
 STOPS = 20
-# How often the copy and the second machine follow while orders come, and the requests that come before.
-FOLLOWED, BEFORE = 5, 1_100
+# How often the copy and the second machine follow while orders come, the requests that come before, and the seconds between
+# two of the others.
+FOLLOWED, BEFORE, APART = 5, 1_100, 0.002
 BAD_JSON = '{"name":"BadJson","refused":27}'
 
 
@@ -304,7 +305,7 @@ def follows(usbreg, made):
         first.must_run(block("A copy of the record"))
         second.must_run(block("A second machine"))
         first.send(requests[30:BEFORE])
-        with Orders(first, requests[BEFORE:]) as orders:
+        with Orders(first, requests[BEFORE:], APART) as orders:
             for _ in range(FOLLOWED):
                 orders.go_on(5)
                 least = BEFORE + orders.done + 1

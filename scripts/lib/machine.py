@@ -77,10 +77,11 @@ class Machine:
 
 
 class Orders:
-    """Orders that come one after another, for a `with`. One whose response does not come is sent again."""
+    """Orders that come one after another, so many seconds apart, for a `with`. One whose response does not come is sent
+    again."""
 
-    def __init__(self, machine, requests):
-        self.machine, self.requests, self.done, self.ended = machine, requests, 0, threading.Event()
+    def __init__(self, machine, requests, apart=0):
+        self.machine, self.requests, self.apart, self.done, self.ended = machine, requests, apart, 0, threading.Event()
         self.thread = threading.Thread(target=self.run)
 
     def run(self):
@@ -88,7 +89,7 @@ class Orders:
             while not self.acknowledged(it):
                 pass
             self.done += 1
-            if self.ended.is_set():
+            if self.ended.wait(self.apart):
                 return
 
     def acknowledged(self, request):

@@ -108,7 +108,7 @@ ORGANISATIONS = {
     "curator-1": ("org-curator-1", "layout: org\ntitle: One\nsite: http://one.example/", "One", "http://one.example/", ("a curator's name",)),
     "NoSite": ("nosite", "layout: org\ntitle: None", "None", f"{HOME}/nosite/", ("since it has none",)),
     "BadSite": ("badsite", "layout: org\ntitle: Bad\nsite: http://a b/", "Bad", f"{HOME}/badsite/", ("usbreg does not take its site",)),
-    "NoTitle": ("notitle", "layout: page\nsite: http://no.example/", "NoTitle", "http://no.example/", ("its layout is page", "its name stands")),
+    "NoTitle": ("notitle", "layout: page\nsite: http://no.example/", "NoTitle", "http://no.example/", ("its layout is page", "the name of its folder stands")),
     "AnOrganisationWithAVeryLongNameOfMoreThan32Letters": ("anorganisationwithaverylongnameo", "layout: org\ntitle: Long\nsite: http://l.example/", "Long", "http://l.example/", ("a slug has at most 32",)),
 }
 
