@@ -30,24 +30,17 @@ use Rattle.registry_commands.specs.Ends.{Effect, Output, Sunk}
 use Rattle.registry_commands.specs.Failures.{IsOfClosing, IsOfInput, IsOfOutput, IsOfSoundRun, PrintsFailure}
 use Rattle.registry_commands.specs.Messages.{failure_of}
 use Rattle.registry_commands.specs.Apply.{IsApplied, IsOfRun}
-use Rattle.registry_commands.specs.Found.{Attempt, IsFoundedBy, IsOfFounding, attempt}
+use Rattle.registry_commands.specs.Found.{IsOfFounding, ReadsFounding}
 use Rattle.registry_commands.specs.Trial.{IsOfStart, IsTrial, IsTrialOf}
 use Rattle.registry_commands.proofs.ApplyLemmas.{keeps_same, silent}
 use Rattle.registry_commands.proofs.FailureLemmas.{memory_of_input, of_sound_run, tells_more}
 
--- a failure before anything is founded
-pub founding_fails : {S : Type 0} (OfInput : Failure → Type 0) (g : Ghosts S) (conn : Held S) (read : Result Listed WireRefusal) (errors : Output) (status : ExitStatus)
-    → status ≡ Failed → PrintsFailure OfInput errors → IsFoundedBy g OfInput (attempt conn conn errors status) read
-founding_fails OfInput g conn (Err refusal) errors status failed told = (refl, inr (failed, told))
-founding_fails OfInput g conn (Ok listed) errors status failed told = inl (refl, failed, told)
-
 -- the founding file was read from an input, which may fail too
-pub found_more : {S : Type 0} (OfMemory OfInput : Failure → Type 0) → ((failure : Failure) → OfMemory failure → OfInput failure)
-    → (g : Ghosts S) (did : Attempt S) (read : Result Listed WireRefusal) → IsFoundedBy g OfMemory did read → IsFoundedBy g OfInput did read
-found_more OfMemory OfInput more g did (Err refusal) is =
-    (is.0, elim is.1 [ inl said ↦ inl said | inr failed ↦ inr (failed.0, tells_more OfMemory OfInput did.errors more failed.1) ])
-found_more OfMemory OfInput more g did (Ok listed) is =
-    elim is [ inl failed ↦ inl (failed.0, failed.1, tells_more OfMemory OfInput did.errors more failed.2) | inr tried ↦ inr tried ]
+pub reads_more : (OfMemory OfInput : Failure → Type 0) → ((failure : Failure) → OfMemory failure → OfInput failure)
+    → (listed : Result Listed WireRefusal) (errors : Output) (read : Result Founding ExitStatus) → ReadsFounding OfMemory listed errors read → ReadsFounding OfInput listed errors read
+reads_more OfMemory OfInput more listed errors (Ok founding) is = is
+reads_more OfMemory OfInput more listed errors (Err status) is =
+    elim is [ inl said ↦ inl said | inr failed ↦ inr (failed.0, tells_more OfMemory OfInput errors more failed.1) ]
 
 -- the fault of a founding is one of its failures
 pub of_founding : {S : Type 0} (g : Ghosts S) (conn new : Held S) (fault : Fault)

@@ -1,4 +1,4 @@
--- What a founding does to its connection.
+-- What is read of a founding file, and what a founding does to its connection.
 use Rattle.std.specs.Prelude.{◌≡◌, ◌⊎◌, IsTrue, Result, Ok, Err}
 use Rattle.sqlite.specs.Store.{Ghosts}
 use Rattle.sqlite.specs.State.{HasCleanDisk, Survives}
@@ -9,7 +9,7 @@ use Rattle.registry_tables.specs.Rows.{Rows, newest}
 use Rattle.registry_tables.specs.Calls.{HasNoMeta}
 use Rattle.registry_store.specs.Promise.{IsAt}
 use Rattle.registry_wire.specs.declared.refusal.WireRefusal.{WireRefusal}
-use Rattle.registry_wire.specs.Founding.{Founds, Listed}
+use Rattle.registry_wire.specs.Founding.{FoundsAs, Listed}
 use Rattle.registry_commands.specs.declared.messages.Failure.{Failure}
 use Rattle.registry_commands.specs.declared.messages.Failure.TheVariants.{Memory, Store, Taken}
 use Rattle.registry_commands.specs.declared.status.ExitStatus.{ExitStatus}
@@ -49,10 +49,10 @@ module _ {S : Type 0} (g : Ghosts S) where
     pub ends : ((did.status ≡ Success) × IsFounded did.old did.new founding × PrintsNothing did.errors)
         ⊎ ((did.status ≡ Failed) × PrintsFailure (IsOfFounding did.old did.new) did.errors)
 
-  -- what a founding file does to the connection, by what it lists, or by its first fault
-  abbrev pub IsFoundedBy : (Failure → Type 0) → Attempt S → Result Listed WireRefusal → Type 0
-  IsFoundedBy OfInput did (Err refusal) =
-      (did.new ≡ did.old) × (((did.status ≡ Rejected) × Prints did.errors (refusal_line refusal)) ⊎ ((did.status ≡ Failed) × PrintsFailure OfInput did.errors))
-  IsFoundedBy OfInput did (Ok listed) =
-      ((did.new ≡ did.old) × (did.status ≡ Failed) × PrintsFailure OfInput did.errors)
-      ⊎ ((founding : Founding) × Founds listed founding × IsTriedOn did founding)
+-- What is read of a founding file, by what it lists or by its first fault: the founding, and nothing is printed; or the exit
+-- status, and why is printed.
+abbrev pub ReadsFounding : (Failure → Type 0) → Result Listed WireRefusal → Output → Result Founding ExitStatus → Type 0
+ReadsFounding OfInput listed errors (Ok founding) = FoundsAs (Ok founding) listed × (errors.new ≡ errors.old)
+ReadsFounding OfInput listed errors (Err status) =
+    ((refusal : WireRefusal) × (listed ≡ Err refusal) × (status ≡ Rejected) × Prints errors (refusal_line refusal))
+    ⊎ ((status ≡ Failed) × PrintsFailure OfInput errors)

@@ -33,7 +33,7 @@ pub use closing::close_store;
 pub use entries::{Entry, LineRefusal};
 pub use exporting::export;
 pub use following::{ReplayStop, follow_lines};
-pub use found::found_registry;
+pub use found::{found_registry, read_founding};
 pub use importing::{Import, import_list, import_of_arguments};
 pub use input::{ReadAllFault, read_all};
 pub use lines::{BadLine, requests_in};

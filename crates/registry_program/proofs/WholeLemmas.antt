@@ -10,14 +10,15 @@ use Rattle.sqlite.specs.Held.{Held}
 use Rattle.sqlite.specs.State.{HasCleanDisk}
 use Rattle.byte_streams.specs.declared.streams.Sink as sink
 use Rattle.byte_streams.specs.declared.streams.Source as source
+use Rattle.byte_streams.specs.Streams.{MayGive}
 use Rattle.usbids_text.specs.Moments.{Moment}
 use Rattle.usbnum_core.specs.declared.error.NoMemory.{NoMemory}
 use Rattle.registry_rules.specs.Accepted.{AreValid}
 use Rattle.registry_rules.specs.History.{History, founded}
 use Rattle.registry_rules.specs.Run.{after}
 use Rattle.registry_tables.specs.Rows.{newest}
-use Rattle.registry_wire.specs.Founding.{Listed, founding_listed}
-use Rattle.registry_wire.specs.declared.refusal.WireRefusal.{WireRefusal}
+use Rattle.registry_wire.specs.Founding.{FoundsAs, founding_listed}
+use Rattle.registry_rules.specs.declared.founding.Founding.{Founding}
 use Rattle.registry_store.specs.Promise.{Leaves, Represents, connection_of, state_of}
 use Rattle.registry_store.specs.Queries.{IsUntouched}
 use Rattle.registry_store.specs.Reopen.{FilesHoldEither, IsEither}
@@ -30,15 +31,14 @@ use Rattle.registry_reports.specs.declared.kinds.ReportKind.{ReportKind}
 use Rattle.registry_commands.specs.declared.status.ExitStatus.{ExitStatus}
 use Rattle.registry_commands.specs.declared.status.ExitStatus.TheVariants.{Success, Failed}
 use Rattle.registry_commands.specs.Ends.{Ends, Output, Receives, Sunk, effect}
-use Rattle.registry_commands.specs.Found.{IsFoundedBy, attempt}
 use Rattle.registry_commands.specs.Recorded.{record_text}
 use Rattle.registry_commands.proofs.ApplyLemmas.{applied_endures}
 use Rattle.registry_commands.proofs.ReopenLemmas.{at_place}
 use Rattle.registry_desk.specs.declared.server.Connections as connections
 use Rattle.registry_desk.specs.Server.{fault_in}
 use Rattle.registry_program.specs.declared.host.Host as host
-use Rattle.registry_program.specs.Commands.{ActsOnFile, Applies, ExportsAs, FoundsIn, ImportsAs, ImportsFile, ReportsAs, WritesList, WritesRecord, WritesReport}
-use Rattle.registry_program.specs.Outputs.{earlier}
+use Rattle.registry_program.specs.Commands.{ActsOnFile, Applies, ExportsAs, FoundsBy, FoundsIn, ImportsAs, ImportsFile, IsFoundedOn, ReadsFoundingAt, ReportsAs, WritesList, WritesRecord, WritesReport}
+use Rattle.registry_program.specs.Outputs.{earlier, later}
 use Rattle.registry_program.specs.Serving.{Serves, ServesOn, limit_of}
 use Rattle.registry_program.specs.Stores.{IsClosed, IsOver, Runs, TheRegistry}
 use Rattle.registry_program.specs.Whole.{AppliesWholly, AreLeftAfter, ExportsWhollyAs, FoundsWholly, ImportsWhollyAs, IsAfterImport, IsAfterLines, IsAppliedTo, IsCarriedOn, IsFoundedWholly, IsImportedTo, IsListed, IsReadFrom, IsRecordedOn, IsReportedOn, IsServedTo, IsUnbegun, IsUsed, LeadsTo, ReportsWholly, ServesWholly, Stays, UnlessStopped}
@@ -186,48 +186,51 @@ module _ {H F I : Type 0} (m : host.Ghosts H F I) (d : disk.Ghosts F) where
     reports_whole old new path (Some name) ends is = report_whole old new path name ends is
     reports_whole old new path None ends is = is
 
-    -- the founding file was read, on this connection, and the registry was founded
-    founded_by : (old new : H) (path founding bytes : List ℕ) (OfInput : Failure → Type 0) (conn last : Held (FileStore F d)) (files : Files F) (errors : Output) (e e_new : Sunk) (before status : ExitStatus)
-        (read : Result Listed WireRefusal) → founding_listed bytes ≡ read → IsFoundedBy over_files OfInput (attempt conn last errors before) read → IsClosed m d last files e e_new before status → before ≡ Success → status ≡ Success
-        → IsReadFrom m d s founding bytes → IsUsed m d old new path true files → IsFoundedWholly m d s old new path founding
-    founded_by old new path founding bytes OfInput conn last files errors e e_new before status (Err refusal) listed is closed success well from used_as =
-        elim is.1 [ inl said ↦ absurd (cc (said.0, success)) | inr failure ↦ absurd (cc (failure.0, success)) ]
-    founded_by old new path founding bytes OfInput conn last files errors e e_new before status (Ok all) listed is closed success well from used_as = elim is [
-      | inl failure ↦ absurd (cc (failure.1, success))
-      | inr tried ↦ elim tried.2.ends [
-        | inl ended ↦
-            let h = founded tried.0 in
-            record {
-              bytes = bytes;
-              read = from;
-              listed = all;
-              is_listed = listed;
-              origin = tried.0;
-              founds = tried.1;
-              files = files;
-              used = used_as;
-              holds = λ honest.
-                  let clean : HasCleanDisk (file_state last) = closed_clean last files closed.closed honest in
-                  let left : Leaves newest (file_state last) (IsEither h h) =
-                  leaves_weaker newest (file_state last) (λ x. x ≡ h) (IsEither h h) (λ x e. inl e) ((ended.1.rows clean).left clean) in
-                  closed.holds (well ∙ sym success) newest h h (in_newest (file_state last) (IsEither h h) (λ _. left)) honest;
-            }
-        | inr failure ↦ absurd (cc (failure.0, success))
-      ]
+    -- the founding file was read, and the registry was founded on this store
+    founded_on : (old new : H) (path founding : List ℕ) (read : H) (input : I) (bytes : List ℕ) (origin : Founding) (ends : Ends) → m.reads old read founding input → MayGive (s.remaining input) bytes
+        → FoundsAs (Ok origin) (founding_listed bytes) → IsFoundedOn m d origin read new path ends → ends.status ≡ Success → IsFoundedWholly m d s old new path founding
+    founded_on old new path founding read input bytes origin ends reads gives founds on well =
+        let success : on.before ≡ Success = elim (success_or on.before) [ inl success ↦ success | inr other ↦ absurd (other (sym (on.closes.closed.kept other).0 ∙ well)) ] in
+        elim on.tried.ends [
+          | inl ended ↦
+              let h = founded origin in
+              let closed = on.closes.closed in
+              record {
+                bytes = bytes;
+                read = record { reading = old; read = read; input = input; reads = reads; gives = gives };
+                first = refl;
+                listed = founds.0;
+                is_listed = founds.1;
+                origin = origin;
+                founds = founds.2;
+                files = on.closes.files;
+                used = record { opened = on.opened; first = on.connected.files; opens = on.connected.opens; done = on.opened; lets_go = on.closes.lets_go };
+                holds = λ honest.
+                    let clean : HasCleanDisk (file_state on.last) = closed_clean on.last on.closes.files closed.closed honest in
+                    let left : Leaves newest (file_state on.last) (IsEither h h) =
+                    leaves_weaker newest (file_state on.last) (λ x. x ≡ h) (IsEither h h) (λ x e. inl e) ((ended.1.rows clean).left clean) in
+                    closed.holds (well ∙ sym success) newest h h (in_newest (file_state on.last) (IsEither h h) (λ _. left)) honest;
+              }
+          | inr failure ↦ absurd (cc (failure.0, success))
+        ]
+
+    -- the status Success comes only after a founding was read
+    found_from : (old new : H) (path founding : List ℕ) (read : H) (errors : Sunk) (first : Result Founding ExitStatus) (ends : Ends)
+        → ReadsFoundingAt m s old read founding (record { old = ends.errors.old; new = errors }) first → FoundsBy m d first errors read new path ends → ends.status ≡ Success
+        → IsFoundedWholly m d s old new path founding
+    found_from old new path founding read errors (Ok origin) ends (inl from) on well = elim on [
+      | inl not ↦ absurd (cc (not.2.1, well))
+      | inr is ↦ founded_on old new path founding read from.0 from.3.0 origin (later ends errors) from.2 from.3.1 from.3.2.0 is well
     ]
+    found_from old new path founding read errors (Ok origin) ends (inr not) on well = absurd (cc not.2.0)
+    found_from old new path founding read errors (Err status) ends (inl from) on well = elim from.3.2 [
+      | inl said ↦ absurd (cc (said.2, on.3, well))
+      | inr failure ↦ absurd (cc (failure.0, on.3, well))
+    ]
+    found_from old new path founding read errors (Err status) ends (inr not) on well = absurd (cc (not.2.0, on.3, well))
 
     pub found_whole : (old new : H) (path founding : List ℕ) (ends : Ends) → FoundsIn m d s old new path founding ends → FoundsWholly m d s old new path founding ends
-    found_whole old new path founding ends is well = elim is [
-      | inl not ↦ absurd (cc (not.2.1, well))
-      | inr on ↦
-          let success : on.before ≡ Success = elim (success_or on.before) [ inl success ↦ success | inr other ↦ absurd (other (sym (on.closes.closed.kept other).0 ∙ well)) ] in
-          elim on.founds [
-            | inl read ↦ founded_by old new path founding read.3.0 _ on.conn on.last on.closes.files _ on.errors ends.errors.new on.before ends.status (founding_listed read.3.0) refl read.3.2 on.closes.closed success well
-                (record { reading = on.opened; read = on.done; input = read.0; reads = read.2; gives = read.3.1 })
-                (record { opened = on.opened; first = on.connected.files; opens = on.connected.opens; done = on.done; lets_go = on.closes.lets_go })
-            | inr not ↦ absurd (cc (not.2.1, success))
-          ]
-    ]
+    found_whole old new path founding ends is well = found_from old new path founding is.read is.errors is.first ends is.reads is.goes_on well
 
     module _ {R W IN : Type 0} (c : connections.Ghosts H R W) (r : source.Ghosts R) (w : sink.Ghosts W) (i : source.Ghosts IN) where
       pub serves_whole : (old new : H) (path : List ℕ) (port limit : ℕ) (ends : Ends) → Serves m d c r w old new path port limit ends → ServesWholly m d c r w old new path port limit ends

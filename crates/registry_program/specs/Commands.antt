@@ -10,6 +10,7 @@ use Rattle.byte_streams.specs.Streams.{MayGive}
 use Rattle.usbids_text.specs.declared.seen.Wanted.{Wanted}
 use Rattle.usbids_text.specs.Moments.{Moment, is_moment}
 use Rattle.usbnum_core.specs.declared.error.NoMemory.{NoMemory}
+use Rattle.registry_rules.specs.declared.founding.Founding.{Founding}
 use Rattle.registry_wire.specs.Founding.{founding_listed}
 use Rattle.registry_wire.specs.Stamps.{moment_text}
 use Rattle.registry_store.specs.declared.registry.Registry.{Registry}
@@ -22,9 +23,9 @@ use Rattle.registry_reports.specs.declared.kinds.ReportKind.{ReportKind}
 use Rattle.registry_commands.specs.declared.status.ExitStatus.{ExitStatus}
 use Rattle.registry_commands.specs.declared.status.ExitStatus.TheVariants.{Failed}
 use Rattle.registry_commands.specs.Apply.{IsApplied, IsUnread}
-use Rattle.registry_commands.specs.Ends.{Ends, ReceivesNothing, Sunk, effect}
+use Rattle.registry_commands.specs.Ends.{Ends, Output, ReceivesNothing, Sunk, effect}
 use Rattle.registry_commands.specs.Failures.{IsOfInput, IsTooLong, Prints, PrintsFailure}
-use Rattle.registry_commands.specs.Found.{IsFoundedBy, attempt}
+use Rattle.registry_commands.specs.Found.{IsTriedOn, ReadsFounding, attempt}
 use Rattle.registry_commands.specs.Imports.{AreOfImport, IsFirstBad, IsImported}
 use Rattle.registry_commands.specs.Lines.{requests_in}
 use Rattle.registry_commands.specs.LookUp.{IsLookedUp}
@@ -34,7 +35,7 @@ use Rattle.registry_commands.specs.Reports.{IsReported}
 use Rattle.registry_commands.specs.Shown.{IsExported}
 use Rattle.registry_commands.specs.Trial.{IsOfStart, IsTrialOf}
 use Rattle.registry_program.specs.declared.host.Host as host
-use Rattle.registry_program.specs.Outputs.{IsFailure, IsRejection, earlier}
+use Rattle.registry_program.specs.Outputs.{IsFailure, IsRejection, earlier, later}
 use Rattle.registry_program.specs.Stores.{Closes, IsConnected, IsUnconnected, Runs}
 
 -- ---- inputs
@@ -114,14 +115,14 @@ module _ {H F I : Type 0} (m : host.Ghosts H F I) (s : source.Ghosts I) where
 -- ---- found
 
 module _ {H F I : Type 0} (m : host.Ghosts H F I) (s : source.Ghosts I) where
-  -- a registry is founded on the connection by the file at this path; or it could not be opened
-  abbrev pub FoundsBy : {S : Type 0} → store.Ghosts S → H → H → List ℕ → Held S → Held S → Ends → Type 0
-  FoundsBy g old new path conn conn_new ends =
+  -- the founding file at this path is read; or it could not be opened
+  abbrev pub ReadsFoundingAt : H → H → List ℕ → Output → Result Founding ExitStatus → Type 0
+  ReadsFoundingAt old new path errors read =
       ReadsFrom m old new path
       (λ input input_new. (bytes : List ℕ) × MayGive (s.remaining input) bytes
-      × IsFoundedBy g (IsOfInput (s.failures input) (s.failures input_new) bytes) (attempt conn conn_new ends.errors ends.status) (founding_listed bytes)
-      × (IsTooLong bytes → (ends.status ≡ Failed) × (conn_new ≡ conn) × PrintsFailure (IsOfInput (s.failures input) (s.failures input_new) bytes) ends.errors))
-      (λ failure. (conn_new ≡ conn) × (ends.status ≡ Failed) × Prints ends.errors (failure_line failure))
+      × ReadsFounding (IsOfInput (s.failures input) (s.failures input_new) bytes) (founding_listed bytes) errors read
+      × (IsTooLong bytes → (read ≡ Err Failed) × PrintsFailure (IsOfInput (s.failures input) (s.failures input_new) bytes) errors))
+      (λ failure. (read ≡ Err Failed) × Prints errors (failure_line failure))
 
 -- ---- commands
 
@@ -130,23 +131,37 @@ module _ {H F I : Type 0} (m : host.Ghosts H F I) (d : disk.Ghosts F) where
   abbrev pub PrintsRecord : H → H → List ℕ → Option ℕ → Ends → Type 0
   PrintsRecord old new path from ends = Runs m d old new path ends (WritesRecord from)
 
-module _ {H F I : Type 0} (m : host.Ghosts H F I) (d : disk.Ghosts F) (s : source.Ghosts I) where
-  -- found STORE FOUNDING: the store was opened, or made, a registry was founded on it, and it was closed
-  pub record IsFoundedOn (old new : H) (path founding : List ℕ) (ends : Ends) : Type 0 where
+module _ {H F I : Type 0} (m : host.Ghosts H F I) (d : disk.Ghosts F) where
+  -- the store was opened, or made, this registry was founded on it, and it was closed
+  pub record IsFoundedOn (founding : Founding) (old new : H) (path : List ℕ) (ends : Ends) : Type 0 where
     pub opened : H
     pub conn : Held (FileStore F d)
     pub connected : IsConnected m d old opened path conn
-    pub done : H
     pub last : Held (FileStore F d)
     pub errors : Sunk
     pub before : ExitStatus
-    pub founds : FoundsBy m s over_files opened done founding conn last (earlier ends errors before)
+    pub tried : IsTriedOn over_files (attempt conn last (earlier ends errors before).errors before) founding
     pub silent : ends.out.new ≡ ends.out.old
-    pub closes : Closes m d done new last errors ends.errors.new before ends.status
+    pub closes : Closes m d opened new last errors ends.errors.new before ends.status
 
-  abbrev pub FoundsIn : H → H → List ℕ → List ℕ → Ends → Type 0
-  FoundsIn old new path founding ends =
-      ((failure : Failure) × IsUnconnected m d old new path failure × IsFailure failure ends) ⊎ IsFoundedOn old new path founding ends
+  -- that, or it could not be opened
+  abbrev pub FoundsOn : Founding → H → H → List ℕ → Ends → Type 0
+  FoundsOn founding old new path ends =
+      ((failure : Failure) × IsUnconnected m d old new path failure × IsFailure failure ends) ⊎ IsFoundedOn founding old new path ends
+
+  -- by what was read of a founding file, when the error output had taken this: without a founding no store is opened
+  abbrev pub FoundsBy : Result Founding ExitStatus → Sunk → H → H → List ℕ → Ends → Type 0
+  FoundsBy (Ok founding) errors old new path ends = FoundsOn founding old new path (later ends errors)
+  FoundsBy (Err status) errors old new path ends = (new ≡ old) × (ends.out.new ≡ ends.out.old) × (ends.errors.new ≡ errors) × (ends.status ≡ status)
+
+module _ {H F I : Type 0} (m : host.Ghosts H F I) (d : disk.Ghosts F) (s : source.Ghosts I) where
+  -- found STORE FOUNDING: the founding file was read before any store was opened, and this is what was read and printed
+  pub record FoundsIn (old new : H) (path founding : List ℕ) (ends : Ends) : Type 0 where
+    pub read : H
+    pub errors : Sunk
+    pub first : Result Founding ExitStatus
+    pub reads : ReadsFoundingAt m s old read founding (record { old = ends.errors.old; new = errors }) first
+    pub goes_on : FoundsBy m d first errors read new path ends
 
   -- apply STORE FILE
   abbrev pub Applies : H → H → List ℕ → List ℕ → ℕ → Ends → Type 0

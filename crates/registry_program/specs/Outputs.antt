@@ -18,6 +18,10 @@ silent_ends e out errors errors_new status = record { out = record { old = out; 
 abbrev pub earlier : Ends → Sunk → ExitStatus → Ends
 earlier ends errors status = record { out = ends.out; errors = record { old = ends.errors.old; new = errors }; status = status }
 
+-- the same, from when the error output had taken this
+abbrev pub later : Ends → Sunk → Ends
+later ends errors = record { out = ends.out; errors = record { old = errors; new = ends.errors.new }; status = ends.status }
+
 -- nothing was written but the message for this failure
 abbrev pub IsFailure : Failure → Ends → Type 0
 IsFailure failure ends = (ends.out.new ≡ ends.out.old) × (ends.status ≡ Failed) × Prints ends.errors (failure_line failure)

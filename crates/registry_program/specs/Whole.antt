@@ -198,16 +198,17 @@ module _ {H F I : Type 0} (m : host.Ghosts H F I) (d : disk.Ghosts F) where
         × IfOk asked (λ read. MatchResult read (AreOfImport caller key org vendor) (IsFirstBad caller key org vendor))
         × ImportsWhollyAs old new path list asked ends
 
-    -- the founding file came from the second path, and the closed files hold the new registry
+    -- the founding file came from the second path, before the store was opened, and the closed files hold the new registry
     pub record IsFoundedWholly (old new : H) (path founding : List ℕ) : Type 0 where
       pub bytes : List ℕ
       pub read : IsReadFrom founding bytes
+      pub first : read.reading ≡ old
       pub listed : Listed
       pub is_listed : founding_listed bytes ≡ Ok listed
       pub origin : Founding
       pub founds : Founds listed origin
       pub files : Files F
-      pub used : IsUsed old new path true files
+      pub used : IsUsed read.read new path true files
       pub holds : AreClean d files.log files.db → HoldEither d newest files (founded origin) (founded origin)
 
     -- at the status Success; of any other status only `performs` speaks

@@ -1,17 +1,22 @@
-use Rattle.std.proofs.Common.{inr, refl}
+use Rattle.std.proofs.Common.{refl}
+use Rattle.std.specs.Prelude.{Ok, Err}
 use Rattle.registry_commands.specs.Ends.{sunk}
 use Rattle.registry_program.proofs.founding.run_found.Goals as goal
 
-pub returns : goal.returns
-returns g c out = inr (record {
-  opened = c.connect.new.host;
-  conn = c.in-Ok.conn;
-  connected = c.in-Ok.ensures.ok;
-  done = c.found_by_file-status.new.host;
-  last = c.found_by_file-status.result.1;
-  errors = sunk g.E.Sink c.found_by_file-status.new.errors;
-  before = c.found_by_file-status.result.0;
-  founds = c.found_by_file-status.ensures out;
-  silent = refl;
-  closes = c.close_connection.ensures;
-})
+pub returns-in-Ok : goal.returns-in-Ok
+returns-in-Ok g c out = record {
+  read = c.founding_at.new.host;
+  errors = sunk g.E.Sink c.founding_at.new.errors;
+  first = Ok c.in-Ok.founding;
+  reads = c.in-Ok.ensures;
+  goes_on = c.found_on.ensures out;
+}
+
+pub returns-in-Err : goal.returns-in-Err
+returns-in-Err g c out = record {
+  read = c.founding_at.new.host;
+  errors = sunk g.E.Sink c.founding_at.new.errors;
+  first = Err c.in-Err.status;
+  reads = c.in-Err.ensures;
+  goes_on = (refl, refl, refl, refl);
+}
