@@ -2,20 +2,22 @@
 """Compares man/usbreg.1 with the help of `usbreg`.
 
 The page must have exactly the version and the commands of `usbreg --help`, and for each command the usage line, the
-arguments and the options with their values of its own help. Its forms of requests must be those of docs/requests.md, and
-its requests, their replies and its founding file those of the examples.
+arguments and the options with their values of its own help. Its forms of requests must be those of docs/requests.md,
+and its requests, their replies and its founding file those of the examples. `usbreg --version` must name the logic of
+the kit.
 
 Usage: scripts/compare_man_page.py [PROGRAM [PAGE]], by default the program that `make` builds, and man/usbreg.1.
 The exit status is 0 if they agree.
 """
 
 import re
+import shutil
 import sys
 
 from lib.usbreg import EXAMPLES, TOP, content, done, program, run
 
 # What each command's help has, and the page has once.
-COMMON = {"-h, --help", "-V, --version"}
+COMMON = {"-h, --help", "--verbose", "-V, --version"}
 
 
 def section(text, name):
@@ -35,7 +37,7 @@ def help_of_command(usbreg, command):
 def helped(usbreg):
     """Returns the help of each command, and of the program under no name."""
     whole = done([usbreg, "--help"]).decode()
-    told = {"": ("", set(section(whole, "Options")))}
+    told = {"": ("", COMMON | set(section(whole, "Options")))}
     for command in section(whole, "Commands"):
         told[command] = ("usbreg help [COMMAND]", set()) if command == "help" else help_of_command(usbreg, command)
     return told
@@ -79,8 +81,11 @@ def main():
     usbreg = program(*sys.argv[1:2])
     page = content(sys.argv[2] if len(sys.argv) > 2 else f"{TOP}/man/usbreg.1").decode()
     version = done([usbreg, "--version"]).decode().strip()
-    if f'"{version}"' not in page:
+    if f'"{" ".join(version.split()[:2])}"' not in page:
         sys.exit(f"the page is not of the version {version}")
+    logic = version[version.rindex("logic") :].rstrip(")")
+    if shutil.which("rt") and logic not in done(["rt", "version"]).decode():
+        sys.exit(f"the program names another {logic} than `rt version`")
     wanted, there = helped(usbreg), documented(page)
     for command in [*wanted, *there]:
         if wanted.get(command) != there.get(command):

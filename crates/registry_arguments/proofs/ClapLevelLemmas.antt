@@ -92,10 +92,10 @@ module _ (s : Shape) where
   abbrev pub HasValue : Row → Type 0
   HasValue r = (a : Rule) × (v : Text) × (arg_by_id s.rules r.id ≡ Some a) × (slice_get r.values 0 ≡ Some v) × (value_kinds a.ignore_case (parser_of_value a.parser) v ≡ [])
 
-  -- an argument with no default, which takes a value once or never passes
+  -- an argument with no default, which takes a value once, or is a flag that stands for one, or never passes
   abbrev pub TakesOne : Rule → Type 0
   TakesOne a = (arg_by_id s.rules a.id ≡ Some a) × (a.defaults ≡ [])
-      × (((action_of a ≡ Set) × ((unwrap_or_range a.range).start_inclusive ≡ 1))
+      × (((action_of a ≡ Set) × (((unwrap_or_range a.range).start_inclusive ≡ 1) ⊎ ((v : Text) × (a.missing ≡ v ∷ []))))
       ⊎ ((values : List Text) (rows : List Row) → action_fault (action_of a) s.args_override_self a values rows ≡ [] → ⊥))
 
   -- the properties of the rows of this level
@@ -142,22 +142,30 @@ module _ (s : Shape) where
         go true e = absurd cc
         go false e = refl
 
-    value_set : (a : Rule) (values : List Text) (rows : List Row) → arg_by_id s.rules a.id ≡ Some a → action_of a ≡ Set → (unwrap_or_range a.range).start_inclusive ≡ 1
-        → range_kinds (unwrap_or_range a.range).start_inclusive (most_values a) (length values) ≡ []
-        → action_fault (action_of a) s.args_override_self a (values_or_missing a values) rows ≡ [] → Stand rows → Stand (used a values rows)
-    value_set a [] rows by set start range acted every =
-        let bad : kind.InvalidValue ∷ [] ≡ [] = subst (λ (n : ℕ). range_kinds n (most_values a) 0 ≡ []) start range in absurd cc
-    value_set a (v ∷ vs) rows by set start range acted every =
+    value_stored : (a : Rule) (v : Text) (vs : List Text) (rows : List Row) → arg_by_id s.rules a.id ≡ Some a → action_of a ≡ Set
+        → action_fault (action_of a) s.args_override_self a (v ∷ vs) rows ≡ [] → Stand rows → Stand (used_as (action_of a) a.id (reading_by a) (v ∷ vs) rows)
+    value_stored a v vs rows by set acted every =
         let parts = or_else_none _ _ (subst (λ (x : ArgAction). action_fault x s.args_override_self a (v ∷ vs) rows ≡ []) set acted) in
         let passed = (or_else_none (value_kinds a.ignore_case (parser_of_value a.parser) v) _ parts.1).0 in
         let none = absent a.id rows parts.0 in
         let row : Row = record { id = a.id; values = v ∷ vs; count = None; source = Some CommandLine; reading = reading_by a } in
         let gone : without a.id rows ≡ rows = at_absent a.id (λ _. []) [] rows none ∙ append-nil rows in
-        let is : used a (v ∷ vs) rows ≡ rows ++ row ∷ [] =
+        let is : used_as (action_of a) a.id (reading_by a) (v ∷ vs) rows ≡ rows ++ row ∷ [] =
         ap (λ (x : ArgAction). used_as x a.id (reading_by a) (v ∷ vs) rows) set
         ∙ ap (λ (some : List Row). with_values a.id (reading_by a) CommandLine (v ∷ vs) some) gone
         ∙ at_absent a.id (more_values CommandLine (v ∷ vs)) (row ∷ []) rows none in
         subst Stand (sym is) (every_more HasValue rows row every (a, v, by, refl, passed))
+
+    value_set : (a : Rule) (values : List Text) (rows : List Row) → arg_by_id s.rules a.id ≡ Some a → action_of a ≡ Set
+        → ((unwrap_or_range a.range).start_inclusive ≡ 1) ⊎ ((v : Text) × (a.missing ≡ v ∷ []))
+        → range_kinds (unwrap_or_range a.range).start_inclusive (most_values a) (length values) ≡ []
+        → action_fault (action_of a) s.args_override_self a (values_or_missing a values) rows ≡ [] → Stand rows → Stand (used a values rows)
+    value_set a [] rows by set (inl start) range acted every =
+        let bad : kind.InvalidValue ∷ [] ≡ [] = subst (λ (n : ℕ). range_kinds n (most_values a) 0 ≡ []) start range in absurd cc
+    value_set a [] rows by set (inr missing) range acted every =
+        subst (λ (values : List Text). Stand (used_as (action_of a) a.id (reading_by a) values rows)) (sym missing.1)
+        (value_stored a missing.0 [] rows by set (subst (λ (values : List Text). action_fault (action_of a) s.args_override_self a values rows ≡ []) missing.1 acted) every)
+    value_set a (v ∷ vs) rows by set start range acted every = value_stored a v vs rows by set acted every
 
     value_used : (a : Rule) (values : List Text) (rows : List Row) → TakesOne a → use_fault s.args_override_self a values rows ≡ [] → Stand rows → Stand (used a values rows)
     value_used a values rows one none every =

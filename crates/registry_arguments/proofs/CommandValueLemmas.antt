@@ -88,7 +88,7 @@ unfolding found_app
 found_asks name words met free none =
     let s = built_leaf found_app.top in
     let rows = rows_after s.rules [] words in
-    let has : HasValues s rows = level_values s refl ((refl, refl, inl (refl, refl)), ((refl, refl, inl (refl, refl)), ((refl, refl, inr (λ values rows e. absurd cc)), tt))) words none in
+    let has : HasValues s rows = level_values s refl ((refl, refl, inl (refl, inl refl)), ((refl, refl, inl (refl, inl refl)), ((refl, refl, inl (refl, inr (codes "true", refl))), ((refl, refl, inr (λ values rows e. absurd cc)), tt)))) words none in
     let given = λ (id : Text). first_given s rows id has.values in
     found_there rows (given (codes "store") (has.given.0 refl)) (given (codes "founding") (has.given.1.0 refl))
 
@@ -97,7 +97,7 @@ unfolding apply_app
 apply_asks name words met free none =
     let s = built_leaf apply_app.top in
     let rows = rows_after s.rules [] words in
-    let has : HasValues s rows = level_values s refl ((refl, refl, inl (refl, refl)), ((refl, refl, inl (refl, refl)), ((refl, refl, inl (refl, refl)), ((refl, refl, inr (λ values rows e. absurd cc)), tt)))) words none in
+    let has : HasValues s rows = level_values s refl ((refl, refl, inl (refl, inl refl)), ((refl, refl, inl (refl, inl refl)), ((refl, refl, inl (refl, inl refl)), ((refl, refl, inl (refl, inr (codes "true", refl))), ((refl, refl, inr (λ values rows e. absurd cc)), tt))))) words none in
     let given = λ (id : Text). first_given s rows id has.values in
     apply_there rows (given (codes "store") (has.given.0 refl)) (given (codes "file") (has.given.1.0 refl)) (number_given false 0 18446744073709551615 (first_of (codes "answered") rows)
     (λ text is. first_passes s rows (codes "answered") text _ has.values refl is))
@@ -107,7 +107,7 @@ unfolding import_app
 import_asks name words met free none =
     let s = built_leaf import_app.top in
     let rows = rows_after s.rules [] words in
-    let has : HasValues s rows = level_values s refl ((refl, refl, inl (refl, refl)), ((refl, refl, inl (refl, refl)), ((refl, refl, inl (refl, refl)), ((refl, refl, inl (refl, refl)), ((refl, refl, inl (refl, refl)), ((refl, refl, inl (refl, refl)), ((refl, refl, inr (λ values rows e. absurd cc)), tt))))))) words none in
+    let has : HasValues s rows = level_values s refl ((refl, refl, inl (refl, inl refl)), ((refl, refl, inl (refl, inl refl)), ((refl, refl, inl (refl, inl refl)), ((refl, refl, inl (refl, inl refl)), ((refl, refl, inl (refl, inl refl)), ((refl, refl, inl (refl, inl refl)), ((refl, refl, inl (refl, inr (codes "true", refl))), ((refl, refl, inr (λ values rows e. absurd cc)), tt)))))))) words none in
     let given = λ (id : Text). first_given s rows id has.values in
     import_there rows (given (codes "store") (has.given.0 refl)) (given (codes "list") (has.given.1.0 refl)) (given (codes "caller") (has.given.1.1.0 refl)) (given (codes "key") (has.given.1.1.1.0 refl)) (given (codes "org") (has.given.1.1.1.1.0 refl))
 
@@ -116,7 +116,7 @@ unfolding replay_app
 replay_asks name words met free none =
     let s = built_leaf replay_app.top in
     let rows = rows_after s.rules [] words in
-    let has : HasValues s rows = level_values s refl ((refl, refl, inl (refl, refl)), ((refl, refl, inl (refl, refl)), ((refl, refl, inr (λ values rows e. absurd cc)), tt))) words none in
+    let has : HasValues s rows = level_values s refl ((refl, refl, inl (refl, inl refl)), ((refl, refl, inl (refl, inl refl)), ((refl, refl, inl (refl, inr (codes "true", refl))), ((refl, refl, inr (λ values rows e. absurd cc)), tt)))) words none in
     let given = λ (id : Text). first_given s rows id has.values in
     replay_there rows (given (codes "store") (has.given.0 refl)) (given (codes "record") (has.given.1.0 refl))
 
@@ -125,7 +125,7 @@ unfolding serve_app
 serve_asks name words met free none =
     let s = built_leaf serve_app.top in
     let rows = rows_after s.rules [] words in
-    let has : HasValues s rows = level_values s refl ((refl, refl, inl (refl, refl)), ((refl, refl, inl (refl, refl)), ((refl, refl, inl (refl, refl)), ((refl, refl, inr (λ values rows e. absurd cc)), tt)))) words none in
+    let has : HasValues s rows = level_values s refl ((refl, refl, inl (refl, inl refl)), ((refl, refl, inl (refl, inl refl)), ((refl, refl, inl (refl, inl refl)), ((refl, refl, inl (refl, inr (codes "true", refl))), ((refl, refl, inr (λ values rows e. absurd cc)), tt))))) words none in
     let given = λ (id : Text). first_given s rows id has.values in
     let port = value_of (first_of (codes "port") rows) (given (codes "port") (has.given.1.0 refl)) in
     let number = number_passes false 1 65535 port.0 (first_passes s rows (codes "port") port.0 _ has.values refl port.1) in
@@ -137,7 +137,7 @@ unfolding export_app
 export_asks name words met free none =
     let s = built_leaf export_app.top in
     let rows = rows_after s.rules [] words in
-    let has : HasValues s rows = level_values s refl ((refl, refl, inl (refl, refl)), ((refl, refl, inl (refl, refl)), ((refl, refl, inr (λ values rows e. absurd cc)), tt))) words none in
+    let has : HasValues s rows = level_values s refl ((refl, refl, inl (refl, inl refl)), ((refl, refl, inl (refl, inl refl)), ((refl, refl, inl (refl, inr (codes "true", refl))), ((refl, refl, inr (λ values rows e. absurd cc)), tt)))) words none in
     let given = λ (id : Text). first_given s rows id has.values in
     export_there rows (given (codes "store") (has.given.0 refl))
 
@@ -146,7 +146,7 @@ unfolding report_app
 report_asks name words met free none =
     let s = built_leaf report_app.top in
     let rows = rows_after s.rules [] words in
-    let has : HasValues s rows = level_values s refl ((refl, refl, inl (refl, refl)), ((refl, refl, inl (refl, refl)), ((refl, refl, inr (λ values rows e. absurd cc)), tt))) words none in
+    let has : HasValues s rows = level_values s refl ((refl, refl, inl (refl, inl refl)), ((refl, refl, inl (refl, inl refl)), ((refl, refl, inl (refl, inr (codes "true", refl))), ((refl, refl, inr (λ values rows e. absurd cc)), tt)))) words none in
     let given = λ (id : Text). first_given s rows id has.values in
     report_there rows (given (codes "store") (has.given.0 refl)) (given (codes "name") (has.given.1.0 refl))
 
@@ -155,7 +155,7 @@ unfolding history_app
 history_asks name words met free none =
     let s = built_leaf history_app.top in
     let rows = rows_after s.rules [] words in
-    let has : HasValues s rows = level_values s refl ((refl, refl, inl (refl, refl)), ((refl, refl, inl (refl, refl)), ((refl, refl, inr (λ values rows e. absurd cc)), tt))) words none in
+    let has : HasValues s rows = level_values s refl ((refl, refl, inl (refl, inl refl)), ((refl, refl, inl (refl, inl refl)), ((refl, refl, inl (refl, inr (codes "true", refl))), ((refl, refl, inr (λ values rows e. absurd cc)), tt)))) words none in
     let given = λ (id : Text). first_given s rows id has.values in
     history_there rows (given (codes "store") (has.given.0 refl)) (number_given false 0 4294967295 (first_of (codes "after") rows)
     (λ text is. first_passes s rows (codes "after") text _ has.values refl is))
@@ -165,7 +165,7 @@ unfolding lookup_app
 lookup_asks name words met free none =
     let s = built_leaf lookup_app.top in
     let rows = rows_after s.rules [] words in
-    let has : HasValues s rows = level_values s refl ((refl, refl, inl (refl, refl)), ((refl, refl, inl (refl, refl)), ((refl, refl, inl (refl, refl)), ((refl, refl, inr (λ values rows e. absurd cc)), tt)))) words none in
+    let has : HasValues s rows = level_values s refl ((refl, refl, inl (refl, inl refl)), ((refl, refl, inl (refl, inl refl)), ((refl, refl, inl (refl, inl refl)), ((refl, refl, inl (refl, inr (codes "true", refl))), ((refl, refl, inr (λ values rows e. absurd cc)), tt))))) words none in
     let given = λ (id : Text). first_given s rows id has.values in
     lookup_there rows (given (codes "list") (has.given.0 refl)) (given (codes "vid") (has.given.1.0 refl)) (given (codes "pid") (has.given.1.1.0 refl))
 

@@ -3,12 +3,12 @@ use Rattle.std.proofs.Common.{◌≡◌, List, [], ◌∷◌, codes, true, false
 use Rattle.std.specs.Prelude.{⊤}
 use Rattle.clap.specs.Words.{Text}
 use Rattle.clap.proofs.OnLiterals.{clap_on_literals}
-use Rattle.registry_arguments.specs.Commands.{accepts, apply_app, asked_by, bare_app, chosen, command_of, export_app, found_app, import_app, lookup_app, number_in, history_app, replay_app, report_app, serve_app, trial_app}
+use Rattle.registry_arguments.specs.Commands.{accepts, apply_app, asked_by, bare_app, chosen, command_of, export_app, found_app, import_app, is_verbose, lookup_app, number_in, history_app, replay_app, report_app, serve_app, trial_app, verbose_by}
 use Rattle.registry_arguments.specs.declared.command.Command.TheVariants as command
 
 -- unfolded by a proof to compute the command of literal arguments
 unfoldable on_literals : ⊤
-unfolding clap_on_literals bare_app trial_app found_app apply_app import_app replay_app serve_app export_app report_app history_app lookup_app asked_by chosen number_in accepts
+unfolding clap_on_literals bare_app trial_app found_app apply_app import_app replay_app serve_app export_app report_app history_app lookup_app asked_by chosen number_in accepts verbose_by
 on_literals = tt
 
 abbrev usbreg : List Text → List Text
@@ -62,6 +62,18 @@ records_from = refl
 pub looks_up : command_of (usbreg (codes "lookup" ∷ codes "l" ∷ codes "1209" ∷ codes "0011" ∷ [])) ≡ Some (command.Lookup (codes "l") (codes "1209") (codes "0011"))
 unfolding on_literals
 looks_up = refl
+
+pub verbose : is_verbose (usbreg (codes "serve" ∷ codes "s" ∷ codes "--verbose" ∷ codes "--port" ∷ codes "80" ∷ [])) ≡ true
+unfolding on_literals
+verbose = refl
+
+pub not_verbose : is_verbose (usbreg (codes "serve" ∷ codes "s" ∷ codes "--port" ∷ codes "80" ∷ [])) ≡ false
+unfolding on_literals
+not_verbose = refl
+
+pub tries_verbosely : command_of (usbreg (codes "trial" ∷ codes "--verbose" ∷ [])) ≡ Some command.Trial
+unfolding on_literals
+tries_verbosely = refl
 
 pub accepted : accepts (usbreg (codes "apply" ∷ codes "s" ∷ codes "f" ∷ codes "--answered" ∷ codes "18446744073709551615" ∷ [])) ≡ true
 unfolding on_literals

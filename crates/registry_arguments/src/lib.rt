@@ -4,4 +4,4 @@
 mod command;
 mod program;
 
-pub use command::{Command, Usage, command_of};
+pub use command::{Command, Invocation, Usage, invocation_of};

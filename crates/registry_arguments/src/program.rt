@@ -3,10 +3,10 @@
 ghost use Rattle.std.specs.Prelude.{◌≡◌, ◌∷◌, [], IfOk, Some, false, codes, option_copied};
 ghost use Rattle.clap.specs.Words.{app_of, items_of, rule_of, new_app, with_rule, with_subcommand};
 ghost use Rattle.clap.specs.declared.builder.command.Command.TheViews.{out-Command};
-ghost use Rattle.registry_arguments.specs.Commands.{apply_app, export_app, found_app, history_app, import_app, lookup_app, needed_option, numeric, option, replay_app, report_app, serve_app, trial_app, usbreg_app, versioned, positional};
+ghost use Rattle.registry_arguments.specs.Commands.{apply_app, export_app, flag, found_app, history_app, import_app, lookup_app, needed_option, numeric, option, replay_app, report_app, serve_app, trial_app, usbreg_app, versioned, positional};
 
-use clap::builder::ValueParser;
-use clap::{Arg, Command};
+use clap::builder::{ValueParser, ValueRange};
+use clap::{Arg, ArgAction, Command};
 use std::alloc::{AllocError, Global};
 
 /// Returns a required positional argument.
@@ -51,6 +51,21 @@ fn numeric<'a>(arg: Arg<'a>, low: u64, high: u64) -> Arg<'a>
     arg.value_parser(ValueParser::Unsigned(low, high))
 }
 
+/// Returns a flag `--name`. Its action is `Set`, without a default value, so that the matches have
+/// a value of it only where it is used.
+fn flag<'a>(alloc: Global, name: &'a str, help: &'a str) -> Arg<'a>
+    ensures rule { rule_of result ≡ flag name.entry.now }
+    ensures local { result.global ≡ false }
+    ensures texts { result.help ≡ Some help.entry }
+{
+    Arg::new(alloc, name)
+        .long(name)
+        .action(ArgAction::Set)
+        .num_args(ValueRange::EMPTY)
+        .default_missing_value("true")
+        .help(help)
+}
+
 /// Returns a subcommand with a description and an example.
 fn subcommand<'a>(alloc: Global, name: &'a str, about: &'a str, example: &'a str) -> Command<'a>
     ensures app { app_of result ≡ new_app name.entry.now }
@@ -68,6 +83,19 @@ fn with_arg<'a>(command: Command<'a>, arg: Arg<'a>) -> Result<Command<'a>, Alloc
     command.arg(arg)
 }
 
+/// Adds `--verbose`, which each subcommand has.
+fn with_verbose<'a>(alloc: Global, command: Command<'a>) -> Result<Command<'a>, AllocError>
+    ensures app { IfOk result (λ c. app_of c ≡ with_rule (app_of command.entry) (flag (codes "verbose"))) }
+    ensures local { IfOk result (λ c. (out-Command c).has_globals ≡ (out-Command command.entry).has_globals) }
+{
+    let verbose = flag(
+        alloc,
+        "verbose",
+        "Say the cause of a failure in one more line",
+    );
+    with_arg(command, verbose)
+}
+
 fn with_command<'a>(command: Command<'a>, sub: Command<'a>) -> Result<Command<'a>, AllocError>
     requires { (out-Command sub).has_globals ≡ false }
     ensures app { IfOk result (λ c. app_of c ≡ with_subcommand (app_of command.entry) (app_of sub.entry).top) }
@@ -80,13 +108,14 @@ fn trial<'a>(alloc: Global) -> Result<Command<'a>, AllocError>
     ensures app { IfOk result (λ c. app_of c ≡ trial_app) }
     ensures local { IfOk result (λ c. (out-Command c).has_globals ≡ false) }
 {
-    Ok(subcommand(
+    let command = subcommand(
         alloc,
         "trial",
         "Run request lines over a temporary registry in memory",
         "Request lines come from standard input, one JSON object per line; a reply line is printed \
          for each.\n\nExample:\n  usbreg trial < examples/first.jsonl",
-    ))
+    );
+    with_verbose(alloc, command)
 }
 
 #[tactic(auto, unfolding(crate::specs::Commands::found_app))]
@@ -105,7 +134,7 @@ fn found<'a>(alloc: Global) -> Result<Command<'a>, AllocError>
         command,
         positional(alloc, "store", "STORE", "The registry's file"),
     )?;
-    with_arg(
+    let command = with_arg(
         command,
         positional(
             alloc,
@@ -113,7 +142,8 @@ fn found<'a>(alloc: Global) -> Result<Command<'a>, AllocError>
             "FOUNDING",
             "A TOML file with the founding",
         ),
-    )
+    )?;
+    with_verbose(alloc, command)
 }
 
 #[tactic(auto, unfolding(crate::specs::Commands::apply_app))]
@@ -144,7 +174,8 @@ fn apply<'a>(alloc: Global) -> Result<Command<'a>, AllocError>
         "N",
         "How many requests were answered before",
     );
-    with_arg(command, numeric(answered, 0, u64::MAX))
+    let command = with_arg(command, numeric(answered, 0, u64::MAX))?;
+    with_verbose(alloc, command)
 }
 
 #[tactic(auto, unfolding(crate::specs::Commands::import_app))]
@@ -170,7 +201,8 @@ fn import<'a>(alloc: Global) -> Result<Command<'a>, AllocError>
     )?;
     let command = with_sender(alloc, command)?;
     let vendor = option(alloc, "vendor", "V", "The vendor, if not the founding one");
-    with_arg(command, vendor)
+    let command = with_arg(command, vendor)?;
+    with_verbose(alloc, command)
 }
 
 /// Adds the options for the caller, the key and the organisation.
@@ -211,7 +243,8 @@ fn replay<'a>(alloc: Global) -> Result<Command<'a>, AllocError>
         "RECORD",
         "A record as history prints it; - for standard input",
     );
-    with_arg(command, record)
+    let command = with_arg(command, record)?;
+    with_verbose(alloc, command)
 }
 
 #[tactic(auto, unfolding(crate::specs::Commands::serve_app))]
@@ -232,7 +265,8 @@ fn serve<'a>(alloc: Global) -> Result<Command<'a>, AllocError>
     let port = needed_option(alloc, "port", "P", "The port, from 1 to 65535");
     let command = with_arg(command, numeric(port, 1, 65_535))?;
     let count = option(alloc, "count", "N", "Stop after N connections");
-    with_arg(command, numeric(count, 0, 4_294_967_295))
+    let command = with_arg(command, numeric(count, 0, 4_294_967_295))?;
+    with_verbose(alloc, command)
 }
 
 #[tactic(auto, unfolding(crate::specs::Commands::export_app))]
@@ -252,7 +286,8 @@ fn export<'a>(alloc: Global) -> Result<Command<'a>, AllocError>
         positional(alloc, "store", "STORE", "The registry's file"),
     )?;
     let stamp = option(alloc, "stamp", "TEXT", "When the list was made");
-    with_arg(command, stamp)
+    let command = with_arg(command, stamp)?;
+    with_verbose(alloc, command)
 }
 
 #[tactic(auto, unfolding(crate::specs::Commands::report_app))]
@@ -276,7 +311,8 @@ fn report<'a>(alloc: Global) -> Result<Command<'a>, AllocError>
         "NAME",
         "census, holders, petitions, numbers or organisations",
     );
-    with_arg(command, name)
+    let command = with_arg(command, name)?;
+    with_verbose(alloc, command)
 }
 
 #[tactic(auto, unfolding(crate::specs::Commands::history_app))]
@@ -302,7 +338,8 @@ fn history<'a>(alloc: Global) -> Result<Command<'a>, AllocError>
         "N",
         "Print only the requests after the first N",
     );
-    with_arg(command, numeric(after, 0, 4_294_967_295))
+    let command = with_arg(command, numeric(after, 0, 4_294_967_295))?;
+    with_verbose(alloc, command)
 }
 
 #[tactic(auto, unfolding(crate::specs::Commands::lookup_app))]
@@ -324,10 +361,11 @@ fn lookup<'a>(alloc: Global) -> Result<Command<'a>, AllocError>
         command,
         positional(alloc, "vid", "VID", "Four hexadecimal digits"),
     )?;
-    with_arg(
+    let command = with_arg(
         command,
         positional(alloc, "pid", "PID", "Four hexadecimal digits"),
-    )
+    )?;
+    with_verbose(alloc, command)
 }
 
 /// Returns the program without its version and its subcommands.
@@ -372,16 +410,16 @@ fn with_views<'a>(alloc: Global, program: Command<'a>) -> Result<Command<'a>, Al
 /// keep it.
 fn with_version<'a>(program: Command<'a>) -> Command<'a>
     ensures app { app_of result ≡ versioned (app_of program.entry) }
-    ensures version { option_copied (out-Command result).version ≡ Some (codes "0.1.0") }
+    ensures version { option_copied (out-Command result).version ≡ Some (codes "0.1.0 (rattle logic dac8208d650f15bf)") }
 {
-    program.version("0.1.0")
+    program.version("0.1.0 (rattle logic dac8208d650f15bf)")
 }
 
 /// Returns `usbreg` with all its subcommands.
 #[tactic(auto, unfolding(crate::specs::Commands::bare_app))]
 pub fn usbreg<'a>(alloc: Global) -> Result<Command<'a>, AllocError>
     ensures app { IfOk result (λ c. app_of c ≡ usbreg_app) }
-    ensures version { IfOk result (λ c. option_copied (out-Command c).version ≡ Some (codes "0.1.0")) }
+    ensures version { IfOk result (λ c. option_copied (out-Command c).version ≡ Some (codes "0.1.0 (rattle logic dac8208d650f15bf)")) }
 {
     let program = with_requests(alloc, bare(alloc))?;
     let program = with_views(alloc, program)?;

@@ -4,7 +4,9 @@
 ghost use Rattle.std.specs.Prelude.{IfErr};
 ghost use Rattle.registry_commands.specs.Failures.{IsOfStore};
 
+use crate::notes::{Notes, Trouble};
 use registry_commands::Failure;
+use registry_program::About;
 use std::fs::{File, OpenOptions};
 use std::io::ErrorKind;
 use std::os::unix::fs::{FileExt, MetadataExt, OpenOptionsExt, fchown};
@@ -163,18 +165,30 @@ fn make(rt: &HostRuntime, store: &str) -> io::Result<()> {
     make_as(rt, made.as_str(), store)
 }
 
+/// Returns why a store could not be made.
+fn trouble_of(error: io::Error) -> Trouble {
+    match error.kind() {
+        ErrorKind::AlreadyExists => Trouble::Known("the log beside it belongs to another file"),
+        ErrorKind::NotFound => Trouble::Known("its folder does not exist"),
+        _ => Trouble::System(error),
+    }
+}
+
 /// Makes the store as an empty database if it does not exist or has no bytes. Otherwise it changes
 /// nothing.
 ///
 /// # Errors
 ///
 /// `Memory` when out of memory; `Store` if the file cannot be made.
-pub fn make_store(rt: &HostRuntime, store: &str) -> Result<(), Failure>
+pub fn make_store(rt: &HostRuntime, notes: &Notes, store: &str) -> Result<(), Failure>
     ensures { IfErr result IsOfStore }
 {
     match make(rt, store) {
         Ok(()) => Ok(()),
         Err(error) if error.kind() == ErrorKind::OutOfMemory => Err(Failure::Memory),
-        Err(_) => Err(Failure::Store),
+        Err(error) => {
+            notes.note(About::Store, trouble_of(error));
+            Err(Failure::Store)
+        }
     }
 }

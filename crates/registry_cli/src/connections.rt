@@ -4,8 +4,10 @@ ghost use Rattle.std.specs.Prelude.{◌≡◌, ◌⊎◌, ◌↔◌, ⊤, IsTrue
 ghost use Rattle.std.specs.IoError.{error_kind};
 
 use crate::machine::Machine;
+use crate::notes::Trouble;
 use byte_streams::{Broken, Inlet, Outlet};
 use registry_desk::Connections;
+use registry_program::About;
 use sqlite::Start;
 use std::alloc::Global;
 use std::io;
@@ -122,6 +124,7 @@ impl<S: Start> Connections for Machine<'_, S> {
                 }
                 Err(error) => {
                     if !is_of_peer(&error) {
+                        self.notes.note(About::Port, Trouble::System(error));
                         return Err(Broken);
                     }
                 }

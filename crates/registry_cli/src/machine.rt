@@ -7,11 +7,14 @@ ghost use Rattle.registry_commands.specs.Failures.{IsOfStore};
 ghost use Rattle.registry_program.specs.Opening.{IsOfFiles};
 
 use crate::blank::make_store;
+use crate::look::{look, why_missing, why_unsupported};
+use crate::notes::{Noted, Notes, Trouble};
 use byte_streams::{Broken, Inlet};
 use registry_commands::Failure;
-use registry_program::Host;
+use registry_program::{About, Cause, Host};
 use sqlite::{FileFrom, Files, Options, Start};
 use sqlite_std_file::OpenError;
+use std::alloc::Global;
 use std::fs;
 use std::fs::File;
 use std::hash::{BuildHasher, RandomState};
@@ -22,15 +25,17 @@ use std::net::{Ipv4Addr, TcpListener};
 #[derive(Drop)]
 pub struct Machine<'a, S: Start> {
     pub(crate) rt: &'a HostRuntime,
+    pub(crate) notes: &'a Notes,
     start: Option<S>,
     pub(crate) listener: Option<TcpListener>,
 }
 
 impl<'a, S: Start> Machine<'a, S> {
-    /// Returns the machine before anything was opened.
-    pub fn new(rt: &'a HostRuntime, start: S) -> Machine<'a, S> {
+    /// Returns the machine before anything was opened. It notes there what fails.
+    pub fn new(rt: &'a HostRuntime, notes: &'a Notes, start: S) -> Machine<'a, S> {
         Machine {
             rt,
+            notes,
             start: Some(start),
             listener: None,
         }
@@ -38,12 +43,30 @@ impl<'a, S: Start> Machine<'a, S> {
 }
 
 /// Returns the options for a store: the log's sums start from a random number.
-fn options(rt: &HostRuntime) -> Result<Options, Failure>
+fn options(rt: &HostRuntime, notes: &Notes) -> Result<Options, Failure>
     ensures { IfErr result IsOfStore }
 {
     match RandomState::new(rt) {
         Ok(state) => Ok(Options::new(state.hash_one(&0u8))),
-        Err(_) => Err(Failure::Store),
+        Err(error) => {
+            notes.note(About::Store, Trouble::System(error));
+            Err(Failure::Store)
+        }
+    }
+}
+
+/// Returns why the engine does not open the files of a store.
+fn trouble_of(rt: &HostRuntime, path: &str, error: OpenError) -> Trouble {
+    match error {
+        OpenError::Io(error) if error.kind() == ErrorKind::Unsupported => {
+            Trouble::Known(why_unsupported(rt, path))
+        }
+        OpenError::Io(error) => Trouble::System(error),
+        OpenError::OutOfMemory => Trouble::Known("out of memory"),
+        OpenError::Busy => Trouble::Known("in use by another process"),
+        OpenError::HotJournal => {
+            Trouble::Known("has a rollback journal beside it; open it with sqlite3 first")
+        }
     }
 }
 
@@ -51,6 +74,7 @@ fn options(rt: &HostRuntime) -> Result<Options, Failure>
 /// neither `:memory:` nor a URI.
 fn open_files<S: Start>(
     rt: &HostRuntime,
+    notes: &Notes,
     path: &str,
     start: S,
 ) -> Result<Files<FileFrom<S>>, Failure>
@@ -59,35 +83,59 @@ fn open_files<S: Start>(
     ensures failed { IfErr result IsOfStore }
 {
     if path == ":memory:" || path.starts_with("file:") {
+        notes.note(
+            About::Store,
+            Trouble::Known("SQLite has another meaning for this name; write ./ before it"),
+        );
         return Err(Failure::Store);
     }
     match sqlite_std_file::open(rt, path, start) {
         Ok(files) => Ok(files),
         Err(OpenError::OutOfMemory) => Err(Failure::Memory),
         Err(OpenError::Io(error)) if error.kind() == ErrorKind::OutOfMemory => Err(Failure::Memory),
-        Err(_) => Err(Failure::Store),
+        Err(error) => {
+            notes.note(About::Store, trouble_of(rt, path, error));
+            Err(Failure::Store)
+        }
     }
 }
 
 /// Makes the store at a path if it may, else looks whether it is there.
-fn find_store(rt: &HostRuntime, path: &str, may_make: bool) -> Result<(), Failure>
+fn find_store(rt: &HostRuntime, notes: &Notes, path: &str, may_make: bool) -> Result<(), Failure>
     ensures { IfErr result (IsOfFiles may_make) }
 {
     if may_make {
-        return make_store(rt, path);
+        return make_store(rt, notes, path);
     }
-    match fs::exists(rt, path) {
-        Ok(true) => Ok(()),
-        _ => Err(Failure::File),
+    let trouble = match fs::exists(rt, path) {
+        Ok(true) => return Ok(()),
+        Ok(false) => Trouble::Known(why_missing(rt, path)),
+        Err(error) => Trouble::System(error),
+    };
+    notes.note(About::Store, trouble);
+    Err(Failure::File)
+}
+
+/// Returns what the failed calls of the files of a store met.
+fn trouble_in<S: Start>(files: &Files<FileFrom<S>>) -> Option<Trouble> {
+    let tally = files.tally();
+    if tally.refused > 0 {
+        Some(Trouble::System(ErrorKind::StorageFull.into()))
+    } else if tally.caught > 0 {
+        Some(Trouble::Known("a read returned other bytes than were written"))
+    } else if !files.may_be_used() {
+        Some(Trouble::Known("a sync failed; what was written may be lost"))
+    } else {
+        None
     }
 }
 
 // What a real file, a port or a connection does between two calls is not known, so these relations
 // hold of every call. What a store holds is what `S` says.
-impl<S: Start> Host for Machine<'_, S> {
+impl<'a, S: Start> Host for Machine<'a, S> {
     type File = FileFrom<S>;
 
-    type Input = Inlet<File>;
+    type Input = Inlet<Noted<'a, File>>;
 
     ghost holds = { λ _ _. image_at S.Start };
 
@@ -110,21 +158,24 @@ impl<S: Start> Host for Machine<'_, S> {
         path: &str,
         may_make: bool,
     ) -> Result<(Files<FileFrom<S>>, Options), Failure> {
-        find_store(self.rt, path, may_make)?;
-        let options = options(self.rt)?;
+        find_store(self.rt, self.notes, path, may_make)?;
+        let options = options(self.rt, self.notes)?;
         let Some(start) = self.start.take() else {
             return Err(Failure::Store);
         };
-        match open_files(self.rt, path, start) {
+        match open_files(self.rt, self.notes, path, start) {
             Ok(files) => Ok((files, options)),
             Err(failure) => Err(failure),
         }
     }
 
-    fn open_input(&mut self, path: &str) -> Result<Inlet<File>, Failure> {
+    fn open_input(&mut self, path: &str) -> Result<Inlet<Noted<'a, File>>, Failure> {
         match fs::open(self.rt, path) {
-            Ok(file) => Ok(Inlet::new(file)),
-            Err(_) => Err(Failure::File),
+            Ok(file) => Ok(Inlet::new(Noted::new(file, About::Input, self.notes))),
+            Err(error) => {
+                self.notes.note(About::Input, Trouble::System(error));
+                Err(Failure::File)
+            }
         }
     }
 
@@ -137,13 +188,32 @@ impl<S: Start> Host for Machine<'_, S> {
                 }
                 Ok(())
             }
-            Err(_) => Err(Broken),
+            Err(error) => {
+                self.notes.note(About::Port, Trouble::System(error));
+                Err(Broken)
+            }
+        }
+    }
+
+    fn cause(&self, alloc: Global, store: Option<&str>) -> Option<Cause> {
+        if let Ok(Some(cause)) = self.notes.cause(alloc) {
+            return Some(cause);
+        }
+        match look(self.rt, alloc, store?) {
+            Ok(Some(words)) => Some(Cause {
+                about: About::Store,
+                words,
+            }),
+            _ => None,
         }
     }
 
     fn let_go(&mut self, files: Files<FileFrom<S>>)
         ensures { ⊤ }
     {
+        if let Some(trouble) = trouble_in(&files) {
+            self.notes.note_first(About::Store, trouble);
+        }
         drop(files);
     }
 }

@@ -5,15 +5,19 @@ ghost use Rattle.registry_cli.specs.Statuses.{IsExplained};
 
 mod blank;
 mod connections;
+mod look;
 mod machine;
+mod notes;
 
 use byte_streams::{Inlet, Outlet};
 use machine::Machine;
-use registry_arguments::{Usage, command_of};
+use notes::{Noted, Notes};
+use registry_arguments::{Command, Invocation, Usage, invocation_of};
 use registry_commands::ExitStatus;
-use registry_program::perform;
+use registry_program::{About, Heard, perform};
 use sqlite::Wary;
 use std::io;
+use std::io::IsTerminal;
 use std::process::ExitCode;
 
 fn main(rt: HostRuntime) -> ExitCode {
@@ -33,17 +37,29 @@ fn run(rt: &HostRuntime) -> ExitStatus {
             return ExitStatus::Failed;
         }
     };
-    match command_of(rt.alloc(), arguments.as_slice()) {
-        Ok(command) => perform(
-            rt.alloc(),
-            &mut Machine::new(rt, Wary),
-            command,
-            &mut Inlet::new(rt.stdin()),
-            &mut Outlet::new(rt.stdout()),
-            &mut Outlet::new(rt.stderr()),
-        ),
+    match invocation_of(rt.alloc(), arguments.as_slice()) {
+        Ok(asked) => obey(rt, asked),
         Err(usage) => explain(rt, &usage),
     }
+}
+
+/// Does what the arguments ask for, and returns the exit status. Causes are said with `--verbose`
+/// and to a terminal.
+fn obey(rt: &HostRuntime, asked: Invocation<&str>) -> ExitStatus {
+    let verbose = asked.verbose || rt.stderr().is_terminal();
+    if verbose && asked.command == Command::Trial && rt.stdin().is_terminal() {
+        let _ = rt.eprintln("usbreg: request lines are read from the terminal; Ctrl-D ends them");
+    }
+    let notes = Notes::new();
+    perform(
+        rt.alloc(),
+        &mut Machine::new(rt, &notes, Wary),
+        asked.command,
+        verbose,
+        &mut Inlet::new(Noted::new(rt.stdin(), About::Input, &notes)),
+        &mut Outlet::new(Noted::new(rt.stdout(), About::Output, &notes)),
+        &mut Heard::new(Outlet::new(rt.stderr())),
+    )
 }
 
 fn arguments(rt: &HostRuntime) -> io::Result<Vec<String>> {

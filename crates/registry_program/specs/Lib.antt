@@ -1,5 +1,6 @@
 pub mod Statuses
 pub mod Outputs
+pub mod Explained
 pub mod Opening
 pub mod Stores
 pub mod Commands

@@ -11,6 +11,28 @@ use byte_streams::{Broken, Source};
 use registry_commands::Failure;
 use sqlite::{Files, Options};
 use sqlite_disk::Disk;
+use std::alloc::Global;
+
+/// What a failure is about.
+#[derive(Clone, Copy, Debug, PartialEq, Eq)]
+pub enum About {
+    /// The store.
+    Store,
+    /// The file that is read, or the standard input.
+    Input,
+    /// The standard output.
+    Output,
+    /// The port.
+    Port,
+}
+
+/// Why a call of a machine failed.
+#[derive(Debug, Drop)]
+pub struct Cause {
+    pub about: About,
+    /// The cause in a few words.
+    pub words: String,
+}
 
 /// A machine with files and ports. A state of it is known by the calls that led to it, in their
 /// order.
@@ -81,6 +103,10 @@ pub trait Host {
     fn listen(&mut self, port: u16) -> Result<(), Broken>
         ensures listens { OnOk result (listens self.old self.new port) }
         ensures refused { OnErr result (is_refused self.old self.new port) };
+
+    /// Returns why the last call failed that did, as the system named it. If none did, looks at the
+    /// store at this path, if one is given. Returns `None` if it knows no cause, or memory runs out.
+    fn cause(&self, alloc: Global, store: Option<&str>) -> Option<Cause>;
 
     /// Closes the files of a store as they are.
     fn let_go(&mut self, files: Files<Self::File>)

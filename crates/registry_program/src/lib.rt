@@ -2,9 +2,11 @@
 #![tactic(auto)]
 
 mod applying;
+mod causes;
 mod founding;
 mod host;
 mod importing;
+mod last_line;
 mod opening;
 mod performing;
 mod replaying;
@@ -14,8 +16,9 @@ mod stores;
 
 pub use applying::run_apply;
 pub use founding::run_found;
-pub use host::Host;
+pub use host::{About, Cause, Host};
 pub use importing::run_import;
+pub use last_line::{Heard, LastLine};
 pub use opening::{connect_to, resume};
 pub use performing::perform;
 pub use replaying::run_replay;

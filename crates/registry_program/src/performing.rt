@@ -1,15 +1,19 @@
 //! Does what a command asks for.
 
 ghost use Rattle.registry_arguments.specs.Commands.{texts};
-ghost use Rattle.registry_commands.specs.Ends.{code, ends_of};
+ghost use Rattle.registry_commands.specs.Ends.{Sunk, code, ends_of, sunk};
+ghost use Rattle.registry_program.specs.Explained.{IsExplained};
+ghost use Rattle.registry_program.specs.Outputs.{earlier};
 ghost use Rattle.registry_program.specs.Performing.{Performs};
 ghost use Rattle.registry_program.specs.Statuses.{IsStatus};
 ghost use Rattle.registry_program.specs.Whole.{IsWhole};
 
 use crate::applying::run_apply;
+use crate::causes::explain;
 use crate::founding::run_found;
 use crate::host::Host;
 use crate::importing::run_import;
+use crate::last_line::LastLine;
 use crate::replaying::run_replay;
 use crate::serving::run_serve;
 use crate::showing::{run_export, run_history, run_lookup, run_report};
@@ -67,24 +71,52 @@ fn act_by<H: Host + Connections, R: Source, W: Sink, E: Sink>(
     }
 }
 
+/// Says why a command ended with this status, if causes are asked for and it did not do what it was
+/// asked for.
+fn explain_if<H: Host, E: Sink + LastLine>(
+    verbose: bool,
+    alloc: Global,
+    host: &H,
+    command: Command<&str>,
+    status: ExitStatus,
+    errors: &mut E,
+)
+    ensures { IsExplained verbose status (sunk E.Sink errors.old) (sunk E.Sink errors.new) }
+{
+    if !verbose {
+        return;
+    }
+    match status {
+        ExitStatus::Success => {}
+        ExitStatus::Failed => explain(alloc, host, command, errors),
+        ExitStatus::Rejected => explain(alloc, host, command, errors),
+    }
+}
+
 /// Does what the command asks for, over a machine and the standard streams, and returns the exit
 /// status. The contract says of each command which files it opens, in which order, what it does
-/// over them, and what the outputs gain.
-pub fn perform<H: Host + Connections, R: Source, W: Sink, E: Sink>(
+/// over them, and what the outputs gain. If the command fails or is refused and `verbose` is true,
+/// the error output then gets one more line with the cause.
+pub fn perform<H: Host + Connections, R: Source, W: Sink, E: Sink + LastLine>(
     alloc: Global,
     host: &mut H,
     command: Command<&str>,
+    verbose: bool,
     input: &mut R,
     output: &mut W,
     errors: &mut E,
 ) -> ExitStatus
-    ensures performs { Performs H.Host H.File.Disk H.Input.Source H.Connections H.Reader.Source H.Writer.Sink R.Source (texts command.entry) host.old host.new input.old input.new
-        (ends_of W.Sink E.Sink output.old output.new errors.old errors.new result) }
+    // What the error output had taken before the line with the cause, and what was done till then,
+    // also from what the files of a store held to what they hold.
+    ensures performs { (told : Sunk)
+        × Performs H.Host H.File.Disk H.Input.Source H.Connections H.Reader.Source H.Writer.Sink R.Source (texts command.entry) host.old host.new input.old input.new
+        (earlier (ends_of W.Sink E.Sink output.old output.new errors.old errors.new result) told result)
+        × IsWhole H.Host H.File.Disk H.Input.Source H.Connections H.Reader.Source H.Writer.Sink R.Source (texts command.entry) host.old host.new input.old
+        (earlier (ends_of W.Sink E.Sink output.old output.new errors.old errors.new result) told result)
+        × IsExplained verbose result told (sunk E.Sink errors.new) }
     ensures status { IsStatus (code result) }
-
-    // From what the files of a store held to what they hold.
-    ensures whole { IsWhole H.Host H.File.Disk H.Input.Source H.Connections H.Reader.Source H.Writer.Sink R.Source (texts command.entry) host.old host.new input.old
-        (ends_of W.Sink E.Sink output.old output.new errors.old errors.new result) }
 {
-    act_by(alloc, host, command, input, output, errors)
+    let status = act_by(alloc, host, command, input, output, errors);
+    explain_if(verbose, alloc, host, command, status, errors);
+    status
 }

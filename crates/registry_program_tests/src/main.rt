@@ -7,8 +7,8 @@
 mod room;
 
 use byte_streams::{Inlet, Outlet};
-use registry_arguments::{Command, command_of};
-use registry_program::perform;
+use registry_arguments::{Invocation, invocation_of};
+use registry_program::{Heard, perform};
 use room::{Given, Room};
 use row_texts::{RowFault, bytes_of, shown};
 use std::alloc::Global;
@@ -55,15 +55,16 @@ fn words_of(alloc: Global, line: &str) -> Result<Vec<String>, RowFault> {
 fn status_of(
     alloc: Global,
     room: &mut Room<'_>,
-    command: Command<&str>,
+    asked: Invocation<&str>,
     output: &mut Outlet<Vec<u8>>,
-    errors: &mut Outlet<Vec<u8>>,
+    errors: &mut Heard<Outlet<Vec<u8>>>,
 ) -> u8 {
     let nothing: &[u8] = &[];
     perform(
         alloc,
         room,
-        command,
+        asked.command,
+        asked.verbose,
         &mut Inlet::new(nothing),
         output,
         errors,
@@ -73,13 +74,14 @@ fn status_of(
 
 fn run(alloc: Global, room: &mut Room<'_>, line: &str) -> Result<String, RowFault> {
     let words = words_of(alloc, line)?;
-    let Ok(command) = command_of(alloc, words.as_slice()) else {
+    let Ok(asked) = invocation_of(alloc, words.as_slice()) else {
         return Err(RowFault::BadRow);
     };
     let mut output = Outlet::new(Vec::new(alloc));
-    let mut errors = Outlet::new(Vec::new(alloc));
-    let status = status_of(alloc, room, command, &mut output, &mut errors);
-    let (output, errors) = (output.into_inner(), errors.into_inner());
+    let mut errors = Heard::new(Outlet::new(Vec::new(alloc)));
+    room.missed = None;
+    let status = status_of(alloc, room, asked, &mut output, &mut errors);
+    let (output, errors) = (output.into_inner(), errors.into_inner().into_inner());
     let calls = room.calls.clone()?;
     room.calls.clear();
     let (output, errors) = (shown(alloc, &output)?, shown(alloc, &errors)?);
@@ -114,6 +116,7 @@ fn main(rt: HostRuntime) -> io::Result<()> {
         messages: lines.messages.as_slice(),
         opened: 0,
         calls: String::new(rt.alloc()),
+        missed: None,
     };
     for line in &lines.runs {
         match run(rt.alloc(), &mut room, line) {

@@ -7,7 +7,7 @@ ghost use Rattle.registry_program_tests.specs.Room.{image_in};
 use byte_streams::{Broken, Inlet, Outlet};
 use registry_commands::Failure;
 use registry_desk::Connections;
-use registry_program::Host;
+use registry_program::{About, Cause, Host};
 use sqlite::{Files, Options};
 use sqlite_disk::Memory;
 use std::alloc::Global;
@@ -32,6 +32,8 @@ pub struct Room<'a> {
     pub opened: usize,
     /// The calls that opened something, and what was written to the connections.
     pub calls: String,
+    /// What the last call that failed was about.
+    pub missed: Option<About>,
 }
 
 impl Room<'_> {
@@ -86,6 +88,7 @@ impl<'a> Host for Room<'a> {
         may_make: bool,
     ) -> Result<(Files<Memory>, Options), Failure> {
         if !may_make && self.store.is_none() {
+            self.missed = Some(About::Store);
             return Err(Failure::File);
         }
         match files_in(self.alloc, &mut self.store) {
@@ -105,6 +108,7 @@ impl<'a> Host for Room<'a> {
                 return Ok(Inlet::new(input.bytes.as_slice()));
             }
         }
+        self.missed = Some(About::Input);
         Err(Failure::File)
     }
 
@@ -114,6 +118,18 @@ impl<'a> Host for Room<'a> {
         }
         self.note("port ");
         Ok(())
+    }
+
+    fn cause(&self, alloc: Global, store: Option<&str>) -> Option<Cause> {
+        let (about, words) = match (self.missed, store) {
+            (Some(about), _) => (about, "not in\nthe room"),
+            (None, Some(_)) => (About::Store, "looked at"),
+            (None, None) => return None,
+        };
+        match String::from_str(alloc, words) {
+            Ok(words) => Some(Cause { about, words }),
+            Err(_) => None,
+        }
     }
 
     fn let_go(&mut self, files: Files<Memory>)
@@ -142,6 +158,7 @@ impl<'a> Connections for Room<'a> {
     fn open(&mut self) -> Result<(Inlet<&'a [u8]>, Outlet<Vec<u8>>), Broken> {
         let messages = self.messages;
         if self.opened >= messages.len() {
+            self.missed = Some(About::Port);
             return Err(Broken);
         }
         let message = messages[self.opened].as_slice();

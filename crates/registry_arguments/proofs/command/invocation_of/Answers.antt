@@ -5,7 +5,7 @@ use Rattle.registry_arguments.specs.Commands.{asked_by, command_of}
 use Rattle.registry_arguments.specs.declared.command.Command.{Command}
 use Rattle.registry_arguments.proofs.AcceptedLemmas.{accepted}
 use Rattle.registry_arguments.proofs.CommandValueLemmas.{asks_for_a_command}
-use Rattle.registry_arguments.proofs.command.command_of.Goals as goal
+use Rattle.registry_arguments.proofs.command.invocation_of.Goals as goal
 
 -- `clap` accepted the arguments, so their command has its values
 pub unreachable-requires : goal.unreachable-requires

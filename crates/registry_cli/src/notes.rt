@@ -1,0 +1,123 @@
+//! Notes why the last call of this machine failed that did, so that it can be said.
+
+use registry_program::{About, Cause};
+use std::alloc::{AllocError, Global};
+use std::cell::Cell;
+use std::io;
+use std::io::{ErrorKind, Read, Write};
+
+/// Why a call failed.
+#[derive(Clone, Copy, Drop)]
+pub enum Trouble {
+    /// The system's error.
+    System(io::Error),
+    /// What is known of it, in a few words.
+    Known(&'static str),
+}
+
+/// What is known of the last call that failed.
+#[derive(Drop)]
+pub struct Notes {
+    last: Cell<Option<(About, Trouble)>>,
+}
+
+impl Notes {
+    pub fn new() -> Notes {
+        Notes {
+            last: Cell::new(None),
+        }
+    }
+
+    pub fn note(&self, about: About, trouble: Trouble) {
+        self.last.set(Some((about, trouble)));
+    }
+
+    /// Does the same if nothing is noted.
+    pub fn note_first(&self, about: About, trouble: Trouble) {
+        if self.last.get().is_none() {
+            self.note(about, trouble);
+        }
+    }
+
+    /// Returns what is noted, in words.
+    pub fn cause(&self, alloc: Global) -> Result<Option<Cause>, AllocError> {
+        match self.last.get() {
+            Some((about, trouble)) => {
+                let words = words_of(alloc, trouble)?;
+                Ok(Some(Cause { about, words }))
+            }
+            None => Ok(None),
+        }
+    }
+}
+
+/// Returns the words for an error of the system, as this program uses them.
+fn words_of_kind(kind: ErrorKind) -> Option<&'static str> {
+    match kind {
+        ErrorKind::NotFound => Some("no such file or folder"),
+        ErrorKind::PermissionDenied => Some("permission denied"),
+        ErrorKind::StorageFull => Some("no space left on the device"),
+        ErrorKind::QuotaExceeded => Some("no space left in the quota"),
+        ErrorKind::FileTooLarge => Some("larger than a file may be"),
+        ErrorKind::ReadOnlyFilesystem => Some("read-only file system"),
+        ErrorKind::IsADirectory => Some("is a folder"),
+        ErrorKind::NotADirectory => Some("a part of its path is not a folder"),
+        ErrorKind::InvalidFilename => Some("its path or a name in it is too long"),
+        ErrorKind::FilesystemLoop => Some("its links lead in a circle"),
+        ErrorKind::WouldBlock | ErrorKind::AddrInUse => Some("in use by another process"),
+        ErrorKind::BrokenPipe => Some("its reader is gone"),
+        _ => None,
+    }
+}
+
+fn words_of(alloc: Global, trouble: Trouble) -> Result<String, AllocError> {
+    match trouble {
+        Trouble::Known(words) => String::from_str(alloc, words),
+        Trouble::System(error) => match words_of_kind(error.kind()) {
+            Some(words) => String::from_str(alloc, words),
+            None => format!(in alloc; "{error}"),
+        },
+    }
+}
+
+/// A reader or a writer whose failures are noted.
+#[derive(Drop)]
+pub struct Noted<'a, T: Drop> {
+    stream: T,
+    about: About,
+    notes: &'a Notes,
+}
+
+impl<'a, T: Drop> Noted<'a, T> {
+    pub fn new(stream: T, about: About, notes: &'a Notes) -> Noted<'a, T> {
+        Noted {
+            stream,
+            about,
+            notes,
+        }
+    }
+}
+
+impl<T: Read + Drop> Read for Noted<'_, T> {
+    fn read(&mut self, buf: &mut [u8]) -> io::Result<usize> {
+        let answer = self.stream.read(buf);
+        if let Err(error) = answer {
+            self.notes.note(self.about, Trouble::System(error));
+        }
+        answer
+    }
+}
+
+impl<T: Write + Drop> Write for Noted<'_, T> {
+    fn write(&mut self, buf: &[u8]) -> io::Result<usize> {
+        let answer = self.stream.write(buf);
+        if let Err(error) = answer {
+            self.notes.note(self.about, Trouble::System(error));
+        }
+        answer
+    }
+
+    fn flush(&mut self) -> io::Result<()> {
+        self.stream.flush()
+    }
+}

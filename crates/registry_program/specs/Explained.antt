@@ -1,0 +1,27 @@
+-- The line that says why a command failed.
+use Rattle.std.specs.Prelude.{◌≡◌, ◌≢◌, ◌⊎◌, ◌==◌, ◌||◌, ◌++◌, ℕ, Bool, true, nat_lt, List, map, codes, if◌then◌else◌}
+use Rattle.registry_commands.specs.declared.status.ExitStatus.{ExitStatus}
+use Rattle.registry_commands.specs.declared.status.ExitStatus.TheVariants.{Success}
+use Rattle.registry_commands.specs.Ends.{Sunk}
+use Rattle.registry_commands.specs.Failures.{Prints}
+use Rattle.registry_program.specs.declared.last_line.Heard.{Heard}
+
+-- the sink that everything is passed on to
+abbrev pub sink_of : {E : Type 0} → Heard E → E
+sink_of heard = heard.sink
+
+-- a byte as it is shown: a control character, as a line feed, is a question mark
+abbrev pub shown : ℕ → ℕ
+shown b = if nat_lt b 32 || b == 127 then 63 else b
+
+-- one line: what it is about, and the cause
+abbrev pub cause_line : List ℕ → List ℕ
+cause_line words = (codes "usbreg: " ++ map shown words) ++ codes "\n"
+
+-- the error output took this and nothing more, or then one such line, or a prefix of it if it failed
+abbrev pub MayExplain : Sunk → Sunk → Type 0
+MayExplain told new = (new ≡ told) ⊎ ((words : List ℕ) × Prints (record { old = told; new = new }) (cause_line words))
+
+-- The cause is said only if causes are asked for, and the command did not do what it was asked for.
+abbrev pub IsExplained : Bool → ExitStatus → Sunk → Sunk → Type 0
+IsExplained verbose status told new = (new ≡ told) ⊎ ((verbose ≡ true) × (status ≢ Success) × MayExplain told new)

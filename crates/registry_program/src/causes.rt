@@ -1,0 +1,268 @@
+//! Says why a command failed, in one more line of the error output.
+
+ghost use Rattle.std.specs.Prelude.{◌≡◌, IfOk, map};
+ghost use Rattle.registry_commands.specs.Ends.{output_of, sunk};
+ghost use Rattle.registry_commands.specs.Failures.{Prints};
+ghost use Rattle.registry_program.specs.Explained.{MayExplain, cause_line, shown};
+
+use crate::host::{About, Cause, Host};
+use crate::last_line::LastLine;
+use byte_streams::{Broken, Sink, put_all};
+use registry_arguments::Command;
+use registry_commands::{BadArgument, Failure};
+use std::alloc::Global;
+use usbnum_core::NoMemory;
+
+const FAILURES: [Failure; 6] = [
+    Failure::Store,
+    Failure::Memory,
+    Failure::Foreign,
+    Failure::Taken,
+    Failure::Poisoned,
+    Failure::File,
+];
+
+const ARGUMENTS: [BadArgument; 8] = [
+    BadArgument::Stamp,
+    BadArgument::Name,
+    BadArgument::Vid,
+    BadArgument::Pid,
+    BadArgument::Caller,
+    BadArgument::Key,
+    BadArgument::Org,
+    BadArgument::Vendor,
+];
+
+/// Returns whether a line, without its line feed, is this message, which has it.
+fn is_message(line: &[u8], message: &str) -> bool {
+    match message.as_bytes() {
+        [text @ .., b'\n'] => text == line,
+        _ => false,
+    }
+}
+
+/// Returns the failure of which a line is the message.
+fn failure_in(line: &[u8]) -> Option<Failure> {
+    for failure in FAILURES {
+        if is_message(line, failure.line()) {
+            return Some(failure);
+        }
+    }
+    None
+}
+
+/// Returns the invalid argument of which a line is the message.
+fn argument_in(line: &[u8]) -> Option<BadArgument> {
+    for argument in ARGUMENTS {
+        if is_message(line, argument.line()) {
+            return Some(argument);
+        }
+    }
+    None
+}
+
+/// Returns the path of the store that a command uses.
+fn store_of<'a>(command: Command<&'a str>) -> Option<&'a str> {
+    match command {
+        Command::Trial => None,
+        Command::Found { store, .. } => Some(store),
+        Command::Apply { store, .. } => Some(store),
+        Command::Import { store, .. } => Some(store),
+        Command::Replay { store, .. } => Some(store),
+        Command::Serve { store, .. } => Some(store),
+        Command::Export { store, .. } => Some(store),
+        Command::Report { store, .. } => Some(store),
+        Command::History { store, .. } => Some(store),
+        Command::Lookup { .. } => None,
+    }
+}
+
+/// Returns the path of the file that a command reads, or the name of the standard input.
+fn input_of<'a>(command: Command<&'a str>) -> &'a str {
+    match command {
+        Command::Found { founding, .. } => founding,
+        Command::Apply { file, .. } => file,
+        Command::Import { list, .. } => list,
+        Command::Lookup { list, .. } => list,
+        Command::Replay { record, .. } => {
+            if record == "-" {
+                "standard input"
+            } else {
+                record
+            }
+        }
+        _ => "standard input",
+    }
+}
+
+/// Returns what a failure of a command is about: an argument or a stream.
+fn subject_of(alloc: Global, command: Command<&str>, about: About) -> Result<String, NoMemory> {
+    match about {
+        About::Store => Ok(String::from_str(alloc, store_of(command).unwrap_or("the store"))?),
+        About::Input => Ok(String::from_str(alloc, input_of(command))?),
+        About::Output => Ok(String::from_str(alloc, "standard output")?),
+        About::Port => match command {
+            Command::Serve { port, .. } => Ok(format!(in alloc; "port {port}")?),
+            _ => Ok(String::from_str(alloc, "the port")?),
+        },
+    }
+}
+
+fn words_of(
+    alloc: Global,
+    command: Command<&str>,
+    about: About,
+    words: &str,
+) -> Result<String, NoMemory> {
+    let subject = subject_of(alloc, command, about)?;
+    Ok(format!(in alloc; "{subject}: {words}")?)
+}
+
+/// Returns the words for what the machine knows, or else these.
+fn words_or(
+    alloc: Global,
+    command: Command<&str>,
+    cause: Option<Cause>,
+    about: About,
+    otherwise: &str,
+) -> Result<String, NoMemory> {
+    match cause {
+        Some(cause) => words_of(alloc, command, cause.about, cause.words.as_str()),
+        None => words_of(alloc, command, about, otherwise),
+    }
+}
+
+/// Returns the words for a failure.
+fn why_failed<H: Host>(
+    alloc: Global,
+    host: &H,
+    command: Command<&str>,
+    failure: Failure,
+) -> Result<String, NoMemory> {
+    match failure {
+        Failure::Memory => Ok(String::from_str(alloc, "out of memory")?),
+        Failure::Store => {
+            let cause = host.cause(alloc, store_of(command));
+            let otherwise =
+                "no cause is known; look for errors of its disk, and compare it with a backup";
+            words_or(alloc, command, cause, About::Store, otherwise)
+        }
+        Failure::File => {
+            let cause = host.cause(alloc, None);
+            let otherwise = "no cause is known; it may have at most 4294967295 bytes";
+            words_or(alloc, command, cause, About::Input, otherwise)
+        }
+        Failure::Foreign => {
+            let words = "a database that holds no registry, or that of a later version of usbreg";
+            words_of(alloc, command, About::Store, words)
+        }
+        Failure::Taken => words_of(alloc, command, About::Store, "holds a registry already"),
+        Failure::Poisoned => {
+            let words = "takes no request after a fault; run the command again";
+            words_of(alloc, command, About::Store, words)
+        }
+    }
+}
+
+/// Returns the words for an invalid argument: what it may be.
+fn what_may_be(argument: BadArgument) -> &'static str {
+    match argument {
+        BadArgument::Stamp => "a stamp is a time as 2024-01-30 20:34:13",
+        BadArgument::Name => "a report is census, holders, petitions, numbers or organisations",
+        BadArgument::Vid | BadArgument::Pid | BadArgument::Vendor => {
+            "an ID is four hexadecimal digits"
+        }
+        BadArgument::Caller | BadArgument::Org => "a slug is 1 to 32 of a-z, 0-9 and -",
+        BadArgument::Key => "a key is 1 to 64 of A-Z, a-z, 0-9, - and _",
+    }
+}
+
+/// Returns the words for a line of the error output, if they are known.
+fn words_for<H: Host>(
+    alloc: Global,
+    host: &H,
+    command: Command<&str>,
+    line: &[u8],
+) -> Result<Option<String>, NoMemory> {
+    if let Some(failure) = failure_in(line) {
+        return Ok(Some(why_failed(alloc, host, command, failure)?));
+    }
+    if let Some(argument) = argument_in(line) {
+        return Ok(Some(String::from_str(alloc, what_may_be(argument))?));
+    }
+    if is_message(line, "fault: socket\n") {
+        let cause = host.cause(alloc, None);
+        let words = words_or(
+            alloc,
+            command,
+            cause,
+            About::Port,
+            "no connection was accepted",
+        )?;
+        return Ok(Some(words));
+    }
+    Ok(None)
+}
+
+/// Returns a byte as it is shown.
+fn shown(byte: u8) -> u8
+    ensures { result ≡ shown byte }
+{
+    if byte < 32 || byte == 127 { b'?' } else { byte }
+}
+
+fn shown_bytes(alloc: Global, bytes: &[u8]) -> Result<Vec<u8>, NoMemory>
+    ensures { IfOk result (λ list. list.items ≡ map shown bytes.now) }
+{
+    let mut list = Vec::new(alloc);
+    for byte in bytes {
+        list.push(shown(*byte))?;
+    }
+    Ok(list)
+}
+
+fn cause_line(alloc: Global, words: &str) -> Result<Vec<u8>, NoMemory>
+    ensures { IfOk result (λ line. line.items ≡ cause_line words.now) }
+{
+    let words = shown_bytes(alloc, words.as_bytes())?;
+    let mut line = Vec::new(alloc);
+    line.extend_from_slice("usbreg: ".as_bytes())?;
+    line.extend_from_slice(&words)?;
+    line.extend_from_slice("\n".as_bytes())?;
+    Ok(line)
+}
+
+fn put_line<E: Sink>(errors: &mut E, line: &[u8])
+    ensures { Prints (output_of E.Sink errors.old errors.new) line.now }
+{
+    match put_all(errors, line) {
+        Ok(()) => {}
+        Err(Broken) => {}
+    }
+}
+
+/// Writes one line with these words. Without memory for it nothing is written.
+fn say<E: Sink>(alloc: Global, errors: &mut E, words: &str)
+    ensures { MayExplain (sunk E.Sink errors.old) (sunk E.Sink errors.new) }
+{
+    match cause_line(alloc, words) {
+        Ok(line) => put_line(errors, &line),
+        Err(NoMemory) => {}
+    }
+}
+
+/// Says why the command failed or was refused whose message is the last line, if that is known.
+pub(crate) fn explain<H: Host, E: Sink + LastLine>(
+    alloc: Global,
+    host: &H,
+    command: Command<&str>,
+    errors: &mut E,
+)
+    ensures { MayExplain (sunk E.Sink errors.old) (sunk E.Sink errors.new) }
+{
+    let words = words_for(alloc, host, command, errors.last_line());
+    match words {
+        Ok(Some(words)) => say(alloc, errors, words.as_str()),
+        _ => {}
+    }
+}
