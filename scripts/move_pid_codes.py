@@ -143,7 +143,7 @@ def take_with_tables(mover, usbreg):
     words = [f"{TOP}/scripts/users/take_pid_codes.py", f"{mover.room}/pages", f"{mover.room}/tables", "--program", usbreg, "--names", names]
     same("moving with tables", run([*words, "--aliases", aliases])[::2], (SOME_LEFT_OUT, b""))
     same("the names that were given", content(f"{mover.room}/tables/names.tsv").decode(), given)
-    enrolled = [it for it in content(f"{mover.room}/tables/requests.jsonl").decode().splitlines() if '"key":"enrol-other-labs"' in it]
+    enrolled = [it for it in content(f"{mover.room}/tables/enrolments.jsonl").decode().splitlines() if '"key":"enrol-other-labs"' in it]
     same("who enrols it", [json.loads(it)["caller"] for it in enrolled], ["ann"])
     same("a licence that was given", b'"LicenseRef-Beerware"' in content(f"{mover.room}/tables/founding.toml"), True)
     same("a folder that is there", run(words)[0], 2)

@@ -3,11 +3,13 @@
 org/NAME/index.md, one for each organisation. docs/moving.md has the commands that take what it writes:
 
     founding.toml        for `usbreg found`
-    requests.jsonl       for `usbreg apply`: each organisation enrols, asks for its numbers and is granted them
-    replies.jsonl        the replies to these
+    enrolments.jsonl     for `usbreg apply`: each organisation enrols
+    enrolled.jsonl       the replies to these
     lists/SLUG.ids       for `usbreg import --org SLUG`: the numbers without a licence or without links that can be taken
     lists.txt            the slugs of these, one on a line
-    list-replies.jsonl   the replies to these, in the same order
+    imported.jsonl       the replies to these, in the same order
+    requests.jsonl       for `usbreg apply`: each organisation asks for its other numbers and is granted them
+    replies.jsonl        the replies to these
     names.tsv            slug, keeper and name of each organisation
     licences.tsv         what is written as a licence, what it is taken as, and on how many pages
     report.tsv           a line for each page that is left out, loses something or is changed, with what to do
@@ -149,10 +151,13 @@ class Move:
             if it.by_list:
                 self.lists[there.orgs[it.owner].slug].append(it)
 
-    def requests(self):
-        """Yields each request with the text of its reply."""
+    def enrolments(self):
+        """Yields the request of each organisation with the text of its reply."""
         for org in self.there.orgs.values():
             yield org.request(), f"enrolled {org.slug}"
+
+    def requests(self):
+        """Yields the requests for each number with the texts of their replies."""
         for petition, number in enumerate(self.asked, 1):
             org = self.there.orgs[number.owner]
             yield number.request(org), f"petition {petition}"
@@ -171,16 +176,17 @@ class Move:
 
     def write_inputs(self):
         os.makedirs(f"{self.given.folder}/lists")
-        both, lists = list(self.requests()), sorted(self.lists.items())
+        lists = sorted(self.lists.items())
         self.write("founding.toml", [self.founding()])
-        self.write("requests.jsonl", (line_of(it) for it, _ in both))
-        self.write("replies.jsonl", (line_of({"done": it}) for _, it in both))
+        for asked, replied, both in (("enrolments", "enrolled", list(self.enrolments())), ("requests", "replies", list(self.requests()))):
+            self.write(f"{asked}.jsonl", (line_of(it) for it, _ in both))
+            self.write(f"{replied}.jsonl", (line_of({"done": it}) for _, it in both))
         for slug, numbers in lists:
             devices = (f"\t{it.code}  {it.title}\n" for it in numbers)
             self.write(f"lists/{slug}.ids", [f"{self.given.vendor}  {self.given.name}\n", *devices])
         self.write("lists.txt", (f"{slug}\n" for slug, _ in lists))
         tally = "owned 0, reserved 0, doubled 0, untitled 0, zero 0"
-        self.write("list-replies.jsonl", (line_of({"done": f"imported fresh {len(it)}, {tally}"}) for _, it in lists))
+        self.write("imported.jsonl", (line_of({"done": f"imported fresh {len(it)}, {tally}"}) for _, it in lists))
 
     def write_tables(self):
         names = ((it.slug, it.keeper, name) for name, it in self.there.orgs.items())
