@@ -79,6 +79,12 @@ def rows_of(store):
         return in_order({it: list(connection.execute(f"SELECT * FROM {it}")) for it in names})
 
 
+def rows_as_kept(store):
+    """Returns the same, with the kept requests in the order in which they came."""
+    with opened(store) as connection:
+        return rows_of(store) | {"kept": list(connection.execute("SELECT * FROM kept ORDER BY rowid"))}
+
+
 def same_rows(what, there, wanted):
     """Ends the script if the tables, or their rows, are not the wanted ones."""
     for name in sorted({*there, *wanted}):
@@ -214,7 +220,7 @@ def histories(stores):
     for what, requests, founding in all_histories:
         today, accepted = stores.today(what, requests, **founding)
         for version in COUNTS:
-            store = make(f"{stores.folder}/older.db", version, rows_of(today.store))
+            store = make(f"{stores.folder}/older.db", version, rows_as_kept(today.store))
             stores.opens_as(what, version, store, today, accepted, more)
     return len(all_histories)
 
@@ -235,7 +241,7 @@ def killed(words, seconds):
 def stops_from(version, stores, today, stops):
     """Kills the opening of a store with many rows the given number of times. Returns how often each schema was left."""
     wanted = {3: rows_of(today)} | {it: in_order(in_schema(it, rows_of(today))) for it in range(version, 3)}
-    whole = make(f"{stores.folder}/whole.db", version, wanted[3])
+    whole = make(f"{stores.folder}/whole.db", version, rows_as_kept(today))
     store = copy(whole, f"{stores.folder}/stopped.db")
     words = [stores.program, "report", store, "census"]
     census = done([stores.program, "report", today, "census"])
