@@ -107,13 +107,14 @@ fn damage_in(rt: &HostRuntime, alloc: Global, path: &str) -> io::Result<Option<S
     }
     let mut header = [0u8; HEADER];
     file.read_exact_at(&mut header, 0)?;
-    if &header[..FORMAT.len()] != FORMAT {
+    if !header.starts_with(FORMAT) {
         return Ok(Some(String::from_str(alloc, "not a database")?));
     }
     let Some(size) = size_of(&header) else {
         return Ok(None);
     };
-    match first_bad_page(&file, size, length / size as u64)? {
+    let count = length.checked_div(size as u64).unwrap_or(0);
+    match first_bad_page(&file, size, count)? {
         Some(number) => Ok(Some(format!(in alloc; "page {number} has a wrong checksum")?)),
         None => Ok(None),
     }
