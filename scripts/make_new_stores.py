@@ -1,12 +1,12 @@
 #!/usr/bin/env python3
 """Founds registries where there is no store, and looks at what `usbreg found` makes.
 
-The first page of a new store must be the one that this script makes from SQLite's file format: the fields of the header of
-an empty database, and the sum by the rule of SQLite's extension cksumvfs. Each page of a founded store must have its sum,
-also after requests. The other cases: a store without bytes keeps its mode; a leftover of an earlier stop is overwritten; a
-log that may hold commits is never taken for that of a new store, nor lost; a database that is there keeps its page size,
-and can be renewed by renew_a_store.py; a link, a missing folder and the names that SQLite gives another meaning are
-refused; of several programs that found the same store at once one succeeds.
+Each page of a founded store must have its sum, by the rule of SQLite's extension cksumvfs, also after requests; the page
+that a founding begins with is that of stop_a_founding.py. The other cases: without a founding file no store is made; a
+store without bytes keeps its mode; a leftover of an earlier stop is overwritten; a log that may hold commits is never taken
+for that of a new store, nor lost; a database that is there keeps its page size, and can be renewed by renew_a_store.py; a
+link, a missing folder and the names that SQLite gives another meaning are refused; of several programs that found the same
+store at once one succeeds.
 
 Usage: scripts/make_new_stores.py [PROGRAM], by default the one that `make` builds. The exit status is 0 if every case
 passes."""
@@ -16,7 +16,7 @@ import subprocess
 import sys
 
 from lib.usbreg import (
-    EXAMPLES, FOUNDING, PAGE_SIZE, SUM_SIZE, TOP, apply, blank_page, content, copy, done, folder, form, found, found_without_sums, opened, program,
+    EXAMPLES, FOUNDING, PAGE_SIZE, SUM_SIZE, TOP, apply, content, copy, done, folder, form, found, found_without_sums, opened, program,
     remove, run, sum_of, tables, write,
 )
 
@@ -56,7 +56,7 @@ def new_stores(cases):
     """There is no store, or one without bytes, or a leftover of an earlier stop."""
     store = f"{cases.room}/new.db"
     cases.found(store, (1, b"", b"fault: file\n"), f"{cases.room}/missing.toml")
-    cases.holds("the first page", content(store), blank_page())
+    cases.leaves("a founding file that is missing", "new.db")
     cases.found(store, DONE)
     cases.sums("a new store", store)
     apply(cases.program, store, f"{EXAMPLES}/orders.jsonl")
@@ -148,7 +148,7 @@ def main():
             each(cases)
         with opened(copy(f"{room}/new.db", f"{room}/looked.db")) as connection:
             cases.holds("SQLite finds the new store", connection.execute("PRAGMA integrity_check").fetchall(), [("ok",)])
-    print(f"{cases.seen} checks of new stores: the first page and the sum of each page are as SQLite's documents say")
+    print(f"{cases.seen} checks of new stores: the sum of each page is as SQLite's documents say")
 
 
 if __name__ == "__main__":
