@@ -11,11 +11,13 @@
 #          beside plain registries, and prints ratios; times each kind of order on a full store; opens a large store of an
 #          older schema; prints and replays a long record. Not part of the gate; it says which packages are missing.
 # deb:     makes the Debian package of what `make` built, in out/. It needs dpkg-deb and readelf.
+# release: proves and builds the last commit from nothing in the new folder TO, so that `usbreg --version` names the commit, and
+#          makes the package of it there, with the lines to publish.
 
 PREFIX ?= /usr/local
 PROGRAM := crates/registry_cli/out/registry_cli
 
-.PHONY: all trial test mutants install deb bench
+.PHONY: all trial test mutants install deb release bench
 
 all:
 	@cd crates/registry_cli && rt run -- --version
@@ -51,3 +53,6 @@ bench:
 
 deb:
 	@package/build.py --program $(PROGRAM)
+
+release:
+	@package/release.sh "$(TO)"

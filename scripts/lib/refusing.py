@@ -34,7 +34,8 @@ def asked_in(words, shim, room, lines=os.devnull):
 
 
 def each(numbers, room, attempt):
-    """Returns the results of the attempts with each number. They run side by side, each batch of them in its own folder."""
+    """Returns the results of the attempts with each number, in their order. They run side by side, each batch of them in its
+    own folder."""
     batches = len(os.sched_getaffinity(0))
 
     def batch(first):
@@ -42,5 +43,8 @@ def each(numbers, room, attempt):
         os.makedirs(folder, exist_ok=True)
         return [attempt(number, folder) for number in numbers[first::batches]]
 
+    results = [None] * len(numbers)
     with concurrent.futures.ThreadPoolExecutor(batches) as pool:
-        return [it for given in pool.map(batch, range(batches)) for it in given]
+        for first, given in enumerate(pool.map(batch, range(batches))):
+            results[first::batches] = given
+    return results
