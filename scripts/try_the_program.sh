@@ -1,10 +1,5 @@
 #!/usr/bin/env bash
-# Runs the scripts that try what was built: cases over stores in files, the causes of faults, a plain history beside it,
-# the man page, the examples in docstrings and those in the help, the index of the definitions, what SQLite sees of a
-# store, new stores, damaged ones, stores of older schemas, Debian's list of USB numbers, records that are printed and
-# replayed, a repository of pages that is moved in and out, each allocation refused in turn, kills at random moments, power
-# cuts, clients that talk HTTP to it, with nginx in front and without, the page in a browser, a backup and its restore, the
-# names on a host, and the Debian package.
+# Runs the scripts that try what was built; the top of each says what it does.
 # It shows the output of a script only if it fails or says that it was skipped. The last line counts the scripts.
 # Needs python3 and cc, and fails if one is missing; with SKIP=1 the scripts are skipped.
 cd "$(dirname "$0")" || exit 1
@@ -21,6 +16,7 @@ scripts=(
     make_new_stores.py
     damage_a_store.py
     open_older_stores.py
+    nearly_registries.py
     record_and_replay.py
     move_pid_codes.py
     use_debian_list.py
