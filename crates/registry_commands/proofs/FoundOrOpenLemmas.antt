@@ -1,4 +1,4 @@
--- A connection that shows the rows of a history has the table meta.
+-- A connection that shows the rows of a history has the table meta. Which fault the failure Foreign tells.
 use Rattle.std.proofs.Common.{◌≡◌, ◌⊎◌, ◌∙◌, inl, inr, false, refl, true≢false, ℕ, IsTrue, true, ap, arith, subst, sym}
 use Rattle.sqlite.specs.Held.{Held, state}
 use Rattle.sqlite.specs.State.{State, HasCleanDisk, IsLive}
@@ -14,6 +14,9 @@ use Rattle.registry_tables.specs.Rows.{HasValues, Rows}
 use Rattle.registry_store.specs.declared.fault.Fault.{Fault}
 use Rattle.registry_store.specs.declared.fault.Fault.TheVariants as faults
 use Rattle.registry_store.specs.Promise.{IsFreshAt, LeavesLater}
+use Rattle.registry_commands.specs.declared.messages.Failure.{Failure}
+use Rattle.registry_commands.specs.declared.messages.Failure.TheVariants.{Foreign}
+use Rattle.registry_commands.specs.Messages.{failure_of}
 use Rattle.registry_commands.specs.Replayed.{IsLeftFound}
 use Rattle.registry_store.proofs.OpeningLemmas.{at_rest}
 
@@ -46,12 +49,20 @@ taken_or faults.NoMemory = inr (λ e. absurd cc)
 taken_or faults.Foreign = inr (λ e. absurd cc)
 taken_or faults.Poisoned = inr (λ e. absurd cc)
 
+-- the failure is Foreign only for that fault
+pub foreign_fault : (fault : Fault) → failure_of fault ≡ Foreign → fault ≡ faults.Foreign
+foreign_fault faults.Foreign told = refl
+foreign_fault faults.Store told = absurd (cc told)
+foreign_fault faults.NoMemory told = absurd (cc told)
+foreign_fault faults.Taken told = absurd (cc told)
+foreign_fault faults.Poisoned told = absurd (cc told)
+
 -- a founding that fails where the connection shows a history leaves the connection as it was
-pub left_found : {S : Type 0} (g : Ghosts S) (conn last : Held S) (fault : Fault)
+pub left_found : {S : Type 0} (g : Ghosts S) (conn last : Held S) (fault : Fault) (failure : Failure) → failure ≡ failure_of fault → fault ≢ faults.Foreign
     → ((s : S) (db : Trees) → IsTrue (g.view s).is_open → g.recovers s db → db ≡ (g.view s).committed)
     → (fault ≡ faults.Taken → last ≡ conn) → (fault ≢ faults.Taken → (has_meta_table (state g conn).now.schema ≡ false) ⊎ IsTrue conn.in_transaction)
-    → (IsTrue conn.in_transaction → last ≡ conn) → (HasCleanDisk (state g last) → HasCleanDisk (state g conn)) → IsLeftFound g conn last
-left_found {S} g conn last fault settled taken untaken busy was = record {
+    → (IsTrue conn.in_transaction → last ≡ conn) → (HasCleanDisk (state g last) → HasCleanDisk (state g conn)) → IsLeftFound g conn failure last
+left_found {S} g conn last fault failure failure_is other settled taken untaken busy was = record {
   leaves = λ live version h legal fresh clean.
       let same : last ≡ conn = elim (taken_or fault) [
         | inl is ↦ taken is
@@ -62,4 +73,5 @@ left_found {S} g conn last fault settled taken untaken busy was = record {
       ] in
       subst (λ (c : Held S). LeavesLater version (state g c) h) (sym same) (fresh_leaves g conn version h settled fresh (was clean));
   clean = was;
+  foreign = λ told. absurd (other (foreign_fault fault (sym failure_is ∙ told)));
 }

@@ -5,6 +5,7 @@ use Rattle.sqlite.specs.State.{HasCleanDisk, Survives}
 use Rattle.sqlite.specs.Held.{Held, state}
 use Rattle.registry_rules.specs.declared.founding.Founding.{Founding}
 use Rattle.registry_rules.specs.History.{founded}
+use Rattle.table_laws.specs.Making.{no_schema}
 use Rattle.registry_tables.specs.Rows.{Rows, newest}
 use Rattle.registry_tables.specs.Calls.{HasNoMeta}
 use Rattle.registry_store.specs.Promise.{IsAt}
@@ -29,9 +30,9 @@ abbrev pub attempt : {S : Type 0} → Held S → Held S → Output → ExitStatu
 attempt old new errors status = record { old = old; new = new; errors = errors; status = status }
 
 module _ {S : Type 0} (g : Ghosts S) where
-  -- the store held no registry, and now holds this one, with no deed
+  -- the store had no table, and now holds this registry, with no deed
   pub record IsFounded (old new : Held S) (founding : Founding) : Type 0 where
-    pub none_before : HasNoMeta (state g old).now
+    pub none_before : (state g old).now.schema ≡ no_schema
     pub rows : HasCleanDisk (state g new) → IsAt newest (state g new) (founded founding)
 
   -- The failures of a founding: Taken if the database had a table meta, and then nothing is changed; Store and Memory only if
@@ -42,10 +43,10 @@ module _ {S : Type 0} (g : Ghosts S) where
   IsOfFounding old new Taken = (new ≡ old) × ¬ HasNoMeta (state g old).now
   IsOfFounding old new _ = ⊥
 
-  -- A founding was attempted. Whether it failed or not, a crash leaves what it could leave before or, if the store held no
-  -- registry, the whole new one.
+  -- A founding was attempted. Whether it failed or not, a crash leaves what it could leave before or, if the store had no
+  -- table, the whole new registry.
   pub record IsTriedOn (did : Attempt S) (founding : Founding) : Type 0 where
-    pub survives : Survives (state g did.old) (state g did.new) (λ db. HasNoMeta (state g did.old).now × Rows newest db (founded founding))
+    pub survives : Survives (state g did.old) (state g did.new) (λ db. ((state g did.old).now.schema ≡ no_schema) × Rows newest db (founded founding))
     pub ends : ((did.status ≡ Success) × IsFounded did.old did.new founding × PrintsNothing did.errors)
         ⊎ ((did.status ≡ Failed) × PrintsFailure (IsOfFounding did.old did.new) did.errors)
 

@@ -12,7 +12,7 @@ use Rattle.registry_rules.specs.declared.founding.Founding.{Founding}
 use Rattle.registry_rules.specs.Accepted.{AreValid}
 use Rattle.registry_rules.specs.History.{History, founded}
 use Rattle.registry_rules.specs.Run.{Legal, after, after_one, replies_to, reply_to}
-use Rattle.registry_tables.specs.Rows.{newest}
+use Rattle.registry_tables.specs.Rows.{Rows, newest}
 use Rattle.registry_tables.specs.Calls.{HasNoMeta}
 use Rattle.registry_store.specs.declared.fault.Fault.TheVariants as faults
 use Rattle.registry_store.specs.declared.registry.Registry.{Registry}
@@ -206,14 +206,16 @@ module _ {S : Type 0} (g : Ghosts S) where
     pub founds : HasNoMeta (state g conn).now → HasCleanDisk (state_of it) → Represents it (founded founding)
     pub clean : HasCleanDisk (state_of it) → HasCleanDisk (state g conn)
 
-  -- It could not be opened or founded: what the connection shows is left, in its schema or a later one.
-  pub record IsLeftFound (conn last : Held S) : Type 0 where
+  -- It could not be opened or founded, for this failure: what the connection shows is left, in its schema or a later one.
+  -- Foreign only if it shows the rows of no legal history.
+  pub record IsLeftFound (conn : Held S) (failure : Failure) (last : Held S) : Type 0 where
     pub leaves : IsLive (state g conn) → (version : ℕ) (h : History) → Legal h → IsFreshAt version (state g conn) h → HasCleanDisk (state g last) → LeavesLater version (state g last) h
     pub clean : HasCleanDisk (state g last) → HasCleanDisk (state g conn)
+    pub foreign : failure ≡ Foreign → HasCleanDisk (state g last) → (version : ℕ) (h : History) → Legal h → ¬ Rows version (state g conn).now.trees h
 
   -- The registry was founded or opened, and the record replayed over it; or neither could be done.
   abbrev pub IsReplayedOn : Founding → Option (List ℕ) → ℕ → ℕ → ℕ → Held S → Held S → Output → ExitStatus → Type 0
   IsReplayedOn founding to_come before failures failures_new conn last errors status =
       ((it : Registry S g) × (after : Registry S g) × IsFoundOrOpen conn founding it × (last ≡ connection_of after)
       × IsReplayed (Some founding) to_come before failures failures_new it after errors status)
-      ⊎ ((failure : Failure) × IsLeftFound conn last × (status ≡ Failed) × Prints errors (failure_line failure))
+      ⊎ ((failure : Failure) × IsLeftFound conn failure last × (status ≡ Failed) × Prints errors (failure_line failure))

@@ -139,7 +139,7 @@ fn open_there<S: Alter>(
     conn: Connection<S>,
 ) -> Result<Registry<S>, (Failure, Connection<S>)>
     ensures ok { IfOk result (IsOpen S.Store conn) }
-    ensures err { IfErr result (λ e. IsLeftFound S.Store conn e.1) }
+    ensures err { IfErr result (λ e. IsLeftFound S.Store conn e.0 e.1) }
 {
     match Registry::open(alloc, conn) {
         Ok(registry) => Ok(registry),
@@ -154,7 +154,7 @@ fn found_or_open<S: Alter>(
     founding: &Founding,
 ) -> Result<Registry<S>, (Failure, Connection<S>)>
     ensures ok { IfOk result (IsFoundOrOpen S.Store conn founding.now) }
-    ensures err { IfErr result (λ e. IsLeftFound S.Store conn e.1) }
+    ensures err { IfErr result (λ e. IsLeftFound S.Store conn e.0 e.1) }
 {
     match Registry::found(alloc, conn, founding) {
         Ok(registry) => Ok(registry),

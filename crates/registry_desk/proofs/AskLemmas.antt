@@ -1,14 +1,13 @@
 -- What a crash leaves if a registry represents one of two histories.
-use Rattle.std.proofs.Common.{◌⊎◌, inl, inr, refl, arith}
+use Rattle.std.proofs.Common.{inl, inr, refl, arith}
 use Rattle.sqlite.specs.Store.{Ghosts}
 use Rattle.sqlite.specs.State.{HasCleanDisk}
 use Rattle.registry_rules.specs.History.{History}
 use Rattle.registry_store.specs.declared.registry.Registry.{Registry as TheRegistry}
 use Rattle.registry_store.specs.Promise.{Represents, state_of}
 use Rattle.registry_store.specs.Queries.{IsUntouched}
-use Rattle.registry_desk.specs.declared.fault.DeskFault.{DeskFault}
-use Rattle.registry_desk.specs.declared.fault.DeskFault.TheVariants.{NoMemory, Registry}
-use Rattle.registry_desk.specs.Acting.{EndsAt, IsLeftAt}
+use Rattle.registry_desk.specs.declared.fault.DeskFault.TheVariants.{NoMemory}
+use Rattle.registry_desk.specs.Acting.{IsLeftAt}
 
 module _ {S : Type 0} {g : Ghosts S} where
   -- a registry that is not asked is left as it is
@@ -19,20 +18,16 @@ module _ {S : Type 0} {g : Ghosts S} where
     survives = record { clean = omega arith; shield = λ is. is; counts = omega arith; limit = refl; closes = λ clean is. inl is; crash = λ clean db may. inl may };
   }
 
-  pub ends_either : (fault : DeskFault) (it : TheRegistry S g) (h next : History) → Represents it h ⊎ Represents it next → EndsAt fault it h next
-  ends_either NoMemory it h next stands = stands
-  ends_either (Registry fault) it h next stands = inr stands
-
   -- a crash leaves the history that the registry represents: the first of two
-  pub left_first : (fault : DeskFault) (it : TheRegistry S g) (h next : History) → Represents it h → HasCleanDisk (state_of it) → IsLeftAt fault it h next
-  left_first fault it h next stands clean = record {
+  pub left_first : (it : TheRegistry S g) (h next : History) → Represents it h → HasCleanDisk (state_of it) → IsLeftAt NoMemory it h next
+  left_first it h next stands clean = record {
     leaves = λ db may. let l = stands.at.left clean db may in (l.0, inl l.1, l.2);
-    ends = ends_either fault it h next (inl stands);
+    ends = inl stands;
   }
 
   -- or the second
-  pub left_second : (fault : DeskFault) (it : TheRegistry S g) (h next : History) → Represents it next → HasCleanDisk (state_of it) → IsLeftAt fault it h next
-  left_second fault it h next stands clean = record {
+  pub left_second : (it : TheRegistry S g) (h next : History) → Represents it next → HasCleanDisk (state_of it) → IsLeftAt NoMemory it h next
+  left_second it h next stands clean = record {
     leaves = λ db may. let l = stands.at.left clean db may in (l.0, inr l.1, l.2);
-    ends = ends_either fault it h next (inr stands);
+    ends = inr stands;
   }

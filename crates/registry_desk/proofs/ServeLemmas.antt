@@ -39,7 +39,7 @@ module _ {S : Type 0} {g : Ghosts S} where
     fault_is = none;
     next = h;
     next_is = inl (refl, refl);
-    left = left_first NoMemory it h h stands clean;
+    left = left_first it h h stands clean;
   })
 
   -- the message was read, and its response was sent, or refusal 31 in its place
@@ -61,7 +61,7 @@ module _ {S : Type 0} {g : Ghosts S} where
     fault_is = none;
     next = after_message h said;
     next_is = inr (said, says, refl, λ other. absurd (other refl));
-    left = left_second NoMemory new h (after_message h said) ok.1 clean;
+    left = left_second new h (after_message h said) ok.1 clean;
   })
 
   -- the message was read and acted on

@@ -112,11 +112,12 @@ abbrev pub IsEither : History → History → History → Type 0
 IsEither h next x = (x ≡ h) ⊎ (x ≡ next)
 
 module _ {S : Type 0} {g : Ghosts S} where
-  -- after a fault of the registry it is poisoned by this fault or represents one of the two histories; memory that runs out
-  -- elsewhere does not poison it
+  -- After a fault of the registry it is poisoned by this fault, or it represents the history before the message, and the
+  -- message changes none: so an order that changes it gets such a fault only from a registry that acted on it. Memory that runs
+  -- out elsewhere does not poison it.
   abbrev pub EndsAt : DeskFault → TheRegistry S g → History → History → Type 0
   EndsAt NoMemory it h next = Represents it h ⊎ Represents it next
-  EndsAt (Registry fault) it h next = (poisoned_by it ≡ Some fault) ⊎ (Represents it h ⊎ Represents it next)
+  EndsAt (Registry fault) it h next = (poisoned_by it ≡ Some fault) ⊎ (Represents it h × (next ≡ h))
 
   -- A message got refusal 30 or 31. A crash leaves one history or the other, and a registry that is not poisoned represents
   -- one of them.

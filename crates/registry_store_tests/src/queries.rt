@@ -10,8 +10,7 @@ use std::process::Abort;
 use std::test::Fail;
 use usbnum_core::{Number, Pid, Slug, Vid};
 
-// Two organisations, a further vendor and a reserved span; of the numbers, one of each vendor is
-// granted, one is imported and one is returned.
+// Two organisations, a further vendor, a reserved span; numbers granted, imported and returned.
 const STEPS: &[Step] = &[
     (
         r#"{"caller":"bob","key":"b1","order":"enrol","org":"bolt","title":"Bolt","site":"https://bolt.example/"}"#,

@@ -1,5 +1,5 @@
 -- From an empty store to the rows of a founding.
-use Rattle.std.proofs.Common.{◌≡◌, true, IsTrue, Ok, [], refl, ap, subst, arith}
+use Rattle.std.proofs.Common.{◌≡◌, true, IsTrue, Ok, [], refl, subst, arith}
 use Rattle.std.specs.Borrow.{MutBor}
 use Rattle.sqlite.specs.Store.{Ghosts}
 use Rattle.sqlite.specs.Held.{Held, state}
@@ -7,22 +7,18 @@ use Rattle.sqlite.specs.State.{HasCleanDisk, IsLive}
 use Rattle.sqlite.specs.Effect.{Database}
 use Rattle.sqlite_catalog.specs.Listing.{IsSound}
 use Rattle.table_laws.specs.Making.{no_schema, IsBlank, Adds}
-use Rattle.registry_schema.specs.Meta.{has_meta_table}
 use Rattle.registry_schema.specs.Schema.{schema_3}
 use Rattle.registry_rules.specs.History.{founded}
 use Rattle.registry_rules.specs.declared.founding.Founding.{Founding}
 use Rattle.registry_rows.specs.Steps.{Changes}
 use Rattle.registry_rows.specs.Tables.{Holds, no_rows}
-use Rattle.registry_tables.specs.Calls.{HasNoMeta, WritesTables, with_founding}
+use Rattle.registry_tables.specs.Calls.{WritesTables, with_founding}
 use Rattle.registry_tables.specs.Rows.{newest, IsFounding, Rows, HoldsRows}
 use Rattle.registry_tables.proofs.FoundingLemmas.{founded_records, founded_kept}
 use Rattle.registry_tables.proofs.RowsLemmas.{goes_out}
 
 pub blank_of : (db : Database) → db.schema ≡ no_schema → IsSound db.schema db.trees → IsBlank no_schema db
 blank_of db is sound = record { is = is; sound = subst (λ s. IsSound s db.trees) is sound; none = tt }
-
-pub no_meta : (db : Database) → db.schema ≡ no_schema → HasNoMeta db
-no_meta db is = ap has_meta_table is
 
 -- tables without rows have no values
 pub blank_holds : (db : Database) → IsBlank schema_3 db → Holds db no_rows

@@ -15,5 +15,5 @@ returns-in-Err g c =
 pub returns-in-Ok : goal.returns-in-Ok
 returns-in-Ok g c = rw c.into_connection.ensures (record {
   survives = c.in-Ok.ensures.survives;
-  ends = inl (refl, record { none_before = c.in-Ok.ensures.fresh; rows = λ clean. (c.in-Ok.ensures.represents clean).at }, (keeps_same _, refl));
+  ends = inl (refl, record { none_before = c.in-Ok.ensures.empty; rows = λ clean. (c.in-Ok.ensures.represents clean).at }, (keeps_same _, refl));
 })

@@ -21,5 +21,5 @@ returns-in-Err g c =
     let was : HasCleanDisk (state g.S.Store c.in-Err.conn) → HasCleanDisk conn = λ clean. omega (arith, c.in-Err.ensures.survives.clean, clean) in
     record {
       ok = tt;
-      err = left_found g.S.Store c.args.conn c.in-Err.conn c.in-Err.fault g.met.S.Store.settled (λ is. (c.in-Err.ensures.taken is).0) c.in-Err.ensures.untaken (λ inside. (c.in-Err.ensures.busy inside).1) was;
+      err = left_found g.S.Store c.args.conn c.in-Err.conn c.in-Err.fault c.failure_of.result c.failure_of.ensures c.in-Err.ensures.kind.1 g.met.S.Store.settled (λ is. (c.in-Err.ensures.taken is).0) c.in-Err.ensures.untaken (λ inside. (c.in-Err.ensures.busy inside).1) was;
     }

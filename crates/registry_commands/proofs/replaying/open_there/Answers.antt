@@ -1,4 +1,5 @@
-use Rattle.std.proofs.Common.{arith}
+use Rattle.std.proofs.Common.{sym, ◌∙◌, arith}
+use Rattle.registry_commands.proofs.FoundOrOpenLemmas.{foreign_fault}
 use Rattle.registry_commands.proofs.replaying.open_there.Goals as goal
 
 pub returns-in-Ok-clause-ok : goal.returns-in-Ok-clause-ok
@@ -11,4 +12,5 @@ pub returns-in-Err-clause-err : goal.returns-in-Err-clause-err
 returns-in-Err-clause-err g c = record {
   leaves = λ live version h legal fresh clean. c.in-Err.ensures.leaves_fresh version h legal fresh clean;
   clean = λ clean. omega (arith, c.in-Err.ensures.survives.clean, clean);
+  foreign = λ told clean. c.in-Err.ensures.foreign clean (foreign_fault c.in-Err.fault (sym c.failure_of.ensures ∙ told));
 }
