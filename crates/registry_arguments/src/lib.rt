@@ -2,6 +2,7 @@
 #![tactic(auto)]
 
 mod command;
+mod parts;
 mod program;
 
 pub use command::{Command, Invocation, Usage, invocation_of};

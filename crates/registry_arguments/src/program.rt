@@ -1,107 +1,15 @@
 //! The definition of the program's command line for `clap`.
 
-ghost use Rattle.std.specs.Prelude.{◌≡◌, ◌∷◌, [], IfOk, Some, false, codes, option_copied};
-ghost use Rattle.clap.specs.Words.{app_of, items_of, rule_of, new_app, with_rule, with_subcommand};
+ghost use Rattle.std.specs.Prelude.{◌≡◌, IfOk, Some, false, codes, option_copied};
+ghost use Rattle.clap.specs.Words.{app_of, new_app, with_rule, with_subcommand};
 ghost use Rattle.clap.specs.declared.builder.command.Command.TheViews.{out-Command};
-ghost use Rattle.registry_arguments.specs.Commands.{apply_app, export_app, flag, found_app, history_app, import_app, lookup_app, needed_option, numeric, option, replay_app, report_app, serve_app, trial_app, usbreg_app, versioned, positional};
+ghost use Rattle.registry_arguments.specs.Commands.{apply_app, export_app, found_app, history_app, import_app, lookup_app, needed_option, replay_app, report_app, serve_app, trial_app, usbreg_app, versioned};
 
-use clap::builder::{ValueParser, ValueRange};
-use clap::{Arg, ArgAction, Command};
+use crate::parts::{
+    needed_option, numeric, option, positional, subcommand, with_arg, with_command, with_verbose,
+};
+use clap::Command;
 use std::alloc::{AllocError, Global};
-
-/// Returns a required positional argument.
-fn positional<'a>(alloc: Global, name: &'a str, shown: &'a str, help: &'a str) -> Arg<'a>
-    ensures rule { rule_of result ≡ positional name.entry.now }
-    ensures local { result.global ≡ false }
-    ensures texts { (result.help ≡ Some help.entry) × (items_of result.val_names ≡ shown.entry ∷ []) }
-{
-    Arg::new(alloc, name)
-        .required(true)
-        .value_name(shown)
-        .help(help)
-}
-
-/// Returns an optional `--name VALUE`.
-fn option<'a>(alloc: Global, name: &'a str, shown: &'a str, help: &'a str) -> Arg<'a>
-    ensures rule { rule_of result ≡ option name.entry.now }
-    ensures local { result.global ≡ false }
-    ensures texts { (result.help ≡ Some help.entry) × (items_of result.val_names ≡ shown.entry ∷ []) }
-{
-    Arg::new(alloc, name)
-        .long(name)
-        .value_name(shown)
-        .help(help)
-}
-
-/// Returns a required `--name VALUE`.
-fn needed_option<'a>(alloc: Global, name: &'a str, shown: &'a str, help: &'a str) -> Arg<'a>
-    ensures rule { rule_of result ≡ needed_option name.entry.now }
-    ensures local { result.global ≡ false }
-    ensures texts { (result.help ≡ Some help.entry) × (items_of result.val_names ≡ shown.entry ∷ []) }
-{
-    option(alloc, name, shown, help).required(true)
-}
-
-/// Returns the same argument, with a decimal number from `low` to `high` as its value.
-fn numeric<'a>(arg: Arg<'a>, low: u64, high: u64) -> Arg<'a>
-    ensures rule { rule_of result ≡ numeric low high (rule_of arg.entry) }
-    ensures others { result ≡ record arg.entry { value_parser = result.value_parser } }
-    ensures local { result.global ≡ arg.entry.global }
-{
-    arg.value_parser(ValueParser::Unsigned(low, high))
-}
-
-/// Returns a flag `--name`. Its action is `Set`, without a default value, so that the matches have
-/// a value of it only where it is used.
-fn flag<'a>(alloc: Global, name: &'a str, help: &'a str) -> Arg<'a>
-    ensures rule { rule_of result ≡ flag name.entry.now }
-    ensures local { result.global ≡ false }
-    ensures texts { result.help ≡ Some help.entry }
-{
-    Arg::new(alloc, name)
-        .long(name)
-        .action(ArgAction::Set)
-        .num_args(ValueRange::EMPTY)
-        .default_missing_value("true")
-        .help(help)
-}
-
-/// Returns a subcommand with a description and an example.
-fn subcommand<'a>(alloc: Global, name: &'a str, about: &'a str, example: &'a str) -> Command<'a>
-    ensures app { app_of result ≡ new_app name.entry.now }
-    ensures local { (out-Command result).has_globals ≡ false }
-    ensures texts { ((out-Command result).about ≡ Some about.entry) × ((out-Command result).after_help ≡ Some example.entry) }
-{
-    Command::new(alloc, name).about(about).after_help(example)
-}
-
-fn with_arg<'a>(command: Command<'a>, arg: Arg<'a>) -> Result<Command<'a>, AllocError>
-    requires { arg.global ≡ false }
-    ensures app { IfOk result (λ c. app_of c ≡ with_rule (app_of command.entry) (rule_of arg.entry)) }
-    ensures local { IfOk result (λ c. (out-Command c).has_globals ≡ (out-Command command.entry).has_globals) }
-{
-    command.arg(arg)
-}
-
-/// Adds `--verbose`, which each subcommand has.
-fn with_verbose<'a>(alloc: Global, command: Command<'a>) -> Result<Command<'a>, AllocError>
-    ensures app { IfOk result (λ c. app_of c ≡ with_rule (app_of command.entry) (flag (codes "verbose"))) }
-    ensures local { IfOk result (λ c. (out-Command c).has_globals ≡ (out-Command command.entry).has_globals) }
-{
-    let verbose = flag(
-        alloc,
-        "verbose",
-        "Say the cause of a failure in one more line",
-    );
-    with_arg(command, verbose)
-}
-
-fn with_command<'a>(command: Command<'a>, sub: Command<'a>) -> Result<Command<'a>, AllocError>
-    requires { (out-Command sub).has_globals ≡ false }
-    ensures app { IfOk result (λ c. app_of c ≡ with_subcommand (app_of command.entry) (app_of sub.entry).top) }
-{
-    command.subcommand(sub)
-}
 
 #[tactic(auto, unfolding(crate::specs::Commands::trial_app))]
 fn trial<'a>(alloc: Global) -> Result<Command<'a>, AllocError>
@@ -376,9 +284,10 @@ fn bare<'a>(alloc: Global) -> Command<'a>
         .about("A registry of shared USB product numbers that never loses or duplicates a grant")
         .after_help(
             "Without a command, `usbreg` runs `trial`. `found`, `apply`, `import`, `replay` and `serve` \
-             change a registry; the other commands only read one.\n\nExit status: 0 on success; 1 after a fault of the \
-             store, of memory, of a file or of a socket; 2 if arguments, an input, a line of a record or an \
-             import are refused, or if no device is found.",
+             change a registry. `export`, `report` and `history` only show one, but they need to write its \
+             files too: they bring the store of an older version to the newest first.\n\nExit status: 0 on \
+             success; 1 after a fault of the store, of memory, of a file or of a socket; 2 if arguments, an \
+             input, a line of a record or an import are refused, or if no device is found.",
         )
 }
 
@@ -406,20 +315,21 @@ fn with_views<'a>(alloc: Global, program: Command<'a>) -> Result<Command<'a>, Al
     with_command(program, lookup(alloc)?)
 }
 
-/// Adds the version. This comes last, as the contracts of `clap`'s other calls do not say that they
-/// keep it.
+/// Adds the version, with the logic of the kit that proves it. `package/release.sh` puts the commit in
+/// the place of `checkout`. This comes last, as the contracts of `clap`'s other calls do not say that
+/// they keep it.
 fn with_version<'a>(program: Command<'a>) -> Command<'a>
     ensures app { app_of result ≡ versioned (app_of program.entry) }
-    ensures version { option_copied (out-Command result).version ≡ Some (codes "0.1.0 (rattle logic dac8208d650f15bf)") }
+    ensures version { option_copied (out-Command result).version ≡ Some (codes "0.1.0 (checkout, rattle logic dac8208d650f15bf)") }
 {
-    program.version("0.1.0 (rattle logic dac8208d650f15bf)")
+    program.version("0.1.0 (checkout, rattle logic dac8208d650f15bf)")
 }
 
 /// Returns `usbreg` with all its subcommands.
 #[tactic(auto, unfolding(crate::specs::Commands::bare_app))]
 pub fn usbreg<'a>(alloc: Global) -> Result<Command<'a>, AllocError>
     ensures app { IfOk result (λ c. app_of c ≡ usbreg_app) }
-    ensures version { IfOk result (λ c. option_copied (out-Command c).version ≡ Some (codes "0.1.0 (rattle logic dac8208d650f15bf)")) }
+    ensures version { IfOk result (λ c. option_copied (out-Command c).version ≡ Some (codes "0.1.0 (checkout, rattle logic dac8208d650f15bf)")) }
 {
     let program = with_requests(alloc, bare(alloc))?;
     let program = with_views(alloc, program)?;

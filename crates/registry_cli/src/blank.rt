@@ -6,7 +6,7 @@ ghost use Rattle.registry_commands.specs.Failures.{IsOfStore};
 
 use crate::notes::{Notes, Trouble};
 use registry_commands::Failure;
-use registry_program::About;
+use registry_program::{About, Making, Standing, is_blank, making_of};
 use std::fs::{File, OpenOptions};
 use std::io::ErrorKind;
 use std::os::unix::fs::{FileExt, MetadataExt, OpenOptionsExt, fchown};
@@ -58,10 +58,6 @@ const LEAF_HEADER: [u8; 8] = [13, 0, 0, 0, 0, 3, 248, 0];
 /// The sum of the page, by SQLite's extension cksumvfs, <https://www.sqlite.org/cksumvfs.html>.
 const SUM: [u8; 8] = [110, 168, 217, 73, 4, 89, 165, 179];
 
-/// The least length of a log that may hold a commit: its header has 32 bytes, and the header of
-/// a frame has 24.
-const LEAST_LOG: u64 = 56;
-
 /// Returns the only page of an empty database.
 fn blank_page() -> [u8; PAGE_SIZE] {
     let mut page = [0u8; PAGE_SIZE];
@@ -71,33 +67,37 @@ fn blank_page() -> [u8; PAGE_SIZE] {
     page
 }
 
-/// Returns the length of a file: 0 if it does not exist, and `None` if its name is that of a link,
-/// a folder or a device.
-fn length_of(rt: &HostRuntime, path: &str) -> io::Result<Option<u64>> {
+/// Returns what stands at a path. It follows no link.
+fn standing_at(rt: &HostRuntime, path: &str) -> io::Result<Standing> {
     match fs::symlink_metadata(rt, path) {
-        Ok(found) if found.is_file() => Ok(Some(found.len())),
-        Ok(_) => Ok(None),
-        Err(error) if error.kind() == ErrorKind::NotFound => Ok(Some(0)),
+        Ok(found) if found.is_file() => Ok(Standing::File(found.len())),
+        Ok(_) => Ok(Standing::Other),
+        Err(error) if error.kind() == ErrorKind::NotFound => Ok(Standing::Nothing),
         Err(error) => Err(error),
     }
 }
 
-/// Returns whether to make the store: it does not exist or has no bytes. The engine opens no file by
-/// the names that are left out.
-///
-/// It fails if the log of such a store may hold commits. They belong to a file that is gone, and the
-/// engine would drop them.
-fn is_to_make(rt: &HostRuntime, store: &str) -> io::Result<bool> {
+/// Returns what is done before the store at a path is opened. The engine opens no file by the names
+/// that are left out.
+fn making_at(rt: &HostRuntime, store: &str) -> io::Result<Making> {
     if store.is_empty() || store == ":memory:" || store.starts_with("file:") {
-        return Ok(false);
+        return Ok(Making::Leave);
     }
-    if length_of(rt, store)? != Some(0) {
-        return Ok(false);
+    let found = standing_at(rt, store)?;
+    if !is_blank(found) {
+        // Only the log of a new store is looked for.
+        return Ok(making_of(found, Standing::Nothing));
     }
     let log = format!(in rt.alloc(); "{store}-wal")?;
-    match length_of(rt, log.as_str())? {
-        Some(length) if length < LEAST_LOG => Ok(true),
-        _ => Err(ErrorKind::AlreadyExists.into()),
+    Ok(making_of(found, standing_at(rt, log.as_str())?))
+}
+
+/// Returns whether to make the store. It fails if the log of the store may hold commits.
+fn is_to_make(rt: &HostRuntime, store: &str) -> io::Result<bool> {
+    match making_at(rt, store)? {
+        Making::Make => Ok(true),
+        Making::Leave => Ok(false),
+        Making::Refuse => Err(ErrorKind::AlreadyExists.into()),
     }
 }
 

@@ -31,8 +31,13 @@ pub struct Machine<'a, S: Start> {
 }
 
 impl<'a, S: Start> Machine<'a, S> {
-    /// Returns the machine before anything was opened. It notes there what fails.
-    pub fn new(rt: &'a HostRuntime, notes: &'a Notes, start: S) -> Machine<'a, S> {
+    ghost use Rattle.std.specs.Prelude.{◌≡◌, false};
+
+    /// Returns the machine before anything was opened. It notes there what fails. Nothing is supposed
+    /// of what a crash leaves of a write, so each commit syncs twice.
+    pub fn new(rt: &'a HostRuntime, notes: &'a Notes, start: S) -> Machine<'a, S>
+        requires { S.Start.is_mixing ≡ false }
+    {
         Machine {
             rt,
             notes,
@@ -206,6 +211,10 @@ impl<'a, S: Start> Host for Machine<'a, S> {
             }),
             _ => None,
         }
+    }
+
+    fn take_kept(&self, _alloc: Global) -> Option<Vec<u8>> {
+        self.notes.take_kept()
     }
 
     fn let_go(&mut self, files: Files<FileFrom<S>>)

@@ -1,7 +1,8 @@
 //! `usbreg`, a registry of shared USB product numbers.
 #![tactic(auto)]
 
-ghost use Rattle.registry_cli.specs.Statuses.{IsExplained};
+ghost use Rattle.std.specs.Prelude.{◌≡◌, ◌≢◌};
+ghost use Rattle.std.specs.IoError.{error_kind};
 
 mod blank;
 mod connections;
@@ -12,78 +13,64 @@ mod notes;
 use byte_streams::{Inlet, Outlet};
 use machine::Machine;
 use notes::{Noted, Notes};
-use registry_arguments::{Command, Invocation, Usage, invocation_of};
 use registry_commands::ExitStatus;
-use registry_program::{About, Heard, perform};
+use registry_program::{About, Heard, Terminals, run_over};
 use sqlite::Wary;
 use std::io;
-use std::io::IsTerminal;
+use std::io::{ErrorKind, IsTerminal};
 use std::process::ExitCode;
 
 fn main(rt: HostRuntime) -> ExitCode {
     ExitCode::from(run(&rt).code())
 }
 
-/// Reads the arguments, does what they ask for, and returns the exit status.
+/// Does what the arguments ask for on this machine, and returns the exit status.
 fn run(rt: &HostRuntime) -> ExitStatus {
     let arguments = match arguments(rt) {
         Ok(arguments) => arguments,
-        Err(error) if error.kind() == io::ErrorKind::InvalidData => {
-            let _ = rt.eprintln("error: invalid UTF-8 was detected in one or more arguments");
-            return ExitStatus::Rejected;
-        }
-        Err(_) => {
-            let _ = rt.eprintln("fault: memory");
-            return ExitStatus::Failed;
-        }
+        Err(error) => return refuse(rt, &error),
     };
-    match invocation_of(rt.alloc(), arguments.as_slice()) {
-        Ok(asked) => obey(rt, asked),
-        Err(usage) => explain(rt, &usage),
-    }
-}
-
-/// Does what the arguments ask for, and returns the exit status. Causes are said with `--verbose`
-/// and to a terminal.
-fn obey(rt: &HostRuntime, asked: Invocation<&str>) -> ExitStatus {
-    let verbose = asked.verbose || rt.stderr().is_terminal();
-    if verbose && asked.command == Command::Trial && rt.stdin().is_terminal() {
-        let _ = rt.eprintln("usbreg: request lines are read from the terminal; Ctrl-D ends them");
-    }
-    let notes = Notes::new();
-    perform(
+    let terminals = Terminals {
+        input: rt.stdin().is_terminal(),
+        errors: rt.stderr().is_terminal(),
+    };
+    let notes = Notes::new(rt.alloc(), may_explain(arguments.as_slice(), terminals));
+    run_over(
         rt.alloc(),
         &mut Machine::new(rt, &notes, Wary),
-        asked.command,
-        verbose,
+        arguments.as_slice(),
+        terminals,
         &mut Inlet::new(Noted::new(rt.stdin(), About::Input, &notes)),
         &mut Outlet::new(Noted::new(rt.stdout(), About::Output, &notes)),
         &mut Heard::new(Outlet::new(rt.stderr())),
     )
 }
 
+/// Returns whether the cause of a failure may be said, so that what is read of an input is kept.
+fn may_explain(arguments: &[String], terminals: Terminals) -> bool {
+    for argument in arguments {
+        if argument.as_str() == "--verbose" {
+            return true;
+        }
+    }
+    terminals.errors
+}
+
 fn arguments(rt: &HostRuntime) -> io::Result<Vec<String>> {
     Ok(std::env::args(rt)?.collect(rt.alloc())?)
 }
 
-/// Prints why the arguments are refused, or the help or the version that they ask for, and returns
-/// the exit status.
-fn explain(rt: &HostRuntime, usage: &Usage) -> ExitStatus
-    ensures { IsExplained usage.now result }
+/// Says why the arguments cannot be read, and returns the exit status.
+fn refuse(rt: &HostRuntime, error: &io::Error) -> ExitStatus
+    ensures rejected { error_kind error.now ≡ ErrorKind.InvalidData → result ≡ ExitStatus.Rejected }
+    ensures failed { error_kind error.now ≢ ErrorKind.InvalidData → result ≡ ExitStatus.Failed }
 {
-    match usage {
-        Usage::Refused(error) => {
-            let shown = error.print(rt).is_ok();
-            if error.use_stderr() {
-                ExitStatus::Rejected
-            } else if shown {
-                ExitStatus::Success
-            } else {
-                let _ = rt.eprintln("fault: file");
-                ExitStatus::Failed
-            }
+    match error.kind() {
+        ErrorKind::InvalidData => {
+            let _ = rt.eprintln("error: invalid UTF-8 was detected in one or more arguments");
+            ExitStatus::Rejected
         }
-        Usage::NoMemory => {
+        _ => {
             let _ = rt.eprintln("fault: memory");
             ExitStatus::Failed
         }

@@ -1,4 +1,5 @@
-//! Notes why the last call of this machine failed that did, so that it can be said.
+//! Notes why the last call of this machine failed that did, and keeps the bytes of its input, so that
+//! the cause of a failure can be said.
 
 use registry_program::{About, Cause};
 use std::alloc::{AllocError, Global};
@@ -15,17 +16,39 @@ pub enum Trouble {
     Known(&'static str),
 }
 
-/// What is known of the last call that failed.
+/// The most bytes that are kept of an input.
+const MOST_KEPT: usize = 16 * 1024 * 1024;
+
+/// What is known of the last call that failed, and of the input.
 #[derive(Drop)]
 pub struct Notes {
     last: Cell<Option<(About, Trouble)>>,
+    kept: Cell<Option<Vec<u8>>>,
 }
 
 impl Notes {
-    pub fn new() -> Notes {
+    /// Returns the notes before any call. They keep the input only if that is asked for.
+    pub fn new(alloc: Global, keeps: bool) -> Notes {
         Notes {
             last: Cell::new(None),
+            kept: Cell::new(if keeps { Some(Vec::new(alloc)) } else { None }),
         }
+    }
+
+    /// Keeps the next bytes of the input. Keeps nothing of an input that has too many or for which
+    /// memory runs out.
+    fn keep(&self, bytes: &[u8]) {
+        if let Some(mut kept) = self.kept.replace(None) {
+            let fits = kept.len().saturating_add(bytes.len()) <= MOST_KEPT;
+            if fits && kept.extend_from_slice(bytes).is_ok() {
+                self.kept.set(Some(kept));
+            }
+        }
+    }
+
+    /// Returns the bytes that are kept, and keeps none from now on.
+    pub fn take_kept(&self) -> Option<Vec<u8>> {
+        self.kept.replace(None)
     }
 
     pub fn note(&self, about: About, trouble: Trouble) {
@@ -80,7 +103,7 @@ fn words_of(alloc: Global, trouble: Trouble) -> Result<String, AllocError> {
     }
 }
 
-/// A reader or a writer whose failures are noted.
+/// A reader or a writer whose failures are noted. The bytes of an input are kept.
 #[derive(Drop)]
 pub struct Noted<'a, T: Drop> {
     stream: T,
@@ -101,8 +124,9 @@ impl<'a, T: Drop> Noted<'a, T> {
 impl<T: Read + Drop> Read for Noted<'_, T> {
     fn read(&mut self, buf: &mut [u8]) -> io::Result<usize> {
         let answer = self.stream.read(buf);
-        if let Err(error) = answer {
-            self.notes.note(self.about, Trouble::System(error));
+        match answer {
+            Ok(count) => self.notes.keep(&buf[..count.min(buf.len())]),
+            Err(error) => self.notes.note(self.about, Trouble::System(error)),
         }
         answer
     }

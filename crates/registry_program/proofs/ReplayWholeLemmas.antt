@@ -5,7 +5,7 @@ use Rattle.std.proofs.Math.Logic.{∥∥₁_map, ∥∥₁_elim}
 use Rattle.sqlite_disk.specs.declared.Disk as disk
 use Rattle.sqlite_disk.specs.declared.Files.{Files}
 use Rattle.sqlite_store.specs.declared.store.FileStore.{FileStore}
-use Rattle.sqlite.specs.Files.{file_state, over_files}
+use Rattle.sqlite.specs.Files.{HoldsDatabase, file_state, over_files}
 use Rattle.sqlite.specs.Held.{Held}
 use Rattle.sqlite.specs.State.{HasCleanDisk, IsLive}
 use Rattle.sqlite.specs.Store.{Ghosts}
@@ -24,11 +24,14 @@ use Rattle.registry_commands.specs.declared.entries.Entry.{Entry}
 use Rattle.registry_commands.specs.declared.entries.Entry.TheVariants as says
 use Rattle.registry_commands.specs.declared.following.ReplayStop.{ReplayStop}
 use Rattle.registry_commands.specs.declared.following.ReplayStop.TheVariants as stop
+use Rattle.registry_commands.specs.declared.messages.Failure.{Failure}
 use Rattle.registry_commands.specs.declared.status.ExitStatus.{ExitStatus}
 use Rattle.registry_commands.specs.declared.status.ExitStatus.TheVariants.{Success, Failed, Rejected}
 use Rattle.registry_commands.specs.declared.unread.Unread.{Unread}
 use Rattle.registry_commands.specs.Ends.{Ends, Output, Sunk}
 use Rattle.registry_commands.specs.Entries.{IsFirst, entry_in}
+use Rattle.registry_commands.specs.Failures.{Prints}
+use Rattle.registry_commands.specs.Messages.{failure_line}
 use Rattle.registry_commands.specs.RecordLines.{MayHaveLines, ahead, unread_of}
 use Rattle.registry_commands.specs.Replayed.{Begins, HasReplayed, IsFoundOrOpen, IsLeftFound, IsReplayOf, IsReplayed, ThenReplays, after_lines}
 use Rattle.registry_commands.specs.Stops.{TellsStop}
@@ -39,6 +42,7 @@ use Rattle.registry_program.specs.Replaying.{GoesOn, IsReplayedIn, ReplaysFrom, 
 use Rattle.registry_program.specs.Stores.{IsClosed}
 use Rattle.registry_program.specs.Whole.{IsAfterRecord, IsNear, IsReplayedTo, IsUnreplayed, IsUsed, ReplaysWholly, ReplaysWhollyFrom}
 use Rattle.registry_program.proofs.LeavesLemmas.{LeavesSome, leaves_itself, same_of_either}
+use Rattle.registry_program.proofs.OpeningLemmas.{shows_held}
 use Rattle.registry_program.proofs.WholeLemmas.{carried, kept_unless_failed, runs_whole}
 
 -- before anything is read all is to come from the source
@@ -247,11 +251,22 @@ module _ {H F I : Type 0} (m : host.Ghosts H F I) (d : disk.Ghosts F) where
                 ));
           }
 
-      unreplayed : ends.status ≡ on.before → on.before ≡ Failed → IsLeftFound over_files on.conn on.last → IsUnreplayed m d old new path ends
-      unreplayed same failed left = record {
+      unreplayed : ends.status ≡ on.before → on.before ≡ Failed → (failure : Failure) → IsLeftFound over_files on.conn failure on.last
+          → Prints (earlier ends on.errors on.before).errors (failure_line failure) → IsUnreplayed m d old new path ends
+      unreplayed same failed failure left prints = record {
         files = on.closes.files;
         used = used_in;
-        status_is = same ∙ failed;
+        failure = failure;
+        fails = (
+          on.silent,
+          same ∙ failed,
+          subst (λ (told : Sunk). Prints (record { old = ends.errors.old; new = told }) (failure_line failure))
+              (sym (on.closes.closed.kept (λ success. absurd (cc (failed, success)))).1) prints,
+        );
+        foreign = λ told honest version db h held legal rows.
+            let clean : HasCleanDisk (file_state on.last) = closed_clean on.last on.closes.files on.closes.closed.closed honest in
+            let found = subst (λ i. HoldsDatabase i db) (sym on.connected.opens.found) held in
+            left.foreign told clean version h legal (shows_held d on.connected.files on.conn on.connected.connected (left.clean clean) version db h found rows);
         holds = λ h legal from held honest.
             let clean : HasCleanDisk (file_state on.last) = closed_clean on.last on.closes.files on.closes.closed.closed honest in
             let there = ∥∥₁_map (shown h legal from held (left.clean clean)) (λ fresh. later_from from fresh.0 (file_state on.last) h h h (inl refl) fresh.1 (left.leaves fresh.2 fresh.0 h legal fresh.3 clean)) in
@@ -266,7 +281,7 @@ module _ {H F I : Type 0} (m : host.Ghosts H F I) (d : disk.Ghosts F) where
         | inl failed ↦ inr (inr (inl (on.last, on.closes.files, on.errors, subst (λ (b : ExitStatus). IsClosed m d on.last on.closes.files on.errors ends.errors.new b ends.status) failed.0 on.closes.closed, failed.1)))
         | inr same ↦ elim on.replays [
           | inl did ↦ inr (inr (inr (inr (true, replayed same did.0 did.1 did.2 did.3 did.4))))
-          | inr not ↦ inr (inr (inr (inl (unreplayed same not.2 not.1))))
+          | inr not ↦ inr (inr (inr (inl (unreplayed same not.2 not.0 not.1 not.3))))
         ]
       ]
 

@@ -1,5 +1,7 @@
--- The line that says why a command failed.
-use Rattle.std.specs.Prelude.{◌≡◌, ◌≢◌, ◌⊎◌, ◌==◌, ◌||◌, ◌++◌, ℕ, Bool, true, nat_lt, List, map, codes, if◌then◌else◌}
+-- The line that says why a command failed, or what a founding ignored.
+use Rattle.std.specs.Prelude.{◌≡◌, ◌≢◌, ◌⊎◌, ◌==◌, ◌||◌, ◌++◌, ⊤, ℕ, Bool, true, nat_lt, List, map, codes, if◌then◌else◌}
+use Rattle.registry_arguments.specs.declared.command.Command.{Command}
+use Rattle.registry_arguments.specs.declared.command.Command.TheVariants as command
 use Rattle.registry_commands.specs.declared.status.ExitStatus.{ExitStatus}
 use Rattle.registry_commands.specs.declared.status.ExitStatus.TheVariants.{Success}
 use Rattle.registry_commands.specs.Ends.{Sunk}
@@ -10,7 +12,7 @@ use Rattle.registry_program.specs.declared.last_line.Heard.{Heard}
 abbrev pub sink_of : {E : Type 0} → Heard E → E
 sink_of heard = heard.sink
 
--- a byte as it is shown: a control character, as a line feed, is a question mark
+-- a byte as it is shown: a control character of ASCII, as a line feed, is a question mark
 abbrev pub shown : ℕ → ℕ
 shown b = if nat_lt b 32 || b == 127 then 63 else b
 
@@ -22,6 +24,12 @@ cause_line words = (codes "usbreg: " ++ map shown words) ++ codes "\n"
 abbrev pub MayExplain : Sunk → Sunk → Type 0
 MayExplain told new = (new ≡ told) ⊎ ((words : List ℕ) × Prints (record { old = told; new = new }) (cause_line words))
 
--- The cause is said only if causes are asked for, and the command did not do what it was asked for.
-abbrev pub IsExplained : Bool → ExitStatus → Sunk → Sunk → Type 0
-IsExplained verbose status told new = (new ≡ told) ⊎ ((verbose ≡ true) × (status ≢ Success) × MayExplain told new)
+-- the command founds a registry
+abbrev pub IsFounding : Command (List ℕ) → Type 0
+IsFounding (command.Found path founding) = ⊤
+IsFounding _ = ⊥
+
+-- The line is said only if causes are asked for, and the command did not do what it was asked for or founds a registry. After
+-- a founding that succeeded it names keys of the founding file, which are ignored.
+abbrev pub IsExplained : Bool → Command (List ℕ) → ExitStatus → Sunk → Sunk → Type 0
+IsExplained verbose command status told new = (new ≡ told) ⊎ ((verbose ≡ true) × ((status ≢ Success) ⊎ IsFounding command) × MayExplain told new)

@@ -8,3 +8,5 @@ pub mod Serving
 pub mod Replaying
 pub mod Performing
 pub mod Whole
+pub mod Running
+pub mod Making

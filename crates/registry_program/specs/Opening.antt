@@ -1,23 +1,27 @@
 -- What the opening of a store or of its registry finds in files, and what it leaves of them if it fails.
-use Rattle.std.specs.Prelude.{◌≡◌, ◌⊎◌, ⊤, ℕ, Bool, false}
+use Rattle.std.specs.Prelude.{◌≡◌, ◌⊎◌, ⊤, ℕ, Bool, true, false}
 use Rattle.sqlite_disk.specs.declared.Disk.{Ghosts}
 use Rattle.sqlite_disk.specs.declared.Files.{Files}
 use Rattle.sqlite_store.specs.declared.store.FileStore.{FileStore}
 use Rattle.sqlite.specs.Closing.{files_left}
-use Rattle.sqlite.specs.Files.{Finds, IsCleanLeft, IsOpened, LeavesFiles, file_state, image_of, over_files}
+use Rattle.sqlite.specs.FileStore.{view}
+use Rattle.sqlite.specs.Files.{Finds, HoldsDatabase, IsBlankAs, IsCleanLeft, IsOpened, LeavesFiles, file_state, image_of, over_files}
 use Rattle.sqlite.specs.Held.{Held}
+use Rattle.sqlite.specs.Recovery.{Image}
 use Rattle.sqlite.specs.State.{HasCleanDisk, Survives}
+use Rattle.sqlite.specs.Tree.{Trees}
 use Rattle.sqlite.specs.WalReads.{AreClean}
 use Rattle.sqlite.specs.declared.file.Leftover.{Leftover}
 use Rattle.table_laws.specs.Inside.{CommitsNothing}
 use Rattle.registry_rules.specs.History.{History}
 use Rattle.registry_rules.specs.Run.{Legal}
 use Rattle.registry_tables.specs.Raising.{CommitsLater, IsNamedOlder}
+use Rattle.registry_tables.specs.Rows.{Rows}
 use Rattle.registry_store.specs.declared.registry.Registry.{Registry}
 use Rattle.registry_store.specs.Promise.{Represents, state_of}
 use Rattle.registry_store.specs.Reopen.{AreClosed, FilesHoldEither, HoldEither, IsEither}
 use Rattle.registry_commands.specs.declared.messages.Failure.{Failure}
-use Rattle.registry_commands.specs.declared.messages.Failure.TheVariants.{File, Memory, Poisoned, Store, Taken}
+use Rattle.registry_commands.specs.declared.messages.Failure.TheVariants.{File, Foreign, Memory, Poisoned, Store, Taken}
 
 -- a failure to open a registry in files that were opened: Store, Memory or Foreign
 abbrev pub IsOfOpening : Failure → Type 0
@@ -33,10 +37,18 @@ IsOfFiles may_make Memory = ⊤
 IsOfFiles may_make File = may_make ≡ false
 IsOfFiles may_make _ = ⊥
 
+-- files that read like this hold no legal history, in any schema
+abbrev pub HoldsNoHistory : Image → Type 0
+HoldsNoHistory image = (version : ℕ) (db : Trees) (h : History) → HoldsDatabase image db → Legal h → ¬ Rows version db h
+
 module _ {D : Type 0} (g : Ghosts D) where
-  -- over clean disks the connection is open, and shows the database that the files hold
+  -- if the database file is empty, or an opening left only a first page of it, the new database has checksums
+  abbrev pub HasSumsIfNew : Files D → Held (FileStore D g) → Type 0
+  HasSumsIfNew files conn = IsBlankAs true (image_of g files) → (view conn.store).has_sums ≡ true
+
+  -- over clean disks the connection is open, and shows the database that the files hold; a new one has checksums
   abbrev pub IsConnectedTo : Files D → Held (FileStore D g) → Type 0
-  IsConnectedTo files conn = HasCleanDisk (file_state conn) → IsOpened conn × Finds files conn
+  IsConnectedTo files conn = HasCleanDisk (file_state conn) → IsOpened conn × Finds files conn × HasSumsIfNew files conn
 
   -- if the files are clean, they hold one of these histories, in this schema or a later one
   abbrev pub Hold : ℕ → Files D → History → History → Type 0
@@ -64,6 +76,10 @@ module _ {D : Type 0} (g : Ghosts D) where
     pub untouched : IsNamedOlder (file_state conn) ⊎ CommitsNothing (file_state conn) (file_state last)
     pub closed : AreClosed last left
     pub holds : (from : ℕ) (h next : History) → Legal h → Legal next → Hold from files h next → AreClean g left.log left.db → HoldEither g from left h next
+
+  -- the opening failed for this: if that is Foreign and the files that are left are clean, they held no legal history before
+  abbrev pub HeldNoneIfForeign : Failure → Files D → Files D → Type 0
+  HeldNoneIfForeign failure files left = failure ≡ Foreign → AreClean g left.log left.db → HoldsNoHistory (image_of g files)
 
   abbrev pub AreLeft : Files D → Files D → Type 0
   AreLeft files left = IsLeftUnopened files left ⊎ IsLeftUnread files left

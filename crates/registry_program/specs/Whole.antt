@@ -33,7 +33,7 @@ use Rattle.registry_commands.specs.declared.arguments.BadArgument.{BadArgument}
 use Rattle.registry_commands.specs.declared.arguments.BadArgument.TheVariants.{Name}
 use Rattle.registry_commands.specs.declared.importing.Import.{Import}
 use Rattle.registry_commands.specs.declared.messages.Failure.{Failure}
-use Rattle.registry_commands.specs.declared.messages.Failure.TheVariants.{Memory}
+use Rattle.registry_commands.specs.declared.messages.Failure.TheVariants.{Foreign, Memory}
 use Rattle.registry_reports.specs.declared.kinds.ReportKind.{ReportKind}
 use Rattle.registry_commands.specs.Apply.{lines_between}
 use Rattle.registry_commands.specs.declared.status.ExitStatus.{ExitStatus}
@@ -53,6 +53,7 @@ use Rattle.registry_desk.specs.declared.server.Connections as connections
 use Rattle.registry_desk.specs.Server.{HaveVisited, IsLeftAfter, Visit}
 use Rattle.registry_program.specs.declared.host.Host as host
 use Rattle.registry_program.specs.Commands.{ActsOnFile, ImportsFile, IsStampOf, WritesList, WritesRecord, WritesReport}
+use Rattle.registry_program.specs.Opening.{HoldsNoHistory}
 use Rattle.registry_program.specs.Outputs.{IsFailure, IsRejection}
 use Rattle.registry_program.specs.Serving.{ServesOn, limit_of}
 use Rattle.registry_program.specs.Stores.{IsClosed, IsMissed, IsOver, IsUnconnected, Opens, TheRegistry}
@@ -229,12 +230,14 @@ module _ {H F I : Type 0} (m : host.Ghosts H F I) (d : disk.Ghosts F) where
   abbrev pub PrintsRecordWholly : H → H → List ℕ → Option ℕ → Ends → Type 0
   PrintsRecordWholly old new path from ends = UnlessStopped old new path ends (WritesRecord from) (IsCarriedOn old new path (IsRecordedOn from ends))
 
-  -- The store was opened, or made, and its registry could neither be founded nor opened: what its files held is left, in its
-  -- schema or a later one.
+  -- The store was opened, or made, and its registry could neither be founded nor opened, for this failure: what its files held
+  -- is left, in its schema or a later one. Foreign only if they held no legal history.
   pub record IsUnreplayed (old new : H) (path : List ℕ) (ends : Ends) : Type 0 where
     pub files : Files F
     pub used : IsUsed old new path true files
-    pub status_is : ends.status ≡ Failed
+    pub failure : Failure
+    pub fails : IsFailure failure ends
+    pub foreign : failure ≡ Foreign → AreClean d files.log files.db → HoldsNoHistory (m.holds old path)
     pub holds : (h : History) → Legal h → (from : ℕ) → FilesHoldEither from (m.holds old path) h h → AreClean d files.log files.db → HoldEither d from files h h
 
   module _ {R : Type 0} (r : source.Ghosts R) where

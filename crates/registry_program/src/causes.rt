@@ -1,12 +1,14 @@
-//! Says why a command failed, in one more line of the error output.
+//! Says why a command failed, or what a founding ignored, in one more line of the error output.
 
-ghost use Rattle.std.specs.Prelude.{◌≡◌, IfOk, map};
+ghost use Rattle.std.specs.Prelude.{◌≡◌, ◌⊎◌, IfOk, map};
+ghost use Rattle.registry_arguments.specs.Commands.{texts};
 ghost use Rattle.registry_commands.specs.Ends.{output_of, sunk};
 ghost use Rattle.registry_commands.specs.Failures.{Prints};
-ghost use Rattle.registry_program.specs.Explained.{MayExplain, cause_line, shown};
+ghost use Rattle.registry_program.specs.Explained.{IsFounding, MayExplain, cause_line, shown};
 
 use crate::host::{About, Cause, Host};
 use crate::last_line::LastLine;
+use crate::remarks::{remark_on_founding, remark_on_keys, remark_on_lines};
 use byte_streams::{Broken, Sink, put_all};
 use registry_arguments::Command;
 use registry_commands::{BadArgument, Failure};
@@ -177,6 +179,26 @@ fn what_may_be(argument: BadArgument) -> &'static str {
     }
 }
 
+/// Returns the words for a line of the error output that refuses the input, if they are known.
+fn words_for_input<H: Host>(
+    alloc: Global,
+    host: &H,
+    command: Command<&str>,
+    line: &[u8],
+) -> Result<Option<String>, NoMemory> {
+    let Some(bytes) = host.take_kept(alloc) else {
+        return Ok(None);
+    };
+    let words = match command {
+        Command::Found { .. } => remark_on_founding(alloc, &bytes, line)?,
+        _ => remark_on_lines(alloc, &bytes, line)?,
+    };
+    match words {
+        Some(words) => Ok(Some(words_of(alloc, command, About::Input, words.as_str())?)),
+        None => Ok(None),
+    }
+}
+
 /// Returns the words for a line of the error output, if they are known.
 fn words_for<H: Host>(
     alloc: Global,
@@ -201,7 +223,22 @@ fn words_for<H: Host>(
         )?;
         return Ok(Some(words));
     }
-    Ok(None)
+    words_for_input(alloc, host, command, line)
+}
+
+/// Returns the words for what a founding ignored of its file, if anything.
+fn words_for_founding<H: Host>(
+    alloc: Global,
+    host: &H,
+    command: Command<&str>,
+) -> Result<Option<String>, NoMemory> {
+    let Some(bytes) = host.take_kept(alloc) else {
+        return Ok(None);
+    };
+    match remark_on_keys(alloc, &bytes)? {
+        Some(words) => Ok(Some(words_of(alloc, command, About::Input, words.as_str())?)),
+        None => Ok(None),
+    }
 }
 
 /// Returns a byte as it is shown.
@@ -263,6 +300,25 @@ pub(crate) fn explain<H: Host, E: Sink + LastLine>(
     let words = words_for(alloc, host, command, errors.last_line());
     match words {
         Ok(Some(words)) => say(alloc, errors, words.as_str()),
+        _ => {}
+    }
+}
+
+/// Says what a command that did what it was asked for ignored: a founding, keys of its file.
+pub(crate) fn remark<H: Host, E: Sink>(
+    alloc: Global,
+    host: &H,
+    command: Command<&str>,
+    errors: &mut E,
+)
+    ensures { (sunk E.Sink errors.new ≡ sunk E.Sink errors.old)
+        ⊎ (IsFounding (texts command.entry) × MayExplain (sunk E.Sink errors.old) (sunk E.Sink errors.new)) }
+{
+    match command {
+        Command::Found { .. } => match words_for_founding(alloc, host, command) {
+            Ok(Some(words)) => say(alloc, errors, words.as_str()),
+            _ => {}
+        },
         _ => {}
     }
 }

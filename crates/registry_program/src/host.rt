@@ -108,6 +108,10 @@ pub trait Host {
     /// store at this path, if one is given. Returns `None` if it knows no cause, or memory runs out.
     fn cause(&self, alloc: Global, store: Option<&str>) -> Option<Cause>;
 
+    /// Returns the bytes that were read of the input, if this machine keeps them and has memory for
+    /// them. A further call may return `None`.
+    fn take_kept(&self, alloc: Global) -> Option<Vec<u8>>;
+
     /// Closes the files of a store as they are.
     fn let_go(&mut self, files: Files<Self::File>)
         ensures { lets_go self.old self.new files };

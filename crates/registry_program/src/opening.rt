@@ -2,7 +2,7 @@
 
 ghost use Rattle.std.specs.Prelude.{IfOk, IfErr, IsTrue};
 ghost use Rattle.registry_commands.specs.Failures.{IsOfStore};
-ghost use Rattle.registry_program.specs.Opening.{IsConnectedTo, AreLeft, IsLeftUnopened, IsLeftUnread, IsOfOpening, Resumes};
+ghost use Rattle.registry_program.specs.Opening.{AreLeft, HeldNoneIfForeign, IsConnectedTo, IsLeftUnopened, IsLeftUnread, IsOfOpening, Resumes};
 
 use registry_commands::{Failure, failure_of, store_failure};
 use registry_store::{Registry, leave_store};
@@ -37,6 +37,7 @@ fn take_over<D: Disk + Drop>(
 ) -> Result<Registry<FileStore<D>>, (Failure, Files<D>)>
     ensures ok { (files : _) → IsConnectedTo D.Disk files conn → IfOk result (Resumes D.Disk files) }
     ensures err { (files : _) → IsConnectedTo D.Disk files conn → IfErr result (λ e. IsOfOpening e.0 × IsLeftUnread D.Disk files e.1) }
+    ensures foreign { (files : _) → IsConnectedTo D.Disk files conn → IfErr result (λ e. HeldNoneIfForeign D.Disk e.0 files e.1) }
 {
     match Registry::open(alloc, conn) {
         Ok(registry) => Ok(registry),
@@ -48,8 +49,9 @@ fn take_over<D: Disk + Drop>(
 ///
 /// # Errors
 ///
-/// The failure of opening the store or the registry, with what is left of the files. The log is not
-/// copied into the database file, so a store of another program keeps both as they are.
+/// The failure of opening the store or the registry, with what is left of the files: `Foreign` only
+/// if they hold no registry. The log is not copied into the database file, so a store of another
+/// program keeps both as they are.
 pub fn resume<D: Disk + Drop>(
     alloc: Global,
     files: Files<D>,
@@ -58,6 +60,7 @@ pub fn resume<D: Disk + Drop>(
     requires { IsTrue (D.Disk.is_usable files.log) × IsTrue (D.Disk.is_usable files.db) }
     ensures ok { IfOk result (Resumes D.Disk files) }
     ensures err { IfErr result (λ e. IsOfOpening e.0 × AreLeft D.Disk files e.1) }
+    ensures foreign { IfErr result (λ e. HeldNoneIfForeign D.Disk e.0 files e.1) }
 {
     match connect_to(alloc, files, options) {
         Ok(conn) => take_over(alloc, conn),

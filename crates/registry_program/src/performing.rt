@@ -9,7 +9,7 @@ ghost use Rattle.registry_program.specs.Statuses.{IsStatus};
 ghost use Rattle.registry_program.specs.Whole.{IsWhole};
 
 use crate::applying::run_apply;
-use crate::causes::explain;
+use crate::causes::{explain, remark};
 use crate::founding::run_found;
 use crate::host::Host;
 use crate::importing::run_import;
@@ -72,7 +72,7 @@ fn act_by<H: Host + Connections, R: Source, W: Sink, E: Sink>(
 }
 
 /// Says why a command ended with this status, if causes are asked for and it did not do what it was
-/// asked for.
+/// asked for. Of a founding that did, says which keys of its file were ignored.
 fn explain_if<H: Host, E: Sink + LastLine>(
     verbose: bool,
     alloc: Global,
@@ -81,13 +81,13 @@ fn explain_if<H: Host, E: Sink + LastLine>(
     status: ExitStatus,
     errors: &mut E,
 )
-    ensures { IsExplained verbose status (sunk E.Sink errors.old) (sunk E.Sink errors.new) }
+    ensures { IsExplained verbose (texts command.entry) status (sunk E.Sink errors.old) (sunk E.Sink errors.new) }
 {
     if !verbose {
         return;
     }
     match status {
-        ExitStatus::Success => {}
+        ExitStatus::Success => remark(alloc, host, command, errors),
         ExitStatus::Failed => explain(alloc, host, command, errors),
         ExitStatus::Rejected => explain(alloc, host, command, errors),
     }
@@ -96,7 +96,8 @@ fn explain_if<H: Host, E: Sink + LastLine>(
 /// Does what the command asks for, over a machine and the standard streams, and returns the exit
 /// status. The contract says of each command which files it opens, in which order, what it does
 /// over them, and what the outputs gain. If the command fails or is refused and `verbose` is true,
-/// the error output then gets one more line with the cause.
+/// the error output then gets one more line with the cause. So it does after a founding, if its file
+/// has keys that are ignored.
 pub fn perform<H: Host + Connections, R: Source, W: Sink, E: Sink + LastLine>(
     alloc: Global,
     host: &mut H,
@@ -113,7 +114,7 @@ pub fn perform<H: Host + Connections, R: Source, W: Sink, E: Sink + LastLine>(
         (earlier (ends_of W.Sink E.Sink output.old output.new errors.old errors.new result) told result)
         × IsWhole H.Host H.File.Disk H.Input.Source H.Connections H.Reader.Source H.Writer.Sink R.Source (texts command.entry) host.old host.new input.old
         (earlier (ends_of W.Sink E.Sink output.old output.new errors.old errors.new result) told result)
-        × IsExplained verbose result told (sunk E.Sink errors.new) }
+        × IsExplained verbose (texts command.entry) result told (sunk E.Sink errors.new) }
     ensures status { IsStatus (code result) }
 {
     let status = act_by(alloc, host, command, input, output, errors);

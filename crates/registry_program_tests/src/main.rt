@@ -1,16 +1,17 @@
 //! Tests of the program over a machine in memory. Of a line of the standard input, `file NAME TEXT`
 //! and `message TEXT` give the machine a file and a connection, and `run ARGUMENTS` runs the
 //! program: the line that is printed has the exit status, what was opened in which order and how
-//! the store was closed, the output and the error output.
+//! the store was closed, the output and the error output. `terminals ARGUMENTS` does the same with
+//! terminals as its input and its error output. `stands STORE LOG` prints what is done about a store
+//! that may be made: each of the two is `none`, `other` or the number of bytes of a file.
 #![tactic(auto)]
 
 mod room;
 
 use byte_streams::{Inlet, Outlet};
-use registry_arguments::{Invocation, invocation_of};
-use registry_program::{Heard, perform};
+use registry_program::{Heard, Standing, Terminals, making_of, run_over};
 use room::{Given, Room};
-use row_texts::{RowFault, bytes_of, shown};
+use row_texts::{RowFault, bytes_of, number_of, shown};
 use std::alloc::Global;
 use std::io;
 
@@ -55,16 +56,17 @@ fn words_of(alloc: Global, line: &str) -> Result<Vec<String>, RowFault> {
 fn status_of(
     alloc: Global,
     room: &mut Room<'_>,
-    asked: Invocation<&str>,
+    words: &[String],
+    terminals: Terminals,
     output: &mut Outlet<Vec<u8>>,
     errors: &mut Heard<Outlet<Vec<u8>>>,
 ) -> u8 {
     let nothing: &[u8] = &[];
-    perform(
+    run_over(
         alloc,
         room,
-        asked.command,
-        asked.verbose,
+        words,
+        terminals,
         &mut Inlet::new(nothing),
         output,
         errors,
@@ -72,20 +74,63 @@ fn status_of(
     .code()
 }
 
-fn run(alloc: Global, room: &mut Room<'_>, line: &str) -> Result<String, RowFault> {
+fn run(
+    alloc: Global,
+    room: &mut Room<'_>,
+    line: &str,
+    terminals: Terminals,
+) -> Result<String, RowFault> {
     let words = words_of(alloc, line)?;
-    let Ok(asked) = invocation_of(alloc, words.as_slice()) else {
-        return Err(RowFault::BadRow);
-    };
     let mut output = Outlet::new(Vec::new(alloc));
     let mut errors = Heard::new(Outlet::new(Vec::new(alloc)));
     room.missed = None;
-    let status = status_of(alloc, room, asked, &mut output, &mut errors);
+    room.read = None;
+    let status = status_of(
+        alloc,
+        room,
+        words.as_slice(),
+        terminals,
+        &mut output,
+        &mut errors,
+    );
     let (output, errors) = (output.into_inner(), errors.into_inner().into_inner());
     let calls = room.calls.clone()?;
     room.calls.clear();
     let (output, errors) = (shown(alloc, &output)?, shown(alloc, &errors)?);
     Ok(format!(in alloc; "{status}: {calls}| {output}| {errors}")?)
+}
+
+fn standing_of(text: &str) -> Result<Standing, RowFault> {
+    match text {
+        "none" => Ok(Standing::Nothing),
+        "other" => Ok(Standing::Other),
+        _ => Ok(Standing::File(u64::from(number_of(text)?))),
+    }
+}
+
+fn making(alloc: Global, line: &str) -> Result<String, RowFault> {
+    let Some((store, log)) = line.split_once(' ') else {
+        return Err(RowFault::BadRow);
+    };
+    let making = making_of(standing_of(store)?, standing_of(log)?);
+    Ok(format!(in alloc; "{making:?}")?)
+}
+
+fn text_of(alloc: Global, room: &mut Room<'_>, line: &str) -> Result<String, RowFault> {
+    let Some((kind, rest)) = line.split_once(' ') else {
+        return Err(RowFault::BadRow);
+    };
+    match kind {
+        "stands" => making(alloc, rest),
+        _ => {
+            let is_terminal = kind == "terminals";
+            let terminals = Terminals {
+                input: is_terminal,
+                errors: is_terminal,
+            };
+            run(alloc, room, line, terminals)
+        }
+    }
 }
 
 fn lines_of(rt: &HostRuntime) -> io::Result<Result<Lines, RowFault>> {
@@ -117,9 +162,10 @@ fn main(rt: HostRuntime) -> io::Result<()> {
         opened: 0,
         calls: String::new(rt.alloc()),
         missed: None,
+        read: None,
     };
     for line in &lines.runs {
-        match run(rt.alloc(), &mut room, line) {
+        match text_of(rt.alloc(), &mut room, line) {
             Ok(text) => println!(rt; "{text}")?,
             Err(fault) => println!(rt; "{}", fault.name())?,
         }

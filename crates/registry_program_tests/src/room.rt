@@ -34,6 +34,8 @@ pub struct Room<'a> {
     pub calls: String,
     /// What the last call that failed was about.
     pub missed: Option<About>,
+    /// The bytes of the last file that was opened.
+    pub read: Option<&'a [u8]>,
 }
 
 impl Room<'_> {
@@ -105,6 +107,7 @@ impl<'a> Host for Room<'a> {
         for input in inputs {
             if input.name.as_str() == path {
                 self.note("input ");
+                self.read = Some(input.bytes.as_slice());
                 return Ok(Inlet::new(input.bytes.as_slice()));
             }
         }
@@ -130,6 +133,12 @@ impl<'a> Host for Room<'a> {
             Ok(words) => Some(Cause { about, words }),
             Err(_) => None,
         }
+    }
+
+    fn take_kept(&self, alloc: Global) -> Option<Vec<u8>> {
+        let mut bytes = Vec::new(alloc);
+        bytes.extend_from_slice(self.read?).ok()?;
+        Some(bytes)
     }
 
     fn let_go(&mut self, files: Files<Memory>)

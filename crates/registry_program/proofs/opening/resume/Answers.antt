@@ -1,6 +1,6 @@
 use Rattle.std.proofs.Common.{inl, inr}
 use Rattle.std.proofs.lemmas.Result.{IfErr-weaker}
-use Rattle.registry_program.proofs.OpeningLemmas.{of_store}
+use Rattle.registry_program.proofs.OpeningLemmas.{not_foreign, of_store}
 use Rattle.registry_program.proofs.opening.resume.Goals as goal
 
 pub returns-in-Ok-clause-ok : goal.returns-in-Ok-clause-ok
@@ -11,3 +11,9 @@ returns-in-Ok-clause-err g c = IfErr-weaker c.take_over.result _ _ (λ e is. (is
 
 pub returns-in-Err-clause-err : goal.returns-in-Err-clause-err
 returns-in-Err-clause-err g c = (of_store c.in-Err.left.0 c.in-Err.ensures.err.0, inl c.in-Err.ensures.err.1)
+
+pub returns-in-Ok-clause-foreign : goal.returns-in-Ok-clause-foreign
+returns-in-Ok-clause-foreign g c = c.take_over.ensures.foreign c.args.files c.in-Ok.ensures.ok
+
+pub returns-in-Err-clause-foreign : goal.returns-in-Err-clause-foreign
+returns-in-Err-clause-foreign g c told = absurd (not_foreign c.in-Err.left.0 c.in-Err.ensures.err.0 told)

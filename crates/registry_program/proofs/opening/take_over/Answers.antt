@@ -1,4 +1,4 @@
-use Rattle.std.proofs.Common.{sym, subst, arith}
+use Rattle.std.proofs.Common.{sym, subst, ◌∙◌, arith}
 use Rattle.std.proofs.Math.Logic.{∥∥₁_map, ∥∥₁_elim}
 use Rattle.sqlite.specs.State.{HasCleanDisk}
 use Rattle.sqlite.specs.Files.{file_state}
@@ -6,7 +6,7 @@ use Rattle.registry_tables.specs.Rows.{Rows}
 use Rattle.registry_store.specs.Promise.{IsFreshAt}
 use Rattle.registry_store.proofs.CrashLemmas.{later_from}
 use Rattle.registry_store.proofs.OpeningLemmas.{either_legal}
-use Rattle.registry_program.proofs.OpeningLemmas.{of_opening}
+use Rattle.registry_program.proofs.OpeningLemmas.{foreign_fault, of_opening, shows_held}
 use Rattle.registry_program.proofs.opening.take_over.Goals as goal
 
 pub returns-in-Ok-clause-ok : goal.returns-in-Ok-clause-ok
@@ -47,3 +47,11 @@ returns-in-Err-clause-err g c files opened =
             };
       },
     )
+
+pub returns-in-Err-clause-foreign : goal.returns-in-Err-clause-foreign
+returns-in-Err-clause-foreign g c files opened told honest version db h held legal rows =
+    let conn = c.args.conn in
+    let clean = c.leave_store.ensures.clean honest in
+    let was : HasCleanDisk (file_state conn) = omega (arith, c.in-Err.ensures.survives.clean, clean) in
+    c.in-Err.ensures.foreign clean (foreign_fault c.in-Err.fault (sym c.failure_of.ensures ∙ told)) version h legal
+    (shows_held g.D.Disk files conn opened was version db h held rows)

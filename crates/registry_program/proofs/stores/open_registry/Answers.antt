@@ -19,7 +19,7 @@ returns-in-Err-resume-clause-err g c = inr (
     files = c.in-Ok.store.0;
     opens = record { opens = c.in-Ok.ensures.opened; found = c.in-Ok.ensures.found };
     left = c.in-Err-resume.files;
-    is_left = c.in-Err-resume.ensures.err.1;
+    is_left = (c.in-Err-resume.ensures.err.1, c.in-Err-resume.ensures.foreign);
     lets_go = c.let_go.ensures;
   },
 )

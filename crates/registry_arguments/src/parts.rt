@@ -1,0 +1,120 @@
+//! The parts of which the command line is defined for `clap`: arguments, options, flags and subcommands.
+
+ghost use Rattle.std.specs.Prelude.{◌≡◌, ◌∷◌, [], IfOk, Some, false, codes};
+ghost use Rattle.clap.specs.Words.{app_of, items_of, rule_of, new_app, with_rule, with_subcommand};
+ghost use Rattle.clap.specs.declared.builder.command.Command.TheViews.{out-Command};
+ghost use Rattle.registry_arguments.specs.Commands.{flag, needed_option, numeric, option, positional};
+
+use clap::builder::{ValueParser, ValueRange};
+use clap::{Arg, ArgAction, Command};
+use std::alloc::{AllocError, Global};
+
+/// Returns a required positional argument.
+pub(crate) fn positional<'a>(alloc: Global, name: &'a str, shown: &'a str, help: &'a str) -> Arg<'a>
+    ensures rule { rule_of result ≡ positional name.entry.now }
+    ensures local { result.global ≡ false }
+    ensures texts { (result.help ≡ Some help.entry) × (items_of result.val_names ≡ shown.entry ∷ []) }
+{
+    Arg::new(alloc, name)
+        .required(true)
+        .value_name(shown)
+        .help(help)
+}
+
+/// Returns an optional `--name VALUE`.
+pub(crate) fn option<'a>(alloc: Global, name: &'a str, shown: &'a str, help: &'a str) -> Arg<'a>
+    ensures rule { rule_of result ≡ option name.entry.now }
+    ensures local { result.global ≡ false }
+    ensures texts { (result.help ≡ Some help.entry) × (items_of result.val_names ≡ shown.entry ∷ []) }
+{
+    Arg::new(alloc, name)
+        .long(name)
+        .value_name(shown)
+        .help(help)
+}
+
+/// Returns a required `--name VALUE`.
+pub(crate) fn needed_option<'a>(
+    alloc: Global,
+    name: &'a str,
+    shown: &'a str,
+    help: &'a str,
+) -> Arg<'a>
+    ensures rule { rule_of result ≡ needed_option name.entry.now }
+    ensures local { result.global ≡ false }
+    ensures texts { (result.help ≡ Some help.entry) × (items_of result.val_names ≡ shown.entry ∷ []) }
+{
+    option(alloc, name, shown, help).required(true)
+}
+
+/// Returns the same argument, with a decimal number from `low` to `high` as its value.
+pub(crate) fn numeric<'a>(arg: Arg<'a>, low: u64, high: u64) -> Arg<'a>
+    ensures rule { rule_of result ≡ numeric low high (rule_of arg.entry) }
+    ensures others { result ≡ record arg.entry { value_parser = result.value_parser } }
+    ensures local { result.global ≡ arg.entry.global }
+{
+    arg.value_parser(ValueParser::Unsigned(low, high))
+}
+
+/// Returns a flag `--name`. Its action is `Set`, without a default value, so that the matches have
+/// a value of it only where it is used.
+pub(crate) fn flag<'a>(alloc: Global, name: &'a str, help: &'a str) -> Arg<'a>
+    ensures rule { rule_of result ≡ flag name.entry.now }
+    ensures local { result.global ≡ false }
+    ensures texts { result.help ≡ Some help.entry }
+{
+    Arg::new(alloc, name)
+        .long(name)
+        .action(ArgAction::Set)
+        .num_args(ValueRange::EMPTY)
+        .default_missing_value("true")
+        .help(help)
+}
+
+/// Returns a subcommand with a description and an example.
+pub(crate) fn subcommand<'a>(
+    alloc: Global,
+    name: &'a str,
+    about: &'a str,
+    example: &'a str,
+) -> Command<'a>
+    ensures app { app_of result ≡ new_app name.entry.now }
+    ensures local { (out-Command result).has_globals ≡ false }
+    ensures texts { ((out-Command result).about ≡ Some about.entry) × ((out-Command result).after_help ≡ Some example.entry) }
+{
+    Command::new(alloc, name).about(about).after_help(example)
+}
+
+pub(crate) fn with_arg<'a>(command: Command<'a>, arg: Arg<'a>) -> Result<Command<'a>, AllocError>
+    requires { arg.global ≡ false }
+    ensures app { IfOk result (λ c. app_of c ≡ with_rule (app_of command.entry) (rule_of arg.entry)) }
+    ensures local { IfOk result (λ c. (out-Command c).has_globals ≡ (out-Command command.entry).has_globals) }
+{
+    command.arg(arg)
+}
+
+/// Adds `--verbose`, which each subcommand has.
+pub(crate) fn with_verbose<'a>(
+    alloc: Global,
+    command: Command<'a>,
+) -> Result<Command<'a>, AllocError>
+    ensures app { IfOk result (λ c. app_of c ≡ with_rule (app_of command.entry) (flag (codes "verbose"))) }
+    ensures local { IfOk result (λ c. (out-Command c).has_globals ≡ (out-Command command.entry).has_globals) }
+{
+    let verbose = flag(
+        alloc,
+        "verbose",
+        "Say the cause of a failure in one more line",
+    );
+    with_arg(command, verbose)
+}
+
+pub(crate) fn with_command<'a>(
+    command: Command<'a>,
+    sub: Command<'a>,
+) -> Result<Command<'a>, AllocError>
+    requires { (out-Command sub).has_globals ≡ false }
+    ensures app { IfOk result (λ c. app_of c ≡ with_subcommand (app_of command.entry) (app_of sub.entry).top) }
+{
+    command.subcommand(sub)
+}

@@ -1,0 +1,336 @@
+//! Says what is wrong in an input, from its bytes: where a line stops being JSON, and what a founding
+//! file has in the place of its keys.
+
+use registry_rules::limits::{MOST_CURATORS, MOST_LICENCES};
+use registry_wire::FoundingFault;
+use std::alloc::Global;
+use toml::{Table, Value};
+use usbnum_core::{NoMemory, Slug, Span, Title, parse_pid, parse_vid};
+
+/// The most characters that are shown of a text.
+const MOST_SHOWN: usize = 64;
+
+/// The number of bytes of names after which no further name is shown.
+const MOST_NAMES: usize = 512;
+
+const FAULTS: [FoundingFault; 6] = [
+    FoundingFault::Toml,
+    FoundingFault::Vendor,
+    FoundingFault::Name,
+    FoundingFault::Curators,
+    FoundingFault::Licences,
+    FoundingFault::Fixed,
+];
+
+/// Returns the fault of a founding file of which a line begins the message.
+fn fault_in(line: &[u8]) -> Option<FoundingFault> {
+    let rest = line.strip_prefix("{\"detail\":\"".as_bytes())?;
+    for fault in FAULTS {
+        if let Some([b'"', ..]) = rest.strip_prefix(fault.name().as_bytes()) {
+            return Some(fault);
+        }
+    }
+    None
+}
+
+/// Returns the line of the input of which a line begins the message that it is not a JSON object.
+fn bad_json_in(line: &[u8]) -> Option<usize> {
+    let rest = line.strip_prefix("line ".as_bytes())?;
+    let end = rest.iter().position(|byte| *byte == b':')?;
+    let mut number = 0usize;
+    for digit in &rest[..end] {
+        let digit = usize::from(digit.wrapping_sub(b'0'));
+        number = number.saturating_mul(10).saturating_add(digit);
+    }
+    if rest[end..].starts_with(": {\"name\":\"BadJson\"".as_bytes()) {
+        Some(number)
+    } else {
+        None
+    }
+}
+
+/// Returns the line with this number, from 1, without its line feed.
+fn line_at(bytes: &[u8], number: usize) -> Option<&[u8]> {
+    let mut rest = bytes;
+    for _ in 1..number {
+        let end = rest.iter().position(|byte| *byte == b'\n')?;
+        rest = &rest[end + 1..];
+    }
+    match rest.iter().position(|byte| *byte == b'\n') {
+        Some(end) => Some(&rest[..end]),
+        None => Some(rest),
+    }
+}
+
+/// Returns the column, from 1, at which a line that is JSON begins.
+fn begin_of(line: &[u8]) -> usize {
+    match line.iter().position(|byte| !byte.is_ascii_whitespace()) {
+        Some(at) => at.saturating_add(1),
+        None => 1,
+    }
+}
+
+/// Returns the column, from 1, at which a line stops being a JSON object, and why.
+fn json_fault(alloc: Global, line: &[u8]) -> Result<(usize, &'static str), NoMemory> {
+    let text = match std::str::from_utf8(line) {
+        Ok(text) => text,
+        Err(error) => return Ok((error.valid_up_to().saturating_add(1), "invalid UTF-8")),
+    };
+    match serde_json::Value::from_str(alloc, text) {
+        Ok(_) => Ok((begin_of(line), "not an object")),
+        Err(error) => {
+            if error.is_memory() {
+                Err(NoMemory)
+            } else if error.is_eof() {
+                Ok((error.column(), "the line ends inside the JSON"))
+            } else {
+                Ok((error.column(), "invalid JSON"))
+            }
+        }
+    }
+}
+
+/// Returns where the line of an input that a message calls no JSON object stops being one. A column
+/// counts bytes.
+pub(crate) fn remark_on_lines(
+    alloc: Global,
+    bytes: &[u8],
+    message: &[u8],
+) -> Result<Option<String>, NoMemory> {
+    let Some(number) = bad_json_in(message) else {
+        return Ok(None);
+    };
+    let Some(line) = line_at(bytes, number) else {
+        return Ok(None);
+    };
+    let (column, why) = json_fault(alloc, line)?;
+    Ok(Some(format!(in alloc; "line {number}, column {column}: {why}")?))
+}
+
+/// Returns the line and the column, both from 1, of the place after these bytes. A column counts
+/// characters.
+fn place_after(bytes: &[u8]) -> (usize, usize) {
+    let mut line = 1usize;
+    let mut column = 1usize;
+    for byte in bytes {
+        if *byte == b'\n' {
+            line = line.saturating_add(1);
+            column = 1;
+        } else if *byte & 0xC0 != 0x80 {
+            column = column.saturating_add(1);
+        }
+    }
+    (line, column)
+}
+
+/// Returns where bytes stop being TOML, and why. An error of memory has no place.
+fn toml_words(
+    alloc: Global,
+    bytes: &[u8],
+    error: &toml::de::Error,
+) -> Result<Option<String>, NoMemory> {
+    let Some(span) = error.span() else {
+        return Ok(None);
+    };
+    let (line, column) = place_after(&bytes[..span.start.min(bytes.len())]);
+    let why = error.message();
+    Ok(Some(format!(in alloc; "line {line}, column {column}: {why}")?))
+}
+
+/// Returns the front of a text, in as many characters as are shown.
+fn front_of(alloc: Global, text: &str) -> Result<String, NoMemory> {
+    let mut front = String::new(alloc);
+    let mut count = 0usize;
+    for character in text.chars() {
+        if count >= MOST_SHOWN {
+            front.push_str("..")?;
+            return Ok(front);
+        }
+        front.push(character)?;
+        count += 1;
+    }
+    Ok(front)
+}
+
+/// Returns whether a text is one number, or a span by its first and last number.
+fn is_span(text: &[u8]) -> bool {
+    let (first, last) = match text {
+        [a, b, c, d] => (parse_pid(&[*a, *b, *c, *d]), parse_pid(&[*a, *b, *c, *d])),
+        [a, b, c, d, b'-', last @ ..] => (parse_pid(&[*a, *b, *c, *d]), parse_pid(last)),
+        _ => return false,
+    };
+    match (first, last) {
+        (Some(first), Some(last)) => Span::new(first, last).is_some(),
+        _ => false,
+    }
+}
+
+/// Returns whether a text may be the value of a key, or an item of its list.
+fn may_be(alloc: Global, key: FoundingFault, text: &str) -> Result<bool, NoMemory> {
+    let text = text.as_bytes();
+    match key {
+        FoundingFault::Toml => Ok(false),
+        FoundingFault::Vendor => Ok(parse_vid(text).is_some()),
+        FoundingFault::Name | FoundingFault::Licences => Ok(Title::new(alloc, text)?.is_some()),
+        FoundingFault::Curators => Ok(Slug::new(alloc, text)?.is_some()),
+        FoundingFault::Fixed => Ok(is_span(text)),
+    }
+}
+
+/// Returns the words for what the value of a key may be, or an item of its list.
+fn what_may_be(key: FoundingFault) -> &'static str {
+    match key {
+        FoundingFault::Toml => "nothing",
+        FoundingFault::Vendor => "a text of four hexadecimal digits, not 0000",
+        FoundingFault::Name | FoundingFault::Licences => {
+            "a line of 1 to 200 bytes without a space at either end"
+        }
+        FoundingFault::Curators => "1 to 32 of a-z, 0-9 and -",
+        FoundingFault::Fixed => {
+            "a list of texts as 0001 or 0001-0010, of four hexadecimal digits, not 0000, not descending"
+        }
+    }
+}
+
+/// Returns the most items of the list of a key, if it is one with a limit.
+fn most_of(key: FoundingFault) -> Option<usize> {
+    match key {
+        FoundingFault::Curators => Some(MOST_CURATORS),
+        FoundingFault::Licences => Some(MOST_LICENCES),
+        _ => None,
+    }
+}
+
+/// Returns the words for what a key must have.
+fn rule_of(alloc: Global, key: FoundingFault) -> Result<String, NoMemory> {
+    let it = what_may_be(key);
+    match most_of(key) {
+        Some(most) => Ok(format!(in alloc; "it must have 1 to {most} texts, each {it}")?),
+        None => Ok(format!(in alloc; "it must be {it}")?),
+    }
+}
+
+/// Returns the words for a value that a key may not have, or an item that its list may not have.
+fn bad_value(alloc: Global, key: FoundingFault, value: &Value) -> Result<Option<String>, NoMemory> {
+    let Some(text) = value.as_str() else {
+        let kind = value.type_str();
+        return Ok(Some(format!(in alloc; "is of type {kind}")?));
+    };
+    if may_be(alloc, key, text)? {
+        return Ok(None);
+    }
+    let front = front_of(alloc, text)?;
+    Ok(Some(format!(in alloc; "is \"{front}\"")?))
+}
+
+/// Returns the words for the first item that the list of a key may not have.
+fn bad_item(
+    alloc: Global,
+    key: FoundingFault,
+    items: &[Value],
+) -> Result<Option<String>, NoMemory> {
+    let mut number = 0usize;
+    for item in items {
+        number = number.saturating_add(1);
+        if let Some(words) = bad_value(alloc, key, item)? {
+            let name = key.name();
+            return Ok(Some(format!(in alloc; "item {number} of {name} {words}")?));
+        }
+    }
+    Ok(None)
+}
+
+/// Returns the words for the value of a key that has a list.
+fn bad_list(alloc: Global, key: FoundingFault, value: &Value) -> Result<Option<String>, NoMemory> {
+    let name = key.name();
+    let Some(items) = value.as_array() else {
+        let kind = value.type_str();
+        return Ok(Some(format!(in alloc; "{name} is of type {kind}")?));
+    };
+    if let Some(words) = bad_item(alloc, key, items)? {
+        return Ok(Some(words));
+    }
+    let count = items.len();
+    match most_of(key) {
+        Some(most) if count == 0 || count > most => {
+            Ok(Some(format!(in alloc; "{name} has {count} items")?))
+        }
+        _ => Ok(None),
+    }
+}
+
+/// Returns the words for what a table has at a bad key.
+fn bad_key(alloc: Global, table: &Table, key: FoundingFault) -> Result<Option<String>, NoMemory> {
+    if key == FoundingFault::Toml {
+        return Ok(None);
+    }
+    let name = key.name();
+    let Some(value) = table.get(name) else {
+        return Ok(Some(format!(in alloc; "{name} is missing")?));
+    };
+    match key {
+        FoundingFault::Vendor | FoundingFault::Name => match bad_value(alloc, key, value)? {
+            Some(words) => Ok(Some(format!(in alloc; "{name} {words}")?)),
+            None => Ok(None),
+        },
+        _ => bad_list(alloc, key, value),
+    }
+}
+
+fn is_known(key: &str) -> bool {
+    FAULTS.iter().any(|fault| *fault != FoundingFault::Toml && fault.name() == key)
+}
+
+/// Returns the names of the keys of a table that no founding has, if there are any.
+fn unknown_keys(alloc: Global, table: &Table) -> Result<Option<String>, NoMemory> {
+    let mut words = String::from_str(alloc, "unknown keys are ignored:")?;
+    let mut are_there = false;
+    for key in table.keys() {
+        if is_known(key.as_str()) {
+            continue;
+        }
+        if words.len() > MOST_NAMES {
+            words.push_str(", ..")?;
+            return Ok(Some(words));
+        }
+        words.push_str(if are_there { ", " } else { " " })?;
+        if key.is_empty() {
+            words.push_str("\"\"")?;
+        }
+        words.push_str(front_of(alloc, key.as_str())?.as_str())?;
+        are_there = true;
+    }
+    Ok(if are_there { Some(words) } else { None })
+}
+
+/// Returns which keys of a founding file are unknown, if it is TOML and any is.
+pub(crate) fn remark_on_keys(alloc: Global, bytes: &[u8]) -> Result<Option<String>, NoMemory> {
+    match toml::table_from_slice(alloc, bytes) {
+        Ok(table) => unknown_keys(alloc, &table),
+        Err(_) => Ok(None),
+    }
+}
+
+/// Returns what is wrong in a founding file at the key that a message names, what that key must have,
+/// and which keys are unknown.
+pub(crate) fn remark_on_founding(
+    alloc: Global,
+    bytes: &[u8],
+    message: &[u8],
+) -> Result<Option<String>, NoMemory> {
+    let Some(fault) = fault_in(message) else {
+        return Ok(None);
+    };
+    let table = match toml::table_from_slice(alloc, bytes) {
+        Ok(table) => table,
+        Err(error) => return toml_words(alloc, bytes, &error),
+    };
+    let Some(words) = bad_key(alloc, &table, fault)? else {
+        return Ok(None);
+    };
+    let rule = rule_of(alloc, fault)?;
+    match unknown_keys(alloc, &table)? {
+        Some(unknown) => Ok(Some(format!(in alloc; "{words}; {rule}; {unknown}")?)),
+        None => Ok(Some(format!(in alloc; "{words}; {rule}")?)),
+    }
+}
