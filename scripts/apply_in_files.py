@@ -195,7 +195,7 @@ TOLD = (
     (["--help"], "usbreg [COMMAND]", 0),
     (["--help"], "lookup   Print the name of a device in a list", 0),
     (["--help"], "`found`, `apply`, `import`, `replay` and `serve` change a registry", 0),
-    (["--version"], "usbreg 0.1.0 (rattle logic dac8208d650f15bf)", 0),
+    (["--version"], "usbreg 0.1.0 (checkout, rattle logic dac8208d650f15bf)", 0),
     (["apply", "--help"], "usbreg apply numbers.db examples/first.jsonl --answered 3", 0),
     (["help", "found"], "usbreg found [OPTIONS] <STORE> <FOUNDING>", 0),
     (["grant"], "unrecognized subcommand 'grant'", 2),

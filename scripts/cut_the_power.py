@@ -2,18 +2,10 @@
 """Makes the files that a power cut can leave of a store, and opens them with `usbreg`.
 
 A kill leaves to the disk all that was written; a power cut does not. A preloaded library records what the program writes
-and syncs, and in which order, for a founding, requests of a file, an import, orders over HTTP, and the opening of stores
-of schemas 1 and 2. From the record the script makes states of the store's files after a cut at each point: what was
-synced is there; of what was not, each sector of 512 bytes, each length and each new file is there or not, was written in
-another order, or has bytes that nobody wrote (`recording.py`). A fourth of the states are opened by a run whose power is
-cut as well.
-
-In each state the list and all tables must be those of a plain history (`plain_history.py`) after the requests that have a
-reply, or one more. Then the run goes on from the first request without a reply: it must give the replies, and end with
-the tables, of a run without a cut. Where a founding was cut a registry is there whole, or can be founded. An older store
-opens as the same history.
-
-As a control the same states are made with syncs taken as not made, and some of them must be wrong.
+and syncs, and in which order (`recording.py`), for a founding, requests of a file, an import, orders over HTTP, and the
+opening of stores of schemas 1 and 2. docs/contracts.md says below "Only tested" which states of the files come from this
+record, what each must show, and what the control is. Where a founding was cut a registry is there whole, or can be founded.
+An older store opens as the same history.
 
 Usage: scripts/cut_the_power.py [STATES [PROGRAM]], by default 60 states of each run of the program that `make` builds;
 with --all in place of the number every cut of each run, in several ways. The exit status is 0 if all of this holds."""

@@ -3,7 +3,8 @@
 
 Each case is run twice. Without `--verbose` the standard error has the fault alone; with it, one more line, which names
 the argument or the stream and the cause. The status, the output and the files are the same. That line comes without
-`--verbose` too if the standard error is a terminal. A founding file that is missing or bad leaves no store.
+`--verbose` too if the standard error is a terminal. A founding file that is missing or bad leaves no store; one with
+unknown keys founds a registry, and the line names them.
 
 Usage: scripts/say_what_failed.py [PROGRAM], by default the one that `make` builds. Needs a C compiler. The exit status
 is 0 if all of this holds."""
@@ -30,8 +31,8 @@ def named(errors, cause):
     return errors + (f"usbreg: {cause}\n" if cause else "")
 
 
-def start(words, env=None, user=None, output=subprocess.PIPE):
-    return subprocess.run(words, stdin=subprocess.DEVNULL, stdout=output, stderr=subprocess.PIPE, env={**os.environ, **(env or {})}, user=user, check=False, timeout=60)
+def start(words, given=b"", env=None, user=None, output=subprocess.PIPE):
+    return subprocess.run(words, input=given, stdout=output, stderr=subprocess.PIPE, env={**os.environ, **(env or {})}, user=user, check=False, timeout=60)
 
 
 class Cases:
@@ -57,23 +58,23 @@ class Cases:
         if change:
             change(self)
 
-    def ended(self, words, options, change, fail, user, output):
+    def ended(self, words, options, change, fail, user, output, given):
         """Returns status, output, errors and the files of one run."""
         self.begin(change)
         env = {"LD_PRELOAD": self.shim, **{kind: str(number) for kind, number in fail.items()}} if fail else None
         if output:
             with open(output, "wb") as file:
-                ran = start([self.usbreg, *words, *options], env, user, file)
+                ran = start([self.usbreg, *words, *options], given, env, user, file)
         else:
-            ran = start([self.usbreg, *words, *options], env, user)
+            ran = start([self.usbreg, *words, *options], given, env, user)
         there = {name: os.path.isfile(self.path(name)) and content(self.path(name)) for name in sorted(os.listdir(f"{self.room}/case")) if not name.endswith((".pipe", "-wal"))}
         return ran.returncode, ran.stdout, ran.stderr.decode(), there
 
-    def case(self, words, status, errors, cause, *, change=None, fail=None, user=None, output=None):
+    def case(self, words, status, errors, cause, *, change=None, fail=None, user=None, output=None, given=b""):
         """Ends the script unless a run ends with this status and these errors, and with `--verbose` says this cause too."""
         words = [it.replace("CASE/", self.path("")) for it in words]
-        plain = self.ended(words, [], change, fail, user, output)
-        told = self.ended(words, ["--verbose"], change, fail, user, output)
+        plain = self.ended(words, [], change, fail, user, output, given)
+        told = self.ended(words, ["--verbose"], change, fail, user, output, given)
         cause = cause and cause.replace("CASE/", self.path(""))
         if plain[0] != status or plain[2] != errors:
             sys.exit(f"usbreg {' '.join(words)}: status {plain[0]} and {plain[2]!r}, not {status} and {errors!r}")
@@ -186,6 +187,80 @@ def try_foundings(cases):
     cases.count += 1
 
 
+def founding(**changed):
+    """Returns the change that writes new.toml, a founding file in which these keys have other values; one that is None is left out."""
+    lines = {"vendor": '"1209"', "name": '"Shared products"', "curators": '["cora"]', "licences": '["MIT"]', **changed}
+    return lambda cases: write(cases.path("new.toml"), "".join(f"{key} = {value}\n" for key, value in lines.items() if value))
+
+
+TEXT = "a line of 1 to 200 bytes without a space at either end"
+VENDOR = "it must be a text of four hexadecimal digits, not 0000"
+CURATORS = "it must have 1 to 64 texts, each 1 to 32 of a-z, 0-9 and -"
+LICENCES = f"it must have 1 to 1024 texts, each {TEXT}"
+FIXED = "it must be a list of texts as 0001 or 0001-0010, of four hexadecimal digits, not 0000, not descending"
+
+# The key that is refused, what else the file has, and the words for it.
+BAD_FOUNDINGS = [
+    ("toml", {"curators": '["cora"'}, "line 4, column 1: missing comma between array elements, expected `,` or `]`"),
+    ("toml", {"fixed": '["\u00fc"], "0001"]'}, "line 5, column 14: unexpected key or value, expected newline, `#`"),
+    ("toml", {"vendor": '"1209"\nvendor = "1d50"'}, "line 2, column 1: duplicate key"),
+    ("vendor", {"vendor": "1209"}, f"vendor is of type integer; {VENDOR}"),
+    ("vendor", {"vendor": '"0000"'}, f'vendor is "0000"; {VENDOR}'),
+    ("vendor", {"vendor": None}, f"vendor is missing; {VENDOR}"),
+    ("name", {"name": '""'}, f'name is ""; it must be {TEXT}'),
+    ("name", {"name": f'"{"n" * 64}\u00fc{"n" * 200}"'}, f'name is "{"n" * 64}.."; it must be {TEXT}'),
+    ("curators", {"curators": '["cora", "Dan"]'}, f'item 2 of curators is "Dan"; {CURATORS}'),
+    ("curators", {"curators": "[]"}, f"curators has 0 items; {CURATORS}"),
+    ("curators", {"curators": '["cora"' + ', "cora"' * 64 + "]"}, f"curators has 65 items; {CURATORS}"),
+    ("licences", {"licences": '["MIT", 3, ""]'}, f"item 2 of licences is of type integer; {LICENCES}"),
+    ("licences", {"licences": '["MIT", "GPL\\u000a"]'}, f'item 2 of licences is "GPL?"; {LICENCES}'),
+    ("licences", {"licences": '"MIT"'}, f"licences is of type string; {LICENCES}"),
+    ("licences", {"licences": '["MIT"' + ', "MIT"' * 1024 + "]"}, f"licences has 1025 items; {LICENCES}"),
+    ("licences", {"licences": None, "licenses": '["MIT"]', "fxied": "[]"}, f"licences is missing; {LICENCES}; unknown keys are ignored: fxied, licenses"),
+    ("fixed", {"fixed": '["0001-0010", "0020-001f"]'}, f'item 2 of fixed is "0020-001f"; {FIXED}'),
+    ("fixed", {"fixed": '["0001", "0002-"]'}, f'item 2 of fixed is "0002-"; {FIXED}'),
+    ("fixed", {"fixed": "[1]"}, f"item 1 of fixed is of type integer; {FIXED}"),
+    ("fixed", {"fixed": "{}"}, f"fixed is of type table; {FIXED}"),
+]
+
+FOUND = ["found", "CASE/new.db", "CASE/new.toml"]
+
+
+def try_bad_foundings(cases):
+    """What a founding file has in the place of a key, and keys that are unknown."""
+    for key, changed, words in BAD_FOUNDINGS:
+        cases.case(FOUND, 2, f'{{"detail":"{key}","name":"BadFounding","refused":32}}\n', f"CASE/new.toml: {words}", change=founding(**changed))
+        leaves_none(cases)
+    overlap = '["0001-0010", "0008-0020", "0008"]'
+    cases.case(FOUND, 0, "", None, change=founding(fixed=overlap))
+    cases.case(FOUND, 0, "", "CASE/new.toml: unknown keys are ignored: fxied", change=founding(fxied=overlap))
+    cases.case(FOUND, 0, "", 'CASE/new.toml: unknown keys are ignored: "", a?b', change=founding(**{'""': "1", '"a\\tb"': "2"}))
+    many = {f"key{number:03}": "1" for number in range(300)}
+    shown = ", ".join(sorted(many)[:62])
+    cases.case(FOUND, 0, "", f"CASE/new.toml: unknown keys are ignored: {shown}, ..", change=founding(**many))
+
+
+BAD_JSON = '{"name":"BadJson","refused":27}\n'
+REQUEST = '{"caller":"ann","key":"k1","order":"enrol","org":"acme","title":"Acme Tools","site":"https://acme.example/"}\n'
+LIMIT = 16 * 1024 * 1024
+
+
+def try_bad_lines(cases):
+    """Lines that are no JSON objects."""
+
+    def lines(text):
+        return lambda cases: write(cases.path("new.jsonl"), text)
+
+    cases.case(["apply", "CASE/numbers.db", "CASE/new.jsonl"], 2, f"line 3: {BAD_JSON}", "CASE/new.jsonl: line 3, column 17: invalid JSON", change=lines(f'{REQUEST}\n{{"caller":"ann" "key":"k2"}}\n'))
+    cases.case(["apply", "CASE/numbers.db", "CASE/new.jsonl"], 2, f"line 2: {BAD_JSON}", "CASE/new.jsonl: line 2, column 16: the line ends inside the JSON", change=lines(f'{REQUEST} {{"caller":"ann"'))
+    cases.case(["replay", "CASE/numbers.db", "CASE/new.jsonl"], 2, f"line 1: {BAD_JSON}", "CASE/new.jsonl: line 1, column 3: not an object", change=lines("  [1]\n"))
+    cases.case(["replay", "CASE/numbers.db", "-"], 2, f"line 2: {BAD_JSON}", "standard input: line 2, column 12: invalid UTF-8", given=b'\n{"caller":"\xff"}\n')
+    cases.case(["trial"], 2, f"line 2: {BAD_JSON}", "standard input: line 2, column 1: not an object", given=b" " * (LIMIT - 3) + b"\n[]")
+    cases.case(["trial"], 2, f"line 2: {BAD_JSON}", None, given=b" " * (LIMIT - 2) + b"\n[]")
+    cases.case(["trial"], 2, f"line 10000001: {BAD_JSON}", "standard input: line 10000001, column 1: not an object", given=b"\n" * 10_000_000 + b"[]")
+    cases.case(["trial"], 0, "", None, given=REQUEST.encode())
+
+
 def leaves_none(cases):
     left = [it for it in os.listdir(f"{cases.room}/case") if it.startswith("new.db")]
     if left:
@@ -252,7 +327,7 @@ def main():
     with folder() as room:
         os.chmod(room, 0o755)
         cases = Cases(usbreg, room)
-        for part in (try_stores, try_system, try_streams, try_foundings, try_others, try_terminals):
+        for part in (try_stores, try_system, try_streams, try_foundings, try_bad_foundings, try_bad_lines, try_others, try_terminals):
             part(cases)
     print(f"{cases.count} causes of faults are said as they are")
 

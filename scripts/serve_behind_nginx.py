@@ -8,9 +8,8 @@ once all are served or refused at once, and 100 wait for a server that is busy. 
 address that does, are refused, and the orders of others pass; who doesn't know a password uses up nobody's orders, and the
 addresses of one network of IPv6 count as one.
 
-Then, with 56,000 numbers, 60 refused orders over all of them, 60 refused lists, the reports with many pages of the record,
-and a storm of messages that a limit refuses each go on while another user's order comes within half a second, and
-refusals add nothing to the logs.
+Then another user's order comes in time while floods of what is refused and of long queries go on, and refusals add nothing
+to the logs (`lib/floods.py`; docs/contracts.md has the numbers).
 
 The proxy has the list as a file and a compressed one, by examples/publish-list, and before that it keeps it as it does
 the reports, also while the server is down. What it refuses itself is JSON, also without TLS where there is TLS. Its log

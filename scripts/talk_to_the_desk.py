@@ -1,7 +1,7 @@
 #!/usr/bin/env python3
 """Talks HTTP to `usbreg serve`, as real clients do, and compares the responses to the byte.
 
-`curl` gets each refusal in the table of statuses in docs/http.md, except for those that need a message that `curl` does
+`curl` gets each refusal that docs/requests.md lists with a status, except for those that need a message that `curl` does
 not send. A client of its own sends each byte alone, sends half of a message and closes, sends nothing, sends a message and
 more after it, sends 5 MB that are refused unread, and makes 200 connections one after another. A port that is taken, a
 count of connections, a store that is already open and a file that can grow no more end the program as docs/requests.md

@@ -1,5 +1,5 @@
 """What the scripts and benchmarks that talk HTTP to `usbreg serve` share: a process that serves, messages, and the
-responses that they must get. Status, name and number of each refusal are those of the table in docs/http.md."""
+responses that they must get. Status, name and number of each refusal are those of the table in docs/requests.md."""
 
 import contextlib
 import json
