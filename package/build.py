@@ -1,13 +1,14 @@
 #!/usr/bin/env python3
 """Makes the Debian package of the program that `make` built: out/usbreg_VERSION_ARCHITECTURE.deb, at the top of the
-repository. It holds what `make install` installs, the unit, the documents with the examples, and the scripts in
-scripts/users for a move and for stores without checksums.
+repository. It holds what `make install` installs, the unit, the documents with the examples and the files of contrib/,
+and the scripts in scripts/users for a move and for stores without checksums.
 
 Usage: package/build.py [--program PATH] [--version VERSION] [--into FOLDER]. It prints the path of the package. The version
 is that of the program, with the time and the hash of the commit. The maintainer is DEBFULLNAME <DEBEMAIL>, or else the
 commit's author. The same commit and program give the same bytes."""
 
 import argparse
+import glob
 import gzip
 import hashlib
 import os
@@ -74,14 +75,25 @@ def libraries(program):
 
 
 def unit():
-    """Returns the unit in examples/ as the package needs it: without its heading, which says how to found by hand."""
-    text = read(f"{TOP}/examples/usbreg.service").decode()
+    """Returns the unit in contrib/ as the package needs it: without its heading, which says how to found by hand."""
+    text = read(f"{TOP}/contrib/usbreg.service").decode()
     text = text[text.index("[Unit]") :]
     for there, wanted in UNIT:
         if text.count(there) != 1:
-            sys.exit(f"examples/usbreg.service: there has to be one line {there!r}")
+            sys.exit(f"contrib/usbreg.service: there has to be one line {there!r}")
         text = text.replace(there, wanted)
     return "# The service of the package usbreg. Found the registry first: /usr/share/doc/usbreg/docs/operating.md\n" + text
+
+
+def put_documents(target):
+    """Puts the pages and the examples. The files of contrib/ lie with the examples, and the pages name them there."""
+    for name in ("README.md", "CHANGELOG.md"):
+        write(f"{target}/{name}", read(f"{TOP}/{name}"))
+    for folder, into in (("docs", "docs"), ("examples", "examples"), ("contrib", "examples")):
+        shutil.copytree(f"{TOP}/{folder}", f"{target}/{into}", dirs_exist_ok=True)
+    for path in glob.glob(f"{target}/**", recursive=True):
+        if path.endswith((".md", ".conf")):
+            write(path, re.sub(rb"\bcontrib/(?=[\w.])", b"examples/", read(path)))
 
 
 def put_files(stage, program, commit, version):
@@ -98,10 +110,7 @@ def put_files(stage, program, commit, version):
     for name in SCRIPTS:
         path = f"{TOP}/scripts/{name}"
         write(f"{stage}/{SHARED}/{name}", read(path), 0o755 if os.access(path, os.X_OK) else 0o644)
-    for folder in ("docs", "examples"):
-        shutil.copytree(f"{TOP}/{folder}", f"{stage}/{DOCUMENTS}/{folder}")
-    for name in ("README.md", "CHANGELOG.md"):
-        write(f"{stage}/{DOCUMENTS}/{name}", read(f"{TOP}/{name}"))
+    put_documents(f"{stage}/{DOCUMENTS}")
     write(f"{stage}/{DOCUMENTS}/copyright", read(f"{HERE}/copyright"))
     write(f"{stage}/{DOCUMENTS}/usbreg.sha256", f"{hashlib.sha256(read(program)).hexdigest()}  /usr/bin/usbreg\n")
     date = said("date", "-u", "-R", "-d", f"@{commit.time}")

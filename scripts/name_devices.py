@@ -1,5 +1,5 @@
 #!/usr/bin/env python3
-"""Gives the names of a registry's list to a hardware database, as a host does, by examples/update-names.
+"""Gives the names of a registry's list to a hardware database, as a host does, by contrib/update-names.
 
 `usbreg serve` serves a list with titles of all kinds of characters. The script fetches it, and `systemd-hwdb query` must
 give the name of the vendor and of each device; a new title must arrive, and a page that is no list, an address that
@@ -21,7 +21,7 @@ import sys
 import threading
 
 from lib.serving import command, exchange, free_port, get, serving
-from lib.usbreg import EXAMPLES, content, done, folder, found, program, run, write
+from lib.usbreg import CONTRIB, content, done, folder, found, program, run, write
 
 LINK = "https://acme.example/"
 VENDOR, SECOND = "1209", "cafe"
@@ -98,7 +98,7 @@ class Host:
         self.env = {"PATH": f"{room}/bin:{os.environ['PATH']}", "HWDB": os.path.dirname(self.names)}
 
     def update(self, address):
-        return run([f"{EXAMPLES}/update-names", address], env=self.env)
+        return run([f"{CONTRIB}/update-names", address], env=self.env)
 
     def must_update(self, port):
         ended = self.update(f"http://127.0.0.1:{port}/list")
@@ -209,7 +209,7 @@ def main():
                 sys.exit(f"{reader.__name__} takes {taken} from the list, where {named(TITLES)} is listed")
         missing = [it for it in ("curl", "systemd-hwdb") if not shutil.which(it)]
         if missing:
-            print(f"SKIPPED: {missing[0]} is not installed, so examples/update-names was not run")
+            print(f"SKIPPED: {missing[0]} is not installed, so contrib/update-names was not run")
             return
         on_a_host(server, room)
     print(f"the names of {2 * len(TITLES)} devices are in the hardware database, and two readers take them from the list")

@@ -1,5 +1,5 @@
 #!/usr/bin/env python3
-"""Runs the proxy of examples/nginx.conf in front of `usbreg serve`, by the commands at the top of examples/nginx-trial.conf.
+"""Runs the proxy of contrib/nginx.conf in front of `usbreg serve`, by the commands at the top of contrib/nginx-trial.conf.
 
 Only the ports are others. The server gets the name that nginx has authenticated, whatever name the client sends; no
 order passes without one, nor one of a name that is no slug, nor a list of who is no curator. Bodies of the greatest sizes
@@ -11,9 +11,9 @@ addresses of one network of IPv6 count as one.
 Then another user's order comes in time while floods of what is refused and of long queries go on, and refusals add nothing
 to the logs (`lib/floods.py`; docs/contracts.md has the numbers).
 
-The proxy has the list as a file and a compressed one, by examples/publish-list, and before that it keeps it as it does
+The proxy has the list as a file and a compressed one, by contrib/publish-list, and before that it keeps it as it does
 the reports, also while the server is down. What it refuses itself is JSON, also without TLS where there is TLS. Its log
-has the name and the key of each order, and keeps them by examples/usbreg.logrotate. The history can be kept to some
+has the name and the key of each order, and keeps them by contrib/usbreg.logrotate. The history can be kept to some
 addresses. With the configuration of Debian's package around it, it serves the same.
 
 Usage: scripts/serve_behind_nginx.py [PROGRAM [NUMBERS]], by default the one that `make` builds, and 56000 numbers. If
@@ -36,7 +36,7 @@ from email.utils import formatdate
 from lib.floods import filled, floods
 from lib.proxy import CURATOR, DEBIAN, NO_CURATOR, NO_SLUG, ByField, Gate, Guarded, Packaged, Recipe, by_proxy, closing, connected, refusal, shell, signed, told
 from lib.serving import HOST, PATIENCE, command, get, message, post, read_to_end, serving
-from lib.usbreg import EXAMPLES, content, folder, found, program, same, write
+from lib.usbreg import CONTRIB, content, folder, found, program, same, write
 from talk_to_the_desk import ENROL, LIST, ORDER, ask, asked
 
 FOUNDING = f'vendor = "1209"\nname = "Shared products"\ncurators = ["{CURATOR}"]\nlicences = ["MIT"]\nfixed = ["0001-0010"]\n'
@@ -209,16 +209,16 @@ def logged(recipe):
 
 
 def rotated(gate, recipe):
-    """Checks that the log goes on in a new file, by examples/usbreg.logrotate, and that the old one stays."""
+    """Checks that the log goes on in a new file, by contrib/usbreg.logrotate, and that the old one stays."""
     if not shutil.which("logrotate"):
-        print("SKIPPED: logrotate is not installed, so examples/usbreg.logrotate was not run")
+        print("SKIPPED: logrotate is not installed, so contrib/usbreg.logrotate was not run")
         return
     order, before = signed("ann", command(ask("k2", number="0011"))), recipe.log()
     again = recipe.stop.replace("-s stop", "-s reopen")
-    stanza = content(f"{EXAMPLES}/usbreg.logrotate").decode()
+    stanza = content(f"{CONTRIB}/usbreg.logrotate").decode()
     for text, other in (("/var/log/usbreg", recipe.folder), (" www-data adm", ""), ("invoke-rc.d nginx rotate > /dev/null 2>&1", f'cd "{recipe.folder}" && {again}')):
         if text not in stanza:
-            sys.exit(f"examples/usbreg.logrotate has no {text!r}")
+            sys.exit(f"contrib/usbreg.logrotate has no {text!r}")
         stanza = stanza.replace(text, other)
     write(f"{recipe.folder}/rotate", stanza)
     os.chmod(f"{recipe.folder}/rotate", 0o644)
@@ -241,7 +241,7 @@ def a_list_as_a_file(gate, recipe, server):
     os.mkdir(at)
 
     def publish():
-        ran = subprocess.run([f"{EXAMPLES}/publish-list", f"http://{HOST}:{server.port}/list", at], capture_output=True, check=False, timeout=PATIENCE)
+        ran = subprocess.run([f"{CONTRIB}/publish-list", f"http://{HOST}:{server.port}/list", at], capture_output=True, check=False, timeout=PATIENCE)
         return ran.returncode
 
     def asks(*fields):
@@ -298,7 +298,7 @@ def main():
     usbreg = program(*sys.argv[1:2])
     numbers = int(sys.argv[2]) if len(sys.argv) > 2 else NUMBERS
     if not shutil.which("nginx"):
-        print("SKIPPED: nginx is not installed, so examples/nginx.conf was not run")
+        print("SKIPPED: nginx is not installed, so contrib/nginx.conf was not run")
         return
     with folder() as room:
         store = found(usbreg, f"{room}/store.db", write(f"{room}/founding.toml", FOUNDING))
@@ -321,11 +321,11 @@ def main():
         for kind, cases in ((ByField, lambda proxy: networks(Gate(proxy.port))), (Guarded, guarded), (Packaged, in_debians)):
             shutil.rmtree(recipe.folder)
             if kind is Guarded and not shutil.which("openssl"):
-                print("SKIPPED: openssl is not installed, so examples/nginx.conf was not run with TLS")
+                print("SKIPPED: openssl is not installed, so contrib/nginx.conf was not run with TLS")
             elif kind is not Packaged or os.path.exists(DEBIAN):
                 with serving(usbreg, store).up() as server, kind(room, server) as recipe:
                     cases(recipe)
-    print("examples/nginx.conf: names, sizes, slow and many clients, floods, the list, the reports and the log are as they should be;")
+    print("contrib/nginx.conf: names, sizes, slow and many clients, floods, the list, the reports and the log are as they should be;")
     print(flooded)
 
 

@@ -4,9 +4,9 @@ upgrades the package over the live store, removes it, installs it again and purg
 
 The commands of docs/operating.md for the package run as they are written, except for the folders, `apt-get`, `systemctl` and
 `runuser`, for which other programs stand: there is no systemd in the folder. The service starts by the command line in its
-unit. Everything belongs to root and can be read by all; the store belongs to the user of the service, who alone can read
-it, and is left as it is by all that dpkg does. If `lintian` is installed it finds no error in the package. Two packages of
-one program are the same.
+unit. The package has the files that its own docs/operating.md names. Everything belongs to root and can be read by all; the
+store belongs to the user of the service, who alone can read it, and is left as it is by all that dpkg does. If `lintian` is
+installed it finds no error in the package. Two packages of one program are the same.
 
 Usage: scripts/try_the_package.py [PROGRAM], by default the one that `make` builds. If dpkg-deb or another program that this
 needs is not installed, or it does not run as root, it says so and skips all. The exit status is 0 if all of this holds."""
@@ -27,6 +27,7 @@ NEEDED = ("dpkg", "dpkg-deb", "readelf", "git", "setpriv", "systemd-sysusers", "
 # A fast compression: the packages are installed, and not kept.
 QUICK = {"DPKG_DEB_COMPRESSOR_TYPE": "gzip", "DPKG_DEB_COMPRESSOR_LEVEL": "1"}
 ON_PATH = {"PATH": f"{os.environ['PATH']}:/usr/sbin:/sbin"}
+DOCUMENTS = "usr/share/doc/usbreg"
 STORE, FOUNDING, UNIT = "var/lib/usbreg/numbers.db", "etc/usbreg/founding.toml", "lib/systemd/system/usbreg.service"
 
 
@@ -47,7 +48,8 @@ def compare_files(package, usbreg):
             sys.exit(f"{package}: {mode} {owner} {name}")
     wanted = {"usr/bin/usbreg", "usr/share/man/man1/usbreg.1.gz", UNIT, "usr/lib/sysusers.d/usbreg.conf", "usr/lib/tmpfiles.d/usbreg.conf"}
     wanted |= {f"usr/share/usbreg/users/{it}" for it in ("take_pid_codes.py", "write_pages.py", "licence_aliases.tsv", "renew_a_store.py")}
-    for top, target in (("docs", "usr/share/doc/usbreg/docs"), ("examples", "usr/share/doc/usbreg/examples"), ("web", "usr/share/usbreg/web")):
+    folders = {"docs": f"{DOCUMENTS}/docs", "examples": f"{DOCUMENTS}/examples", "contrib": f"{DOCUMENTS}/examples", "web": "usr/share/usbreg/web"}
+    for top, target in folders.items():
         if os.path.isdir(f"{TOP}/{top}"):
             wanted |= {f"{target}/{it}" for it in os.listdir(f"{TOP}/{top}")}
     same("what the package lacks", wanted - there, set())
@@ -125,8 +127,11 @@ def install_and_serve(root, package, summed):
     """Installs a package where there is none, founds a registry and serves it."""
     root.dpkg("--install", package)
     same("the folder of the store", (os.stat(root.path("var/lib/usbreg")).st_uid, os.stat(root.path("var/lib/usbreg")).st_mode & 0o777), (root.owner()[0], 0o700))
-    same("the sum of the program", content(root.path("usr/share/doc/usbreg/usbreg.sha256")).decode(), f"{summed}  /usr/bin/usbreg\n")
+    same("the sum of the program", content(root.path(f"{DOCUMENTS}/usbreg.sha256")).decode(), f"{summed}  /usr/bin/usbreg\n")
     same("the program", hashlib.sha256(content(root.path("usr/bin/usbreg"))).hexdigest(), summed)
+    named = re.findall(r"\b(?:contrib|examples)/[\w.-]+", content(root.path(f"{DOCUMENTS}/docs/operating.md")).decode())
+    lacks = [it for it in named if not os.path.exists(root.path(f"{DOCUMENTS}/{it}"))]
+    same("the page names files, and these are not there", (bool(named), lacks), (True, []))
     root.found()
     same("whose the store is", (os.stat(root.path(STORE)).st_uid, os.stat(root.path(STORE)).st_gid), root.owner())
     status, _, errors = run([sys.executable, root.path("usr/share/usbreg/users/write_pages.py")])

@@ -1,5 +1,5 @@
 #!/usr/bin/env python3
-"""Uses the page in `web/` in Chromium, as `make install` puts it, behind the proxy of examples/nginx.conf and in front of
+"""Uses the page in `web/` in Chromium, as `make install` puts it, behind the proxy of contrib/nginx.conf and in front of
 `usbreg serve`. It looks, searches, enrols, asks, is refused, grants and declines as people do. Responses are lost, the
 server is killed, passwords change, and two windows send one order: it takes effect once. Titles and links are hostile.
 lib/page_story.py has each part.

@@ -1,4 +1,4 @@
-"""Floods of messages that are refused, and of the longest queries, through the proxy of examples/nginx.conf to a registry with
+"""Floods of messages that are refused, and of the longest queries, through the proxy of contrib/nginx.conf to a registry with
 many numbers: another user's order must come soon, and the logs must not grow."""
 
 import collections

@@ -1,4 +1,4 @@
-"""What the scripts that try examples/nginx.conf share: the proxy as its recipe starts it, also as an operator may change it,
+"""What the scripts that try contrib/nginx.conf share: the proxy as its recipe starts it, also as an operator may change it,
 and a client of it."""
 
 import base64
@@ -13,7 +13,7 @@ import sys
 import time
 
 from lib.serving import HOST, PATIENCE, free_port, listens, read_to_end, refused
-from lib.usbreg import EXAMPLES, TOP, content, write
+from lib.usbreg import CONTRIB, TOP, content, write
 
 PORTS = (8000, 8081, 8080)
 # Those who have a password; the last two names are no slugs.
@@ -35,7 +35,7 @@ def signed(name, sent, password=None):
 
 def commands(path):
     """Returns the commands at the top of a configuration."""
-    return [it.replace("/path/to/examples", EXAMPLES) for it in re.findall(r"^#   (.*)$", content(path).decode(), re.MULTILINE)]
+    return [it.replace("/path/to/contrib", CONTRIB) for it in re.findall(r"^#   (.*)$", content(path).decode(), re.MULTILINE)]
 
 
 def typed(line, at, answers):
@@ -83,7 +83,7 @@ class Recipe:
     """The proxy as the recipe starts it, for a `with`."""
 
     def __init__(self, room, server):
-        make, *lines, self.start, self.stop = commands(f"{EXAMPLES}/nginx-trial.conf")
+        make, *lines, self.start, self.stop = commands(f"{CONTRIB}/nginx-trial.conf")
         self.folder, self.port = f"{room}/trial", free_port()
         if make != "mkdir trial && cd trial":
             sys.exit(f"the first command is {make}")
@@ -103,7 +103,7 @@ class Recipe:
         """Replaces a text of the configuration, which must be there."""
         there = content(self.conf).decode()
         if text not in there:
-            sys.exit(f"examples/nginx.conf has no {text!r}")
+            sys.exit(f"contrib/nginx.conf has no {text!r}")
         write(self.conf, there.replace(text, other))
 
     def __enter__(self):

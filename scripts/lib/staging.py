@@ -10,7 +10,7 @@ import threading
 
 from lib.proxy import by_proxy
 from lib.serving import HOST, free_port, serving
-from lib.usbreg import TOP, apply, content, found, same, write
+from lib.usbreg import CONTRIB, TOP, apply, content, found, same, write
 
 CURATOR = "curator-1"
 FOUNDING = f'vendor = "1209"\nname = "Shared products"\ncurators = ["{CURATOR}"]\nlicences = ["GPL-3.0-only", "MIT"]\nfixed = ["0001-0010", "0f00-0fff"]\n'
@@ -107,7 +107,7 @@ class Stage:
         self.recipe = recipe(room, self.relay)
         subprocess.run(["make", "-s", "-C", TOP, "install", f"PROGRAM={usbreg}", f"DESTDIR={room}/installed", "PREFIX=/usr/local"], check=True)
         self.files = f"{room}/installed/usr/local/share/usbreg"
-        self.edit(f"{self.recipe.folder}/usbreg.conf", f"{TOP}/examples/..", self.files)
+        self.edit(f"{self.recipe.folder}/usbreg.conf", f"{CONTRIB}/..", self.files)
         for path, old, new in edits:
             self.edit(f"{self.recipe.folder}/usbreg.conf" if path == "usbreg.conf" else f"{self.files}/web/{path}", old, new)
 

@@ -11,7 +11,7 @@ import sys
 import tempfile
 
 TOP = os.path.dirname(os.path.dirname(os.path.dirname(os.path.abspath(__file__))))
-EXAMPLES = f"{TOP}/examples"
+CONTRIB, EXAMPLES = f"{TOP}/contrib", f"{TOP}/examples"
 FOUNDING = f"{EXAMPLES}/founding.toml"
 # A store is its file, its log while it is open, and the index that other programs make of the log.
 ENDINGS = ("", "-wal", "-shm")
