@@ -8,7 +8,6 @@ is that of the program, with the time and the hash of the commit. The maintainer
 commit's author. The same commit and program give the same bytes."""
 
 import argparse
-import glob
 import gzip
 import hashlib
 import os
@@ -85,17 +84,6 @@ def unit():
     return "# The service of the package usbreg. Found the registry first: /usr/share/doc/usbreg/docs/operating.md\n" + text
 
 
-def put_documents(target):
-    """Puts the pages and the examples. The files of contrib/ lie with the examples, and the pages name them there."""
-    for name in ("README.md", "CHANGELOG.md"):
-        write(f"{target}/{name}", read(f"{TOP}/{name}"))
-    for folder, into in (("docs", "docs"), ("examples", "examples"), ("contrib", "examples")):
-        shutil.copytree(f"{TOP}/{folder}", f"{target}/{into}", dirs_exist_ok=True)
-    for path in glob.glob(f"{target}/**", recursive=True):
-        if path.endswith((".md", ".conf")):
-            write(path, re.sub(rb"\bcontrib/(?=[\w.])", b"examples/", read(path)))
-
-
 def put_files(stage, program, commit, version):
     """Puts what the package holds into a folder."""
     said("make", "-s", "install", f"DESTDIR={stage}", "PREFIX=/usr", f"PROGRAM={program}")
@@ -110,7 +98,10 @@ def put_files(stage, program, commit, version):
     for name in SCRIPTS:
         path = f"{TOP}/scripts/{name}"
         write(f"{stage}/{SHARED}/{name}", read(path), 0o755 if os.access(path, os.X_OK) else 0o644)
-    put_documents(f"{stage}/{DOCUMENTS}")
+    for folder in ("docs", "examples", "contrib"):
+        shutil.copytree(f"{TOP}/{folder}", f"{stage}/{DOCUMENTS}/{folder}")
+    for name in ("README.md", "CHANGELOG.md"):
+        write(f"{stage}/{DOCUMENTS}/{name}", read(f"{TOP}/{name}"))
     write(f"{stage}/{DOCUMENTS}/copyright", read(f"{HERE}/copyright"))
     write(f"{stage}/{DOCUMENTS}/usbreg.sha256", f"{hashlib.sha256(read(program)).hexdigest()}  /usr/bin/usbreg\n")
     date = said("date", "-u", "-R", "-d", f"@{commit.time}")

@@ -48,7 +48,7 @@ def compare_files(package, usbreg):
             sys.exit(f"{package}: {mode} {owner} {name}")
     wanted = {"usr/bin/usbreg", "usr/share/man/man1/usbreg.1.gz", UNIT, "usr/lib/sysusers.d/usbreg.conf", "usr/lib/tmpfiles.d/usbreg.conf"}
     wanted |= {f"usr/share/usbreg/users/{it}" for it in ("take_pid_codes.py", "write_pages.py", "licence_aliases.tsv", "renew_a_store.py")}
-    folders = {"docs": f"{DOCUMENTS}/docs", "examples": f"{DOCUMENTS}/examples", "contrib": f"{DOCUMENTS}/examples", "web": "usr/share/usbreg/web"}
+    folders = {"docs": f"{DOCUMENTS}/docs", "examples": f"{DOCUMENTS}/examples", "contrib": f"{DOCUMENTS}/contrib", "web": "usr/share/usbreg/web"}
     for top, target in folders.items():
         if os.path.isdir(f"{TOP}/{top}"):
             wanted |= {f"{target}/{it}" for it in os.listdir(f"{TOP}/{top}")}
