@@ -3,8 +3,6 @@ pub mod EndLemmas
 pub mod FailureLemmas
 pub mod ImportLemmas
 pub mod LineLemmas
-pub mod ReopenLemmas
-pub mod ClosingLemmas
 pub mod ReplyLemmas
 pub mod ShownLemmas
 pub mod RecordedLemmas

@@ -5,7 +5,6 @@ pub mod Found
 pub mod Lines
 pub mod Messages
 pub mod Replies
-pub mod Reopened
 pub mod Trial
 pub mod Printed
 pub mod Shown

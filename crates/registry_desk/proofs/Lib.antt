@@ -1,8 +1,8 @@
+pub mod AnsweredLemmas
 pub mod AskLemmas
 pub mod KeptLemmas
 pub mod LawLemmas
 pub mod OnceLemmas
 pub mod QueryLemmas
-pub mod ReopenLemmas
 pub mod ServeLemmas
 pub mod ServerLemmas

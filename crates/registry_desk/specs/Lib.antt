@@ -3,4 +3,3 @@ pub mod Acting
 pub mod Serving
 pub mod Server
 pub mod Kept
-pub mod Reopened

@@ -7,11 +7,9 @@ mod fault;
 mod kept;
 mod laws;
 mod queries;
-mod reopening;
 mod serve;
 mod server;
 
 pub use laws::{has_one_response, leaves_answered};
-pub use reopening::{serve_and_crash, serve_and_open};
 pub use serve::{Served, serve_one};
 pub use server::{Connections, ServerStop, serve_all, serve_next};

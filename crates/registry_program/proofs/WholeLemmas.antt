@@ -24,6 +24,7 @@ use Rattle.registry_store.specs.Queries.{IsUntouched}
 use Rattle.registry_store.specs.Reopen.{FilesHoldEither, IsEither}
 use Rattle.registry_store.proofs.CrashLemmas.{closed_clean, in_newest}
 use Rattle.registry_store.proofs.RunLemmas.{leaves_weaker}
+use Rattle.registry_store.proofs.RunToLemmas.{at_place}
 use Rattle.registry_commands.specs.declared.arguments.BadArgument.{BadArgument}
 use Rattle.registry_commands.specs.declared.importing.Import.{Import}
 use Rattle.registry_commands.specs.declared.messages.Failure.{Failure}
@@ -33,7 +34,6 @@ use Rattle.registry_commands.specs.declared.status.ExitStatus.TheVariants.{Succe
 use Rattle.registry_commands.specs.Ends.{Ends, Output, Receives, Sunk, effect}
 use Rattle.registry_commands.specs.Recorded.{record_text}
 use Rattle.registry_commands.proofs.ApplyLemmas.{applied_endures}
-use Rattle.registry_commands.proofs.ReopenLemmas.{at_place}
 use Rattle.registry_desk.specs.declared.server.Connections as connections
 use Rattle.registry_desk.specs.Server.{fault_in}
 use Rattle.registry_program.specs.declared.host.Host as host

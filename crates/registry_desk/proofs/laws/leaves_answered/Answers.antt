@@ -1,4 +1,4 @@
-use Rattle.registry_desk.proofs.ReopenLemmas.{leaves_answered}
+use Rattle.registry_desk.proofs.AnsweredLemmas.{leaves_answered}
 use Rattle.registry_desk.proofs.laws.leaves_answered.Goals as goal
 
 pub returns : goal.returns

@@ -1,0 +1,14 @@
+use Rattle.std.proofs.lemmas.Option.{IfSome_then}
+use Rattle.registry_tables.specs.Rows.{newest}
+use Rattle.registry_store.proofs.CrashLemmas.{both}
+use Rattle.registry_reopening.proofs.crashing.crash_and_open.Goals as goal
+
+pub returns-clause-represents : goal.returns-clause-represents
+returns-clause-represents g c h next legal legal_next leaves =
+    c.open_files.ensures.represents newest h next legal legal_next (λ honest.
+    (c.leave-files.ensures.holds h next leaves (both _ _ _ _ c.crash.ensures.clean c.crash-2.ensures.clean honest)).crash _ (c.crash.ensures.left, c.crash-2.ensures.left))
+
+pub returns-clause-clean : goal.returns-clause-clean
+returns-clause-clean g c =
+    IfSome_then c.open_files.result c.open_files.ensures.honest
+    (λ x honest clean. c.leave-files.ensures.clean (both _ _ _ _ c.crash.ensures.clean c.crash-2.ensures.clean (honest clean)))

@@ -1,0 +1,4 @@
+pub mod Runs
+pub mod Recovery
+pub mod Applied
+pub mod Served
