@@ -26,15 +26,15 @@ from lib.usbreg import TOP, content, program, run, write
 
 # The crates of tests that are programs over rows, and the others.
 ROWS = ["usbids_text_tests", "registry_rules_tests", "registry_reports_tests", "registry_wire_tests", "registry_http_tests"]
-CRATES = ["example_tests", "registry_tables_tests", "registry_store_tests"]
+CRATES = ["example_tests", "registry_tables_tests", "registry_reopening_tests"]
 MOST = 650
 WHOLE = {"lists::a_store_has_what_was_put_in", "lookups::a_request_finds_what_it_needs"}
 
 # In these rows the writer that a call is given runs out of memory, and then has a prefix.
 LEFT_OUT = {"room", "short", "brim"}
 
-# The tests of the store. The others compare what files hold, and treat a disk without memory as one that stops.
-STORE = "registry_store_tests_tests"
+# The tests of reopening. The others compare what files hold, and treat a disk without memory as one that stops.
+STORE = "registry_reopening_tests_tests"
 OF_STORE = "memory::"
 
 # How a test or a program ends that was refused memory: by an error, also one of its own values (a sink that cannot gather its

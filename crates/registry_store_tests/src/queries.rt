@@ -1,13 +1,13 @@
 //! The queries of a registry.
 
-use crate::steps::{ENROL, Step};
-use crate::values::{founding, lines_of, replies_to, request, requests_of, slug};
 use registry_rules::{Accepted, Entry, Founding, Petition, PetitionState, Reply, Request};
-use registry_store::{Registry, RunEnd};
+use registry_store::Registry;
 use sqlite::{Alter, Connection};
 use std::alloc::Global;
 use std::process::Abort;
 use std::test::Fail;
+use store_visits::steps::{ENROL, Step};
+use store_visits::values::{founding, lines_of, replies_to, request, requests_of, slug};
 use usbnum_core::{Number, Pid, Slug, Vid};
 
 // Two organisations, a further vendor, a reserved span; numbers granted, imported and returned.
@@ -292,21 +292,19 @@ fn look_up<S: Alter>(registry: &mut Registry<S>, keys: &Keys, text: &mut String)
     true
 }
 
-fn run<S: Alter>(registry: &mut Registry<S>, requests: &[Request]) -> Vec<Reply> {
-    let RunEnd { replies, .. } = registry.run_from(requests, 0);
-    replies
-}
-
 // Acts on the requests, lists everything, and looks each key up.
 fn ask<S: Alter>(
+    alloc: Global,
     registry: &mut Registry<S>,
     requests: &[Request],
     vid: Vid,
     keys: &Keys,
     text: &mut String,
 ) -> Option<Vec<Reply>> {
-    let replies = run(registry, requests);
-    if list_numbers(registry, text)
+    let mut replies: Vec<Reply> = Vec::new(alloc);
+    let run = registry.run_to(requests, 0, &mut replies);
+    if run.is_ok()
+        && list_numbers(registry, text)
         && list_petitions(registry, text)
         && list_orgs(registry, text)
         && list_vendors(registry, text)
@@ -322,13 +320,14 @@ fn ask<S: Alter>(
 }
 
 fn ask_and_close<S: Alter + Drop>(
+    alloc: Global,
     mut registry: Registry<S>,
     requests: &[Request],
     vid: Vid,
     keys: &Keys,
     text: &mut String,
 ) -> Option<Vec<Reply>> {
-    let replies = ask(&mut registry, requests, vid, keys, text);
+    let replies = ask(alloc, &mut registry, requests, vid, keys, text);
     let _conn = registry.into_connection();
     replies
 }
@@ -342,7 +341,7 @@ fn found_and_ask<S: Alter + Drop>(
     text: &mut String,
 ) -> Option<Vec<Reply>> {
     match Registry::found(alloc, conn, founding) {
-        Ok(registry) => ask_and_close(registry, requests, founding.vendor, keys, text),
+        Ok(registry) => ask_and_close(alloc, registry, requests, founding.vendor, keys, text),
         Err((_, _conn)) => None,
     }
 }

@@ -1,12 +1,12 @@
 //! What is stopped: runs with each kind of order, copies into the main file, foundings, openings and
 //! migrations.
 
-use crate::images::{COPYING, Fate, MANY, PLAIN, Stops};
-use crate::older::{OF_FIRST, OF_SECOND, ONE_VENDOR};
-use crate::starts::Start;
-use crate::steps::{EACH_KIND, ENROL, Step, TEN};
 use crate::stops::{How, Row, stop_in};
 use std::test::Fail;
+use store_visits::images::{COPYING, Fate, MANY, PLAIN, Stops};
+use store_visits::older::{OF_FIRST, OF_SECOND, ONE_VENDOR};
+use store_visits::starts::Start;
+use store_visits::steps::{EACH_KIND, ENROL, Step, TEN};
 
 // The log stops, and the machine with it.
 const LOG: How = How {

@@ -2,18 +2,18 @@
 //! requests: what was replied is kept, at most one more request was acted on, and the rest goes on
 //! as without a stop.
 
-use crate::images::{Fate, Image, MANY, Stop, Stops, are_same};
-use crate::listing::SPENT;
-use crate::starts::{Plain, Start, go_on, image_at, plain_over};
-use crate::steps::Step;
-use crate::values::{founding, lines_of, replies_to, requests_of};
-use crate::visits::{Entry, Seen, Visit, Visited, carry_out};
 use registry_rules::{Founding, Request};
 use registry_store::Fault;
 use sqlite::Options;
 use std::alloc::Global;
 use std::process::Abort;
 use std::test::Fail;
+use store_visits::images::{Fate, Image, MANY, Stop, Stops, are_same};
+use store_visits::listing::SPENT;
+use store_visits::starts::{Plain, Start, go_on, image_at, plain_over};
+use store_visits::steps::Step;
+use store_visits::values::{founding, lines_of, replies_to, requests_of};
+use store_visits::visits::{Entry, Seen, Visit, Visited, carry_out};
 
 /// Which file stops, what happens to the files, and how they are opened.
 #[derive(Clone, Copy)]

@@ -1,15 +1,15 @@
 //! Visits without a stop: of stores of older schemas, of files that were closed before, and by runs
 //! whose replies are refused.
 
-use crate::images::{COPYING, Stop, are_same, nothing};
-use crate::older::{OF_FIRST, OF_SECOND, ONE_VENDOR, RESERVE};
-use crate::starts::{Start, go_on, image_at, plain_over};
-use crate::steps::{EACH_KIND, ENROL, Step};
-use crate::values::{founding, lines_of, replies_to, requests_of};
-use crate::visits::{Entry, Visit, carry_out};
 use std::alloc::Global;
 use std::process::Abort;
 use std::test::Fail;
+use store_visits::images::{COPYING, Stop, are_same, nothing};
+use store_visits::older::{OF_FIRST, OF_SECOND, ONE_VENDOR, RESERVE};
+use store_visits::starts::{Start, go_on, image_at, plain_over};
+use store_visits::steps::{EACH_KIND, ENROL, Step};
+use store_visits::values::{founding, lines_of, replies_to, requests_of};
+use store_visits::visits::{Entry, Visit, carry_out};
 
 fn joined(alloc: Global, parts: [&str; 4]) -> Result<String, Fail> {
     let mut text = String::new(alloc);
