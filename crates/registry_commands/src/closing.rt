@@ -7,7 +7,7 @@ ghost use Rattle.sqlite.specs.State.{HasCleanDisk};
 ghost use Rattle.sqlite.specs.WalReads.{AreClean};
 ghost use Rattle.registry_rules.specs.History.{History};
 ghost use Rattle.registry_store.specs.Promise.{LeavesFrom};
-ghost use Rattle.registry_store.specs.Reopen.{AreClosed, HoldEither, IsEither, IsUncopied};
+ghost use Rattle.registry_store.specs.Files.{AreClosed, HoldEither, IsEither, IsUncopied};
 ghost use Rattle.registry_commands.specs.Ends.{output_of};
 ghost use Rattle.registry_commands.specs.Failures.{IsOfClosing, PrintsFailure};
 

@@ -1,31 +1,15 @@
 -- What a crash leaves holds what was answered.
-use Rattle.std.proofs.Common.{◌≡◌, ◌⊎◌, ℕ, inl, inr, List, [], ◌∷◌, ◌++◌, Option, Some, None, refl, sym, subst, ◌∙◌}
-use Rattle.std.specs.Prelude.{◌≢◌, Result, Ok, Err, IfOk, IfSome}
-use Rattle.std.proofs.Math.Logic.{∥∥₁_map}
+use Rattle.std.proofs.Common.{◌≡◌, ◌⊎◌, ℕ, inl, inr, List, [], ◌∷◌, ◌++◌, Some, refl, sym, subst, ◌∙◌}
+use Rattle.std.specs.Prelude.{◌≢◌, Result, Ok, Err, IfOk}
 use Rattle.std.specs.Result.{result_ok}
-use Rattle.sqlite.specs.Store.{Ghosts}
-use Rattle.sqlite.specs.State.{HasCleanDisk}
 use Rattle.byte_streams.specs.declared.streams.Broken.{Broken}
 use Rattle.registry_rules.specs.History.{History}
-use Rattle.registry_rules.specs.Run.{Legal}
-use Rattle.registry_rules.proofs.RunLemmas.{legal_after_one}
-use Rattle.registry_tables.specs.Rows.{newest}
-use Rattle.registry_store.specs.declared.fault.Fault.{Fault}
-use Rattle.registry_store.specs.declared.registry.Registry.{Registry as TheRegistry}
-use Rattle.registry_store.specs.Promise.{Leaves, Represents, state_of}
-use Rattle.registry_store.specs.Reopen.{IsEither}
-use Rattle.registry_store.proofs.RunLemmas.{leaves_weaker}
-use Rattle.registry_http.specs.declared.refusal.HttpRefusal.{HttpRefusal}
-use Rattle.registry_http.specs.declared.message.Message.{Message}
-use Rattle.registry_http.specs.declared.message.Message.TheVariants as messages
+use Rattle.registry_store.specs.Files.{IsEither}
 use Rattle.registry_desk.specs.declared.fault.DeskFault.{DeskFault}
 use Rattle.registry_desk.specs.declared.fault.DeskFault.TheVariants.{NoMemory, Registry}
 use Rattle.registry_desk.specs.declared.serve.Served.{Served}
-use Rattle.registry_desk.specs.Acting.{after_message}
 use Rattle.registry_desk.specs.Serving.{IsNext}
-use Rattle.registry_desk.specs.Server.{Visit, IsTurn, Turns, EndsServing, IsLeftAfter, IsSentWith, IsAnsweredWhole, IsAfterMessage, HoldsAnswered, LeavesAnswered}
-use Rattle.registry_desk.specs.Reopened.{IsReopenedAfterServing}
-use Rattle.registry_desk.proofs.ServerLemmas.{in_part}
+use Rattle.registry_desk.specs.Server.{Visit, IsTurn, Turns, IsSentWith, IsAnsweredWhole, IsAfterMessage, HoldsAnswered, LeavesAnswered}
 
 sent_short : (sent : Result ℕ Broken) → IfOk sent (λ s. s ≡ 503) → (status : ℕ) → result_ok sent ≡ Some status → status ≢ 503 → ⊥
 sent_short (Ok s) is status same other = let here : s ≡ status = cc in other (sym here ∙ is)

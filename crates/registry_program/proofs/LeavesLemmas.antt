@@ -16,7 +16,7 @@ use Rattle.registry_tables.specs.Rows.{newest}
 use Rattle.registry_store.specs.declared.fault.Fault.{Fault}
 use Rattle.registry_store.specs.declared.registry.Registry.{Registry}
 use Rattle.registry_store.specs.Promise.{Endures, Leaves, Represents, state_of}
-use Rattle.registry_store.specs.Reopen.{IsEither}
+use Rattle.registry_store.specs.Files.{IsEither}
 use Rattle.registry_store.specs.Run.{HasAnswered, IsAfterOrNext}
 use Rattle.registry_store.proofs.RunLemmas.{leaves_weaker}
 use Rattle.registry_store.proofs.RunToLemmas.{between_all}

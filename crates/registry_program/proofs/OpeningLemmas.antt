@@ -16,7 +16,7 @@ use Rattle.registry_tables.specs.Rows.{Rows}
 use Rattle.registry_store.specs.declared.fault.Fault.{Fault}
 use Rattle.registry_store.specs.declared.fault.Fault.TheVariants as faults
 use Rattle.registry_store.specs.Promise.{LeavesFrom}
-use Rattle.registry_store.specs.Reopen.{AreClosed, HoldEither, IsEither, IsUncopied}
+use Rattle.registry_store.specs.Files.{AreClosed, HoldEither, IsEither, IsUncopied}
 use Rattle.registry_commands.specs.declared.messages.Failure.{Failure}
 use Rattle.registry_commands.specs.declared.messages.Failure.TheVariants.{Foreign}
 use Rattle.registry_commands.specs.declared.status.ExitStatus.{ExitStatus}

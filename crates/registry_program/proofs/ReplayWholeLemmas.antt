@@ -17,7 +17,7 @@ use Rattle.registry_rules.specs.Run.{Legal, after_one}
 use Rattle.registry_tables.specs.Rows.{Rows, newest}
 use Rattle.registry_store.specs.declared.registry.Registry.{Registry}
 use Rattle.registry_store.specs.Promise.{IsFreshAt, Leaves, Represents, connection_of, state_of}
-use Rattle.registry_store.specs.Reopen.{FilesHoldEither, IsEither}
+use Rattle.registry_store.specs.Files.{FilesHoldEither, IsEither}
 use Rattle.registry_store.proofs.CrashLemmas.{closed_clean, in_newest, later_from}
 use Rattle.registry_store.proofs.RunLemmas.{leaves_weaker}
 use Rattle.registry_commands.specs.declared.entries.Entry.{Entry}

@@ -21,7 +21,7 @@ use Rattle.registry_wire.specs.Founding.{FoundsAs, founding_listed}
 use Rattle.registry_rules.specs.declared.founding.Founding.{Founding}
 use Rattle.registry_store.specs.Promise.{Leaves, Represents, connection_of, state_of}
 use Rattle.registry_store.specs.Queries.{IsUntouched}
-use Rattle.registry_store.specs.Reopen.{FilesHoldEither, IsEither}
+use Rattle.registry_store.specs.Files.{FilesHoldEither, IsEither}
 use Rattle.registry_store.proofs.CrashLemmas.{closed_clean, in_newest}
 use Rattle.registry_store.proofs.RunLemmas.{leaves_weaker}
 use Rattle.registry_store.proofs.RunToLemmas.{at_place}

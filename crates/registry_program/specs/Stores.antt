@@ -11,7 +11,7 @@ use Rattle.sqlite.specs.WalReads.{AreClean}
 use Rattle.registry_rules.specs.History.{History}
 use Rattle.registry_store.specs.declared.registry.Registry.{Registry}
 use Rattle.registry_store.specs.Promise.{LeavesFrom, connection_of}
-use Rattle.registry_store.specs.Reopen.{AreClosed, HoldEither, IsEither, IsUncopied}
+use Rattle.registry_store.specs.Files.{AreClosed, HoldEither, IsEither, IsUncopied}
 use Rattle.registry_commands.specs.declared.messages.Failure.{Failure}
 use Rattle.registry_commands.specs.declared.status.ExitStatus.{ExitStatus}
 use Rattle.registry_commands.specs.declared.status.ExitStatus.TheVariants.{Success, Failed}

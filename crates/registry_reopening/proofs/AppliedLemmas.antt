@@ -12,7 +12,7 @@ use Rattle.registry_rules.proofs.RunLemmas.{legal_after}
 use Rattle.registry_tables.specs.Rows.{newest}
 use Rattle.registry_store.specs.declared.registry.Registry.{Registry}
 use Rattle.registry_store.specs.Promise.{Leaves, Represents, state_of}
-use Rattle.registry_store.specs.Reopen.{IsEither}
+use Rattle.registry_store.specs.Files.{IsEither}
 use Rattle.registry_store.specs.Run.{HasAnswered, IsAfterOrNext}
 use Rattle.registry_store.proofs.RunLemmas.{leaves_weaker}
 use Rattle.registry_store.proofs.RunToLemmas.{at_place, between_all}

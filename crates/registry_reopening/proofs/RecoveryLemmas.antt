@@ -11,7 +11,7 @@ use Rattle.registry_tables.specs.Rows.{newest}
 use Rattle.registry_store.specs.declared.fault.Fault.{Fault}
 use Rattle.registry_store.specs.declared.registry.Registry.{Registry}
 use Rattle.registry_store.specs.Promise.{Leaves, state_of}
-use Rattle.registry_store.specs.Reopen.{IsEither}
+use Rattle.registry_store.specs.Files.{IsEither}
 use Rattle.registry_store.specs.Run.{IsAfterOrNext}
 use Rattle.registry_reopening.specs.Runs.{EndsRun}
 use Rattle.registry_store.proofs.RunToLemmas.{length_answers}

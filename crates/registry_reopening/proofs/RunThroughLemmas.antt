@@ -16,7 +16,7 @@ use Rattle.registry_store.specs.declared.registry.Registry.{Registry}
 use Rattle.registry_store.specs.Promise.{Represents}
 use Rattle.registry_store.specs.Run.{HasAnswered}
 use Rattle.registry_reopening.specs.Runs.{IsDone, IsStopped}
-use Rattle.registry_store.specs.Reopen.{IsEither}
+use Rattle.registry_store.specs.Files.{IsEither}
 use Rattle.registry_store.proofs.CrashLemmas.{sure}
 use Rattle.registry_reopening.specs.Recovery.{KeepsItsWord}
 

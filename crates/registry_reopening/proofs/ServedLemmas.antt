@@ -1,8 +1,7 @@
 -- What is opened after connections were served.
-use Rattle.std.proofs.Common.{◌≡◌, ◌⊎◌, ℕ, inl, inr, List, [], ◌∷◌, ◌++◌, Option, Some, None, refl, sym, subst, ◌∙◌}
-use Rattle.std.specs.Prelude.{◌≢◌, Result, Ok, Err, IfOk, IfSome}
+use Rattle.std.proofs.Common.{◌≡◌, ℕ, inl, inr, List, [], ◌∷◌, Option, Some, None, sym, subst}
+use Rattle.std.specs.Prelude.{Result, Ok, Err, IfSome}
 use Rattle.std.proofs.Math.Logic.{∥∥₁_map}
-use Rattle.std.specs.Result.{result_ok}
 use Rattle.sqlite.specs.Store.{Ghosts}
 use Rattle.sqlite.specs.State.{HasCleanDisk}
 use Rattle.byte_streams.specs.declared.streams.Broken.{Broken}
@@ -13,7 +12,7 @@ use Rattle.registry_tables.specs.Rows.{newest}
 use Rattle.registry_store.specs.declared.fault.Fault.{Fault}
 use Rattle.registry_store.specs.declared.registry.Registry.{Registry as TheRegistry}
 use Rattle.registry_store.specs.Promise.{Leaves, Represents, state_of}
-use Rattle.registry_store.specs.Reopen.{IsEither}
+use Rattle.registry_store.specs.Files.{IsEither}
 use Rattle.registry_store.proofs.RunLemmas.{leaves_weaker}
 use Rattle.registry_http.specs.declared.refusal.HttpRefusal.{HttpRefusal}
 use Rattle.registry_http.specs.declared.message.Message.{Message}
@@ -23,7 +22,7 @@ use Rattle.registry_desk.specs.declared.fault.DeskFault.TheVariants.{NoMemory, R
 use Rattle.registry_desk.specs.declared.serve.Served.{Served}
 use Rattle.registry_desk.specs.Acting.{after_message}
 use Rattle.registry_desk.specs.Serving.{IsNext}
-use Rattle.registry_desk.specs.Server.{Visit, IsTurn, Turns, EndsServing, IsLeftAfter, IsSentWith, IsAnsweredWhole, IsAfterMessage, HoldsAnswered, LeavesAnswered}
+use Rattle.registry_desk.specs.Server.{Visit, IsTurn, Turns, EndsServing, IsLeftAfter}
 use Rattle.registry_reopening.specs.Served.{IsReopenedAfterServing}
 use Rattle.registry_desk.proofs.ServerLemmas.{in_part}
 

@@ -8,7 +8,7 @@ ghost use Rattle.registry_rules.specs.History.{History};
 ghost use Rattle.registry_rules.specs.Run.{Legal};
 ghost use Rattle.registry_tables.specs.Rows.{newest};
 ghost use Rattle.registry_store.specs.Promise.{Represents, Leaves, LeavesFrom, state_of};
-ghost use Rattle.registry_store.specs.Reopen.{IsEither, HoldEither};
+ghost use Rattle.registry_store.specs.Files.{IsEither, HoldEither};
 
 use crate::opening::{leave, open_files, open_files_or_return};
 use registry_store::{Closed, Registry, close_files, leave_store};

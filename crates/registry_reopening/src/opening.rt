@@ -12,7 +12,7 @@ ghost use Rattle.registry_rules.specs.History.{History};
 ghost use Rattle.registry_rules.specs.Run.{Legal};
 ghost use Rattle.registry_tables.specs.Rows.{newest};
 ghost use Rattle.registry_store.specs.Promise.{Represents, Leaves, LeavesFrom, state_of, connection_of};
-ghost use Rattle.registry_store.specs.Reopen.{IsEither, HoldEither, FilesHoldEither};
+ghost use Rattle.registry_store.specs.Files.{IsEither, HoldEither, FilesHoldEither};
 
 use registry_store::{Registry, leave_store};
 use sqlite::{Connection, FileStore, Files, Options};

@@ -10,7 +10,7 @@ ghost use Rattle.registry_rules.specs.Run.{Legal, after, replies_to};
 ghost use Rattle.registry_tables.specs.Rows.{newest};
 ghost use Rattle.registry_store.specs.Promise.{Represents, state_of};
 ghost use Rattle.registry_reopening.specs.Recovery.{MayLeave, RepresentsPrefix};
-ghost use Rattle.registry_store.specs.Reopen.{IsEither, HoldEither, FilesHoldEither};
+ghost use Rattle.registry_store.specs.Files.{IsEither, HoldEither, FilesHoldEither};
 
 use crate::opening::{leave, open_files};
 use crate::runs::{RunEnd, run_from};

@@ -6,7 +6,7 @@ ghost use Rattle.sqlite.specs.Files.{file_state};
 ghost use Rattle.registry_rules.specs.History.{History, founded};
 ghost use Rattle.registry_rules.specs.Run.{Legal, after, replies_to};
 ghost use Rattle.registry_store.specs.Promise.{Represents, LeavesFrom, state_of};
-ghost use Rattle.registry_store.specs.Reopen.{IsEither};
+ghost use Rattle.registry_store.specs.Files.{IsEither};
 ghost use Rattle.registry_reopening.specs.Recovery.{KeepsItsWord};
 
 use crate::crashing::{crash_until_open, open_through};

@@ -12,7 +12,7 @@ use Rattle.registry_rules.specs.Run.{Legal}
 use Rattle.registry_rules.specs.TotalsOf.{AreTotalsOf}
 use Rattle.registry_store.specs.declared.registry.Registry.{Registry}
 use Rattle.registry_store.specs.Promise.{IsAt, IsFreshAt, Represents, is_poisoned, state_of}
-use Rattle.registry_store.specs.Reopen.{IsEither}
+use Rattle.registry_store.specs.Files.{IsEither}
 
 -- a transaction that was rolled back leaves the connection at the same history, whatever it read
 pub still_at : (old new : State) (h : History) → IsAt newest old h → (HasCleanDisk new → KeepsAll old new) → CommitsNothing old new → IsAt newest new h

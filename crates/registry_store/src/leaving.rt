@@ -7,7 +7,7 @@ ghost use Rattle.sqlite.specs.Files.{file_state};
 ghost use Rattle.sqlite.specs.WalReads.{AreClean};
 ghost use Rattle.registry_rules.specs.History.{History};
 ghost use Rattle.registry_store.specs.Promise.{LeavesFrom};
-ghost use Rattle.registry_store.specs.Reopen.{AreClosed, IsEither, IsUncopied, HoldEither};
+ghost use Rattle.registry_store.specs.Files.{AreClosed, IsEither, IsUncopied, HoldEither};
 
 use sqlite::{Connection, Error, FileStore, Files};
 use sqlite_disk::Disk;

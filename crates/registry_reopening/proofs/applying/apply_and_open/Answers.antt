@@ -6,7 +6,7 @@ use Rattle.sqlite.specs.State.{HasCleanDisk}
 use Rattle.sqlite.specs.Files.{file_state}
 use Rattle.registry_tables.specs.Rows.{newest}
 use Rattle.registry_store.specs.Promise.{Leaves}
-use Rattle.registry_store.specs.Reopen.{IsEither, IsUncopied}
+use Rattle.registry_store.specs.Files.{IsEither, IsUncopied}
 use Rattle.registry_store.proofs.CrashLemmas.{closed_clean, in_newest}
 use Rattle.registry_commands.specs.declared.status.ExitStatus.{ExitStatus}
 use Rattle.registry_commands.specs.contracts.status.ExitStatus.{the_type}

@@ -2,7 +2,7 @@ use Rattle.std.proofs.Common.{ℕ}
 use Rattle.sqlite.specs.WalReads.{AreClean}
 use Rattle.registry_rules.specs.History.{History}
 use Rattle.registry_rules.specs.Run.{Legal}
-use Rattle.registry_store.specs.Reopen.{HoldEither}
+use Rattle.registry_store.specs.Files.{HoldEither}
 use Rattle.registry_reopening.proofs.crashing.open_through.Given as goal
 
 abbrev pub invariant-loop : goal.invariant-loop

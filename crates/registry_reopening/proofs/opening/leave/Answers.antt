@@ -3,7 +3,7 @@ use Rattle.sqlite.specs.State.{HasCleanDisk}
 use Rattle.sqlite.specs.Files.{file_state}
 use Rattle.registry_tables.specs.Rows.{newest}
 use Rattle.registry_store.specs.Promise.{Leaves}
-use Rattle.registry_store.specs.Reopen.{IsEither}
+use Rattle.registry_store.specs.Files.{IsEither}
 use Rattle.registry_store.proofs.CrashLemmas.{in_newest}
 use Rattle.registry_reopening.proofs.opening.leave.Goals as goal
 

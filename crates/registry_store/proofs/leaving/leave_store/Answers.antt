@@ -3,7 +3,7 @@ use Rattle.sqlite.specs.State.{HasCleanDisk}
 use Rattle.sqlite.specs.Recovery.{Image}
 use Rattle.sqlite.specs.WalFiles.{outcomes}
 use Rattle.sqlite.specs.Files.{file_state, image_of}
-use Rattle.registry_store.specs.Reopen.{FilesHoldEither}
+use Rattle.registry_store.specs.Files.{FilesHoldEither}
 use Rattle.registry_store.proofs.CrashLemmas.{after_crash, after_stop, sure}
 use Rattle.registry_store.proofs.leaving.leave_store.Goals as goal
 
