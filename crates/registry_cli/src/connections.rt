@@ -6,6 +6,7 @@ ghost use Rattle.std.specs.IoError.{error_kind};
 use crate::machine::Machine;
 use crate::notes::Trouble;
 use byte_streams::{Broken, Inlet, Outlet};
+use peer_streams::{Arrival, Peer, limited};
 use registry_desk::Connections;
 use registry_program::About;
 use sqlite::Start;
@@ -15,15 +16,6 @@ use std::io::{ErrorKind, Read, Write};
 use std::net::{Shutdown, TcpStream};
 use std::rc::Rc;
 use std::time::{Duration, Instant};
-
-/// The seconds that a peer may take for each read of its message, and each write of its response.
-const PEER_SECONDS: u64 = 10;
-
-/// The limit in seconds for reading what a peer still sends after its response. `REST_BYTES` is the
-/// limit in bytes.
-const REST_SECONDS: u64 = 2;
-
-const REST_BYTES: usize = 16 * 1024 * 1024;
 
 /// One of the two ends of a stream.
 #[derive(Drop)]
@@ -47,14 +39,100 @@ impl Write for End {
     }
 }
 
-/// Returns a reader and a writer of a stream, with time limits.
-fn ends_of(alloc: Global, stream: TcpStream) -> io::Result<(Inlet<End>, Outlet<End>)> {
-    let time = Some(Duration::from_secs(PEER_SECONDS));
-    stream.set_read_timeout(time)?;
-    stream.set_write_timeout(time)?;
-    let stream = Rc::new(alloc, stream)?;
-    let other = stream.clone()?;
-    Ok((Inlet::new(End(stream)), Outlet::new(End(other))))
+/// A stream that has come, before its ends are made.
+#[derive(Drop)]
+struct Arrived {
+    alloc: Global,
+    stream: TcpStream,
+}
+
+// What a system call does is not known, so these relations hold of every call.
+impl Arrival for Arrived {
+    type Reader = Inlet<End>;
+
+    type Writer = Outlet<End>;
+
+    ghost limits_reads = { λ _ _ _. ⊤ };
+
+    ghost limits_writes = { λ _ _ _. ⊤ };
+
+    ghost fails = { λ _ _. ⊤ };
+
+    ghost splits = { λ _ _ _. ⊤ };
+
+    ghost fails_to_split = { λ _. ⊤ };
+
+    fn limit_reads(&mut self, time: Duration) -> Result<(), Broken> {
+        self.stream.set_read_timeout(Some(time)).map_err(|_| Broken)
+    }
+
+    fn limit_writes(&mut self, time: Duration) -> Result<(), Broken> {
+        self.stream
+            .set_write_timeout(Some(time))
+            .map_err(|_| Broken)
+    }
+
+    fn split(self) -> Result<(Inlet<End>, Outlet<End>), Broken> {
+        let Arrived { alloc, stream } = self;
+        let stream = Rc::new(alloc, stream).map_err(|_| Broken)?;
+        let other = stream.clone().map_err(|_| Broken)?;
+        Ok((Inlet::new(End(stream)), Outlet::new(End(other))))
+    }
+}
+
+/// A stream whose response was written, before it is closed.
+#[derive(Drop)]
+struct Answered<'a> {
+    rt: &'a HostRuntime,
+    stream: &'a TcpStream,
+}
+
+// What a system call does is not known, so these relations hold of every call.
+impl Peer for Answered<'_> {
+    ghost limits_reads = { λ _ _ _. ⊤ };
+
+    ghost waits = { λ _ _ _. ⊤ };
+
+    ghost sees = { λ _ _ _ _. ⊤ };
+
+    ghost ends = { λ _ _. ⊤ };
+
+    ghost tells = { λ _ _ _. ⊤ };
+
+    ghost reads = { λ _ _ _ _. ⊤ };
+
+    ghost fails = { λ _ _. ⊤ };
+
+    fn limit_reads(&mut self, time: Duration) -> Result<(), Broken> {
+        self.stream.set_read_timeout(Some(time)).map_err(|_| Broken)
+    }
+
+    fn set_waiting(&mut self, waiting: bool) -> Result<(), Broken> {
+        self.stream.set_nonblocking(!waiting).map_err(|_| Broken)
+    }
+
+    fn peek(&mut self, room: &mut [u8]) -> Result<usize, Broken> {
+        match self.stream.peek(room) {
+            Ok(count) => Ok(count),
+            Err(_) => Err(Broken),
+        }
+    }
+
+    fn end_writing(&mut self) -> Result<(), Broken> {
+        self.stream.shutdown(Shutdown::Write).map_err(|_| Broken)
+    }
+
+    fn now(&mut self) -> Result<Instant, Broken> {
+        Instant::now(self.rt).map_err(|_| Broken)
+    }
+
+    fn read(&mut self, room: &mut [u8]) -> Result<usize, Broken> {
+        let mut stream = self.stream;
+        match stream.read(room) {
+            Ok(count) => Ok(count),
+            Err(_) => Err(Broken),
+        }
+    }
 }
 
 /// Returns whether the peer gave up a connection before it was accepted.
@@ -65,38 +143,6 @@ fn is_of_peer(error: &io::Error) -> bool
         error.kind(),
         ErrorKind::ConnectionAborted | ErrorKind::ConnectionReset | ErrorKind::Interrupted
     )
-}
-
-/// Returns whether the peer has sent bytes after its message.
-fn has_more(stream: &TcpStream) -> bool {
-    let mut room = [0u8; 1];
-    match stream.set_nonblocking(true) {
-        Ok(()) => matches!(stream.peek(&mut room), Ok(1)),
-        Err(_) => false,
-    }
-}
-
-/// Ends the response, and reads what the peer still sends, up to its end or to the limits.
-/// Otherwise the kernel resets the connection, and the peer may lose the response.
-fn read_rest(rt: &HostRuntime, mut stream: &TcpStream) -> io::Result<()> {
-    stream.set_nonblocking(false)?;
-    stream.shutdown(Shutdown::Write)?;
-    let start = Instant::now(rt)?;
-    let time = Duration::from_secs(REST_SECONDS);
-    let mut room = [0u8; 16_384];
-    let mut count: usize = 0;
-    for _ in 0..u64::MAX {
-        let left = time.saturating_sub(start.elapsed(rt)?);
-        if left.is_zero() || count >= REST_BYTES {
-            return Ok(());
-        }
-        stream.set_read_timeout(Some(left))?;
-        match stream.read(&mut room)? {
-            0 => return Ok(()),
-            more => count = count.saturating_add(more),
-        }
-    }
-    Ok(())
 }
 
 // What a peer sends, and when it is gone, is not known, so these relations hold of every call.
@@ -118,7 +164,8 @@ impl<S: Start> Connections for Machine<'_, S> {
         for accepted in listener.incoming() {
             match accepted {
                 Ok(stream) => {
-                    if let Ok(ends) = ends_of(self.rt.alloc(), stream) {
+                    let alloc = self.rt.alloc();
+                    if let Ok(ends) = limited(Arrived { alloc, stream }) {
                         return Ok(ends);
                     }
                 }
@@ -135,12 +182,10 @@ impl<S: Start> Connections for Machine<'_, S> {
 
     fn close(&mut self, reader: Inlet<End>, _writer: Outlet<End>, status: Option<u16>) {
         let End(stream) = reader.into_inner();
-        let stream = stream.as_ref();
-        if let Some(status) = status {
-            // A message with status 200 was read to its end, so its peer has no more to send.
-            if status != 200 || has_more(stream) {
-                let _ = read_rest(self.rt, stream);
-            }
-        }
+        let mut answered = Answered {
+            rt: self.rt,
+            stream: stream.as_ref(),
+        };
+        peer_streams::close(&mut answered, status);
     }
 }
