@@ -8,6 +8,7 @@ use Rattle.sqlite.proofs.Theorems.{opens_again}
 use Rattle.registry_tables.specs.Rows.{newest}
 use Rattle.registry_tables.proofs.RowsLemmas.{rows_sound}
 use Rattle.registry_store.specs.Files.{IsEither}
+use Rattle.registry_store.specs.Promise.{connection_of}
 use Rattle.registry_store.proofs.CrashLemmas.{after_stop, in_newest, newest_is_last}
 use Rattle.registry_reopening.proofs.opening.abandon.Goals as goal
 
