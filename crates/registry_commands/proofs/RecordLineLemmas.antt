@@ -3,12 +3,12 @@ use Rattle.std.proofs.Common.{suc, ◌≡◌, ℕ, ◌+◌, ◌<◌, ◌≤◌, 
 use Rattle.std.specs.Prelude.{cond, not, ◌==◌, nat_le, nat_lt, position, ⊤, if◌then◌else◌}
 use Rattle.std.specs.Io.KnownBytes.{Consumes, IsAtEnd, prepend_known}
 use Rattle.std.proofs.lemmas.Bool.{ltb-true, lt-ltb, leb-true, leb-false, eqb-true, eqb-false}
-use Rattle.std.proofs.lemmas.List.{take_all, take-append-le, drop-append-le}
+use Rattle.std.proofs.lemmas.List.{take_all, take-append-drop, take-append-le, drop-append-le}
 use Rattle.std.proofs.Math.ListN.{drop_of_length-le}
 use Rattle.registry_commands.specs.Lines.{in_front, lines_of}
 use Rattle.registry_commands.specs.declared.record_lines.Found.TheVariants.{End, Line, TooLong}
 use Rattle.registry_commands.specs.declared.unread.Unread.{Unread}
-use Rattle.registry_commands.specs.RecordLines.{Finds, MayHaveLines, Passes, ahead, last_line, most_line, of_length, unread_of}
+use Rattle.registry_commands.specs.RecordLines.{Finds, HasReadTo, MayHaveLines, Passes, ahead, last_line, most_line, of_length, unread_of}
 use Rattle.registry_commands.proofs.LineLemmas.{feed, feed_at, feed_not, lines_at, one_line}
 
 -- ---- line feeds
@@ -28,6 +28,45 @@ feed_past (b ∷ p) more h = go (b == 10) h (feed_past p more)
     go : (t : Bool) → ¬ (cond (not t) (1 + feed p) 0 < length (b ∷ p)) → (¬ (feed p < length p) → length p ≤ feed (p ++ more)) → length (b ∷ p) ≤ cond (not t) (1 + feed (p ++ more)) 0
     go true h below = absurd (h (omega arith))
     go false h below = let rest = below (λ k. h (omega (arith, k))) in omega (arith, rest)
+
+feed_skips : (p more : List ℕ) → ¬ (feed p < length p) → feed (p ++ more) ≡ length p + feed more
+feed_skips [] more h = omega arith
+feed_skips (b ∷ p) more h = go (b == 10) h (feed_skips p more)
+  where
+    go : (t : Bool) → ¬ (cond (not t) (1 + feed p) 0 < length (b ∷ p)) → (¬ (feed p < length p) → feed (p ++ more) ≡ length p + feed more)
+        → cond (not t) (1 + feed (p ++ more)) 0 ≡ length (b ∷ p) + feed more
+    go true h below = absurd (h (omega arith))
+    go false h below = let rest = below (λ k. h (omega (arith, k))) in omega (arith, rest)
+
+some_past : (p more : List ℕ) (n : ℕ) → None ≡ position (λ b. b == 10) p → Some n ≡ position (λ b. b == 10) more → Some (length p + n) ≡ position (λ b. b == 10) (p ++ more)
+some_past p more n none found =
+    let at = feed_at more n found in
+    let skips = feed_skips p more (feed_not p none) in
+    let less : nat_lt (feed (p ++ more)) (length (p ++ more)) ≡ true = lt-ltb _ _ (omega (arith, skips, at.0, at.1, length-append p more)) in
+    rw less (ap Some (omega (arith, skips, at.1)))
+
+none_past : (p more : List ℕ) → None ≡ position (λ b. b == 10) p → None ≡ position (λ b. b == 10) more → None ≡ position (λ b. b == 10) (p ++ more)
+none_past p more none none_more = go (nat_lt (feed (p ++ more)) (length (p ++ more))) refl
+  where
+    skips : feed (p ++ more) ≡ length p + feed more
+    skips = feed_skips p more (feed_not p none)
+
+    go : (t : Bool) → nat_lt (feed (p ++ more)) (length (p ++ more)) ≡ t → None ≡ cond t (Some (feed (p ++ more))) None
+    go true e = absurd (feed_not more none_more (omega (arith, ltb-true _ _ e, skips, length-append p more)))
+    go false e = refl
+
+-- the first bytes have no line feed: where it is among all, by where it is among the others
+module _ (bytes : List ℕ) (searched : ℕ) (within : searched ≤ length bytes) (none : position (λ b. b == 10) (take searched bytes) ≡ None) where
+  pub some_after : (n : ℕ) → Some n ≡ position (λ b. b == 10) (drop searched bytes) → Some (searched + n) ≡ position (λ b. b == 10) bytes
+  some_after n found =
+      let size : length (take searched bytes) ≡ searched = rw (length-take searched bytes) (omega (arith, within)) in
+      subst (λ (all : List ℕ). Some (searched + n) ≡ position (λ b. b == 10) all) (take-append-drop searched bytes)
+      (subst (λ (k : ℕ). Some (k + n) ≡ position (λ b. b == 10) (take searched bytes ++ drop searched bytes)) size
+      (some_past (take searched bytes) (drop searched bytes) n (sym none) found))
+
+  pub none_after : None ≡ position (λ b. b == 10) (drop searched bytes) → None ≡ position (λ b. b == 10) bytes
+  none_after none_more =
+      subst (λ (all : List ℕ). None ≡ position (λ b. b == 10) all) (take-append-drop searched bytes) (none_past (take searched bytes) (drop searched bytes) (sym none) none_more)
 
 -- ---- lines
 
@@ -122,6 +161,10 @@ filled (Some xs) None rest_new p q more same is gave = absurd same
 filled (Some xs) (Some ys) None p q more same is gave = absurd gave
 filled (Some xs) (Some ys) (Some zs) p q more same is gave =
     same ∙ ap (λ (t : List ℕ). p ++ t) gave ∙ sym (append_assoc p more zs) ∙ ap (λ (t : List ℕ). t ++ zs) (sym is)
+
+-- nothing more was passed, and what was read is a part of a line
+pub read_on : (a b c : Option (List ℕ)) (front : List (List ℕ)) (it : Unread) → Passes a b front → HasReadTo b c [] it → HasReadTo a c front it
+read_on a b c front it passes read = record { passes = λ rest has. passes rest (read.passes rest has); part = read.part }
 
 -- ---- what is found
 

@@ -1,5 +1,5 @@
 -- The lines of a record as they are read, one after another.
-use Rattle.std.specs.Prelude.{◌≡◌, ◌⊎◌, ◌<◌, ◌≤◌, ◌+◌, ◌-◌, ◌^◌, ℕ, nat_le, List, [], ◌∷◌, ◌++◌, length, take, drop, Option, Some, None, ⊤, if◌then◌else◌, ◌==◌}
+use Rattle.std.specs.Prelude.{◌≡◌, ◌⊎◌, ◌<◌, ◌≤◌, ◌+◌, ◌-◌, ◌^◌, ℕ, nat_le, List, [], ◌∷◌, ◌++◌, length, take, drop, position, Option, Some, None, ⊤, if◌then◌else◌, ◌==◌}
 use Rattle.std.specs.Io.KnownBytes.{prepend_known}
 use Rattle.byte_streams.specs.Streams.{HasFailed}
 use Rattle.registry_commands.specs.declared.record_lines.Found.{Found}
@@ -43,6 +43,17 @@ Finds old rest it End = MayHaveLines old []
 Finds old rest it TooLong = (line : List ℕ) × (lines : List (List ℕ)) × (most_line < length line) × MayHaveLines old (line ∷ lines)
 Finds old rest it (Line n) = (n ≤ length (unread_of it)) × (n ≤ most_line)
     × Passes old (prepend_known (drop (n + 1) (unread_of it)) rest) (take n (unread_of it) ∷ [])
+
+-- A part of a line, whose end is not among these bytes: they have no line feed, and are no more than a line may have.
+pub record IsPartOfLine (bytes : List ℕ) : Type 0 where
+  pub open_ended : position (λ b. b == 10) bytes ≡ None
+  pub few : length bytes ≤ most_line
+
+-- These lines were passed, and what was read after them is a part of a line. If a read may only fail there, none is made once
+-- the next line is there: any read may fail.
+pub record HasReadTo (to_come now : Option (List ℕ)) (passed : List (List ℕ)) (it : Unread) : Type 0 where
+  pub passes : Passes to_come now passed
+  pub part : IsPartOfLine (unread_of it)
 
 -- the source failed between these counts of failures, or as many lines were passed as are counted
 abbrev pub HasFailedOrIsFull : ℕ → ℕ → Unread → Type 0

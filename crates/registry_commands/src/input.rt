@@ -1,7 +1,7 @@
 //! Reads a whole input.
 
 ghost use Rattle.std.specs.Prelude.{Err, Some, ◌≡◌, ◌≤◌, ◌++◌, ℕ, List, length, IfOk, IfErr, OnOk};
-ghost use Rattle.std.specs.Io.KnownBytes.{Consumes, IsAtEnd};
+ghost use Rattle.std.specs.Io.KnownBytes.{Consumes, IsAtEnd, Keeps};
 ghost use Rattle.byte_streams.specs.Streams.{HasFailed, MayGive, most_bytes};
 ghost use Rattle.registry_commands.specs.Failures.{IsOfInput};
 ghost use Rattle.registry_commands.specs.Messages.{input_failure, read_all_fault_text};
@@ -46,6 +46,7 @@ pub(crate) fn take_more<R: Source>(
         × Consumes (R.remaining source.old) (R.remaining source.new) more × (n ≡ 0 → IsAtEnd (R.remaining source.new))
         × (R.failures source.new ≡ R.failures source.old)) }
     ensures file { result ≡ Err ReadAllFault.File → HasFailed (R.failures source.old) (R.failures source.new) }
+    ensures same { result ≡ Err ReadAllFault.File → (bytes.new.items ≡ bytes.old.items) × Keeps (R.remaining source.old) (R.remaining source.new) }
     ensures memory { result ≡ Err ReadAllFault.NoMemory → R.failures source.new ≡ R.failures source.old }
 {
     let mut chunk = [0u8; 8192];

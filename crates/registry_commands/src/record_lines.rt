@@ -1,9 +1,9 @@
 //! Reads a source line by line, in pieces.
 
-ghost use Rattle.std.specs.Prelude.{◌≡◌, ◌<◌, ◌^◌, ◌-◌, ◌++◌, ℕ, List, [], length, IfOk, OnOk, Err};
-ghost use Rattle.std.specs.Io.KnownBytes.{Consumes, IsAtEnd};
+ghost use Rattle.std.specs.Prelude.{◌≡◌, ◌==◌, ◌<◌, ◌≤◌, ◌^◌, ◌-◌, ◌++◌, ℕ, List, [], length, position, take, IfOk, OnOk, Err, None};
+ghost use Rattle.std.specs.Io.KnownBytes.{Consumes, IsAtEnd, Keeps};
 ghost use Rattle.byte_streams.specs.Streams.{HasFailed};
-ghost use Rattle.registry_commands.specs.RecordLines.{Finds, HasFailedOrIsFull, ahead, last_line, of_length, unread_of};
+ghost use Rattle.registry_commands.specs.RecordLines.{Finds, HasFailedOrIsFull, HasReadTo, ahead, last_line, of_length, unread_of};
 
 use crate::input::{ReadAllFault, take_more};
 use crate::lines::line_feed;
@@ -35,6 +35,7 @@ fn fill<R: Source>(
         × Consumes (R.remaining source.old) (R.remaining source.new) more × (n ≡ 0 → IsAtEnd (R.remaining source.new))
         × (R.failures source.new ≡ R.failures source.old)) }
     ensures file { result ≡ Err ReadAllFault.File → HasFailed (R.failures source.old) (R.failures source.new) }
+    ensures same { result ≡ Err ReadAllFault.File → (unread_of unread.new ≡ unread_of unread.old) × Keeps (R.remaining source.old) (R.remaining source.new) }
     ensures memory { result ≡ Err ReadAllFault.NoMemory → R.failures source.new ≡ R.failures source.old }
     ensures lines { unread.new.lines ≡ unread.old.lines }
 {
@@ -55,8 +56,20 @@ fn of_length(size: usize) -> Found
     }
 }
 
-/// Finds the next line of the source, and passes nothing. Reads no further than needed, and never
-/// more of one line than the limit and a piece.
+/// Returns the index of the first line feed. The first `searched` bytes have none.
+fn line_feed_after(bytes: &[u8], searched: usize) -> Option<usize>
+    requires within { searched ≤ length bytes.now }
+    requires none { position (λ b. b == 10) (take searched bytes.now) ≡ None }
+    ensures { result ≡ position (λ b. b == 10) bytes.now }
+{
+    match line_feed(&bytes[searched..]) {
+        Some(more) => Some(searched + more),
+        None => None,
+    }
+}
+
+/// Finds the next line of the source, and passes nothing. Reads only while what was read is a part
+/// of the line, in pieces, and searches each byte once.
 ///
 /// # Errors
 ///
@@ -72,22 +85,25 @@ pub(crate) fn find_line<R: Source>(
     ensures countable { OnOk result (unread.old.lines < 2 ^ 64 - 1) }
     ensures kept { OnOk result (R.failures source.new ≡ R.failures source.old) }
     ensures file { result ≡ Err ReadAllFault.File → HasFailedOrIsFull (R.failures source.old) (R.failures source.new) unread.old }
+    ensures waits { result ≡ Err ReadAllFault.File → unread.old.lines < 2 ^ 64 - 1
+        → HasReadTo (ahead (R.remaining source.old) unread.old) (ahead (R.remaining source.new) unread.new) [] unread.new }
     ensures memory { result ≡ Err ReadAllFault.NoMemory → R.failures source.new ≡ R.failures source.old }
 {
     if unread.lines == u64::MAX {
         return Err(ReadAllFault::File);
     }
+    let mut searched = 0;
     loop {
-        match line_feed(unread.rest()) {
+        match line_feed_after(unread.rest(), searched) {
             Some(end) => return Ok(of_length(end)),
             None => {}
         }
-        let size = unread.rest().len();
-        if size > MOST {
+        searched = unread.rest().len();
+        if searched > MOST {
             return Ok(Found::TooLong);
         }
         if fill(alloc, source, unread)? == 0 {
-            return Ok(last_line(size));
+            return Ok(last_line(searched));
         }
     }
 }

@@ -9,11 +9,11 @@ returns-in-Some-clause-found g c =
     let it = c.loop-end.unread in
     rw c.of_length.ensures (finds_at _ _ it c.loop-end.invariant.same c.in-Some.end (rw c.rest.ensures at c.in-Some.ensures))
 
-pub returns-then-size-gt-MOST-clause-found : goal.returns-then-size-gt-MOST-clause-found
-returns-then-size-gt-MOST-clause-found g c =
+pub returns-then-searched-gt-MOST-clause-found : goal.returns-then-searched-gt-MOST-clause-found
+returns-then-searched-gt-MOST-clause-found g c =
     let it = c.loop-end.unread in
     let none : None ≡ position (λ b. b == 10) (unread_of it) = rw c.rest.ensures at c.in-None.ensures in
-    let long : 4194304 < length (unread_of it) = rw (← c.rest-size.ensures) c.if-size-gt-MOST.true in
+    let long : 4194304 < length (unread_of it) = rw (← c.rest-searched.ensures) c.if-searched-gt-MOST.true in
     too_long_so_far (unread_of it) _ _ c.loop-end.invariant.same none long
 
 pub returns-then-branch-eq0-clause-found : goal.returns-then-branch-eq0-clause-found
@@ -24,6 +24,6 @@ returns-then-branch-eq0-clause-found g c =
     let none : None ≡ position (λ b. b == 10) (unread_of old) = rw c.rest.ensures at c.in-None.ensures in
     let nothing : ok.0 ≡ [] = empty_bytes ok.0 (ok.2 ∙ c.if-branch-eq0.true) in
     let same : unread_of it ≡ unread_of old = ok.1 ∙ ap (λ (m : List ℕ). unread_of old ++ m) nothing ∙ append-nil (unread_of old) in
-    let size : length c.rest-size.result.now ≡ length (unread_of it) = ap length (c.rest-size.ensures ∙ sym same) in
-    let few : length c.rest-size.result.now ≤ 4194304 = c.if-size-gt-MOST.false in
+    let size : length c.rest-searched.result.now ≡ length (unread_of it) = ap length (c.rest-searched.ensures ∙ sym same) in
+    let few : length c.rest-searched.result.now ≤ 4194304 = c.if-searched-gt-MOST.false in
     rw c.last_line.ensures (finds_last _ _ it (filled _ _ _ (unread_of old) (unread_of it) ok.0 c.loop-end.invariant.same ok.1 ok.3) _ (rw same none) size few (ok.4 c.if-branch-eq0.true))
