@@ -1,6 +1,6 @@
 -- The blank lines before the first line of a record that says something.
 use Rattle.std.proofs.Common.{◌≡◌, ◌⊎◌, ◌∙◌, ℕ, ◌+◌, ◌-◌, ◌^◌, true, List, [], ◌∷◌, ◌++◌, length, Option, Some, None, Result, Ok, Err, refl, sym, ap, subst, arith, length-append}
-use Rattle.std.specs.Prelude.{All}
+use Rattle.std.specs.Prelude.{◌≢◌, All}
 use Rattle.std.specs.Io.KnownBytes.{Consumes}
 use Rattle.std.proofs.lemmas.List.Elements.{All-nil, All-push}
 use Rattle.byte_streams.specs.Streams.{HasFailed}
@@ -11,6 +11,7 @@ use Rattle.registry_commands.specs.declared.entries.LineRefusal.{LineRefusal}
 use Rattle.registry_commands.specs.declared.following.ReplayStop.TheVariants as stop
 use Rattle.registry_commands.specs.declared.input.ReadAllFault.{ReadAllFault}
 use Rattle.registry_commands.specs.declared.input.ReadAllFault.TheVariants as inputs
+use Rattle.registry_commands.specs.declared.messages.Failure.TheVariants.{File}
 use Rattle.registry_commands.specs.Entries.{IsNext, PassesOne, entry_in}
 use Rattle.registry_commands.specs.Messages.{input_failure}
 use Rattle.registry_commands.specs.RecordLines.{MayHaveLines, Passes}
@@ -55,6 +56,16 @@ module _ (to_come now : Option (List ℕ)) (before count : ℕ) (so_far : HasPas
     pub begins_refused : (next : Option (List ℕ)) (more number : ℕ) (why : LineRefusal) → IsNext now (says.Bad why) → number ≡ count + 1
         → Begins to_come next before more failures failures_new (Err (stop.Line number why))
     begins_refused next more number why first is = (so_far.lines, so_far.blank, omega (arith, is, so_far.counted), (first.0, first.1, so_far.passes first.0 first.2))
+
+-- the source failed, and not memory
+pub file_input : (fault : ReadAllFault) → input_failure fault ≡ File → fault ≡ inputs.File
+file_input inputs.File told = refl
+file_input inputs.NoMemory told = absurd (cc told)
+
+-- memory ran out, and the source did not fail
+pub kept_unless_file : (fault : ReadAllFault) (old mid new : ℕ) → input_failure fault ≢ File → (fault ≡ inputs.NoMemory → new ≡ mid) → mid ≡ old → new ≡ old
+kept_unless_file inputs.File old mid new other memory kept = absurd (other refl)
+kept_unless_file inputs.NoMemory old mid new other memory kept = memory refl ∙ kept
 
 -- the beginning could not be read
 pub of_record_input : (lines failures failures_new : ℕ) (fault : ReadAllFault) → (fault ≡ inputs.File → HasFailed failures failures_new ⊎ (lines ≡ 2 ^ 64 - 1)) → (fault ≡ inputs.NoMemory → failures_new ≡ failures)

@@ -29,11 +29,12 @@ use Rattle.registry_commands.specs.declared.messages.Failure.{Failure}
 use Rattle.registry_commands.specs.declared.messages.Failure.TheVariants.{File, Foreign, Memory, Poisoned, Store, Taken}
 use Rattle.registry_commands.specs.Entries.{IsFirst, entry_in, is_followed}
 use Rattle.registry_commands.specs.declared.status.ExitStatus.{ExitStatus}
+use Rattle.registry_commands.specs.declared.unread.Unread.{Unread}
 use Rattle.registry_commands.specs.declared.status.ExitStatus.TheVariants.{Failed}
 use Rattle.registry_commands.specs.Ends.{Output}
 use Rattle.registry_commands.specs.Failures.{Prints}
 use Rattle.registry_commands.specs.Messages.{failure_line}
-use Rattle.registry_commands.specs.RecordLines.{MayHaveLines, Passes}
+use Rattle.registry_commands.specs.RecordLines.{HasReadTo, MayHaveLines, Passes}
 use Rattle.registry_commands.specs.Shown.{HoldsOfHistory, IsOfReading}
 use Rattle.registry_commands.specs.Stops.{TellsStop}
 
@@ -96,6 +97,10 @@ abbrev pub IsOfRecordInput : ℕ → ℕ → ℕ → Failure → Type 0
 IsOfRecordInput lines failures failures_new File = HasFailed failures failures_new ⊎ (lines ≡ 2 ^ 64 - 1)
 IsOfRecordInput lines failures failures_new Memory = failures_new ≡ failures
 IsOfRecordInput lines failures failures_new failure = ⊥
+
+-- Blank lines were passed, and what was read after them is a part of a line.
+abbrev pub HasReadBlank : Option (List ℕ) → Option (List ℕ) → Unread → Type 0
+HasReadBlank to_come now it = (blank : List (List ℕ)) × AreBlank blank × HasReadTo to_come now blank it
 
 -- an accepted request, or the end
 abbrev pub is_later : Entry → Bool
@@ -161,6 +166,14 @@ module _ {S : Type 0} {g : Ghosts S} where
     pub come : MayHaveLines to_come lines
     pub replayed : HasReplayed lines before failures failures_new it new result
     pub endures : Endures (state_of it) (state_of new)
+
+  -- All whole lines that were read were acted on, and each got the reply that it says; what was read after them is a part of a
+  -- line.
+  pub record HasFollowed (to_come now : Option (List ℕ)) (unread : Unread) (it new : Registry S g) : Type 0 where
+    pub lines : List (List ℕ)
+    pub each : All (λ line. is_followed (entry_in line) ≡ true) lines
+    pub read : HasReadTo to_come now lines unread
+    pub replied : (h : History) → Represents it h → HasCleanDisk (state_of new) → GetTheirReplies h lines × Represents new (after_lines h lines)
 
   -- ---- with the founding
 

@@ -1,9 +1,9 @@
 //! What the lines of a record say.
 
-ghost use Rattle.std.specs.Prelude.{◌≡◌, ◌<◌, ◌≤◌, ◌-◌, ◌^◌, [], length, IfOk, OnOk, Err};
+ghost use Rattle.std.specs.Prelude.{◌≡◌, ◌<◌, ◌≤◌, ◌-◌, ◌^◌, [], length, IfOk, OnErr, OnOk, Err};
 ghost use Rattle.std.specs.Io.KnownBytes.{Consumes};
 ghost use Rattle.registry_commands.specs.Entries.{Peeks, Takes, entry_in, is_followed};
-ghost use Rattle.registry_commands.specs.RecordLines.{HasFailedOrIsFull, ahead, most_line};
+ghost use Rattle.registry_commands.specs.RecordLines.{HasFailedOrIsFull, HasReadTo, ahead, most_line};
 
 use crate::input::ReadAllFault;
 use crate::lines::is_blank;
@@ -75,6 +75,8 @@ pub(crate) fn peek<R: Source>(
     ensures countable { OnOk result (unread.old.lines < 2 ^ 64 - 1) }
     ensures kept { OnOk result (R.failures source.new ≡ R.failures source.old) }
     ensures file { result ≡ Err ReadAllFault.File → HasFailedOrIsFull (R.failures source.old) (R.failures source.new) unread.old }
+    ensures waits { result ≡ Err ReadAllFault.File → unread.old.lines < 2 ^ 64 - 1
+        → HasReadTo (ahead (R.remaining source.old) unread.old) (ahead (R.remaining source.new) unread.new) [] unread.new }
     ensures memory { result ≡ Err ReadAllFault.NoMemory → R.failures source.new ≡ R.failures source.old }
 {
     match find_line(alloc, source, unread) {
@@ -107,9 +109,12 @@ pub(crate) fn next_entry<R: Source>(
 ) -> Result<Entry, ReadAllFault>
     ensures taken { IfOk result (λ entry. Takes (ahead (R.remaining source.old) unread.old) (ahead (R.remaining source.new) unread.new)
         unread.old.lines unread.new.lines entry) }
+    ensures lines { OnErr result (unread.new.lines ≡ unread.old.lines) }
     ensures countable { OnOk result (unread.old.lines < 2 ^ 64 - 1) }
     ensures kept { OnOk result (R.failures source.new ≡ R.failures source.old) }
     ensures file { result ≡ Err ReadAllFault.File → HasFailedOrIsFull (R.failures source.old) (R.failures source.new) unread.old }
+    ensures waits { result ≡ Err ReadAllFault.File → unread.old.lines < 2 ^ 64 - 1
+        → HasReadTo (ahead (R.remaining source.old) unread.old) (ahead (R.remaining source.new) unread.new) [] unread.new }
     ensures memory { result ≡ Err ReadAllFault.NoMemory → R.failures source.new ≡ R.failures source.old }
 {
     match peek(alloc, source, unread) {

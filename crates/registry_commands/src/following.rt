@@ -8,7 +8,7 @@ ghost use Rattle.registry_rules.specs.declared.verdict.Reply.TheVariants as repl
 ghost use Rattle.registry_tables.specs.Rows.{newest};
 ghost use Rattle.registry_store.specs.Promise.{Endures, Leaves, Represents, is_poisoned, state_of};
 ghost use Rattle.registry_commands.specs.RecordLines.{ahead};
-ghost use Rattle.registry_commands.specs.Replayed.{Differs, IsOfActing, IsReplayOf};
+ghost use Rattle.registry_commands.specs.Replayed.{Differs, HasFollowed, IsOfActing, IsReplayOf};
 
 use crate::entries::{Entry, LineRefusal, next_entry};
 use crate::messages::{Failure, failure_of, input_failure};
@@ -70,7 +70,7 @@ fn follow<S: Alter>(
 }
 
 /// Acts on the accepted requests of the lines that follow, one after another, and compares each
-/// reply with the one in its line. Reads the next line once that is done.
+/// reply with the one in its line. Reads on once that is done for each whole line that was read.
 ///
 /// # Errors
 ///
@@ -83,8 +83,11 @@ pub fn follow_lines<R: Source, S: Alter>(
     unread: &mut Unread,
     registry: &mut Registry<S>,
 ) -> Result<(), ReplayStop>
-    ensures { IsReplayOf (ahead (R.remaining source.old) unread.old) unread.old.lines (R.failures source.old) (R.failures source.new)
+    ensures replays { IsReplayOf (ahead (R.remaining source.old) unread.old) unread.old.lines (R.failures source.old) (R.failures source.new)
         registry.old registry.new result }
+    ensures kept { result ≢ Err (ReplayStop.Failure Failure.File) → R.failures source.new ≡ R.failures source.old }
+    ensures waits { result ≡ Err (ReplayStop.Failure Failure.File) → unread.new.lines < 2 ^ 64 - 1
+        → HasFollowed (ahead (R.remaining source.old) unread.old) (ahead (R.remaining source.new) unread.new) unread.new registry.old registry.new }
 {
     loop {
         match next_entry(alloc, source, unread) {

@@ -1,10 +1,10 @@
 //! Replays a record over a registry: its founding, and then its accepted requests.
 
-ghost use Rattle.std.specs.Prelude.{◌≡◌, ◌≢◌, IfErr, IfOk, Ok, true, false, option_copied};
+ghost use Rattle.std.specs.Prelude.{◌≡◌, ◌≢◌, ◌<◌, ◌-◌, ◌^◌, IfErr, IfOk, Ok, Err, true, false, option_copied};
 ghost use Rattle.registry_wire.specs.Record.{founding_line};
 ghost use Rattle.registry_commands.specs.Ends.{output_of};
 ghost use Rattle.registry_commands.specs.RecordLines.{ahead};
-ghost use Rattle.registry_commands.specs.Replayed.{Begins, IsChecked, IsFollowedFrom, IsFoundOrOpen, IsLeftFound, IsOpen, IsReplayed, IsReplayedOn};
+ghost use Rattle.registry_commands.specs.Replayed.{Begins, HasReadBlank, IsChecked, IsFollowedFrom, IsFoundOrOpen, IsLeftFound, IsOpen, IsReplayed, IsReplayedOn};
 
 use crate::entries::{Entry, LineRefusal, peek};
 use crate::following::{ReplayStop, follow_lines};
@@ -22,7 +22,7 @@ use usbnum_core::NoMemory;
 
 /// Reads the founding in the first line that is not blank, and passes the lines up to it. Returns
 /// none if that line is an accepted request or if there is none, and then passes the blank lines
-/// alone.
+/// alone. Reads no further than that line and the piece that it ends in.
 ///
 /// # Errors
 ///
@@ -32,8 +32,11 @@ pub fn take_founding<R: Source>(
     source: &mut R,
     unread: &mut Unread,
 ) -> Result<Option<Founding>, ReplayStop>
-    ensures { Begins (ahead (R.remaining source.old) unread.old) (ahead (R.remaining source.new) unread.new) unread.old.lines unread.new.lines
+    ensures begins { Begins (ahead (R.remaining source.old) unread.old) (ahead (R.remaining source.new) unread.new) unread.old.lines unread.new.lines
         (R.failures source.old) (R.failures source.new) result }
+    ensures kept { result ≢ Err (ReplayStop.Failure Failure.File) → R.failures source.new ≡ R.failures source.old }
+    ensures waits { result ≡ Err (ReplayStop.Failure Failure.File) → unread.new.lines < 2 ^ 64 - 1
+        → HasReadBlank (ahead (R.remaining source.old) unread.old) (ahead (R.remaining source.new) unread.new) unread.new }
 {
     loop {
         match peek(alloc, source, unread) {

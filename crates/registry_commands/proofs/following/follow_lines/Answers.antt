@@ -1,10 +1,16 @@
 use Rattle.std.proofs.Common.{◌≡◌, ◌⊎◌, ◌∙◌, ◌+◌, ◌-◌, ◌^◌, ℕ, refl, sym, ap, subst, inl, inr, length, arith}
 use Rattle.std.specs.Prelude.{Ok, Err}
 use Rattle.byte_streams.specs.Streams.{HasFailed}
+use Rattle.registry_commands.specs.declared.following.ReplayStop.TheVariants as stop
 use Rattle.registry_commands.specs.declared.input.ReadAllFault.TheVariants as inputs
 use Rattle.registry_commands.specs.RecordLines.{ahead}
 use Rattle.registry_commands.proofs.EntryLemmas.{none_left}
 use Rattle.registry_commands.proofs.ReplayLemmas.{at_end, at_fault, at_reply, at_unread, none_yet, of_record, then_blank, then_request}
+use Rattle.registry_commands.specs.Replayed.{IsOfActing}
+use Rattle.registry_commands.specs.declared.messages.Failure.{Failure}
+use Rattle.registry_commands.specs.declared.messages.Failure.TheVariants.{File}
+use Rattle.registry_commands.proofs.BeginLemmas.{file_input, kept_unless_file}
+use Rattle.registry_commands.proofs.RecordLineLemmas.{read_on}
 use Rattle.registry_commands.proofs.following.follow_lines.Goals as goal
 
 pub loop-accepted-init : goal.loop-accepted-init
@@ -13,21 +19,21 @@ loop-accepted-init g c = record {
   kept = refl;
 }
 
-pub returns-in-Ok-End : goal.returns-in-Ok-End
-returns-in-Ok-End g c =
+pub returns-in-Ok-End-clause-replays : goal.returns-in-Ok-End-clause-replays
+returns-in-Ok-End-clause-replays g c =
     at_end _ _ _ _ _ _ c.loop-accepted.invariant.so_far (g.R.Source.failures c.args.source.now) (g.R.Source.failures c.next_entry.new.source)
     (none_left _ (rw c.in-Ok-End.field-0-is at c.in-Ok-End.ensures.taken).0)
 
-pub returns-in-Ok-Some : goal.returns-in-Ok-Some
-returns-in-Ok-Some g c =
+pub returns-in-Ok-Some-clause-replays : goal.returns-in-Ok-Some-clause-replays
+returns-in-Ok-Some-clause-replays g c =
     let taken = rw c.in-Ok-Accepted.field-0-is at c.in-Ok-Accepted.ensures.taken in
     at_reply _ _ _ _ _ _ c.loop-accepted.invariant.so_far (g.R.Source.failures c.args.source.now) (g.R.Source.failures c.next_entry.new.source)
     c.lines.result c.in-Ok-Some.reply c.in-Ok-Accepted.accepted c.follow.new.registry _ taken.0 (c.lines.ensures ∙ taken.1)
     (λ h stands clean. rw c.in-Ok-Some.field-0-is at (c.in-Ok-Some.ensures.replied h stands clean))
     (c.in-Ok-Some.ensures.other c.in-Ok-Some.reply c.in-Ok-Some.field-0-is) c.in-Ok-Some.ensures.endures
 
-pub returns-in-Err : goal.returns-in-Err
-returns-in-Err g c =
+pub returns-in-Err-clause-replays : goal.returns-in-Err-clause-replays
+returns-in-Err-clause-replays g c =
     let so_far = c.loop-accepted.invariant.so_far in
     let before = g.R.Source.failures c.args.source.now in
     let after = g.R.Source.failures c.next_entry.new.source in
@@ -38,8 +44,29 @@ returns-in-Err g c =
     ] in
     rw c.input_failure.ensures (at_unread _ _ _ _ _ _ so_far before after _ (of_record (c.args.unread.now.lines + length so_far.front) before after c.args.registry.now c.loop-accepted.registry c.in-Err.fault so_far.sound failed))
 
-pub returns-in-Err-follow : goal.returns-in-Err-follow
-returns-in-Err-follow g c =
+pub returns-in-Err-clause-kept : goal.returns-in-Err-clause-kept
+returns-in-Err-clause-kept g c = λ other.
+    kept_unless_file c.in-Err.fault _ _ _ (λ is. other (ap (λ (f : Failure). Err (stop.Failure f)) (c.input_failure.ensures ∙ is)))
+    (λ is. c.in-Err.ensures.memory (ap Err is)) c.loop-accepted.invariant.kept
+
+pub returns-in-Err-clause-waits : goal.returns-in-Err-clause-waits
+returns-in-Err-clause-waits g c = λ told few.
+    let so_far = c.loop-accepted.invariant.so_far in
+    let is : c.in-Err.fault ≡ inputs.File = file_input c.in-Err.fault (sym c.input_failure.ensures ∙ cc told) in
+    record {
+      lines = so_far.front;
+      each = so_far.each;
+      read = read_on _ _ _ so_far.front c.next_entry.new.unread so_far.passed (c.in-Err.ensures.waits (ap Err is) (omega (arith, few, c.in-Err.ensures.lines)));
+      replied = so_far.replied;
+    }
+
+pub returns-in-Err-follow-clause-waits : goal.returns-in-Err-follow-clause-waits
+returns-in-Err-follow-clause-waits g c = λ told few.
+    let is : c.in-Err-follow.failure ≡ File = cc told in
+    absurd (subst (IsOfActing c.loop-accepted.registry c.follow.new.registry) is c.in-Err-follow.ensures.failure)
+
+pub returns-in-Err-follow-clause-replays : goal.returns-in-Err-follow-clause-replays
+returns-in-Err-follow-clause-replays g c =
     let taken = rw c.in-Ok-Accepted.field-0-is at c.in-Ok-Accepted.ensures.taken in
     at_fault _ _ _ _ _ _ c.loop-accepted.invariant.so_far (g.R.Source.failures c.args.source.now) (g.R.Source.failures c.next_entry.new.source)
     c.in-Err-follow.failure c.in-Ok-Accepted.accepted c.follow.new.registry _ taken.0 c.in-Err-follow.ensures.crash c.in-Err-follow.ensures.failure c.in-Err-follow.ensures.endures

@@ -1,10 +1,13 @@
-use Rattle.std.proofs.Common.{◌≡◌, ◌⊎◌, ◌∙◌, ◌+◌, ◌-◌, ◌^◌, ℕ, refl, sym, ap, subst, inl, inr}
+use Rattle.std.proofs.Common.{◌≡◌, ◌⊎◌, ◌∙◌, ◌+◌, ◌-◌, ◌^◌, ℕ, refl, sym, ap, subst, inl, inr, arith}
 use Rattle.std.specs.Prelude.{Err}
 use Rattle.byte_streams.specs.Streams.{HasFailed}
 use Rattle.registry_commands.specs.declared.entries.Entry.TheVariants as says
+use Rattle.registry_commands.specs.declared.following.ReplayStop.TheVariants as stop
 use Rattle.registry_commands.specs.declared.input.ReadAllFault.TheVariants as inputs
+use Rattle.registry_commands.specs.declared.messages.Failure.{Failure}
 use Rattle.registry_commands.specs.RecordLines.{ahead}
-use Rattle.registry_commands.proofs.BeginLemmas.{begins_founding, begins_later, begins_refused, nothing_passed, of_record_input, one_passed}
+use Rattle.registry_commands.proofs.BeginLemmas.{begins_founding, begins_later, begins_refused, file_input, kept_unless_file, nothing_passed, of_record_input, one_passed}
+use Rattle.registry_commands.proofs.RecordLineLemmas.{read_on}
 use Rattle.registry_commands.proofs.replaying.take_founding.Goals as goal
 
 pub loop-entry-init : goal.loop-entry-init
@@ -18,27 +21,27 @@ loop-entry-preserved g c =
       kept = c.in-Ok.ensures.kept ∙ c.loop-entry.invariant.kept;
     }
 
-pub returns-in-Founding : goal.returns-in-Founding
-returns-in-Founding g c =
+pub returns-in-Founding-clause-begins : goal.returns-in-Founding-clause-begins
+returns-in-Founding-clause-begins g c =
     let found = rw c.in-Founding.is at c.in-Ok.ensures.found in
     begins_founding _ _ _ _ c.loop-entry.invariant.so_far (g.R.Source.failures c.args.source.now) (g.R.Source.failures c.peek.new.source) _ _ c.in-Founding.founding (rw c.pass-in-Founding.ensures.rest (found.passed tt)) (c.pass-in-Founding.ensures.lines ∙ ap (λ (n : ℕ). n + 1) c.in-Ok.ensures.lines)
 
-pub returns-in-Bad : goal.returns-in-Bad
-returns-in-Bad g c =
+pub returns-in-Bad-clause-begins : goal.returns-in-Bad-clause-begins
+returns-in-Bad-clause-begins g c =
     let found = rw c.in-Bad.is at c.in-Ok.ensures.found in
     begins_refused _ _ _ _ c.loop-entry.invariant.so_far (g.R.Source.failures c.args.source.now) (g.R.Source.failures c.peek.new.source)
     (ahead (g.R.Source.remaining c.peek.new.source) c.peek.new.unread) c.peek.new.unread.lines _ c.in-Bad.refusal found.next (ap (λ (n : ℕ). n + 1) (c.lines.ensures ∙ c.in-Ok.ensures.lines))
 
-pub returns-in-Accepted : goal.returns-in-Accepted
-returns-in-Accepted g c =
+pub returns-in-Accepted-clause-begins : goal.returns-in-Accepted-clause-begins
+returns-in-Accepted-clause-begins g c =
     begins_later _ _ _ _ c.loop-entry.invariant.so_far (g.R.Source.failures c.args.source.now) (g.R.Source.failures c.peek.new.source) _ _ c.in-Ok.entry c.in-Ok.ensures.same c.in-Ok.ensures.found.next (rw c.in-Accepted.is refl) c.in-Ok.ensures.lines
 
-pub returns-in-End : goal.returns-in-End
-returns-in-End g c =
+pub returns-in-End-clause-begins : goal.returns-in-End-clause-begins
+returns-in-End-clause-begins g c =
     begins_later _ _ _ _ c.loop-entry.invariant.so_far (g.R.Source.failures c.args.source.now) (g.R.Source.failures c.peek.new.source) _ _ c.in-Ok.entry c.in-Ok.ensures.same c.in-Ok.ensures.found.next (rw c.in-End.is refl) c.in-Ok.ensures.lines
 
-pub returns-in-Err : goal.returns-in-Err
-returns-in-Err g c =
+pub returns-in-Err-clause-begins : goal.returns-in-Err-clause-begins
+returns-in-Err-clause-begins g c =
     let before = g.R.Source.failures c.args.source.now in
     let after = g.R.Source.failures c.peek.new.source in
     let failed : c.in-Err.fault ≡ inputs.File → HasFailed before after ⊎ (c.peek.new.unread.lines ≡ 2 ^ 64 - 1) = λ is.
@@ -47,3 +50,14 @@ returns-in-Err g c =
       | inr full ↦ inr (c.in-Err.ensures.lines ∙ full)
     ] in
     rw c.input_failure.ensures (of_record_input c.peek.new.unread.lines before after c.in-Err.fault failed (λ is. c.in-Err.ensures.memory (ap Err is) ∙ c.loop-entry.invariant.kept))
+
+pub returns-in-Err-clause-kept : goal.returns-in-Err-clause-kept
+returns-in-Err-clause-kept g c = λ other.
+    kept_unless_file c.in-Err.fault _ _ _ (λ is. other (ap (λ (f : Failure). Err (stop.Failure f)) (c.input_failure.ensures ∙ is)))
+    (λ is. c.in-Err.ensures.memory (ap Err is)) c.loop-entry.invariant.kept
+
+pub returns-in-Err-clause-waits : goal.returns-in-Err-clause-waits
+returns-in-Err-clause-waits g c = λ told few.
+    let so_far = c.loop-entry.invariant.so_far in
+    let is : c.in-Err.fault ≡ inputs.File = file_input c.in-Err.fault (sym c.input_failure.ensures ∙ cc told) in
+    (so_far.lines, so_far.blank, read_on _ _ _ so_far.lines c.peek.new.unread so_far.passes (c.in-Err.ensures.waits (ap Err is) (omega (arith, few, c.in-Err.ensures.lines))))

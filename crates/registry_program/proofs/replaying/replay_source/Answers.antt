@@ -9,7 +9,7 @@ returns-in-Ok-Some g c out = record {
   begun = c.take_founding.new.unread;
   first = Ok (Some c.in-Ok-Some.founding);
   begins = begun_fresh _ _ c.new-unread.result _ (g.R.Source.failures c.args.source.now) (g.R.Source.failures c.take_founding.new.source) (Ok (Some c.in-Ok-Some.founding))
-      c.new-unread.ensures.empty c.new-unread.ensures.first (rw c.in-Ok-Some.field-0-is at c.in-Ok-Some.ensures);
+      c.new-unread.ensures.empty c.new-unread.ensures.first (rw c.in-Ok-Some.field-0-is at c.in-Ok-Some.ensures.begins);
   goes_on = c.replay_in.ensures out;
 }
 
@@ -19,7 +19,7 @@ returns-in-Ok-None g c out = record {
   begun = c.take_founding.new.unread;
   first = Ok None;
   begins = begun_fresh _ _ c.new-unread.result _ (g.R.Source.failures c.args.source.now) (g.R.Source.failures c.take_founding.new.source) (Ok None)
-      c.new-unread.ensures.empty c.new-unread.ensures.first (rw c.in-Ok-None.field-0-is at c.in-Ok-None.ensures);
+      c.new-unread.ensures.empty c.new-unread.ensures.first (rw c.in-Ok-None.field-0-is at c.in-Ok-None.ensures.begins);
   goes_on = c.replay_over.ensures out;
 }
 
@@ -29,6 +29,6 @@ returns g c out = record {
   begun = c.take_founding.new.unread;
   first = Err c.in-Err.stop;
   begins = begun_fresh _ (ahead (g.R.Source.remaining c.take_founding.new.source) c.take_founding.new.unread) c.new-unread.result _
-      (g.R.Source.failures c.args.source.now) (g.R.Source.failures c.take_founding.new.source) (Err c.in-Err.stop) c.new-unread.ensures.empty c.new-unread.ensures.first c.in-Err.ensures;
+      (g.R.Source.failures c.args.source.now) (g.R.Source.failures c.take_founding.new.source) (Err c.in-Err.stop) c.new-unread.ensures.empty c.new-unread.ensures.first c.in-Err.ensures.begins;
   goes_on = (refl, refl, c.tell_stop.ensures);
 }
