@@ -1,15 +1,18 @@
--- A connection that shows the rows of a history has the table meta. Which fault the failure Foreign tells.
+-- A connection that shows the rows of a history has the table meta. What an opening or a founding that failed leaves.
 use Rattle.std.proofs.Common.{◌≡◌, ◌⊎◌, ◌∙◌, inl, inr, false, refl, true≢false, ℕ, IsTrue, true, ap, arith, subst, sym}
 use Rattle.sqlite.specs.Held.{Held, state}
-use Rattle.sqlite.specs.State.{State, HasCleanDisk, IsLive}
+use Rattle.sqlite.specs.State.{State, HasCleanDisk, IsLive, Survives}
 use Rattle.sqlite.specs.Store.{Ghosts}
 use Rattle.sqlite.specs.Tree.{Trees}
 use Rattle.sqlite_schema.specs.declared.schema.Schema.{Schema}
 use Rattle.registry_schema.specs.Meta.{has_meta_table}
 use Rattle.registry_schema.proofs.VersionLemmas.{has_schema_1, has_schema_2, has_schema_3, meta_first, meta_second, meta_third}
 use Rattle.std.specs.Prelude.{◌≢◌}
+use Rattle.table_laws.specs.Inside.{CommitsNothing}
+use Rattle.registry_rules.specs.declared.founding.Founding.{Founding}
 use Rattle.registry_rules.specs.History.{History}
 use Rattle.registry_rows.specs.Tables.{Tables}
+use Rattle.registry_tables.specs.Raising.{CommitsLater, IsNamedOlder}
 use Rattle.registry_tables.specs.Rows.{HasValues, Rows}
 use Rattle.registry_store.specs.declared.fault.Fault.{Fault}
 use Rattle.registry_store.specs.declared.fault.Fault.TheVariants as faults
@@ -17,7 +20,8 @@ use Rattle.registry_store.specs.Promise.{IsFreshAt, LeavesLater}
 use Rattle.registry_commands.specs.declared.messages.Failure.{Failure}
 use Rattle.registry_commands.specs.declared.messages.Failure.TheVariants.{Foreign}
 use Rattle.registry_commands.specs.Messages.{failure_of}
-use Rattle.registry_commands.specs.Replayed.{IsLeftFound}
+use Rattle.registry_commands.specs.Failures.{IsOfOpening}
+use Rattle.registry_commands.specs.Replayed.{CommitsFirst, CommitsIfEmpty, CommitsIfOlder, IsLeft, IsLeftFound}
 use Rattle.registry_store.proofs.OpeningLemmas.{at_rest}
 
 has_meta : (vid version : ℕ) (t : Tables) (s : State) → IsLive s → IsTrue s.is_open → HasValues version vid s.now.trees t → has_meta_table s.now.schema ≡ true
@@ -42,13 +46,6 @@ fresh_leaves g conn version h settled fresh clean db may =
     let left = (at_rest g conn version h settled fresh).left clean db may in
     (version, omega arith, subst (λ (x : History). Rows version db x) left.1 left.2)
 
-taken_or : (fault : Fault) → (fault ≡ faults.Taken) ⊎ (fault ≢ faults.Taken)
-taken_or faults.Taken = inl refl
-taken_or faults.Store = inr (λ e. absurd cc)
-taken_or faults.NoMemory = inr (λ e. absurd cc)
-taken_or faults.Foreign = inr (λ e. absurd cc)
-taken_or faults.Poisoned = inr (λ e. absurd cc)
-
 -- the failure is Foreign only for that fault
 pub foreign_fault : (fault : Fault) → failure_of fault ≡ Foreign → fault ≡ faults.Foreign
 foreign_fault faults.Foreign told = refl
@@ -57,21 +54,63 @@ foreign_fault faults.NoMemory told = absurd (cc told)
 foreign_fault faults.Taken told = absurd (cc told)
 foreign_fault faults.Poisoned told = absurd (cc told)
 
--- a founding that fails where the connection shows a history leaves the connection as it was
-pub left_found : {S : Type 0} (g : Ghosts S) (conn last : Held S) (fault : Fault) (failure : Failure) → failure ≡ failure_of fault → fault ≢ faults.Foreign
-    → ((s : S) (db : Trees) → IsTrue (g.view s).is_open → g.recovers s db → db ≡ (g.view s).committed)
-    → (fault ≡ faults.Taken → last ≡ conn) → (fault ≢ faults.Taken → (has_meta_table (state g conn).now.schema ≡ false) ⊎ IsTrue conn.in_transaction)
-    → (IsTrue conn.in_transaction → last ≡ conn) → (HasCleanDisk (state g last) → HasCleanDisk (state g conn)) → IsLeftFound g conn failure last
-left_found {S} g conn last fault failure failure_is other settled taken untaken busy was = record {
-  leaves = λ live version h legal fresh clean.
-      let same : last ≡ conn = elim (taken_or fault) [
-        | inl is ↦ taken is
-        | inr not ↦ elim (untaken not) [
-          | inl none ↦ absurd (true≢false (sym (fresh_meta version (state g conn) h live fresh (was clean)) ∙ none))
-          | inr inside ↦ busy inside
-        ]
-      ] in
-      subst (λ (c : Held S). LeavesLater version (state g c) h) (sym same) (fresh_leaves g conn version h settled fresh (was clean));
-  clean = was;
-  foreign = λ told. absurd (other (foreign_fault fault (sym failure_is ∙ told)));
+-- what a fault that is neither of these two is told as
+pub of_opening : (fault : Fault) → fault ≢ faults.Poisoned → fault ≢ faults.Taken → IsOfOpening (failure_of fault)
+of_opening faults.Store sound free = tt
+of_opening faults.NoMemory sound free = tt
+of_opening faults.Foreign sound free = tt
+of_opening faults.Taken sound free = absurd (free refl)
+of_opening faults.Poisoned sound free = absurd (sound refl)
+
+-- ---- what was committed
+
+pub survives_as : (old new : State) (P R : Trees → Type 0) → ((db : Trees) → P db → R db) → Survives old new P → Survives old new R
+survives_as old new P R more is = record {
+  clean = is.clean;
+  shield = is.shield;
+  counts = is.counts;
+  limit = is.limit;
+  closes = is.closes;
+  crash = λ clean db may. elim (is.crash clean db may) [ inl before ↦ inl before | inr made ↦ inr (more db made) ];
 }
+
+pub if_older : (old new : State) → Survives old new (CommitsLater old) → IsNamedOlder old ⊎ CommitsNothing old new → Survives old new (CommitsIfOlder old)
+if_older old new later named = elim named [
+  | inl older ↦ survives_as old new (CommitsLater old) (CommitsIfOlder old) (λ db made. (older, made)) later
+  | inr nothing ↦ survives_as old new (λ db. ⊥) (CommitsIfOlder old) (λ db none. absurd none) nothing
+]
+
+module _ {S : Type 0} (g : Ghosts S) (conn : Held S) (founding : Founding) where
+  module _ (there : Held S) (same : there ≡ conn) where
+    left_same : (failure : Failure) (last : Held S) → IsLeft g (CommitsIfOlder (state g conn)) conn failure last → IsLeftFound g conn founding failure last
+    left_same failure last is = record {
+      kind = is.kind;
+      survives = survives_as _ _ (CommitsIfOlder (state g conn)) (CommitsFirst founding (state g conn)) (λ db made. inr made) is.survives;
+      leaves = is.leaves;
+      clean = is.clean;
+      foreign = is.foreign;
+    }
+
+    -- the registry that is there could not be opened
+    pub left_there : (failure : Failure) (last : Held S) → IsLeft g (CommitsIfOlder (state g there)) there failure last → IsLeftFound g conn founding failure last
+    left_there failure last is = left_same failure last (subst (λ (c : Held S). IsLeft g (CommitsIfOlder (state g c)) c failure last) same is)
+
+  -- A founding failed. Where the connection shows a history it is left as it was.
+  pub left_found : (last : Held S) (fault : Fault) (failure : Failure) → failure ≡ failure_of fault → (fault ≢ faults.Poisoned) × (fault ≢ faults.Foreign) → fault ≢ faults.Taken
+      → ((s : S) (db : Trees) → IsTrue (g.view s).is_open → g.recovers s db → db ≡ (g.view s).committed)
+      → (has_meta_table (state g conn).now.schema ≡ false) ⊎ IsTrue conn.in_transaction → (IsTrue conn.in_transaction → last ≡ conn)
+      → Survives (state g conn) (state g last) (CommitsIfEmpty founding (state g conn)) → IsLeftFound g conn founding failure last
+  left_found last fault failure failure_is kind free settled untaken busy survives =
+      let was : HasCleanDisk (state g last) → HasCleanDisk (state g conn) = λ clean. omega (arith, survives.clean, clean) in
+      record {
+        kind = subst IsOfOpening (sym failure_is) (of_opening fault kind.0 free);
+        survives = survives_as _ _ (CommitsIfEmpty founding (state g conn)) (CommitsFirst founding (state g conn)) (λ db made. inl made) survives;
+        leaves = λ live version h legal fresh clean.
+            let same : last ≡ conn = elim untaken [
+              | inl none ↦ absurd (true≢false (sym (fresh_meta version (state g conn) h live fresh (was clean)) ∙ none))
+              | inr inside ↦ busy inside
+            ] in
+            subst (λ (c : Held S). LeavesLater version (state g c) h) (sym same) (fresh_leaves g conn version h settled fresh (was clean));
+        clean = was;
+        foreign = λ told. absurd (kind.1 (foreign_fault fault (sym failure_is ∙ told)));
+      }

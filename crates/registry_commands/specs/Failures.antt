@@ -5,7 +5,7 @@ use Rattle.sqlite.specs.declared.error.Error.TheVariants.{SqliteFailure}
 use Rattle.sqlite.specs.declared.error.ErrorCode.TheVariants.{OutOfMemory}
 use Rattle.byte_streams.specs.Streams.{HasFailed, most_bytes}
 use Rattle.registry_commands.specs.declared.messages.Failure.{Failure}
-use Rattle.registry_commands.specs.declared.messages.Failure.TheVariants.{Store, Memory, File}
+use Rattle.registry_commands.specs.declared.messages.Failure.TheVariants.{File, Memory, Poisoned, Store, Taken}
 use Rattle.registry_commands.specs.Ends.{Receives, ReceivesNothing, ReceivesPrefix, Output}
 use Rattle.registry_commands.specs.Messages.{failure_line}
 
@@ -28,6 +28,13 @@ IsTooLong bytes = most_bytes < length bytes
 -- the store failed or was out of memory
 abbrev pub IsOfStore : Failure → Type 0
 IsOfStore failure = (failure ≡ Store) ⊎ (failure ≡ Memory)
+
+-- a failure to open a registry, or to found one where there is none: Store, Memory or Foreign
+abbrev pub IsOfOpening : Failure → Type 0
+IsOfOpening File = ⊥
+IsOfOpening Taken = ⊥
+IsOfOpening Poisoned = ⊥
+IsOfOpening _ = ⊤
 
 -- The failures of closing a store, by the errors that may stop it. Memory: the store was out of memory. Store: another error.
 abbrev pub IsOfClosing : (Error → Type 0) → Failure → Type 0

@@ -2,7 +2,9 @@
 use Rattle.std.specs.Prelude.{◌≡◌, ◌≢◌, ◌⊎◌, ◌+◌, ◌^◌, ◌-◌, ⊤, ℕ, Bool, true, false, All, List, [], ◌∷◌, ◌++◌, length, map, Option, Some, None, Result, Ok, Err}
 use Rattle.sqlite.specs.Store.{Ghosts}
 use Rattle.sqlite.specs.Held.{Held, state}
-use Rattle.sqlite.specs.State.{HasCleanDisk, IsLive}
+use Rattle.sqlite.specs.State.{State, HasCleanDisk, IsLive, Survives}
+use Rattle.sqlite.specs.Tree.{Trees}
+use Rattle.table_laws.specs.Making.{no_schema}
 use Rattle.byte_streams.specs.Streams.{HasFailed}
 use Rattle.registry_rules.specs.declared.accepted.Accepted.{Accepted}
 use Rattle.registry_rules.specs.declared.order.Request.{Request}
@@ -14,6 +16,7 @@ use Rattle.registry_rules.specs.History.{History, founded}
 use Rattle.registry_rules.specs.Run.{Legal, after, after_one, replies_to, reply_to}
 use Rattle.registry_tables.specs.Rows.{Rows, newest}
 use Rattle.registry_tables.specs.Calls.{HasNoMeta}
+use Rattle.registry_tables.specs.Raising.{CommitsLater, IsNamedOlder}
 use Rattle.registry_store.specs.declared.fault.Fault.TheVariants as faults
 use Rattle.registry_store.specs.declared.registry.Registry.{Registry}
 use Rattle.registry_store.specs.Promise.{Endures, IsFreshAt, Leaves, LeavesLater, Represents, connection_of, is_poisoned, poisoned_by, state_of}
@@ -32,7 +35,7 @@ use Rattle.registry_commands.specs.declared.status.ExitStatus.{ExitStatus}
 use Rattle.registry_commands.specs.declared.unread.Unread.{Unread}
 use Rattle.registry_commands.specs.declared.status.ExitStatus.TheVariants.{Failed}
 use Rattle.registry_commands.specs.Ends.{Output}
-use Rattle.registry_commands.specs.Failures.{Prints}
+use Rattle.registry_commands.specs.Failures.{IsOfOpening, Prints}
 use Rattle.registry_commands.specs.Messages.{failure_line}
 use Rattle.registry_commands.specs.RecordLines.{HasReadTo, MayHaveLines, Passes}
 use Rattle.registry_commands.specs.Shown.{HoldsOfHistory, IsOfReading}
@@ -207,28 +210,52 @@ module _ {S : Type 0} {g : Ghosts S} where
 
 -- ---- from a connection
 
+-- what an opening may commit: the rows of the same history in this schema or a later one, if the tables have the names of an older
+-- schema
+abbrev pub CommitsIfOlder : State → Trees → Type 0
+CommitsIfOlder old db = IsNamedOlder old × CommitsLater old db
+
+-- what a founding may commit: the rows of the new registry, if the database has no tables
+abbrev pub CommitsIfEmpty : Founding → State → Trees → Type 0
+CommitsIfEmpty founding old db = (old.now.schema ≡ no_schema) × Rows newest db (founded founding)
+
+-- what may be committed where a registry is founded or opened
+abbrev pub CommitsFirst : Founding → State → Trees → Type 0
+CommitsFirst founding old db = CommitsIfEmpty founding old db ⊎ CommitsIfOlder old db
+
 module _ {S : Type 0} (g : Ghosts S) where
   -- the registry is the one that the connection shows, in any schema
   pub record IsOpen (conn : Held S) (it : Registry S g) : Type 0 where
+    pub survives : Survives (state g conn) (state_of it) (CommitsIfOlder (state g conn))
     pub opened : (version : ℕ) (h : History) → Legal h → IsFreshAt version (state g conn) h → HasCleanDisk (state_of it) → Represents it h
     pub clean : HasCleanDisk (state_of it) → HasCleanDisk (state g conn)
 
-  -- The registry is the one that the connection shows, in any schema; and if it shows none, the registry was founded like this.
+  -- The registry is the one that the connection shows, in any schema; and if it shows none, the registry was founded like this,
+  -- in a database without tables.
   pub record IsFoundOrOpen (conn : Held S) (founding : Founding) (it : Registry S g) : Type 0 where
+    pub survives : Survives (state g conn) (state_of it) (CommitsFirst founding (state g conn))
+    pub empty : HasNoMeta (state g conn).now → (state g conn).now.schema ≡ no_schema
     pub opened : IsLive (state g conn) → (version : ℕ) (h : History) → Legal h → IsFreshAt version (state g conn) h → HasCleanDisk (state_of it) → Represents it h
     pub founds : HasNoMeta (state g conn).now → HasCleanDisk (state_of it) → Represents it (founded founding)
     pub clean : HasCleanDisk (state_of it) → HasCleanDisk (state g conn)
 
-  -- It could not be opened or founded, for this failure: what the connection shows is left, in its schema or a later one.
-  -- Foreign only if it shows the rows of no legal history.
-  pub record IsLeftFound (conn : Held S) (failure : Failure) (last : Held S) : Type 0 where
+  -- It could not be opened, for this failure, and at most this was committed: what the connection shows is left, in its schema or
+  -- a later one. Foreign only if it shows the rows of no legal history.
+  pub record IsLeft (Commits : Trees → Type 0) (conn : Held S) (failure : Failure) (last : Held S) : Type 0 where
+    pub kind : IsOfOpening failure
+    pub survives : Survives (state g conn) (state g last) Commits
     pub leaves : IsLive (state g conn) → (version : ℕ) (h : History) → Legal h → IsFreshAt version (state g conn) h → HasCleanDisk (state g last) → LeavesLater version (state g last) h
     pub clean : HasCleanDisk (state g last) → HasCleanDisk (state g conn)
     pub foreign : failure ≡ Foreign → HasCleanDisk (state g last) → (version : ℕ) (h : History) → Legal h → ¬ Rows version (state g conn).now.trees h
+
+  -- It could neither be founded like this nor opened. Nothing is committed in a database that has tables, unless they have the
+  -- names of an older schema.
+  abbrev pub IsLeftFound : Held S → Founding → Failure → Held S → Type 0
+  IsLeftFound conn founding failure last = IsLeft (CommitsFirst founding (state g conn)) conn failure last
 
   -- The registry was founded or opened, and the record replayed over it; or neither could be done.
   abbrev pub IsReplayedOn : Founding → Option (List ℕ) → ℕ → ℕ → ℕ → Held S → Held S → Output → ExitStatus → Type 0
   IsReplayedOn founding to_come before failures failures_new conn last errors status =
       ((it : Registry S g) × (after : Registry S g) × IsFoundOrOpen conn founding it × (last ≡ connection_of after)
       × IsReplayed (Some founding) to_come before failures failures_new it after errors status)
-      ⊎ ((failure : Failure) × IsLeftFound conn failure last × (status ≡ Failed) × Prints errors (failure_line failure))
+      ⊎ ((failure : Failure) × IsLeftFound conn founding failure last × (status ≡ Failed) × Prints errors (failure_line failure))

@@ -1,10 +1,11 @@
 //! Replays a record over a registry: its founding, and then its accepted requests.
 
 ghost use Rattle.std.specs.Prelude.{◌≡◌, ◌≢◌, ◌<◌, ◌-◌, ◌^◌, IfErr, IfOk, Ok, Err, true, false, option_copied};
+ghost use Rattle.sqlite.specs.Held.{state};
 ghost use Rattle.registry_wire.specs.Record.{founding_line};
 ghost use Rattle.registry_commands.specs.Ends.{output_of};
 ghost use Rattle.registry_commands.specs.RecordLines.{ahead};
-ghost use Rattle.registry_commands.specs.Replayed.{Begins, HasReadBlank, IsChecked, IsFollowedFrom, IsFoundOrOpen, IsLeftFound, IsOpen, IsReplayed, IsReplayedOn};
+ghost use Rattle.registry_commands.specs.Replayed.{Begins, CommitsIfOlder, HasReadBlank, IsChecked, IsFollowedFrom, IsFoundOrOpen, IsLeft, IsLeftFound, IsOpen, IsReplayed, IsReplayedOn};
 
 use crate::entries::{Entry, LineRefusal, peek};
 use crate::following::{ReplayStop, follow_lines};
@@ -142,7 +143,7 @@ fn open_there<S: Alter>(
     conn: Connection<S>,
 ) -> Result<Registry<S>, (Failure, Connection<S>)>
     ensures ok { IfOk result (IsOpen S.Store conn) }
-    ensures err { IfErr result (λ e. IsLeftFound S.Store conn e.0 e.1) }
+    ensures err { IfErr result (λ e. IsLeft S.Store (CommitsIfOlder (state S.Store conn)) conn e.0 e.1) }
 {
     match Registry::open(alloc, conn) {
         Ok(registry) => Ok(registry),
@@ -157,20 +158,25 @@ fn found_or_open<S: Alter>(
     founding: &Founding,
 ) -> Result<Registry<S>, (Failure, Connection<S>)>
     ensures ok { IfOk result (IsFoundOrOpen S.Store conn founding.now) }
-    ensures err { IfErr result (λ e. IsLeftFound S.Store conn e.0 e.1) }
+    ensures err { IfErr result (λ e. IsLeftFound S.Store conn founding.now e.0 e.1) }
 {
     match Registry::found(alloc, conn, founding) {
         Ok(registry) => Ok(registry),
-        Err((Fault::Taken, conn)) => match open_there(alloc, conn) {
-            Ok(registry) => Ok(registry),
-            Err(left) => Err(left),
+        Err((fault, conn)) => match fault {
+            Fault::Taken => match open_there(alloc, conn) {
+                Ok(registry) => Ok(registry),
+                Err(left) => Err(left),
+            },
+            _ => Err((failure_of(fault), conn)),
         },
-        Err((fault, conn)) => Err((failure_of(fault), conn)),
     }
 }
 
 /// Replays a record that begins with this founding over a connection: founds the registry if there
 /// is none. Returns the exit status, as `replay` does, and the connection.
+///
+/// The status is also `Failed` if a registry could neither be founded nor opened, and then the error
+/// output says whether the store failed, memory ran out, or the store holds no registry.
 pub fn replay_on<R: Source, S: Alter, E: Sink>(
     alloc: Global,
     source: &mut R,

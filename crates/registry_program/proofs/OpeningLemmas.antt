@@ -22,10 +22,10 @@ use Rattle.registry_commands.specs.declared.messages.Failure.TheVariants.{Foreig
 use Rattle.registry_commands.specs.declared.status.ExitStatus.{ExitStatus}
 use Rattle.registry_commands.specs.declared.status.ExitStatus.TheVariants.{Success, Failed}
 use Rattle.registry_commands.specs.Ends.{output_of, sunk}
-use Rattle.registry_commands.specs.Failures.{IsOfClosing, IsOfStore, PrintsFailure}
+use Rattle.registry_commands.specs.Failures.{IsOfClosing, IsOfOpening, IsOfStore, PrintsFailure}
 use Rattle.registry_commands.specs.Messages.{failure_of}
 use Rattle.registry_program.specs.declared.host.Host as host
-use Rattle.registry_program.specs.Opening.{IsConnectedTo, IsOfOpening}
+use Rattle.registry_program.specs.Opening.{IsConnectedTo}
 use Rattle.registry_program.specs.Stores.{IsClosed}
 
 -- the fault of opening a registry is one of its failures

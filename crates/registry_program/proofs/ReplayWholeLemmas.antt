@@ -251,12 +251,13 @@ module _ {H F I : Type 0} (m : host.Ghosts H F I) (d : disk.Ghosts F) where
                 ));
           }
 
-      unreplayed : ends.status ≡ on.before → on.before ≡ Failed → (failure : Failure) → IsLeftFound over_files on.conn failure on.last
+      unreplayed : ends.status ≡ on.before → on.before ≡ Failed → (failure : Failure) → IsLeftFound over_files on.conn founding failure on.last
           → Prints (earlier ends on.errors on.before).errors (failure_line failure) → IsUnreplayed m d old new path ends
       unreplayed same failed failure left prints = record {
         files = on.closes.files;
         used = used_in;
         failure = failure;
+        kind = left.kind;
         fails = (
           on.silent,
           same ∙ failed,

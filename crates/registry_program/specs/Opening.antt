@@ -21,14 +21,7 @@ use Rattle.registry_store.specs.declared.registry.Registry.{Registry}
 use Rattle.registry_store.specs.Promise.{Represents, state_of}
 use Rattle.registry_store.specs.Files.{AreClosed, FilesHoldEither, HoldEither, IsEither}
 use Rattle.registry_commands.specs.declared.messages.Failure.{Failure}
-use Rattle.registry_commands.specs.declared.messages.Failure.TheVariants.{File, Foreign, Memory, Poisoned, Store, Taken}
-
--- a failure to open a registry in files that were opened: Store, Memory or Foreign
-abbrev pub IsOfOpening : Failure → Type 0
-IsOfOpening File = ⊥
-IsOfOpening Taken = ⊥
-IsOfOpening Poisoned = ⊥
-IsOfOpening _ = ⊤
+use Rattle.registry_commands.specs.declared.messages.Failure.TheVariants.{File, Foreign, Memory, Store}
 
 -- a failure to open the files of a store: File only if it might not be made
 abbrev pub IsOfFiles : Bool → Failure → Type 0

@@ -16,9 +16,9 @@ use Rattle.registry_commands.specs.declared.messages.Failure.{Failure}
 use Rattle.registry_commands.specs.declared.status.ExitStatus.{ExitStatus}
 use Rattle.registry_commands.specs.declared.status.ExitStatus.TheVariants.{Success, Failed}
 use Rattle.registry_commands.specs.Ends.{Ends, Sunk}
-use Rattle.registry_commands.specs.Failures.{IsOfClosing, IsOfStore, PrintsFailure}
+use Rattle.registry_commands.specs.Failures.{IsOfClosing, IsOfOpening, IsOfStore, PrintsFailure}
 use Rattle.registry_program.specs.declared.host.Host as host
-use Rattle.registry_program.specs.Opening.{AreLeft, HeldNoneIfForeign, IsConnectedTo, IsLeftUnopened, IsOfFiles, IsOfOpening, Resumes}
+use Rattle.registry_program.specs.Opening.{AreLeft, HeldNoneIfForeign, IsConnectedTo, IsLeftUnopened, IsOfFiles, Resumes}
 use Rattle.registry_program.specs.Outputs.{IsFailure, earlier}
 
 module _ {H F I : Type 0} (m : host.Ghosts H F I) (d : disk.Ghosts F) where

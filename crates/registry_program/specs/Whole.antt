@@ -39,6 +39,7 @@ use Rattle.registry_commands.specs.Apply.{lines_between}
 use Rattle.registry_commands.specs.declared.status.ExitStatus.{ExitStatus}
 use Rattle.registry_commands.specs.declared.status.ExitStatus.TheVariants.{Success, Failed}
 use Rattle.registry_commands.specs.Ends.{Ends, Receives, Output, Sunk}
+use Rattle.registry_commands.specs.Failures.{IsOfOpening}
 use Rattle.registry_commands.specs.Imports.{AreOfImport, IsFirstBad, request_of_import, exit_status_of}
 use Rattle.registry_commands.specs.Lines.{requests_in}
 use Rattle.registry_commands.specs.declared.entries.Entry.TheVariants as says
@@ -231,11 +232,12 @@ module _ {H F I : Type 0} (m : host.Ghosts H F I) (d : disk.Ghosts F) where
   PrintsRecordWholly old new path from ends = UnlessStopped old new path ends (WritesRecord from) (IsCarriedOn old new path (IsRecordedOn from ends))
 
   -- The store was opened, or made, and its registry could neither be founded nor opened, for this failure: what its files held
-  -- is left, in its schema or a later one. Foreign only if they held no legal history.
+  -- is left, in its schema or a later one. Foreign only if they held no legal history. `performs` says what is committed.
   pub record IsUnreplayed (old new : H) (path : List ℕ) (ends : Ends) : Type 0 where
     pub files : Files F
     pub used : IsUsed old new path true files
     pub failure : Failure
+    pub kind : IsOfOpening failure
     pub fails : IsFailure failure ends
     pub foreign : failure ≡ Foreign → AreClean d files.log files.db → HoldsNoHistory (m.holds old path)
     pub holds : (h : History) → Legal h → (from : ℕ) → FilesHoldEither from (m.holds old path) h h → AreClean d files.log files.db → HoldEither d from files h h

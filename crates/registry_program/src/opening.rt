@@ -1,8 +1,8 @@
 //! Opens the store and the registry in files.
 
 ghost use Rattle.std.specs.Prelude.{IfOk, IfErr, IsTrue};
-ghost use Rattle.registry_commands.specs.Failures.{IsOfStore};
-ghost use Rattle.registry_program.specs.Opening.{AreLeft, HeldNoneIfForeign, IsConnectedTo, IsLeftUnopened, IsLeftUnread, IsOfOpening, Resumes};
+ghost use Rattle.registry_commands.specs.Failures.{IsOfOpening, IsOfStore};
+ghost use Rattle.registry_program.specs.Opening.{AreLeft, HeldNoneIfForeign, IsConnectedTo, IsLeftUnopened, IsLeftUnread, Resumes};
 
 use registry_commands::{Failure, failure_of, store_failure};
 use registry_store::{Registry, leave_store};
