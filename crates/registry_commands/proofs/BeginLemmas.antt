@@ -12,7 +12,7 @@ use Rattle.registry_commands.specs.declared.following.ReplayStop.TheVariants as 
 use Rattle.registry_commands.specs.declared.input.ReadAllFault.{ReadAllFault}
 use Rattle.registry_commands.specs.declared.input.ReadAllFault.TheVariants as inputs
 use Rattle.registry_commands.specs.declared.messages.Failure.TheVariants.{File}
-use Rattle.registry_commands.specs.Entries.{IsNext, PassesOne, entry_in}
+use Rattle.registry_commands.specs.Entries.{NextSays, PassesOne, entry_in}
 use Rattle.registry_commands.specs.Messages.{input_failure}
 use Rattle.registry_commands.specs.RecordLines.{MayHaveLines, Passes}
 use Rattle.registry_commands.specs.Replayed.{AreBlank, Begins, IsOfRecordInput, is_later}
@@ -43,7 +43,7 @@ module _ (to_come now : Option (List ℕ)) (before count : ℕ) (so_far : HasPas
     begins_founding next more founding one is =
         (so_far.lines, one.0, so_far.blank, one.1, passes_then to_come now next so_far.lines (one.0 ∷ []) so_far.passes one.2, omega (arith, is, so_far.counted))
 
-    pub begins_later : (next : Option (List ℕ)) (more : ℕ) (entry : Entry) → Consumes now next [] → IsNext now entry → is_later entry ≡ true → more ≡ count
+    pub begins_later : (next : Option (List ℕ)) (more : ℕ) (entry : Entry) → Consumes now next [] → NextSays now entry → is_later entry ≡ true → more ≡ count
         → Begins to_come next before more failures failures_new (Ok None)
     begins_later next more entry same first later is = (
       so_far.lines,
@@ -53,7 +53,7 @@ module _ (to_come now : Option (List ℕ)) (before count : ℕ) (so_far : HasPas
       (entry, later, first.0, first.1, so_far.passes first.0 first.2),
     )
 
-    pub begins_refused : (next : Option (List ℕ)) (more number : ℕ) (why : LineRefusal) → IsNext now (says.Bad why) → number ≡ count + 1
+    pub begins_refused : (next : Option (List ℕ)) (more number : ℕ) (why : LineRefusal) → NextSays now (says.Bad why) → number ≡ count + 1
         → Begins to_come next before more failures failures_new (Err (stop.Line number why))
     begins_refused next more number why first is = (so_far.lines, so_far.blank, omega (arith, is, so_far.counted), (first.0, first.1, so_far.passes first.0 first.2))
 

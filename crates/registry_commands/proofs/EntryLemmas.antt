@@ -13,8 +13,8 @@ use Rattle.registry_wire.specs.declared.record.RecordLine.{RecordLine}
 use Rattle.registry_wire.specs.declared.record.RecordLine.TheVariants as wire
 use Rattle.registry_wire.specs.declared.refusal.WireRefusal.{WireRefusal}
 use Rattle.registry_commands.specs.Lines.{is_blank}
-use Rattle.registry_commands.specs.Entries.{IsFirst, IsNext, MayPass, PassesOne, Peeks, Takes, entry_by, entry_in, is_followed, short_entry}
-use Rattle.registry_commands.specs.RecordLines.{Finds, MayHaveLines, most_line, unread_of}
+use Rattle.registry_commands.specs.Entries.{FirstSays, NextSays, MayPass, PassesOne, Peeks, TakesEntry, entry_by, entry_in, is_followed, short_entry}
+use Rattle.registry_commands.specs.RecordLines.{FindsLine, MayHaveLines, most_line, unread_of}
 use Rattle.registry_commands.proofs.RecordLineLemmas.{may_have}
 
 pub in_short : (line : List ℕ) → length line ≤ most_line → entry_in line ≡ short_entry line
@@ -27,14 +27,14 @@ too_long line long = go (nat_le (length line) most_line) refl
     go true e = let few = leb-true (length line) most_line e in absurd (omega (arith, few, long))
     go false e = refl
 
-pub takes_passed : (old new : Option (List ℕ)) (n m : ℕ) (entry : Entry) → is_followed entry ≡ true → PassesOne old new entry → m ≡ n + 1 → Takes old new n m entry
+pub takes_passed : (old new : Option (List ℕ)) (n m : ℕ) (entry : Entry) → is_followed entry ≡ true → PassesOne old new entry → m ≡ n + 1 → TakesEntry old new n m entry
 takes_passed old new n m Blank is one more = (one, more)
 takes_passed old new n m (Request a) is one more = (one, more)
 takes_passed old new n m End is one more = absurd cc
 takes_passed old new n m (Founding f) is one more = absurd cc
 takes_passed old new n m (Bad r) is one more = absurd cc
 
-pub takes_none : (old new : Option (List ℕ)) (n m : ℕ) (entry : Entry) → is_followed entry ≡ false → IsNext old entry → m ≡ n → Takes old new n m entry
+pub takes_none : (old new : Option (List ℕ)) (n m : ℕ) (entry : Entry) → is_followed entry ≡ false → NextSays old entry → m ≡ n → TakesEntry old new n m entry
 takes_none old new n m Blank is next same = absurd cc
 takes_none old new n m (Request a) is next same = absurd cc
 takes_none old new n m End is next same = (next, same)
@@ -66,10 +66,10 @@ never_end line is = go (nat_le (length line) most_line) is
     go false e = cc
 
 -- at the end there is no line
-pub none_left : (to_come : Option (List ℕ)) → IsNext to_come End → MayHaveLines to_come []
+pub none_left : (to_come : Option (List ℕ)) → NextSays to_come End → MayHaveLines to_come []
 none_left to_come next = go next.0 next.1 next.2
   where
-    go : (lines : List (List ℕ)) → IsFirst lines End → MayHaveLines to_come lines → MayHaveLines to_come []
+    go : (lines : List (List ℕ)) → FirstSays lines End → MayHaveLines to_come lines → MayHaveLines to_come []
     go [] first have = have
     go (line ∷ later) first have = absurd (never_end line first)
 
@@ -83,7 +83,7 @@ module _ (old rest : Option (List ℕ)) (it : Unread) where
   peeks_long line lines long have = record { next = (line ∷ lines, too_long line long, have); within = omega arith; passed = λ never. absurd never }
 
   -- the next line was read
-  pub peeks_line : (size : ℕ) (entry : Entry) → Finds old rest it (Line size) → entry_in (take size (unread_of it)) ≡ entry → Peeks old rest it entry size
+  pub peeks_line : (size : ℕ) (entry : Entry) → FindsLine old rest it (Line size) → entry_in (take size (unread_of it)) ≡ entry → Peeks old rest it entry size
   peeks_line size entry found is =
       let later = may_have (prepend_known (drop (size + 1) (unread_of it)) rest) in
       record {

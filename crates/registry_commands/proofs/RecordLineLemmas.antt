@@ -8,7 +8,7 @@ use Rattle.std.proofs.Math.ListN.{drop_of_length-le}
 use Rattle.registry_commands.specs.Lines.{in_front, lines_of}
 use Rattle.registry_commands.specs.declared.record_lines.Found.TheVariants.{End, Line, TooLong}
 use Rattle.registry_commands.specs.declared.unread.Unread.{Unread}
-use Rattle.registry_commands.specs.RecordLines.{Finds, HasReadTo, MayHaveLines, Passes, ahead, last_line, most_line, of_length, unread_of}
+use Rattle.registry_commands.specs.RecordLines.{FindsLine, HasReadTo, MayHaveLines, Passes, ahead, last_line, most_line, of_length, unread_of}
 use Rattle.registry_commands.proofs.LineLemmas.{feed, feed_at, feed_not, lines_at, one_line}
 
 -- ---- line feeds
@@ -169,16 +169,16 @@ read_on a b c front it passes read = record { passes = λ rest has. passes rest 
 -- ---- what is found
 
 module _ (a rest : Option (List ℕ)) (it : Unread) (same : Consumes a (ahead rest it) []) where
-  pub finds_at : (end : ℕ) → Some end ≡ position (λ b. b == 10) (unread_of it) → Finds a rest it (of_length end)
+  pub finds_at : (end : ℕ) → Some end ≡ position (λ b. b == 10) (unread_of it) → FindsLine a rest it (of_length end)
   finds_at end found = go (nat_le end most_line) refl
     where
-      go : (t : Bool) → nat_le end most_line ≡ t → Finds a rest it (if t then Line end else TooLong)
+      go : (t : Bool) → nat_le end most_line ≡ t → FindsLine a rest it (if t then Line end else TooLong)
       go true e = let at = feed_at (unread_of it) end found in (omega (arith, at.0), leb-true end most_line e, at_feed (unread_of it) rest a end same found)
       go false e = too_long_at_feed (unread_of it) rest a end same found (leb-false end most_line e)
 
-  pub finds_last : (n : ℕ) → None ≡ position (λ b. b == 10) (unread_of it) → n ≡ length (unread_of it) → n ≤ most_line → IsAtEnd rest → Finds a rest it (last_line n)
+  pub finds_last : (n : ℕ) → None ≡ position (λ b. b == 10) (unread_of it) → n ≡ length (unread_of it) → n ≤ most_line → IsAtEnd rest → FindsLine a rest it (last_line n)
   finds_last n none is few end = go (n == 0) refl
     where
-      go : (t : Bool) → (n == 0) ≡ t → Finds a rest it (if t then End else Line n)
+      go : (t : Bool) → (n == 0) ≡ t → FindsLine a rest it (if t then End else Line n)
       go true e = at_end (unread_of it) rest a same (sym is ∙ eqb-true n 0 e) end
       go false e = rw is (omega (arith, is), omega (arith, is, few), last_piece (unread_of it) rest a same none (omega (arith, is, eqb-false n 0 e)) end)

@@ -20,7 +20,7 @@ use Rattle.registry_commands.specs.declared.messages.Failure.{Failure}
 use Rattle.registry_commands.specs.declared.messages.Failure.TheVariants as of
 use Rattle.registry_commands.specs.Shown.{HoldsOfHistory, IsOfReading}
 use Rattle.registry_wire.specs.Record.{accepted_line}
-use Rattle.registry_commands.specs.Recorded.{AreNext, IsOfRecord, accepted_lines}
+use Rattle.registry_commands.specs.Recorded.{AreNextRequests, IsOfRecord, accepted_lines}
 
 -- one line with its line feed
 abbrev pub line_of : Accepted → List ℕ
@@ -103,7 +103,7 @@ module _ {S : Type 0} {g : Ghosts S} where
   none_written it o after = record { left = untouched_itself it; written = []; gained = appends_nil o; split = λ h stands clean valid. refl }
 
   module _ (it mid new : Registry S g) (old now : Option (List ℕ)) (after passed : ℕ) (so_far : AreWritten it mid old now after passed)
-      (items : List Accepted) (left : IsUntouched mid new) (next_are : HoldsOfHistory mid new (λ h. AreNext passed h items)) where
+      (items : List Accepted) (left : IsUntouched mid new) (next_are : HoldsOfHistory mid new (λ h. AreNextRequests passed h items)) where
     whole : (h : History) → Represents it h → HasCleanDisk (state_of new) → AreValid h.deeds
         → drop after (accepted_of h.deeds) ≡ (so_far.written ++ items) ++ drop (passed + length items) (accepted_of h.deeds)
     whole h stands clean valid =
@@ -145,7 +145,7 @@ module _ {S : Type 0} {g : Ghosts S} where
 
   -- the last piece was empty
   pub all_written : (it mid new : Registry S g) (old now next : Option (List ℕ)) (after passed : ℕ) → AreWritten it mid old now after passed → (items : List Accepted) → length items ≡ 0
-      → IsUntouched mid new → HoldsOfHistory mid new (λ h. AreNext passed h items) → Appends now next (accepted_lines items)
+      → IsUntouched mid new → HoldsOfHistory mid new (λ h. AreNextRequests passed h items) → Appends now next (accepted_lines items)
       → HoldsOfHistory it new (λ h. AreValid h.deeds → Appends old next (accepted_lines (drop after (accepted_of h.deeds))))
   all_written it mid new old now next after passed so_far items none left next_are gained h stands clean valid =
       let is : take 64 (drop passed (accepted_of h.deeds)) ≡ [] = sym (next_are h (so_far.left.stays h stands) clean valid) ∙ empty items none in

@@ -24,9 +24,9 @@ use Rattle.registry_commands.specs.declared.messages.Failure.{Failure}
 use Rattle.registry_commands.specs.declared.messages.Failure.TheVariants as of
 use Rattle.byte_streams.specs.Streams.{HasFailed}
 use Rattle.registry_commands.specs.Messages.{input_failure}
-use Rattle.registry_commands.specs.Entries.{IsFirst, IsNext, PassesOne, Takes, entry_in, is_followed}
+use Rattle.registry_commands.specs.Entries.{FirstSays, NextSays, PassesOne, TakesEntry, entry_in, is_followed}
 use Rattle.registry_commands.specs.RecordLines.{MayHaveLines, Passes}
-use Rattle.registry_commands.specs.Replayed.{GetTheirReplies, HasReplayed, IsLeftAfter, IsOfActing, IsOfReplay, IsRefusedFor, IsReplayOf, StopsBefore, accepted_in, after_lines, replies_of, requests_of, with_entry}
+use Rattle.registry_commands.specs.Replayed.{GetTheirReplies, HasReplayed, IsLeftReplayed, IsOfActing, IsOfReplay, IsRefusedFor, IsReplayOf, StopsBefore, accepted_in, after_lines, replies_of, requests_of, with_entry}
 use Rattle.registry_commands.proofs.ApplyLemmas.{endures_itself}
 use Rattle.registry_commands.proofs.RecordLineLemmas.{may_have, passes_none, passes_then}
 
@@ -189,7 +189,7 @@ module _ {S : Type 0} {g : Ghosts S} where
     }
 
     -- the next line is refused
-    pub at_refused : (failures failures_new : ℕ) (number : ℕ) (why : LineRefusal) (entry : Entry) (rest : List (List ℕ)) → MayHaveLines now rest → IsFirst rest entry → IsRefusedFor entry why → number ≡ count + 1
+    pub at_refused : (failures failures_new : ℕ) (number : ℕ) (why : LineRefusal) (entry : Entry) (rest : List (List ℕ)) → MayHaveLines now rest → FirstSays rest entry → IsRefusedFor entry why → number ≡ count + 1
         → IsReplayOf to_come before failures failures_new it mid (Err (stop.Line number why))
     at_refused failures failures_new number why entry rest have first refused is = record {
       lines = so_far.front ++ rest;

@@ -28,13 +28,13 @@ abbrev pub entry_in : List ℕ → Entry
 entry_in line = if nat_le (length line) most_line then short_entry line else Bad TooLong
 
 -- the first of these lines says this; if there is none, the end does
-abbrev pub IsFirst : List (List ℕ) → Entry → Type 0
-IsFirst [] entry = entry ≡ End
-IsFirst (line ∷ later) entry = entry_in line ≡ entry
+abbrev pub FirstSays : List (List ℕ) → Entry → Type 0
+FirstSays [] entry = entry ≡ End
+FirstSays (line ∷ later) entry = entry_in line ≡ entry
 
 -- the next line, which is not passed, says this
-abbrev pub IsNext : Option (List ℕ) → Entry → Type 0
-IsNext ahead entry = (lines : List (List ℕ)) × IsFirst lines entry × MayHaveLines ahead lines
+abbrev pub NextSays : Option (List ℕ) → Entry → Type 0
+NextSays ahead entry = (lines : List (List ℕ)) × FirstSays lines entry × MayHaveLines ahead lines
 
 -- a line that says this was passed
 abbrev pub PassesOne : Option (List ℕ) → Option (List ℕ) → Entry → Type 0
@@ -54,13 +54,13 @@ MayPass entry = ⊤
 
 -- The next line says this, and nothing was passed. If it may be passed, and is by its size, what follows is to come.
 pub record Peeks (old rest : Option (List ℕ)) (it : Unread) (entry : Entry) (size : ℕ) : Type 0 where
-  pub next : IsNext old entry
+  pub next : NextSays old entry
   pub within : size ≤ length (unread_of it)
   pub passed : MayPass entry → PassesOne old (prepend_known (drop (size + 1) (unread_of it)) rest) entry
 
 -- The next line says this. It was passed if it is blank or an accepted request; the counts are those of the lines passed before
 -- and now.
-abbrev pub Takes : Option (List ℕ) → Option (List ℕ) → ℕ → ℕ → Entry → Type 0
-Takes old new n m Blank = PassesOne old new Blank × (m ≡ n + 1)
-Takes old new n m (Request accepted) = PassesOne old new (Request accepted) × (m ≡ n + 1)
-Takes old new n m entry = IsNext old entry × (m ≡ n)
+abbrev pub TakesEntry : Option (List ℕ) → Option (List ℕ) → ℕ → ℕ → Entry → Type 0
+TakesEntry old new n m Blank = PassesOne old new Blank × (m ≡ n + 1)
+TakesEntry old new n m (Request accepted) = PassesOne old new (Request accepted) × (m ≡ n + 1)
+TakesEntry old new n m entry = NextSays old entry × (m ≡ n)

@@ -28,7 +28,7 @@ use Rattle.registry_commands.specs.declared.status.ExitStatus.TheVariants.{Succe
 use Rattle.registry_commands.specs.Apply.{IsOfRun}
 use Rattle.registry_commands.specs.Ends.{Effect, Ends, Receives, ReceivesNothing, ReceivesPrefix, Output}
 use Rattle.registry_commands.specs.Failures.{IsOfMemory, IsOfOutput, PrintsFailure, PrintsNothing}
-use Rattle.registry_commands.specs.LookUp.{IsRefused}
+use Rattle.registry_commands.specs.LookUp.{IsListRefused}
 use Rattle.registry_commands.specs.Messages.{reply_line}
 use Rattle.registry_commands.specs.Printed.{IsUnprinted}
 
@@ -115,7 +115,7 @@ module _ {S : Type 0} {g : Ghosts S} where
   abbrev pub IsImportOf : Effect S g → Import → Result (List TopEntry) ReadFault → Type 0
   IsImportOf did import (Ok doc) =
       ((r : Request) × ((h : History) → Represents did.old h → r ≡ request_of_import import h.founding.vendor doc) × IsActedOn did r) ⊎ IsNotMade IsOfMemory did
-  IsImportOf did import (Err fault) = (did.new ≡ did.old) × ReceivesNothing did.ends.out × IsRefused fault did.ends.errors did.ends.status
+  IsImportOf did import (Err fault) = (did.new ≡ did.old) × ReceivesNothing did.ends.out × IsListRefused fault did.ends.errors did.ends.status
 
   -- what was read in these bytes is imported; or the input failed or was too long, and nothing is done
   abbrev pub IsImported : (Failure → Type 0) → Effect S g → Import → List ℕ → Type 0

@@ -19,23 +19,23 @@ abbrev pub not_found_text : List ℕ
 not_found_text = codes "not found\n"
 
 -- the name is written as a line; or nothing is, because memory ran out
-abbrev pub IsNamed : List ℕ → Ends → Type 0
-IsNamed name ends = IsPrinted (name ++ 10 ∷ []) ends ⊎ IsUnprinted IsOfMemory ends
+abbrev pub IsNameWritten : List ℕ → Ends → Type 0
+IsNameWritten name ends = IsPrinted (name ++ 10 ∷ []) ends ⊎ IsUnprinted IsOfMemory ends
 
 -- the name of the first match is written as a line; or, without a match, the message says so
 abbrev pub IsMatched : Option (List ℕ) → Ends → Type 0
-IsMatched (Some name) ends = IsNamed name ends
+IsMatched (Some name) ends = IsNameWritten name ends
 IsMatched None ends = (ends.status ≡ Rejected) × ReceivesNothing ends.out × Prints ends.errors not_found_text
 
 -- the error output says why the bytes are not a list, or that memory ran out
-abbrev pub IsRefused : ReadFault → Output → ExitStatus → Type 0
-IsRefused (Line fault) errors status = ((status ≡ Rejected) × Prints errors (refusal_line (BadList fault))) ⊎ ((status ≡ Failed) × PrintsFailure IsOfMemory errors)
-IsRefused NoMemory errors status = (status ≡ Failed) × PrintsFailure IsOfMemory errors
+abbrev pub IsListRefused : ReadFault → Output → ExitStatus → Type 0
+IsListRefused (Line fault) errors status = ((status ≡ Rejected) × Prints errors (refusal_line (BadList fault))) ⊎ ((status ≡ Failed) × PrintsFailure IsOfMemory errors)
+IsListRefused NoMemory errors status = (status ≡ Failed) × PrintsFailure IsOfMemory errors
 
 -- what is written by what was found, or by the fault of the list
 abbrev pub TellsFound : Result (Option (List ℕ)) ReadFault → Ends → Type 0
 TellsFound (Ok found) ends = IsMatched found ends
-TellsFound (Err fault) ends = ReceivesNothing ends.out × IsRefused fault ends.errors ends.status
+TellsFound (Err fault) ends = ReceivesNothing ends.out × IsListRefused fault ends.errors ends.status
 
 -- what was found in these bytes is written; or the input failed or was too long
 abbrev pub IsLookedUp : (Failure → Type 0) → Wanted → List ℕ → Ends → Type 0

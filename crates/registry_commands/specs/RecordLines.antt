@@ -38,10 +38,10 @@ last_line n = if n == 0 then End else Line n
 
 -- What was found at the next line of these bytes. A line of n bytes is at the front of what was read: if it is passed, what
 -- follows is to come.
-abbrev pub Finds : Option (List ℕ) → Option (List ℕ) → Unread → Found → Type 0
-Finds old rest it End = MayHaveLines old []
-Finds old rest it TooLong = (line : List ℕ) × (lines : List (List ℕ)) × (most_line < length line) × MayHaveLines old (line ∷ lines)
-Finds old rest it (Line n) = (n ≤ length (unread_of it)) × (n ≤ most_line)
+abbrev pub FindsLine : Option (List ℕ) → Option (List ℕ) → Unread → Found → Type 0
+FindsLine old rest it End = MayHaveLines old []
+FindsLine old rest it TooLong = (line : List ℕ) × (lines : List (List ℕ)) × (most_line < length line) × MayHaveLines old (line ∷ lines)
+FindsLine old rest it (Line n) = (n ≤ length (unread_of it)) × (n ≤ most_line)
     × Passes old (prepend_known (drop (n + 1) (unread_of it)) rest) (take n (unread_of it) ∷ [])
 
 -- A part of a line, whose end is not among these bytes: they have no line feed, and are no more than a line may have.

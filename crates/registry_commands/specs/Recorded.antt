@@ -27,8 +27,8 @@ record_text h None = (founding_line h.founding ++ 10 ∷ []) ++ accepted_lines (
 record_text h (Some n) = accepted_lines (drop n (accepted_of h.deeds))
 
 -- if its requests are valid, these are the next ones of the history after the first n, at most 64
-abbrev pub AreNext : ℕ → History → List Accepted → Type 0
-AreNext n h items = AreValid h.deeds → items ≡ take 64 (drop n (accepted_of h.deeds))
+abbrev pub AreNextRequests : ℕ → History → List Accepted → Type 0
+AreNextRequests n h items = AreValid h.deeds → items ≡ take 64 (drop n (accepted_of h.deeds))
 
 module _ {S : Type 0} {g : Ghosts S} where
   -- The failures of writing a record. File: the output failed. Any other: the registry could not be read.

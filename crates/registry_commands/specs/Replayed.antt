@@ -30,7 +30,7 @@ use Rattle.registry_commands.specs.declared.following.ReplayStop.{ReplayStop}
 use Rattle.registry_commands.specs.declared.following.ReplayStop.TheVariants as stop
 use Rattle.registry_commands.specs.declared.messages.Failure.{Failure}
 use Rattle.registry_commands.specs.declared.messages.Failure.TheVariants.{File, Foreign, Memory, Poisoned, Store, Taken}
-use Rattle.registry_commands.specs.Entries.{IsFirst, entry_in, is_followed}
+use Rattle.registry_commands.specs.Entries.{FirstSays, entry_in, is_followed}
 use Rattle.registry_commands.specs.declared.status.ExitStatus.{ExitStatus}
 use Rattle.registry_commands.specs.declared.unread.Unread.{Unread}
 use Rattle.registry_commands.specs.declared.status.ExitStatus.TheVariants.{Failed}
@@ -86,8 +86,8 @@ IsRefusedFor entry why = ⊥
 -- request that got another reply.
 abbrev pub StopsBefore : Result (Unit {0}) ReplayStop → ℕ → List (List ℕ) → Type 0
 StopsBefore (Ok done) n rest = rest ≡ []
-StopsBefore (Err (stop.Line number why)) n rest = (number ≡ n + 1) × ((entry : Entry) × IsFirst rest entry × IsRefusedFor entry why)
-StopsBefore (Err (stop.Reply number reply)) n rest = (number ≡ n + 1) × ((accepted : Accepted) × IsFirst rest (says.Accepted accepted) × (reply ≢ Done accepted.reply))
+StopsBefore (Err (stop.Line number why)) n rest = (number ≡ n + 1) × ((entry : Entry) × FirstSays rest entry × IsRefusedFor entry why)
+StopsBefore (Err (stop.Reply number reply)) n rest = (number ≡ n + 1) × ((accepted : Accepted) × FirstSays rest (says.Accepted accepted) × (reply ≢ Done accepted.reply))
 StopsBefore (Err (stop.Failure failure)) n rest = ⊤
 
 -- ---- how a record begins
@@ -118,9 +118,9 @@ Begins to_come now before count failures failures_new (Ok (Some founding)) =
     (blank : List (List ℕ)) × (line : List ℕ) × AreBlank blank × (entry_in line ≡ says.Founding founding) × Passes to_come now (blank ++ line ∷ []) × (count ≡ before + length blank + 1)
 Begins to_come now before count failures failures_new (Ok None) =
     (blank : List (List ℕ)) × AreBlank blank × Passes to_come now blank × (count ≡ before + length blank)
-    × ((entry : Entry) × (is_later entry ≡ true) × (lines : List (List ℕ)) × IsFirst lines entry × MayHaveLines to_come (blank ++ lines))
+    × ((entry : Entry) × (is_later entry ≡ true) × (lines : List (List ℕ)) × FirstSays lines entry × MayHaveLines to_come (blank ++ lines))
 Begins to_come now before count failures failures_new (Err (stop.Line number why)) =
-    (blank : List (List ℕ)) × AreBlank blank × (number ≡ before + length blank + 1) × ((lines : List (List ℕ)) × IsFirst lines (says.Bad why) × MayHaveLines to_come (blank ++ lines))
+    (blank : List (List ℕ)) × AreBlank blank × (number ≡ before + length blank + 1) × ((lines : List (List ℕ)) × FirstSays lines (says.Bad why) × MayHaveLines to_come (blank ++ lines))
 Begins to_come now before count failures failures_new (Err (stop.Reply number reply)) = ⊥
 Begins to_come now before count failures failures_new (Err (stop.Failure failure)) = IsOfRecordInput count failures failures_new failure
 
@@ -144,13 +144,13 @@ module _ {S : Type 0} {g : Ghosts S} where
 
   -- What the registry then is. After a refused line it represents the history after the lines before it; after another reply
   -- the one after that request too; and after a failure a crash leaves one of the two.
-  abbrev pub IsLeftAfter : Result (Unit {0}) ReplayStop → Registry S g → History → List (List ℕ) → Type 0
-  IsLeftAfter (Ok done) new h rest = Represents new h
-  IsLeftAfter (Err (stop.Line number why)) new h rest = Represents new h
-  IsLeftAfter (Err (stop.Reply number reply)) new h rest =
-      (accepted : Accepted) × IsFirst rest (says.Accepted accepted) × (reply ≡ reply_to h accepted.request) × Represents new (after_one h accepted.request)
-  IsLeftAfter (Err (stop.Failure failure)) new h rest =
-      Leaves newest (state_of new) (λ x. (x ≡ h) ⊎ ((accepted : Accepted) × IsFirst rest (says.Accepted accepted) × (x ≡ after_one h accepted.request)))
+  abbrev pub IsLeftReplayed : Result (Unit {0}) ReplayStop → Registry S g → History → List (List ℕ) → Type 0
+  IsLeftReplayed (Ok done) new h rest = Represents new h
+  IsLeftReplayed (Err (stop.Line number why)) new h rest = Represents new h
+  IsLeftReplayed (Err (stop.Reply number reply)) new h rest =
+      (accepted : Accepted) × FirstSays rest (says.Accepted accepted) × (reply ≡ reply_to h accepted.request) × Represents new (after_one h accepted.request)
+  IsLeftReplayed (Err (stop.Failure failure)) new h rest =
+      Leaves newest (state_of new) (λ x. (x ≡ h) ⊎ ((accepted : Accepted) × FirstSays rest (says.Accepted accepted) × (x ≡ after_one h accepted.request)))
 
   -- These lines were to come, after so many that were passed before. The first of them were acted on, in order, and each got
   -- the reply that it says; and then this ended it.
@@ -160,7 +160,7 @@ module _ {S : Type 0} {g : Ghosts S} where
     pub split : lines ≡ front ++ rest
     pub each : All (λ line. is_followed (entry_in line) ≡ true) front
     pub stops : StopsBefore result (before + length front) rest
-    pub replied : (h : History) → Represents it h → HasCleanDisk (state_of new) → GetTheirReplies h front × IsLeftAfter result new (after_lines h front) rest
+    pub replied : (h : History) → Represents it h → HasCleanDisk (state_of new) → GetTheirReplies h front × IsLeftReplayed result new (after_lines h front) rest
     pub cause : (failure : Failure) → result ≡ Err (stop.Failure failure) → IsOfReplay (before + length front) failures failures_new it new failure
 
   -- The lines that were to come were replayed.

@@ -2,7 +2,7 @@
 
 ghost use Rattle.std.specs.Prelude.{◌≡◌, ◌<◌, ◌≤◌, ◌-◌, ◌^◌, [], length, IfOk, OnErr, OnOk, Err};
 ghost use Rattle.std.specs.Io.KnownBytes.{Consumes};
-ghost use Rattle.registry_commands.specs.Entries.{Peeks, Takes, entry_in, is_followed};
+ghost use Rattle.registry_commands.specs.Entries.{Peeks, TakesEntry, entry_in, is_followed};
 ghost use Rattle.registry_commands.specs.RecordLines.{HasFailedOrIsFull, HasReadTo, ahead, most_line};
 
 use crate::input::ReadAllFault;
@@ -107,7 +107,7 @@ pub(crate) fn next_entry<R: Source>(
     source: &mut R,
     unread: &mut Unread,
 ) -> Result<Entry, ReadAllFault>
-    ensures taken { IfOk result (λ entry. Takes (ahead (R.remaining source.old) unread.old) (ahead (R.remaining source.new) unread.new)
+    ensures taken { IfOk result (λ entry. TakesEntry (ahead (R.remaining source.old) unread.old) (ahead (R.remaining source.new) unread.new)
         unread.old.lines unread.new.lines entry) }
     ensures lines { OnErr result (unread.new.lines ≡ unread.old.lines) }
     ensures countable { OnOk result (unread.old.lines < 2 ^ 64 - 1) }

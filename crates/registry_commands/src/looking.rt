@@ -4,7 +4,7 @@ ghost use Rattle.std.specs.Prelude.{◌≡◌, ◌++◌, ◌∷◌, [], ℕ, Lis
 ghost use Rattle.byte_streams.specs.Streams.{MayGive};
 ghost use Rattle.registry_commands.specs.Ends.{ends_of, output_of};
 ghost use Rattle.registry_commands.specs.Failures.{IsOfInput};
-ghost use Rattle.registry_commands.specs.LookUp.{TellsFound, IsLookedUp, IsMatched, IsNamed, IsRefused};
+ghost use Rattle.registry_commands.specs.LookUp.{TellsFound, IsLookedUp, IsMatched, IsNameWritten, IsListRefused};
 
 use crate::found::reject;
 use crate::messages::{Failure, fail, tell};
@@ -31,7 +31,7 @@ fn put_name<W: Sink, E: Sink>(
     output: &mut W,
     errors: &mut E,
 ) -> ExitStatus
-    ensures { IsNamed name.now (ends_of W.Sink E.Sink output.old output.new errors.old errors.new result) }
+    ensures { IsNameWritten name.now (ends_of W.Sink E.Sink output.old output.new errors.old errors.new result) }
 {
     match name_line(alloc, name) {
         Ok(line) => print(output, errors, line.as_slice()),
@@ -41,7 +41,7 @@ fn put_name<W: Sink, E: Sink>(
 
 /// Prints why the bytes are not a list, and returns the exit status.
 pub(crate) fn put_fault<E: Sink>(alloc: Global, fault: ReadFault, errors: &mut E) -> ExitStatus
-    ensures { IsRefused fault (output_of E.Sink errors.old errors.new) result }
+    ensures { IsListRefused fault (output_of E.Sink errors.old errors.new) result }
 {
     match fault {
         ReadFault::Line(fault) => reject(alloc, errors, WireRefusal::BadList(fault)),

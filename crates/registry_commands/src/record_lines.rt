@@ -3,7 +3,7 @@
 ghost use Rattle.std.specs.Prelude.{◌≡◌, ◌==◌, ◌<◌, ◌≤◌, ◌^◌, ◌-◌, ◌++◌, ℕ, List, [], length, position, take, IfOk, OnOk, Err, None};
 ghost use Rattle.std.specs.Io.KnownBytes.{Consumes, IsAtEnd, Keeps};
 ghost use Rattle.byte_streams.specs.Streams.{HasFailed};
-ghost use Rattle.registry_commands.specs.RecordLines.{Finds, HasFailedOrIsFull, HasReadTo, ahead, last_line, of_length, unread_of};
+ghost use Rattle.registry_commands.specs.RecordLines.{FindsLine, HasFailedOrIsFull, HasReadTo, ahead, last_line, of_length, unread_of};
 
 use crate::input::{ReadAllFault, take_more};
 use crate::lines::line_feed;
@@ -68,7 +68,7 @@ fn line_feed_after(bytes: &[u8], searched: usize) -> Option<usize>
     }
 }
 
-/// Finds the next line of the source, and passes nothing. Reads only while what was read is a part
+/// FindsLine the next line of the source, and passes nothing. Reads only while what was read is a part
 /// of the line, in pieces, and searches each byte once.
 ///
 /// # Errors
@@ -79,7 +79,7 @@ pub(crate) fn find_line<R: Source>(
     source: &mut R,
     unread: &mut Unread,
 ) -> Result<Found, ReadAllFault>
-    ensures found { IfOk result (Finds (ahead (R.remaining source.old) unread.old) (R.remaining source.new) unread.new) }
+    ensures found { IfOk result (FindsLine (ahead (R.remaining source.old) unread.old) (R.remaining source.new) unread.new) }
     ensures same { OnOk result (Consumes (ahead (R.remaining source.old) unread.old) (ahead (R.remaining source.new) unread.new) []) }
     ensures lines { unread.new.lines ≡ unread.old.lines }
     ensures countable { OnOk result (unread.old.lines < 2 ^ 64 - 1) }

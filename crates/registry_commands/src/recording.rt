@@ -10,7 +10,7 @@ ghost use Rattle.registry_store.specs.Queries.{IsUntouched};
 ghost use Rattle.registry_wire.specs.Record.{accepted_line, founding_line};
 ghost use Rattle.registry_commands.specs.Ends.{effect, ends_of};
 ghost use Rattle.registry_commands.specs.Failures.{IsOfOutput};
-ghost use Rattle.registry_commands.specs.Recorded.{AreNext, IsOfRecord, IsRecorded, accepted_lines, record_text};
+ghost use Rattle.registry_commands.specs.Recorded.{AreNextRequests, IsOfRecord, IsRecorded, accepted_lines, record_text};
 ghost use Rattle.registry_commands.specs.Shown.{HoldsOfHistory};
 
 use crate::messages::{Failure, fail, failure_of};
@@ -70,7 +70,7 @@ fn put_piece<S: Alter, W: Sink>(
 ) -> Result<usize, Failure>
     ensures left { IsUntouched registry.old registry.new }
     ensures ok { IfOk result (λ n. (items : List Accepted) × (n ≡ length items) × Appends (W.contents output.old) (W.contents output.new) (accepted_lines items)
-        × HoldsOfHistory registry.old registry.new (λ h. AreNext passed h items)) }
+        × HoldsOfHistory registry.old registry.new (λ h. AreNextRequests passed h items)) }
     ensures err { OnErr result (HoldsOfHistory registry.old registry.new (λ h. AreValid h.deeds
         → AppendsPrefix (W.contents output.old) (W.contents output.new) (accepted_lines (take 64 (drop passed (accepted_of h.deeds)))))) }
     ensures kept { OnOk result (W.failures output.new ≡ W.failures output.old) }

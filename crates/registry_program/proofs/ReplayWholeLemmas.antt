@@ -29,7 +29,7 @@ use Rattle.registry_commands.specs.declared.status.ExitStatus.{ExitStatus}
 use Rattle.registry_commands.specs.declared.status.ExitStatus.TheVariants.{Success, Failed, Rejected}
 use Rattle.registry_commands.specs.declared.unread.Unread.{Unread}
 use Rattle.registry_commands.specs.Ends.{Ends, Output, Sunk}
-use Rattle.registry_commands.specs.Entries.{IsFirst, entry_in}
+use Rattle.registry_commands.specs.Entries.{FirstSays, entry_in}
 use Rattle.registry_commands.specs.Failures.{Prints}
 use Rattle.registry_commands.specs.Messages.{failure_line}
 use Rattle.registry_commands.specs.RecordLines.{MayHaveLines, ahead, unread_of}
@@ -38,7 +38,7 @@ use Rattle.registry_commands.specs.Stops.{TellsStop}
 use Rattle.registry_commands.proofs.RecordLineLemmas.{may_have}
 use Rattle.registry_program.specs.declared.host.Host as host
 use Rattle.registry_program.specs.Outputs.{earlier}
-use Rattle.registry_program.specs.Replaying.{GoesOn, IsReplayedIn, ReplaysFrom, ReplaysLines, ReplaysOver, ReplaysRecord}
+use Rattle.registry_program.specs.Replaying.{BeginsReplay, IsReplayedIn, ReplaysFrom, ReplaysLines, ReplaysOver, ReplaysRecord}
 use Rattle.registry_program.specs.Stores.{IsClosed}
 use Rattle.registry_program.specs.Whole.{IsAfterRecord, IsNear, IsReplayedTo, IsUnreplayed, IsUsed, ReplaysWholly, ReplaysWhollyFrom}
 use Rattle.registry_program.proofs.LeavesLemmas.{LeavesSome, leaves_itself, same_of_either}
@@ -291,7 +291,7 @@ module _ {H F I : Type 0} (m : host.Ghosts H F I) (d : disk.Ghosts F) where
     replays_whole is = go is.first is.begins is.goes_on
       where
         go : (first : Result (Option Founding) ReplayStop) → Begins (r.remaining source) (ahead (r.remaining is.middle) is.begun) 0 is.begun.lines (r.failures source) (r.failures is.middle) first
-            → GoesOn m d r first is.middle source_new is.begun old new path ends → ReplaysWhollyFrom m d r source old new path ends
+            → BeginsReplay m d r first is.middle source_new is.begun old new path ends → ReplaysWhollyFrom m d r source old new path ends
         go (Ok (Some founding)) begins goes_on = elim goes_on [
           | inl not ↦ inr (inl (not.0, inr not.1, not.2))
           | inr on ↦ in_whole r source is.middle source_new is.begun (begins.0 ++ begins.1 ∷ []) founding old new path ends begins.4 on

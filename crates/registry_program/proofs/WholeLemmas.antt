@@ -41,7 +41,7 @@ use Rattle.registry_program.specs.Commands.{ActsOnFile, Applies, ExportsAs, Foun
 use Rattle.registry_program.specs.Outputs.{earlier, later}
 use Rattle.registry_program.specs.Serving.{Serves, ServesOn, limit_of}
 use Rattle.registry_program.specs.Stores.{IsClosed, IsOver, Runs, TheRegistry}
-use Rattle.registry_program.specs.Whole.{AppliesWholly, AreLeftAfter, ExportsWhollyAs, FoundsWholly, ImportsWhollyAs, IsAfterImport, IsAfterLines, IsAppliedTo, IsCarriedOn, IsFoundedWholly, IsImportedTo, IsListed, IsReadFrom, IsRecordedOn, IsReportedOn, IsServedTo, IsUnbegun, IsUsed, LeadsTo, ReportsWholly, ServesWholly, Stays, UnlessStopped}
+use Rattle.registry_program.specs.Whole.{AppliesWholly, AreLeftAfter, ExportsWhollyAs, FoundsWholly, ImportsWhollyAs, IsAfterImport, IsAfterLines, IsAppliedTo, IsCarriedOn, IsFoundedWholly, IsImportedTo, IsListed, IsReadFrom, IsRecordedOn, IsReportedOn, IsServedTo, IsUnbegun, IsUsed, LeadsFilesTo, ReportsWholly, ServesWholly, Stays, UnlessStopped}
 use Rattle.registry_program.proofs.LeavesLemmas.{success_or, same_of_either, LeavesSome, leaves_itself, stayed, applied, unacted, LeavesImport, imported, import_endures, served}
 
 module _ {H F I : Type 0} (m : host.Ghosts H F I) (d : disk.Ghosts F) where
@@ -79,7 +79,7 @@ module _ {H F I : Type 0} (m : host.Ghosts H F I) (d : disk.Ghosts F) where
     -- the closed files hold what the registry left
     files_lead_to : (h next : History) (After : History → History → Type 0)
         → ((x : History) → IsEither h next x → Represents over.it x → HasCleanDisk (state_of over.after) → LeavesSome over.after After)
-        → LeadsTo m d old path over.closes.files h next After
+        → LeadsFilesTo m d old path over.closes.files h next After
     files_lead_to h next After does legal legal_next from held honest =
         let clean : HasCleanDisk (state_of over.after) = closed_clean (connection_of over.after) over.closes.files over.closes.closed.closed honest in
         let found = over.takes.resumes.represents from h next legal legal_next (λ _. subst (λ i. FilesHoldEither from i h next) (sym over.takes.opens.found) held) (endures clean) in

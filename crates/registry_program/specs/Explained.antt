@@ -25,11 +25,11 @@ abbrev pub MayExplain : Sunk → Sunk → Type 0
 MayExplain told new = (new ≡ told) ⊎ ((words : List ℕ) × Prints (record { old = told; new = new }) (cause_line words))
 
 -- the command founds a registry
-abbrev pub IsFounding : Command (List ℕ) → Type 0
-IsFounding (command.Found path founding) = ⊤
-IsFounding _ = ⊥
+abbrev pub FoundsRegistry : Command (List ℕ) → Type 0
+FoundsRegistry (command.Found path founding) = ⊤
+FoundsRegistry _ = ⊥
 
 -- The line is said only if causes are asked for, and the command did not do what it was asked for or founds a registry. After
 -- a founding that succeeded it names keys of the founding file, which are ignored.
 abbrev pub IsExplained : Bool → Command (List ℕ) → ExitStatus → Sunk → Sunk → Type 0
-IsExplained verbose command status told new = (new ≡ told) ⊎ ((verbose ≡ true) × ((status ≢ Success) ⊎ IsFounding command) × MayExplain told new)
+IsExplained verbose command status told new = (new ≡ told) ⊎ ((verbose ≡ true) × ((status ≢ Success) ⊎ FoundsRegistry command) × MayExplain told new)

@@ -52,10 +52,10 @@ module _ {H F I : Type 0} (m : host.Ghosts H F I) (d : disk.Ghosts F) where
         ((failure : Failure) × IsUnconnected m d old new path failure × IsFailure failure ends) ⊎ IsReplayedIn founding source source_new begun old new path ends
 
     -- by what the record begins with: no store is opened if that is refused or could not be read
-    abbrev pub GoesOn : Result (Option Founding) ReplayStop → R → R → Unread → H → H → List ℕ → Ends → Type 0
-    GoesOn (Ok (Some founding)) source source_new begun old new path ends = ReplaysIn founding source source_new begun old new path ends
-    GoesOn (Ok None) source source_new begun old new path ends = ReplaysOver source source_new begun old new path ends
-    GoesOn (Err why) source source_new begun old new path ends = (new ≡ old) × (ends.out.new ≡ ends.out.old) × TellsStop (Err why) ends.errors ends.status
+    abbrev pub BeginsReplay : Result (Option Founding) ReplayStop → R → R → Unread → H → H → List ℕ → Ends → Type 0
+    BeginsReplay (Ok (Some founding)) source source_new begun old new path ends = ReplaysIn founding source source_new begun old new path ends
+    BeginsReplay (Ok None) source source_new begun old new path ends = ReplaysOver source source_new begun old new path ends
+    BeginsReplay (Err why) source source_new begun old new path ends = (new ≡ old) × (ends.out.new ≡ ends.out.old) × TellsStop (Err why) ends.errors ends.status
 
     -- The beginning of the record was read from this source, and then the store was used. What was read and not yet passed is then this.
     pub record ReplaysFrom (source source_new : R) (old new : H) (path : List ℕ) (ends : Ends) : Type 0 where
@@ -63,7 +63,7 @@ module _ {H F I : Type 0} (m : host.Ghosts H F I) (d : disk.Ghosts F) where
       pub begun : Unread
       pub first : Result (Option Founding) ReplayStop
       pub begins : Begins (r.remaining source) (ahead (r.remaining middle) begun) 0 begun.lines (r.failures source) (r.failures middle) first
-      pub goes_on : GoesOn first middle source_new begun old new path ends
+      pub goes_on : BeginsReplay first middle source_new begun old new path ends
 
   -- replay STORE RECORD: the record is the standard input if it is called `-`, else the file at this path, which is opened before
   -- the store

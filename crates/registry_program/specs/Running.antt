@@ -62,17 +62,17 @@ IsShown ends =
     × Prints ends.errors (failure_line File) × (ends.status ≡ Failed))
 
 -- a text was written to the error output alone, at the status Rejected
-abbrev pub IsRefused : Ends → Type 0
-IsRefused ends = (ends.out.new ≡ ends.out.old) × (ends.status ≡ Rejected) × ((text : List ℕ) × Prints ends.errors text)
+abbrev pub IsUsageRefused : Ends → Type 0
+IsUsageRefused ends = (ends.out.new ≡ ends.out.old) × (ends.status ≡ Rejected) × ((text : List ℕ) × Prints ends.errors text)
 
 -- what is written by an error of `clap`: memory did not suffice for its text, or it is shown or refused
-abbrev pub IsTold : Error → Ends → Type 0
-IsTold error ends = IsFailure Memory ends ⊎ ((AsksToShow error → IsShown ends) × ((AsksToShow error → ⊥) → IsRefused ends))
+abbrev pub IsUsageTold : Error → Ends → Type 0
+IsUsageTold error ends = IsFailure Memory ends ⊎ ((AsksToShow error → IsShown ends) × ((AsksToShow error → ⊥) → IsUsageRefused ends))
 
 -- what is written where the arguments give no command
-abbrev pub IsAnswered : Usage → Ends → Type 0
-IsAnswered (Refused error) ends = IsTold error ends
-IsAnswered NoMemory ends = IsFailure Memory ends
+abbrev pub IsUsage : Usage → Ends → Type 0
+IsUsage (Refused error) ends = IsUsageTold error ends
+IsUsage NoMemory ends = IsFailure Memory ends
 
 -- ---- both
 
@@ -84,4 +84,4 @@ module _ {H F I R W IN : Type 0} (m : host.Ghosts H F I) (d : disk.Ghosts F) (s 
   IsRunBy arguments says_causes is_waited_for old new input input_new ends =
       ((command : Command (List ℕ)) × (command_of arguments ≡ Some command) × IsObeyed m d s c r w i command says_causes is_waited_for old new input input_new ends)
       ⊎ ((usage : Usage) × (accepts arguments ≡ true → usage ≡ NoMemory) × IsOfFaults (faults_of arguments) usage
-      × (new ≡ old) × (input_new ≡ input) × IsAnswered usage ends)
+      × (new ≡ old) × (input_new ≡ input) × IsUsage usage ends)

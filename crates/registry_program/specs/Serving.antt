@@ -52,7 +52,7 @@ module _ {H F I R W : Type 0} (m : host.Ghosts H F I) (c : connections.Ghosts H 
     pub endures : Endures (state_of it) (state_of after)
 
   -- the machine listened on this port, and connections to it were served
-  pub record IsServed {S : Type 0} {g : store.Ghosts S} (port limit : ℕ) (old new : H) (it after : Registry S g) (ends : Ends) : Type 0 where
+  pub record IsServedAt {S : Type 0} {g : store.Ghosts S} (port limit : ℕ) (old new : H) (it after : Registry S g) (ends : Ends) : Type 0 where
     pub listening : H
     pub listens : m.listens old listening port
     pub end : Result (Unit {0}) ServerStop
@@ -61,7 +61,7 @@ module _ {H F I R W : Type 0} (m : host.Ghosts H F I) (c : connections.Ghosts H 
 
   -- that, or it could not listen
   abbrev pub ServesOn : {S : Type 0} {g : store.Ghosts S} → ℕ → ℕ → H → H → Registry S g → Registry S g → Ends → Type 0
-  ServesOn port limit old new it after ends = IsServed port limit old new it after ends ⊎ (m.is_refused old new port × (after ≡ it) × IsSocketFailure ends)
+  ServesOn port limit old new it after ends = IsServedAt port limit old new it after ends ⊎ (m.is_refused old new port × (after ≡ it) × IsSocketFailure ends)
 
 -- serve STORE
 abbrev pub Serves : {H F I R W : Type 0} → host.Ghosts H F I → disk.Ghosts F → connections.Ghosts H R W → source.Ghosts R → sink.Ghosts W → H → H → List ℕ → ℕ → ℕ → Ends → Type 0

@@ -31,7 +31,7 @@ module _ {H F I : Type 0} (m : host.Ghosts H F I) (d : disk.Ghosts F) where
     pub found : image_of d files ≡ m.holds old path
 
   -- the files were opened, and then closed with nothing done, as this says
-  pub record IsGivenUp (old new : H) (path : List ℕ) (may_make : Bool) (Left : Files F → Files F → Type 0) : Type 0 where
+  pub record IsClosedUndone (old new : H) (path : List ℕ) (may_make : Bool) (Left : Files F → Files F → Type 0) : Type 0 where
     pub opened : H
     pub files : Files F
     pub opens : Opens old opened path may_make files
@@ -49,7 +49,7 @@ module _ {H F I : Type 0} (m : host.Ghosts H F I) (d : disk.Ghosts F) where
   abbrev pub IsMissed : H → H → List ℕ → Failure → Type 0
   IsMissed old new path failure =
       (m.misses old new path false failure × IsOfFiles false failure)
-      ⊎ (IsOfOpening failure × IsGivenUp old new path false (λ files left. AreLeft d files left × HeldNoneIfForeign d failure files left))
+      ⊎ (IsOfOpening failure × IsClosedUndone old new path false (λ files left. AreLeft d files left × HeldNoneIfForeign d failure files left))
 
   -- the store at a path was opened, or made, and this is the connection to it
   pub record IsConnected (old new : H) (path : List ℕ) (conn : Held (FileStore F d)) : Type 0 where
@@ -59,7 +59,7 @@ module _ {H F I : Type 0} (m : host.Ghosts H F I) (d : disk.Ghosts F) where
 
   -- its files could not be opened, or are those of no store
   abbrev pub IsUnconnected : H → H → List ℕ → Failure → Type 0
-  IsUnconnected old new path failure = (m.misses old new path true failure × IsOfFiles true failure) ⊎ (IsOfStore failure × IsGivenUp old new path true (IsLeftUnopened d))
+  IsUnconnected old new path failure = (m.misses old new path true failure × IsOfFiles true failure) ⊎ (IsOfStore failure × IsClosedUndone old new path true (IsLeftUnopened d))
 
   -- How a store was closed after a command that ended with the first status: at Success its log was copied, and otherwise not.
   -- Unless that failed, its files hold what the store held.

@@ -43,7 +43,7 @@ use Rattle.registry_commands.specs.Failures.{IsOfOpening}
 use Rattle.registry_commands.specs.Imports.{AreOfImport, IsFirstBad, request_of_import, exit_status_of}
 use Rattle.registry_commands.specs.Lines.{requests_in}
 use Rattle.registry_commands.specs.declared.entries.Entry.TheVariants as says
-use Rattle.registry_commands.specs.Entries.{IsFirst}
+use Rattle.registry_commands.specs.Entries.{FirstSays}
 use Rattle.registry_commands.specs.Messages.{reply_line}
 use Rattle.registry_commands.specs.RecordLines.{MayHaveLines}
 use Rattle.registry_commands.specs.Replayed.{GetTheirReplies, after_lines}
@@ -109,7 +109,7 @@ AreLeftAfter visits h x y = IsLeftAfter h visits x × IsLeftAfter h visits y
 
 -- the history after the requests of these lines of a record, or after that of the next line too
 abbrev pub IsNear : History → List (List ℕ) → List (List ℕ) → History → Type 0
-IsNear h front rest x = (x ≡ after_lines h front) ⊎ ((accepted : Accepted) × IsFirst rest (says.Accepted accepted) × (x ≡ after_one (after_lines h front) accepted.request))
+IsNear h front rest x = (x ≡ after_lines h front) ⊎ ((accepted : Accepted) × FirstSays rest (says.Accepted accepted) × (x ≡ after_one (after_lines h front) accepted.request))
 
 -- The first lines of a record were acted on, and each got the reply that it says; at the status Success these are all. Both
 -- histories are the one after them, or after the request of the next line too.
@@ -127,8 +127,8 @@ pub record IsAfterRecord (lines : List (List ℕ)) (status : ExitStatus) (h x y 
 module _ {H F I : Type 0} (m : host.Ghosts H F I) (d : disk.Ghosts F) where
   -- Where the files of the store at a path held one of these two histories, in any schema, and the closed files are clean,
   -- these hold one of two histories of which this is so, as they now read and after any crash.
-  abbrev pub LeadsTo : H → List ℕ → Files F → History → History → (History → History → Type 0) → Type 0
-  LeadsTo old path files h next After =
+  abbrev pub LeadsFilesTo : H → List ℕ → Files F → History → History → (History → History → Type 0) → Type 0
+  LeadsFilesTo old path files h next After =
       Legal h → Legal next → (from : ℕ) → FilesHoldEither from (m.holds old path) h next → AreClean d files.log files.db
       → ∥ ((x : History) × (y : History) × After x y × HoldEither d newest files x y) ∥₁
 
@@ -144,7 +144,7 @@ module _ {H F I : Type 0} (m : host.Ghosts H F I) (d : disk.Ghosts F) where
   pub record IsCarriedOn (old new : H) (path : List ℕ) (After : History → History → History → Type 0) : Type 0 where
     pub files : Files F
     pub used : IsUsed old new path false files
-    pub holds : (h : History) → LeadsTo old path files h h (After h)
+    pub holds : (h : History) → LeadsFilesTo old path files h h (After h)
 
   -- The input could not be opened, or the port not be listened on, and the history is as before. `performs` says what was
   -- printed.
@@ -176,9 +176,9 @@ module _ {H F I : Type 0} (m : host.Ghosts H F I) (d : disk.Ghosts F) where
       pub files : Files F
       pub used : IsUsed old new path false files
       pub holds : (h : History) (rs : List Request) → requests_in bytes ≡ Ok rs → answered ≤ length rs
-          → LeadsTo old path files (after h (take answered rs)) (after h (take (answered + 1) rs)) (IsAfterLines h rs answered ends.out ends.status)
+          → LeadsFilesTo old path files (after h (take answered rs)) (after h (take (answered + 1) rs)) (IsAfterLines h rs answered ends.out ends.status)
       -- otherwise nothing was acted on
-      pub stays : ((rs : List Request) → requests_in bytes ≡ Ok rs → length rs < answered) → (h : History) → LeadsTo old path files h h (Stays h)
+      pub stays : ((rs : List Request) → requests_in bytes ≡ Ok rs → length rs < answered) → (h : History) → LeadsFilesTo old path files h h (Stays h)
 
     abbrev pub AppliesWholly : H → H → List ℕ → List ℕ → ℕ → Ends → Type 0
     AppliesWholly old new path file answered ends = UnlessStopped old new path ends (ActsOnFile m s file answered) (IsAppliedTo old new path file answered ends ⊎ IsUnbegun old new path ends)
@@ -251,7 +251,7 @@ module _ {H F I : Type 0} (m : host.Ghosts H F I) (d : disk.Ghosts F) where
       pub come : MayHaveLines (r.remaining source) (before ++ lines)
       pub files : Files F
       pub used : IsUsed old new path may_make files
-      pub holds : (h : History) → LeadsTo old path files h h (IsAfterRecord lines ends.status h)
+      pub holds : (h : History) → LeadsFilesTo old path files h h (IsAfterRecord lines ends.status h)
 
     -- No store was opened, since the beginning of the record is refused or could not be read; or the store could not be opened, or
     -- not be closed after the status Success; or the lines were replayed.

@@ -4,7 +4,7 @@ ghost use Rattle.std.specs.Prelude.{◌≡◌, ◌⊎◌, IfOk, map};
 ghost use Rattle.registry_arguments.specs.Commands.{texts};
 ghost use Rattle.registry_commands.specs.Ends.{output_of, sunk};
 ghost use Rattle.registry_commands.specs.Failures.{Prints};
-ghost use Rattle.registry_program.specs.Explained.{IsFounding, MayExplain, cause_line, shown};
+ghost use Rattle.registry_program.specs.Explained.{FoundsRegistry, MayExplain, cause_line, shown};
 
 use crate::host::{About, Cause, Host};
 use crate::last_line::LastLine;
@@ -312,7 +312,7 @@ pub(crate) fn remark<H: Host, E: Sink>(
     errors: &mut E,
 )
     ensures { (sunk E.Sink errors.new ≡ sunk E.Sink errors.old)
-        ⊎ (IsFounding (texts command.entry) × MayExplain (sunk E.Sink errors.old) (sunk E.Sink errors.new)) }
+        ⊎ (FoundsRegistry (texts command.entry) × MayExplain (sunk E.Sink errors.old) (sunk E.Sink errors.new)) }
 {
     match command {
         Command::Found { .. } => match words_for_founding(alloc, host, command) {

@@ -1,7 +1,7 @@
 //! Where a new store is made, by what stands at its name and at that of its log.
 
 ghost use Rattle.std.specs.Prelude.{MatchBool};
-ghost use Rattle.registry_program.specs.Making.{HasNoCommit, IsBlank, IsReasonFor};
+ghost use Rattle.registry_program.specs.Making.{HasNoCommit, IsBlankFile, IsReasonFor};
 
 /// The least length of a log that may hold a commit: its header has 32 bytes, and the header of
 /// a frame has 24.
@@ -33,7 +33,7 @@ pub enum Making {
 /// Returns whether a store may be made at a name where this stands: nothing, or a file without
 /// bytes.
 pub fn is_blank(standing: Standing) -> bool
-    ensures { MatchBool result (IsBlank standing) (IsBlank standing → ⊥) }
+    ensures { MatchBool result (IsBlankFile standing) (IsBlankFile standing → ⊥) }
 {
     match standing {
         Standing::Nothing => true,

@@ -3,7 +3,7 @@
 ghost use Rattle.std.specs.Prelude.{◌≡◌, ◌||◌, ◌&&◌, map, string_bytes};
 ghost use Rattle.registry_arguments.specs.Commands.{is_verbose, texts};
 ghost use Rattle.registry_commands.specs.Ends.{code, ends_of, output_of};
-ghost use Rattle.registry_program.specs.Running.{IsAnswered, IsObeyed, IsPrompted, IsRunBy, IsTold};
+ghost use Rattle.registry_program.specs.Running.{IsUsage, IsObeyed, IsPrompted, IsRunBy, IsUsageTold};
 ghost use Rattle.registry_program.specs.Statuses.{IsStatus};
 
 use crate::host::Host;
@@ -81,7 +81,7 @@ fn show<W: Sink, E: Sink>(
     output: &mut W,
     errors: &mut E,
 ) -> ExitStatus
-    ensures { IsTold error.now (ends_of W.Sink E.Sink output.old output.new errors.old errors.new result) }
+    ensures { IsUsageTold error.now (ends_of W.Sink E.Sink output.old output.new errors.old errors.new result) }
 {
     let Ok(text) = format!(in alloc; "{error}") else {
         return fail(errors, Failure::Memory);
@@ -104,7 +104,7 @@ fn answer<W: Sink, E: Sink>(
     output: &mut W,
     errors: &mut E,
 ) -> ExitStatus
-    ensures { IsAnswered usage.now (ends_of W.Sink E.Sink output.old output.new errors.old errors.new result) }
+    ensures { IsUsage usage.now (ends_of W.Sink E.Sink output.old output.new errors.old errors.new result) }
 {
     match usage {
         Usage::Refused(error) => show(alloc, error, output, errors),
