@@ -1,6 +1,6 @@
 -- The blank lines before the first line of a record that says something.
-use Rattle.std.proofs.Common.{◌≡◌, ◌⊎◌, ◌∙◌, ℕ, ◌+◌, ◌-◌, ◌^◌, true, List, [], ◌∷◌, ◌++◌, length, Option, Some, None, Result, Ok, Err, refl, sym, ap, subst, arith, length-append}
-use Rattle.std.specs.Prelude.{◌≢◌, All}
+use Rattle.std.proofs.Common.{◌≡◌, ◌⊎◌, ◌∙◌, ℕ, ◌+◌, ◌-◌, ◌^◌, true, List, [], ◌∷◌, ◌++◌, length, Option, Some, None, Ok, Err, refl, arith, length-append}
+use Rattle.std.specs.Prelude.{◌≢◌}
 use Rattle.std.specs.Io.KnownBytes.{Consumes}
 use Rattle.std.proofs.lemmas.List.Elements.{All-nil, All-push}
 use Rattle.byte_streams.specs.Streams.{HasFailed}
@@ -14,7 +14,7 @@ use Rattle.registry_commands.specs.declared.input.ReadAllFault.TheVariants as in
 use Rattle.registry_commands.specs.declared.messages.Failure.TheVariants.{File}
 use Rattle.registry_commands.specs.Entries.{NextSays, PassesOne, entry_in}
 use Rattle.registry_commands.specs.Messages.{input_failure}
-use Rattle.registry_commands.specs.RecordLines.{MayHaveLines, Passes}
+use Rattle.registry_commands.specs.RecordLines.{Passes}
 use Rattle.registry_commands.specs.Replayed.{AreBlank, Begins, IsOfRecordInput, is_later}
 use Rattle.registry_commands.proofs.RecordLineLemmas.{passes_none, passes_then, same_lines}
 

@@ -1,8 +1,8 @@
 -- What a line of a record says.
-use Rattle.std.proofs.Common.{◌≡◌, ◌≤◌, ◌<◌, ◌+◌, ℕ, Bool, true, false, List, [], ◌∷◌, length, take, drop, Option, Some, None, Result, Ok, Err, refl, sym, ap, subst, ◌∙◌, arith, length-take}
+use Rattle.std.proofs.Common.{◌≡◌, ◌≤◌, ◌<◌, ◌+◌, ℕ, Bool, true, false, List, [], ◌∷◌, length, take, drop, Option, Result, Ok, Err, refl, arith}
 use Rattle.std.specs.Prelude.{nat_le, if◌then◌else◌}
 use Rattle.std.specs.Io.KnownBytes.{prepend_known}
-use Rattle.std.proofs.lemmas.Bool.{leb-true, leb-false, le-leb}
+use Rattle.std.proofs.lemmas.Bool.{leb-true, le-leb}
 use Rattle.registry_commands.specs.declared.entries.Entry.{Entry}
 use Rattle.registry_commands.specs.declared.entries.Entry.TheVariants.{End, Blank, Founding, Accepted as Request, Bad}
 use Rattle.registry_commands.specs.declared.entries.LineRefusal.TheVariants.{TooLong}

@@ -1,11 +1,11 @@
 -- The next line of a source that is read in pieces.
-use Rattle.std.proofs.Common.{suc, ◌≡◌, ℕ, ◌+◌, ◌<◌, ◌≤◌, Bool, true, false, List, [], ◌∷◌, ◌++◌, length, take, drop, Option, Some, None, refl, sym, ap, subst, ◌∙◌, arith, append_assoc, append-nil, length-drop, length-append, length-take}
-use Rattle.std.specs.Prelude.{cond, not, ◌==◌, nat_le, nat_lt, position, ⊤, if◌then◌else◌}
+use Rattle.std.proofs.Common.{◌≡◌, ℕ, ◌+◌, ◌<◌, ◌≤◌, Bool, true, false, List, [], ◌∷◌, ◌++◌, length, take, drop, Option, Some, None, refl, sym, ap, subst, ◌∙◌, arith, append_assoc, append-nil, length-append, length-take}
+use Rattle.std.specs.Prelude.{cond, not, ◌==◌, nat_le, nat_lt, position, if◌then◌else◌}
 use Rattle.std.specs.Io.KnownBytes.{Consumes, IsAtEnd, prepend_known}
 use Rattle.std.proofs.lemmas.Bool.{ltb-true, lt-ltb, leb-true, leb-false, eqb-true, eqb-false}
 use Rattle.std.proofs.lemmas.List.{take_all, take-append-drop, take-append-le, drop-append-le}
 use Rattle.std.proofs.Math.ListN.{drop_of_length-le}
-use Rattle.registry_commands.specs.Lines.{in_front, lines_of}
+use Rattle.registry_commands.specs.Lines.{lines_of}
 use Rattle.registry_commands.specs.declared.record_lines.Found.TheVariants.{End, Line, TooLong}
 use Rattle.registry_commands.specs.declared.unread.Unread.{Unread}
 use Rattle.registry_commands.specs.RecordLines.{FindsLine, HasReadTo, MayHaveLines, Passes, ahead, last_line, most_line, of_length, unread_of}

@@ -1,6 +1,6 @@
 -- Lines of a record that were acted on, one after another.
-use Rattle.std.proofs.Common.{◌≡◌, ◌⊎◌, inl, inr, ℕ, ◌+◌, ◌-◌, ◌^◌, false, true, List, [], ◌∷◌, ◌++◌, length, Option, Some, None, Result, Ok, Err, refl, sym, ap, subst, ◌∙◌, arith, append-nil, append_assoc, length-append}
-use Rattle.std.specs.Prelude.{◌≢◌, All, map}
+use Rattle.std.proofs.Common.{◌≡◌, ◌⊎◌, inl, inr, ℕ, ◌+◌, ◌-◌, ◌^◌, false, true, List, [], ◌∷◌, ◌++◌, length, Option, Ok, Err, refl, sym, ap, subst, ◌∙◌, arith, append-nil, length-append}
+use Rattle.std.specs.Prelude.{◌≢◌, All}
 use Rattle.std.proofs.lemmas.List.Elements.{All-nil, All-push}
 use Rattle.std.proofs.lemmas.List.{map-append}
 use Rattle.sqlite.specs.Store.{Ghosts}
@@ -16,7 +16,6 @@ use Rattle.registry_store.specs.Promise.{Endures, Leaves, Represents, is_poisone
 use Rattle.registry_commands.specs.declared.entries.Entry.{Entry}
 use Rattle.registry_commands.specs.declared.entries.Entry.TheVariants.{End, Blank, Founding, Accepted as Request, Bad}
 use Rattle.registry_commands.specs.declared.entries.LineRefusal.{LineRefusal}
-use Rattle.registry_commands.specs.declared.following.ReplayStop.{ReplayStop}
 use Rattle.registry_commands.specs.declared.following.ReplayStop.TheVariants as stop
 use Rattle.registry_commands.specs.declared.input.ReadAllFault.{ReadAllFault}
 use Rattle.registry_commands.specs.declared.input.ReadAllFault.TheVariants as inputs
@@ -24,9 +23,9 @@ use Rattle.registry_commands.specs.declared.messages.Failure.{Failure}
 use Rattle.registry_commands.specs.declared.messages.Failure.TheVariants as of
 use Rattle.byte_streams.specs.Streams.{HasFailed}
 use Rattle.registry_commands.specs.Messages.{input_failure}
-use Rattle.registry_commands.specs.Entries.{FirstSays, NextSays, PassesOne, TakesEntry, entry_in, is_followed}
+use Rattle.registry_commands.specs.Entries.{FirstSays, PassesOne, entry_in, is_followed}
 use Rattle.registry_commands.specs.RecordLines.{MayHaveLines, Passes}
-use Rattle.registry_commands.specs.Replayed.{GetTheirReplies, HasReplayed, IsLeftReplayed, IsOfActing, IsOfReplay, IsRefusedFor, IsReplayOf, StopsBefore, accepted_in, after_lines, replies_of, requests_of, with_entry}
+use Rattle.registry_commands.specs.Replayed.{GetTheirReplies, IsOfActing, IsOfReplay, IsRefusedFor, IsReplayOf, accepted_in, after_lines, replies_of, requests_of, with_entry}
 use Rattle.registry_commands.proofs.ApplyLemmas.{endures_itself}
 use Rattle.registry_commands.proofs.RecordLineLemmas.{may_have, passes_none, passes_then}
 

@@ -1,7 +1,6 @@
 -- What the lines of a record say.
-use Rattle.std.specs.Prelude.{◌≡◌, ◌≤◌, ◌+◌, ℕ, Bool, true, false, nat_le, List, [], ◌∷◌, length, take, drop, ⊤, Option, Result, Ok, Err, if◌then◌else◌}
+use Rattle.std.specs.Prelude.{◌≡◌, ◌≤◌, ◌+◌, ℕ, Bool, true, false, nat_le, List, [], ◌∷◌, length, drop, ⊤, Option, Result, Ok, Err, if◌then◌else◌}
 use Rattle.std.specs.Io.KnownBytes.{prepend_known}
-use Rattle.registry_rules.specs.declared.accepted.Accepted.{Accepted}
 use Rattle.registry_wire.specs.declared.record.RecordLine.{RecordLine}
 use Rattle.registry_wire.specs.declared.record.RecordLine.TheVariants as wire
 use Rattle.registry_wire.specs.declared.refusal.WireRefusal.{WireRefusal}

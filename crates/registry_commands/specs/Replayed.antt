@@ -25,7 +25,7 @@ use Rattle.registry_wire.specs.Record.{founding_line}
 use Rattle.registry_commands.specs.declared.entries.Entry.{Entry}
 use Rattle.registry_commands.specs.declared.entries.Entry.TheVariants as says
 use Rattle.registry_commands.specs.declared.entries.LineRefusal.{LineRefusal}
-use Rattle.registry_commands.specs.declared.entries.LineRefusal.TheVariants.{TooLong, NoEntry, LateFounding, OtherFounding}
+use Rattle.registry_commands.specs.declared.entries.LineRefusal.TheVariants.{LateFounding, OtherFounding}
 use Rattle.registry_commands.specs.declared.following.ReplayStop.{ReplayStop}
 use Rattle.registry_commands.specs.declared.following.ReplayStop.TheVariants as stop
 use Rattle.registry_commands.specs.declared.messages.Failure.{Failure}

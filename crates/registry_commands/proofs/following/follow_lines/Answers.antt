@@ -1,5 +1,5 @@
 use Rattle.std.proofs.Common.{◌≡◌, ◌⊎◌, ◌∙◌, ◌+◌, ◌-◌, ◌^◌, ℕ, refl, sym, ap, subst, inl, inr, length, arith}
-use Rattle.std.specs.Prelude.{Ok, Err}
+use Rattle.std.specs.Prelude.{Err}
 use Rattle.byte_streams.specs.Streams.{HasFailed}
 use Rattle.registry_commands.specs.declared.following.ReplayStop.TheVariants as stop
 use Rattle.registry_commands.specs.declared.input.ReadAllFault.TheVariants as inputs

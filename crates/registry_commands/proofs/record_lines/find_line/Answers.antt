@@ -1,5 +1,5 @@
-use Rattle.std.proofs.Common.{◌≡◌, ◌∙◌, ◌++◌, ◌==◌, ◌<◌, ◌≤◌, List, ℕ, [], length, position, None, Some, sym, ap, arith, append-nil, refl, subst}
-use Rattle.registry_commands.specs.RecordLines.{FindsLine, ahead, unread_of}
+use Rattle.std.proofs.Common.{◌≡◌, ◌∙◌, ◌++◌, ◌==◌, ◌<◌, ◌≤◌, List, ℕ, [], length, position, None, sym, ap, append-nil}
+use Rattle.registry_commands.specs.RecordLines.{unread_of}
 use Rattle.registry_commands.proofs.LineLemmas.{empty_bytes}
 use Rattle.registry_commands.proofs.RecordLineLemmas.{filled, finds_at, finds_last, too_long_so_far}
 use Rattle.registry_commands.proofs.record_lines.find_line.Goals as goal
