@@ -7,7 +7,7 @@ use Rattle.registry_store.specs.declared.registry.Registry.{Registry as TheRegis
 use Rattle.registry_store.specs.Promise.{Represents, state_of}
 use Rattle.registry_store.specs.Queries.{IsUntouched}
 use Rattle.registry_desk.specs.declared.fault.DeskFault.TheVariants.{NoMemory}
-use Rattle.registry_desk.specs.Acting.{IsLeftAt}
+use Rattle.registry_desk.specs.Acting.{IsLeftUnavailable}
 
 module _ {S : Type 0} {g : Ghosts S} where
   -- a registry that is not asked is left as it is
@@ -19,14 +19,14 @@ module _ {S : Type 0} {g : Ghosts S} where
   }
 
   -- a crash leaves the history that the registry represents: the first of two
-  pub left_first : (it : TheRegistry S g) (h next : History) → Represents it h → HasCleanDisk (state_of it) → IsLeftAt NoMemory it h next
+  pub left_first : (it : TheRegistry S g) (h next : History) → Represents it h → HasCleanDisk (state_of it) → IsLeftUnavailable NoMemory it h next
   left_first it h next stands clean = record {
     leaves = λ db may. let l = stands.at.left clean db may in (l.0, inl l.1, l.2);
     ends = inl stands;
   }
 
   -- or the second
-  pub left_second : (it : TheRegistry S g) (h next : History) → Represents it next → HasCleanDisk (state_of it) → IsLeftAt NoMemory it h next
+  pub left_second : (it : TheRegistry S g) (h next : History) → Represents it next → HasCleanDisk (state_of it) → IsLeftUnavailable NoMemory it h next
   left_second it h next stands clean = record {
     leaves = λ db may. let l = stands.at.left clean db may in (l.0, inr l.1, l.2);
     ends = inr stands;

@@ -16,7 +16,8 @@ use Rattle.registry_desk.specs.declared.fault.DeskFault.{DeskFault}
 use Rattle.registry_desk.specs.declared.fault.DeskFault.TheVariants.{NoMemory, Registry}
 use Rattle.registry_desk.specs.declared.kept.Kept.{Kept}
 use Rattle.registry_desk.specs.declared.serve.Served.{Served}
-use Rattle.registry_desk.specs.Acting.{IsQueryResponse, IsResponse, IsEither, after_message}
+use Rattle.registry_store.specs.Files.{IsEither}
+use Rattle.registry_desk.specs.Acting.{IsQueryResponse, IsResponse, after_message}
 use Rattle.registry_desk.specs.Serving.{IsNext}
 use Rattle.registry_desk.specs.Kept.{no_texts, text_for, with_text, kept_beside, kept_after, AreTextsOf, AreTextsAfter, AreTextsAfterVisit}
 

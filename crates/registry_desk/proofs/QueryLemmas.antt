@@ -1,6 +1,6 @@
 -- The response to a query, by what the registry found.
 use Rattle.std.proofs.Common.{◌≡◌, Result, Ok, Err, ◌⊎◌, inl, inr, refl, sym, ap, subst}
-use Rattle.std.specs.Prelude.{true, IfOk, IfErr}
+use Rattle.std.specs.Prelude.{◌≢◌, true, IfOk, IfErr}
 use Rattle.std.proofs.lemmas.Result.{IfOk-weaker}
 use Rattle.sqlite.specs.Store.{Ghosts}
 use Rattle.registry_rules.specs.History.{History}
@@ -12,14 +12,14 @@ use Rattle.registry_store.specs.Queries.{IsQuery}
 use Rattle.registry_http.specs.declared.response.Response.{Response}
 use Rattle.registry_desk.specs.declared.fault.DeskFault.{DeskFault}
 use Rattle.registry_desk.specs.declared.fault.DeskFault.TheVariants.{NoMemory, Registry}
-use Rattle.registry_desk.specs.Acting.{IsAsked, IsOfSoundRegistry}
+use Rattle.registry_desk.specs.Acting.{IsAsked, IsOfQuery}
 use Rattle.registry_desk.specs.Faults.{failed_by}
 use Rattle.registry_desk.proofs.AskLemmas.{left_same}
 
--- a sound registry may have these faults
-of_sound : (e : Fault) → (e ≡ faults.Store) ⊎ (e ≡ faults.NoMemory) → IsOfSoundRegistry (Registry e)
-of_sound e (inl is) = subst (λ (f : Fault). IsOfSoundRegistry (Registry f)) (sym is) tt
-of_sound e (inr is) = subst (λ (f : Fault). IsOfSoundRegistry (Registry f)) (sym is) tt
+-- a query may have this fault
+of_query : (e : Fault) → e ≢ faults.NoMemory → (e ≡ faults.Store) ⊎ (e ≡ faults.NoMemory) → IsOfQuery (Registry e)
+of_query e other (inl is) = inr (ap Registry is)
+of_query e other (inr is) = absurd (other is)
 
 -- a result of this type, with a fault
 abbrev failure : (A : Type 0) → Fault → Result A Fault
@@ -42,7 +42,7 @@ module _ {S : Type 0} {g : Ghosts S} {it new : TheRegistry S g} {A : Type 0} {Is
     when_poisoned = λ is. let failed = q.when_poisoned is in absurd (cc failed.0);
     only_poisoned = λ never. absurd cc;
     answered = λ h stands clean. tt;
-    kind = λ h stands clean. tt;
+    kind = λ h stands clean. inl refl;
     left = q.left;
   }
 
@@ -52,29 +52,29 @@ module _ {S : Type 0} {g : Ghosts S} {it new : TheRegistry S g} {A : Type 0} {Is
   told {found} (Ok response) q err make = answers q make
   told {found} (Err fault) q err make = subst (λ (f : DeskFault). IsAsked it new (Err f) To) (sym err) (lacks_memory q)
 
-  -- the fault of a query
-  pub failed : {e : Fault} → IsQuery it new (Err e) Is → IsAsked it new (Err (Registry e)) To
-  failed {e} q = record {
+  -- a fault that is not of memory
+  failed_with : {e : Fault} → e ≢ faults.NoMemory → IsQuery it new (Err e) Is → IsAsked it new (Err (Registry e)) To
+  failed_with {e} other q = record {
     when_poisoned = λ is. let spent = q.when_poisoned is in let same : e ≡ faults.Poisoned = cc spent.0 in (ap (λ (f : Fault). Err (Registry f)) same, spent.1);
     only_poisoned = λ is. let same : e ≡ faults.Poisoned = cc is in q.only_poisoned (ap Err same);
     answered = λ h stands clean. tt;
-    kind = λ h stands clean. of_sound e (q.kind h stands clean);
+    kind = λ h stands clean. of_query e other (q.kind h stands clean);
     left = q.left;
   }
 
-  -- and that of a list or a report
-  pub failed_view : (e : Fault) → IsQuery it new (Err e) Is → IsAsked it new (Err (failed_by e)) To
-  failed_view faults.Store q = failed q
-  failed_view faults.NoMemory q = record {
+  -- the fault of a query
+  pub failed : (e : Fault) → IsQuery it new (Err e) Is → IsAsked it new (Err (failed_by e)) To
+  failed faults.Store q = failed_with (λ never. absurd cc) q
+  failed faults.NoMemory q = record {
     when_poisoned = λ is. let spent = q.when_poisoned is in absurd (cc spent.0);
     only_poisoned = λ never. absurd cc;
     answered = λ h stands clean. tt;
-    kind = λ h stands clean. tt;
+    kind = λ h stands clean. inl refl;
     left = q.left;
   }
-  failed_view faults.Foreign q = failed q
-  failed_view faults.Taken q = failed q
-  failed_view faults.Poisoned q = failed q
+  failed faults.Foreign q = failed_with (λ never. absurd cc) q
+  failed faults.Taken q = failed_with (λ never. absurd cc) q
+  failed faults.Poisoned q = failed_with (λ never. absurd cc) q
 
 module _ {S : Type 0} {g : Ghosts S} {it new : TheRegistry S g} {Is To : History → Response → Type 0} where
   -- the response is what one that promises more asked for
@@ -102,19 +102,19 @@ module _ {S : Type 0} {g : Ghosts S} {it : TheRegistry S g} {To : History → Re
     when_poisoned = λ is. absurd (sound is);
     only_poisoned = λ never. absurd cc;
     answered = λ h stands clean. tt;
-    kind = λ h stands clean. tt;
+    kind = λ h stands clean. inl refl;
     left = left_same it;
   })
 
   -- and the registry has nothing in memory, since it is poisoned
   pub failed_same : {A : Type 0} {e : Fault} (v : History → A) → is_poisoned it ≡ true → (is_poisoned it ≡ true → failure A e ≡ failure A faults.Poisoned) → ((h : History) → Represents it h → failure A e ≡ Ok (v h))
-      → IsAsked it it (Err (Registry e)) To
+      → IsAsked it it (Err (failed_by e)) To
   failed_same {A} {e} v spent fault found =
       let same : e ≡ faults.Poisoned = cc (fault spent) in
-      record {
-        when_poisoned = λ is. (ap (λ (f : Fault). Err (Registry f)) same, refl);
+      subst (λ (f : Fault). IsAsked it it (Err (failed_by f)) To) (sym same) (record {
+        when_poisoned = λ is. (refl, refl);
         only_poisoned = λ is. spent;
         answered = λ h stands clean. tt;
         kind = λ h stands clean. let never = found h stands in absurd (cc never);
         left = left_same it;
-      }
+      })

@@ -11,14 +11,16 @@ use Rattle.registry_store.specs.Promise.{Represents, state_of}
 use Rattle.registry_http.specs.declared.response.Response.{Response}
 use Rattle.registry_http.specs.declared.refusal.HttpRefusal.{HttpRefusal}
 use Rattle.registry_http.specs.declared.message.Message.{Message}
+use Rattle.registry_http.specs.declared.message.Message.TheVariants as messages
 use Rattle.registry_http.specs.Responses.{refusal_response, json_response, unavailable_response, IsInPlaceOf}
 use Rattle.registry_http.specs.declared.unavailable.Unavailable.TheVariants as unavailable
 use Rattle.registry_http.specs.Messages.{Says}
+use Rattle.registry_http.proofs.MessageLemmas.{message_says_one_thing}
 use Rattle.registry_desk.specs.declared.fault.DeskFault.{DeskFault}
 use Rattle.registry_desk.specs.declared.fault.DeskFault.TheVariants.{NoMemory, Registry}
 use Rattle.registry_desk.specs.Faults.{unavailable_of}
 use Rattle.registry_http.specs.declared.unavailable.Unavailable.{Unavailable}
-use Rattle.registry_desk.specs.Acting.{IsResponse, after_message, IsOfSoundRegistry, IsLeftAt}
+use Rattle.registry_desk.specs.Acting.{IsResponse, after_message, IsOfSoundRegistry, IsLeftUnavailable, IsFaultOf}
 use Rattle.registry_desk.specs.Serving.{IsSaidPoisoned, IsSent, IsTold, IsServed}
 use Rattle.registry_desk.proofs.AskLemmas.{left_first, left_second}
 
@@ -29,6 +31,12 @@ status_503 unavailable.NoMemory = refl
 status_503 unavailable.StoreFault = refl
 
 module _ {S : Type 0} {g : Ghosts S} where
+  -- memory may run out for any message
+  of_memory : (it : TheRegistry S g) (said : Result Message HttpRefusal) → IsFaultOf said NoMemory it
+  of_memory it (Err refusal) = refl
+  of_memory it (Ok (messages.Query query)) = inl refl
+  of_memory it (Ok (messages.Request request)) = tt
+
   -- memory ran out before the message was read
   pub served_early : (it : TheRegistry S g) (h : History) (bytes : List ℕ) (fault : Option Fault) → fault ≡ None → Represents it h → HasCleanDisk (state_of it)
       → IsServed it h bytes (unavailable_response (unavailable_of NoMemory)) fault
@@ -40,6 +48,7 @@ module _ {S : Type 0} {g : Ghosts S} where
     next = h;
     next_is = inl (refl, refl);
     left = left_first it h h stands clean;
+    fault_of = λ said says. of_memory it said;
   })
 
   -- the message was read, and its response was sent, or refusal 31 in its place
@@ -62,13 +71,14 @@ module _ {S : Type 0} {g : Ghosts S} where
     next = after_message h said;
     next_is = inr (said, says, refl, λ other. absurd (other refl));
     left = left_second new h (after_message h said) ok.1 clean;
+    fault_of = λ other same. of_memory new other;
   })
 
   -- the message was read and acted on
   pub served_then : (new : TheRegistry S g) (h : History) (bytes : List ℕ) (response : Response) (fault : Option Fault) (said : Result Message HttpRefusal) (done : Result Response DeskFault)
       → Says h.founding.vendor bytes said → HasCleanDisk (state_of new)
       → IfOk done (λ response. IsResponse h said response × Represents new (after_message h said))
-      → IfErr done (λ fault. IsOfSoundRegistry fault × IsLeftAt fault new h (after_message h said))
+      → IfErr done (λ fault. IsOfSoundRegistry fault × IsFaultOf said fault new × IsLeftUnavailable fault new h (after_message h said))
       → IfErr done (λ fault. fault ≢ NoMemory → IsOk said)
       → IsTold done response fault → IsServed new h bytes response fault
   served_then new h bytes response fault said (Ok wanted) says clean ok err asked told = sent_then new h bytes wanted response fault said says clean ok told.0 told.1
@@ -79,7 +89,8 @@ module _ {S : Type 0} {g : Ghosts S} where
     fault_is = told.1;
     next = after_message h said;
     next_is = inr (said, says, refl, asked);
-    left = err.1;
+    left = err.2;
+    fault_of = λ other same. subst (λ (s : Result Message HttpRefusal). IsFaultOf s why new) (message_says_one_thing h.founding.vendor bytes said other says same) err.1;
   })
 
   -- the message was read, and the registry was poisoned

@@ -10,18 +10,22 @@ use Rattle.registry_store.specs.declared.fault.Fault.{Fault}
 use Rattle.registry_store.specs.declared.registry.Registry.{Registry as TheRegistry}
 use Rattle.registry_tables.specs.Rows.{newest}
 use Rattle.registry_store.specs.Promise.{Represents, Leaves, is_poisoned, state_of}
+use Rattle.registry_http.specs.declared.message.Message.{Message}
+use Rattle.registry_http.specs.declared.refusal.HttpRefusal.{HttpRefusal}
 use Rattle.registry_http.specs.declared.response.Response.{Response}
 use Rattle.registry_http.specs.Incomplete.{FailsAfter, IsIncomplete}
+use Rattle.registry_http.specs.Messages.{Says}
 use Rattle.registry_http.specs.Responses.{response_bytes, unavailable_response}
 use Rattle.registry_desk.specs.declared.fault.DeskFault.{DeskFault}
 use Rattle.registry_desk.specs.declared.fault.DeskFault.TheVariants.{NoMemory, Registry}
 use Rattle.registry_desk.specs.declared.serve.Served.{Served}
 use Rattle.registry_desk.specs.Faults.{registry_fault, unavailable_of}
-use Rattle.registry_desk.specs.Acting.{after_message, IsEither, IsOfSoundRegistry, IsLeftAt}
+use Rattle.registry_store.specs.Files.{IsEither}
+use Rattle.registry_desk.specs.Acting.{after_message, IsOfSoundRegistry, IsLeftUnavailable, IsFaultOf}
 use Rattle.registry_desk.specs.Serving.{IsNext, IsServed, IsTurnedAway, Sends}
 use Rattle.registry_desk.specs.declared.server.ServerStop.{ServerStop}
 use Rattle.registry_desk.specs.declared.server.ServerStop.TheVariants as stops
-use Rattle.registry_desk.specs.Server.{Visit, IsRead, IsVisit, IsTurnedAwayAt, IsWritten, AreTurnedAway, HaveVisited, IsTurn, Turns, RepresentsAfter, IsServedInPart, IsStoppedServing, EndsVisit, EndsServing, IsLeftAfter, EndsAt, IfVisited, fault_behind, fault_in, status_of}
+use Rattle.registry_desk.specs.Server.{Visit, IsRead, IsVisit, IsTurnedAwayAt, IsWritten, AreTurnedAway, HaveVisited, IsTurn, Turns, RepresentsAfter, IsServedInPart, IsStoppedServing, EndsVisit, EndsServing, IsLeftAfter, EndsConnections, IfVisited, fault_behind, fault_in, status_of}
 use Rattle.registry_desk.specs.declared.kept.Kept.{Kept}
 use Rattle.registry_desk.specs.Kept.{AreTextsAfter, AreTextsAfterVisit, AreTextsOf, no_texts}
 use Rattle.registry_desk.proofs.KeptLemmas.{none_are, texts_after_visit}
@@ -57,11 +61,12 @@ module _ {S : Type 0} {g : Ghosts S} where
 
   given_up_visit : (new : TheRegistry S g) (h : History) (bytes text : List ℕ) (served : Served) (why : DeskFault) (next : History)
       → IsOfSoundRegistry why → text ≡ response_bytes (unavailable_response (unavailable_of why)) → IfOk served.status (λ sent. sent ≡ 503)
-      → IsNext h bytes why next → IsLeftAt why new h next
+      → IsNext h bytes why next → IsLeftUnavailable why new h next
+      → ((said : Result Message HttpRefusal) → Says h.founding.vendor bytes said → IsFaultOf said why new)
       → EndsVisit new h (record { bytes = bytes; text = text; end = Ok served }) (registry_fault why)
-  given_up_visit new h bytes text served NoMemory next kind text_is status_is next_is left = short_turn new h bytes text served next text_is status_is next_is left.ends
-  given_up_visit new h bytes text served (Registry fault) next kind text_is status_is next_is left =
-      record { kind = kind; text_is = text_is; status_is = status_is; next = next; next_is = next_is; left = left }
+  given_up_visit new h bytes text served NoMemory next kind text_is status_is next_is left fault_of = short_turn new h bytes text served next text_is status_is next_is left.ends
+  given_up_visit new h bytes text served (Registry fault) next kind text_is status_is next_is left fault_of =
+      record { kind = kind; text_is = text_is; status_is = status_is; next = next; next_is = next_is; left = left; fault_of = fault_of }
 
   -- serving a message is a visit
   served_visit : (new : TheRegistry S g) (h : History) (bytes : List ℕ) (response : Response) (served : Served) → IfOk served.status (λ sent. sent ≡ response.status)
@@ -72,7 +77,7 @@ module _ {S : Type 0} {g : Ghosts S} where
   served_visit new h bytes response served sent (inr it) =
       let unavailable = ap (λ (r : Response). r.status) it.response_is ∙ status_503 (unavailable_of it.why) in
       subst (λ (f : Option Fault). EndsVisit new h (record { bytes = bytes; text = response_bytes response; end = Ok served }) f) (sym it.fault_is)
-      (given_up_visit new h bytes (response_bytes response) served it.why it.next it.kind (ap response_bytes it.response_is) (subst (λ (n : ℕ). IfOk served.status (λ sent. sent ≡ n)) unavailable sent) it.next_is it.left)
+      (given_up_visit new h bytes (response_bytes response) served it.why it.next it.kind (ap response_bytes it.response_is) (subst (λ (n : ℕ). IfOk served.status (λ sent. sent ≡ n)) unavailable sent) it.next_is it.left it.fault_of)
 
   -- the registry represents the history after these connections, and the texts that are kept are of it
   abbrev pub RepresentsBeside : TheRegistry S g → Kept → History → List Visit → Type 0
@@ -149,7 +154,7 @@ module _ {S C R W : Type 0} {g : Ghosts S} (opens : C → C → R → W → Type
   abbrev Ends : C → C → TheRegistry S g → TheRegistry S g → ℕ → Result (Unit {0}) ServerStop → Type 0
   Ends old new first last count result = (visits : List Visit) × (middle : C)
       × HaveVisited opens closes remaining reads_failed contents writes_failed old middle visits
-      × EndsAt fails middle new result
+      × EndsConnections fails middle new result
       × (length visits ≤ count) × OnOk result (length visits ≡ count)
       × ((h : History) → Represents first h → HasCleanDisk (state_of last) → EndsServing last h visits (fault_in result) × Leaves newest (state_of last) (IsLeftAfter h visits))
       × (is_poisoned first ≡ true → AreTurnedAway visits (fault_in result) × (last ≡ first))

@@ -22,6 +22,7 @@ use Rattle.registry_tables.specs.Lists.{IsVendorList}
 use Rattle.registry_tables.specs.Rows.{newest}
 use Rattle.registry_store.specs.declared.fault.Fault.TheVariants as faults
 use Rattle.registry_store.specs.declared.registry.Registry.{Registry as TheRegistry}
+use Rattle.registry_store.specs.Files.{IsEither}
 use Rattle.registry_store.specs.Promise.{Leaves, Represents, is_poisoned, poisoned_by, state_of}
 use Rattle.registry_store.specs.Queries.{IsUntouched}
 use Rattle.registry_views.specs.Records.{IsRecordPage}
@@ -97,19 +98,20 @@ IsOfSoundRegistry (Registry faults.Foreign) = ⊥
 IsOfSoundRegistry (Registry faults.Taken) = ⊥
 IsOfSoundRegistry (Registry faults.Poisoned) = ⊥
 
+-- the faults of a query of a sound registry over a clean disk: memory ran out, which is no fault of the registry, or the store
+-- failed
+abbrev pub IsOfQuery : DeskFault → Type 0
+IsOfQuery fault = (fault ≡ NoMemory) ⊎ (fault ≡ Registry faults.Store)
+
 module _ {S : Type 0} {g : Ghosts S} (it new : TheRegistry S g) where
   -- A query over HTTP: over a clean disk the response is that of each history that the registry represented, and a fault is
-  -- one that a sound registry may have. A poisoned registry gives Poisoned and stays the same value, and no other gives that.
+  -- one of a query. A poisoned registry gives Poisoned and stays the same value, and no other gives that.
   pub record IsAsked (result : Result Response DeskFault) (Is : History → Response → Type 0) : Type 0 where
     pub when_poisoned : is_poisoned it ≡ true → (result ≡ Err (Registry faults.Poisoned)) × (new ≡ it)
     pub only_poisoned : result ≡ Err (Registry faults.Poisoned) → is_poisoned it ≡ true
     pub answered : (h : History) → Represents it h → HasCleanDisk (state_of new) → IfOk result (Is h)
-    pub kind : (h : History) → Represents it h → HasCleanDisk (state_of new) → IfErr result IsOfSoundRegistry
+    pub kind : (h : History) → Represents it h → HasCleanDisk (state_of new) → IfErr result IsOfQuery
     pub left : IsUntouched it new
-
--- one of the two histories
-abbrev pub IsEither : History → History → History → Type 0
-IsEither h next x = (x ≡ h) ⊎ (x ≡ next)
 
 module _ {S : Type 0} {g : Ghosts S} where
   -- After a fault of the registry it is poisoned by this fault, or it represents the history before the message, and the
@@ -119,9 +121,21 @@ module _ {S : Type 0} {g : Ghosts S} where
   EndsAt NoMemory it h next = Represents it h ⊎ Represents it next
   EndsAt (Registry fault) it h next = (poisoned_by it ≡ Some fault) ⊎ (Represents it h × (next ≡ h))
 
+  -- if this is a fault of the registry, it has poisoned it
+  abbrev pub HasPoisoned : DeskFault → TheRegistry S g → Type 0
+  HasPoisoned NoMemory it = ⊤
+  HasPoisoned (Registry fault) it = poisoned_by it ≡ Some fault
+
+  -- The fault of a message that got refusal 30 or 31: memory ran out; or an order has poisoned the registry by this fault, also
+  -- one that the rules would refuse; or the store failed at a query.
+  abbrev pub IsFaultOf : Result Message HttpRefusal → DeskFault → TheRegistry S g → Type 0
+  IsFaultOf (Err refusal) fault it = fault ≡ NoMemory
+  IsFaultOf (Ok (messages.Query query)) fault it = IsOfQuery fault
+  IsFaultOf (Ok (messages.Request request)) fault it = HasPoisoned fault it
+
   -- A message got refusal 30 or 31. A crash leaves one history or the other, and a registry that is not poisoned represents
   -- one of them.
-  pub record IsLeftAt (fault : DeskFault) (it : TheRegistry S g) (h next : History) : Type 0 where
+  pub record IsLeftUnavailable (fault : DeskFault) (it : TheRegistry S g) (h next : History) : Type 0 where
     pub leaves : Leaves newest (state_of it) (IsEither h next)
     pub ends : EndsAt fault it h next
 

@@ -24,7 +24,7 @@ abbrev pub registry_fault : DeskFault → Option Fault
 registry_fault (Registry fault) = Some fault
 registry_fault NoMemory = None
 
--- the fault for one of a list or a report: memory that runs out for it is no fault of the registry
+-- the fault for one of a query: memory that runs out for a query is no fault of the registry
 abbrev pub failed_by : Fault → DeskFault
 failed_by faults.NoMemory = NoMemory
 failed_by fault = Registry fault

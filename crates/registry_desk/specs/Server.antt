@@ -23,7 +23,8 @@ use Rattle.registry_desk.specs.declared.serve.Served.{Served}
 use Rattle.registry_desk.specs.declared.server.ServerStop.{ServerStop}
 use Rattle.registry_desk.specs.declared.server.ServerStop.TheVariants as stops
 use Rattle.registry_desk.specs.Faults.{unavailable_of}
-use Rattle.registry_desk.specs.Acting.{IsResponse, after_message, IsOfSoundRegistry, IsEither, IsLeftAt}
+use Rattle.registry_store.specs.Files.{IsEither}
+use Rattle.registry_desk.specs.Acting.{IsResponse, after_message, IsOfSoundRegistry, IsLeftUnavailable, IsFaultOf}
 use Rattle.registry_desk.specs.Serving.{IsNext, IsTurnedAway, Sends}
 
 -- ---- connections
@@ -89,7 +90,7 @@ module _ {C R W : Type 0} (opens : C → C → R → W → Type 0) (closes : C �
   HaveVisited old new (visit ∷ visits) = (middle : C) × IsVisit old middle visit × HaveVisited middle new visits
 
 -- What a connection gets over a poisoned registry, which is not changed: its message is turned away, with the status of what
--- was written if all was. The fault is that of the registry, if it was asked.
+-- was written if all was. The fault is that of the registry, unless the message is refused by itself or did not come.
 abbrev pub IsTurnedAwayAt : Visit → Option Fault → Type 0
 IsTurnedAwayAt visit fault = TurnedAt visit.end
   where
@@ -149,7 +150,8 @@ module _ {S : Type 0} {g : Ghosts S} where
     pub status_is : IsSentWith visit.end 503
     pub next : History
     pub next_is : IsNext h visit.bytes (Registry fault) next
-    pub left : IsLeftAt (Registry fault) it h next
+    pub left : IsLeftUnavailable (Registry fault) it h next
+    pub fault_of : (said : Result Message HttpRefusal) → Says h.founding.vendor visit.bytes said → IsFaultOf said (Registry fault) it
 
   -- The registry had a fault at the last of these connections: a crash leaves the history after all messages before it, or
   -- after its own.
@@ -179,10 +181,10 @@ IfVisited (Err stops.Connections) P = ⊤
 IfVisited (Err (stops.Registry fault)) P = P
 
 -- the connections are as the last one left them, or no further one could come
-abbrev pub EndsAt : {C : Type 0} → (C → C → Type 0) → C → C → Result (Unit {0}) ServerStop → Type 0
-EndsAt fails middle new (Ok done) = new ≡ middle
-EndsAt fails middle new (Err stops.Connections) = fails middle new
-EndsAt fails middle new (Err (stops.Registry fault)) = new ≡ middle
+abbrev pub EndsConnections : {C : Type 0} → (C → C → Type 0) → C → C → Result (Unit {0}) ServerStop → Type 0
+EndsConnections fails middle new (Ok done) = new ≡ middle
+EndsConnections fails middle new (Err stops.Connections) = fails middle new
+EndsConnections fails middle new (Err (stops.Registry fault)) = new ≡ middle
 
 -- ---- crashes
 

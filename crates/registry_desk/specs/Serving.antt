@@ -1,7 +1,7 @@
 -- What serving one message writes, and what the registry then represents.
 --
 -- The response is the one that is written, and the fault is that of the registry behind it.
-use Rattle.std.specs.Prelude.{◌≡◌, ◌≢◌, ◌⊎◌, ℕ, List, Option, None, Result, Ok, Err, IsOk, IfOk}
+use Rattle.std.specs.Prelude.{◌≡◌, ◌≢◌, ◌⊎◌, ℕ, List, Option, Some, None, Result, Ok, Err, IsOk, IfOk}
 use Rattle.sqlite.specs.Store.{Ghosts}
 use Rattle.byte_streams.specs.Streams.{Writes}
 use Rattle.byte_streams.specs.declared.streams.Broken.{Broken}
@@ -18,7 +18,7 @@ use Rattle.registry_http.specs.Messages.{Says}
 use Rattle.registry_desk.specs.declared.fault.DeskFault.{DeskFault}
 use Rattle.registry_desk.specs.declared.fault.DeskFault.TheVariants.{Registry, NoMemory}
 use Rattle.registry_desk.specs.Faults.{unavailable_of, registry_fault}
-use Rattle.registry_desk.specs.Acting.{IsResponse, after_message, IsOfSoundRegistry, IsLeftAt}
+use Rattle.registry_desk.specs.Acting.{IsResponse, after_message, IsOfSoundRegistry, IsLeftUnavailable, IsFaultOf}
 
 -- the response was written to the sink: all of it, with its status, or the sink failed
 abbrev pub Sends : {W : Type 0} → (W → Option (List ℕ)) → (W → ℕ) → W → W → Response → Result ℕ Broken → Type 0
@@ -41,10 +41,11 @@ IsSaidPoisoned (Ok message) response fault = IsTold (Err (Registry faults.Poison
 IsSaidPoisoned (Err refusal) response fault = IsSent (refusal_response refusal) response fault ⊎ IsTold (Err NoMemory) response fault
 
 -- The response is what is written for all bytes over a poisoned registry, or refusal 31 if memory ran out before the message
--- was read.
+-- was read. Either way the fault is Poisoned, unless the message is refused by itself.
 abbrev pub IsTurnedAway : List ℕ → Response → Option Fault → Type 0
 IsTurnedAway bytes response fault =
-    IsTold (Err NoMemory) response fault ⊎ ((founding : ℕ) × (said : Result Message HttpRefusal) × Says founding bytes said × IsSaidPoisoned said response fault)
+    ((response ≡ unavailable_response (unavailable_of NoMemory)) × (fault ≡ Some faults.Poisoned))
+    ⊎ ((founding : ℕ) × (said : Result Message HttpRefusal) × Says founding bytes said × IsSaidPoisoned said response fault)
 
 -- the history that a registry may represent besides h: the one after the message, or h itself if memory ran out before the
 -- message was read
@@ -70,7 +71,8 @@ module _ {S : Type 0} {g : Ghosts S} where
     pub fault_is : fault ≡ registry_fault why
     pub next : History
     pub next_is : IsNext h bytes why next
-    pub left : IsLeftAt why new h next
+    pub left : IsLeftUnavailable why new h next
+    pub fault_of : (said : Result Message HttpRefusal) → Says h.founding.vendor bytes said → IsFaultOf said why new
 
   abbrev pub IsServed : TheRegistry S g → History → List ℕ → Response → Option Fault → Type 0
   IsServed new h bytes response fault = IsAnswered new h bytes response fault ⊎ IsGivenUp new h bytes response fault

@@ -9,7 +9,7 @@ ghost use Rattle.registry_store.specs.declared.fault.Fault.TheVariants as faults
 ghost use Rattle.registry_desk.specs.declared.fault.DeskFault.TheVariants as desk_faults;
 ghost use Rattle.registry_store.specs.Queries.{IsUntouched};
 ghost use Rattle.registry_http.specs.Responses.{refusal_response, reply_response};
-ghost use Rattle.registry_desk.specs.Acting.{IsQueryResponse, IsResponse, after_message, IsOfSoundRegistry, IsLeftAt};
+ghost use Rattle.registry_desk.specs.Acting.{IsQueryResponse, IsResponse, after_message, IsOfQuery, IsOfSoundRegistry, IsLeftUnavailable, HasPoisoned, IsFaultOf};
 ghost use Rattle.registry_desk.specs.Kept.{AreTextsOf, kept_beside, no_texts, with_text};
 
 use crate::fault::DeskFault;
@@ -30,13 +30,15 @@ fn respond_to_order<S: Alter>(
     ensures answered { (h : History) → Represents registry.old h → HasCleanDisk (state_of registry.new)
         → IfOk result (λ response. (response ≡ reply_response (reply_to h request.now)) × Represents registry.new (after_one h request.now)) }
     ensures left { (h : History) → Represents registry.old h → HasCleanDisk (state_of registry.new)
-        → IfErr result (λ fault. IsOfSoundRegistry fault × IsLeftAt fault registry.new h (after_one h request.now)) }
+        → IfErr result (λ fault. IsOfSoundRegistry fault × HasPoisoned fault registry.new × IsLeftUnavailable fault registry.new h (after_one h request.now)) }
     ensures only_poisoned { result ≡ Err (desk_faults.Registry faults.Poisoned) → is_poisoned registry.old ≡ true }
     ensures when_poisoned { is_poisoned registry.old ≡ true → (result ≡ Err (desk_faults.Registry faults.Poisoned)) × (registry.new ≡ registry.old) }
     ensures endures { Endures (state_of registry.old) (state_of registry.new) }
 {
-    let reply = registry.act(request)?;
-    Ok(reply_response(alloc, &reply)?)
+    match registry.act(request) {
+        Ok(reply) => Ok(reply_response(alloc, &reply)?),
+        Err(fault) => Err(DeskFault::Registry(fault)),
+    }
 }
 
 /// Returns the response to a query: the one that is kept, which is taken out, or else a new one.
@@ -47,7 +49,7 @@ fn take_or_ask<S: Alter>(
     query: &Query,
 ) -> Result<Response, DeskFault>
     ensures answered { (h : History) → Represents registry.old h → HasCleanDisk (state_of registry.new) → AreTextsOf h kept.old → IfOk result (IsQueryResponse h query.now) }
-    ensures kind { (h : History) → Represents registry.old h → HasCleanDisk (state_of registry.new) → IfErr result IsOfSoundRegistry }
+    ensures kind { (h : History) → Represents registry.old h → HasCleanDisk (state_of registry.new) → IfErr result IsOfQuery }
     ensures left { IsUntouched registry.old registry.new }
     ensures only_poisoned { result ≡ Err (desk_faults.Registry faults.Poisoned) → is_poisoned registry.old ≡ true }
     ensures when_poisoned { is_poisoned registry.old ≡ true → kept.old ≡ no_texts → (result ≡ Err (desk_faults.Registry faults.Poisoned)) × (registry.new ≡ registry.old) }
@@ -77,7 +79,7 @@ pub(crate) fn response_to<S: Alter>(
     ensures answered { (h : History) → Represents registry.old h → HasCleanDisk (state_of registry.new) → AreTextsOf h kept.old
         → IfOk result (λ response. IsResponse h said.now response × Represents registry.new (after_message h said.now)) }
     ensures left { (h : History) → Represents registry.old h → HasCleanDisk (state_of registry.new)
-        → IfErr result (λ fault. IsOfSoundRegistry fault × IsLeftAt fault registry.new h (after_message h said.now)) }
+        → IfErr result (λ fault. IsOfSoundRegistry fault × IsFaultOf said.now fault registry.new × IsLeftUnavailable fault registry.new h (after_message h said.now)) }
     ensures asked { IfErr result (λ fault. fault ≢ desk_faults.NoMemory → IsOk said.now) }
     // A message that is refused gets its refusal, over any registry.
     ensures refused { IfErr said.now (λ refusal. IfOk result (λ response. response ≡ refusal_response refusal) × IfErr result (λ fault. fault ≡ desk_faults.NoMemory) × (registry.new ≡ registry.old)) }

@@ -1,7 +1,7 @@
 //! Why a message gets refusal 30 or 31: the registry has a fault, or memory runs out.
 
 ghost use Rattle.std.specs.Prelude.{◌≡◌};
-ghost use Rattle.registry_desk.specs.declared.fault.DeskFault.TheVariants.{Registry, NoMemory as OutOfMemory};
+ghost use Rattle.registry_desk.specs.declared.fault.DeskFault.TheVariants.{NoMemory as OutOfMemory};
 ghost use Rattle.registry_desk.specs.Faults.{unavailable_of, registry_fault, failed_by};
 
 use registry_http::Unavailable;
@@ -17,11 +17,12 @@ pub(crate) enum DeskFault {
     NoMemory,
 }
 
+/// Turns the fault of a query by `failed_by`. That of an order is `DeskFault::Registry`.
 impl From<Fault> for DeskFault {
-    ghost from_gives = { λ fault gives. gives ≡ Registry fault };
+    ghost from_gives = { λ fault gives. gives ≡ failed_by fault };
 
     fn from(fault: Fault) -> DeskFault {
-        DeskFault::Registry(fault)
+        failed_by(fault)
     }
 }
 
@@ -57,7 +58,7 @@ pub(crate) fn registry_fault(fault: DeskFault) -> Option<Fault>
     }
 }
 
-/// Returns the fault for one of a list or a report. Memory that runs out for it is no fault of the
+/// Returns the fault for one of a query. Memory that runs out for a query is no fault of the
 /// registry, and does not end a server.
 pub(crate) fn failed_by(fault: Fault) -> DeskFault
     ensures { result ≡ failed_by fault }

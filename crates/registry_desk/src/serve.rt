@@ -1,6 +1,6 @@
 //! Serves one message: reads it, acts on it, and writes its response.
 
-ghost use Rattle.std.specs.Prelude.{◌≡◌, true, List, ℕ, Option, Some, IfOk, OnOk, OnErr};
+ghost use Rattle.std.specs.Prelude.{◌≡◌, true, false, List, ℕ, Option, Some, None, IfOk, OnOk, OnErr};
 ghost use Rattle.sqlite.specs.State.{HasCleanDisk};
 ghost use Rattle.byte_streams.specs.Streams.{MayGive};
 ghost use Rattle.registry_rules.specs.History.{History};
@@ -31,6 +31,19 @@ pub struct Served {
     pub status: Result<u16, Broken>,
     /// The registry's fault behind a 503. A 503 without one says that memory ran out.
     pub fault: Option<Fault>,
+}
+
+/// Returns `Fault::Poisoned` if the registry is poisoned.
+fn poison_of<S: Alter>(registry: &Registry<S>) -> Option<Fault>
+    ensures when_poisoned { is_poisoned registry.now ≡ true → result ≡ Some faults.Poisoned }
+    ensures only_poisoned { result ≡ Some faults.Poisoned → is_poisoned registry.now ≡ true }
+    ensures none { is_poisoned registry.now ≡ false → result ≡ None }
+{
+    if registry.is_poisoned() {
+        Some(Fault::Poisoned)
+    } else {
+        None
+    }
 }
 
 /// Writes refusal 30 or 31.
@@ -99,7 +112,12 @@ pub(crate) fn serve_message<R: Source, W: Sink, S: Alter>(
         Err(MessageFault::Broken) => Err(Broken),
         Err(MessageFault::NoMemory) => {
             kept.clear();
-            Ok(give_up(sink, DeskFault::NoMemory))
+            let given = give_up(sink, DeskFault::NoMemory);
+            // A poisoned registry was not asked, and yet no server goes on over it.
+            Ok(Served {
+                status: given.status,
+                fault: poison_of(registry),
+            })
         }
     }
 }

@@ -6,7 +6,7 @@ ghost use Rattle.registry_rules.specs.History.{History};
 ghost use Rattle.registry_tables.specs.Rows.{newest};
 ghost use Rattle.registry_store.specs.Promise.{Represents, Endures, Leaves, is_poisoned, state_of};
 ghost use Rattle.registry_desk.specs.Faults.{server_stop_text};
-ghost use Rattle.registry_desk.specs.Server.{Visit, IsVisit, IsTurnedAwayAt, AreTurnedAway, HaveVisited, EndsVisit, EndsServing, IsLeftAfter, EndsAt, IfVisited, fault_behind, fault_in, status_of};
+ghost use Rattle.registry_desk.specs.Server.{Visit, IsVisit, IsTurnedAwayAt, AreTurnedAway, HaveVisited, EndsVisit, EndsServing, IsLeftAfter, EndsConnections, IfVisited, fault_behind, fault_in, status_of};
 ghost use Rattle.registry_desk.specs.Kept.{AreTextsAfterVisit, AreTextsOf, no_texts};
 
 use crate::kept::Kept;
@@ -160,8 +160,8 @@ pub fn serve_next<C: Connections, S: Alter>(
 /// The last list and the last report of each kind are kept in memory, and written again until an
 /// order comes.
 ///
-/// A poisoned registry is not changed: each message that is not refused by itself gets refusal 30,
-/// which ends the server.
+/// A poisoned registry is not changed: the first message that is not refused by itself gets refusal
+/// 30, or 31 if memory runs out before it is read, and ends the server.
 pub fn serve_all<C: Connections, S: Alter>(
     alloc: Global,
     connections: &mut C,
@@ -170,7 +170,7 @@ pub fn serve_all<C: Connections, S: Alter>(
 ) -> Result<(), ServerStop>
     ensures served { (visits : List Visit) × (middle : C)
         × HaveVisited C.opens C.closes C.Reader.remaining C.Reader.failures C.Writer.contents C.Writer.failures connections.old middle visits
-        × EndsAt C.fails middle connections.new result
+        × EndsConnections C.fails middle connections.new result
         × (length visits ≤ count) × OnOk result (length visits ≡ count)
         × ((h : History) → Represents registry.old h → HasCleanDisk (state_of registry.new) → EndsServing registry.new h visits (fault_in result) × Leaves newest (state_of registry.new) (IsLeftAfter h visits))
         × (is_poisoned registry.old ≡ true → AreTurnedAway visits (fault_in result) × (registry.new ≡ registry.old)) }

@@ -16,7 +16,7 @@ use Rattle.registry_commands.specs.Messages.{failure_of}
 use Rattle.registry_desk.specs.declared.server.Connections as connections
 use Rattle.registry_desk.specs.declared.server.ServerStop.{ServerStop}
 use Rattle.registry_desk.specs.declared.server.ServerStop.TheVariants as stops
-use Rattle.registry_desk.specs.Server.{AreTurnedAway, EndsAt, EndsServing, HaveVisited, IsLeftAfter, Visit, fault_in}
+use Rattle.registry_desk.specs.Server.{AreTurnedAway, EndsConnections, EndsServing, HaveVisited, IsLeftAfter, Visit, fault_in}
 use Rattle.registry_program.specs.declared.host.Host as host
 use Rattle.registry_program.specs.Outputs.{IsFailure}
 use Rattle.registry_program.specs.Stores.{Runs}
@@ -45,7 +45,7 @@ module _ {H F I R W : Type 0} (m : host.Ghosts H F I) (c : connections.Ghosts H 
   pub record AreServed {S : Type 0} {g : store.Ghosts S} (old new : H) (it after : Registry S g) (limit : ℕ) (end : Result (Unit {0}) ServerStop) : Type 0 where
     pub served : (visits : List Visit) × (middle : H)
         × HaveVisited c.opens c.closes r.remaining r.failures w.contents w.failures old middle visits
-        × EndsAt c.fails middle new end
+        × EndsConnections c.fails middle new end
         × (length visits ≤ limit) × OnOk end (length visits ≡ limit)
         × ((h : History) → Represents it h → HasCleanDisk (state_of after) → EndsServing after h visits (fault_in end) × Leaves newest (state_of after) (IsLeftAfter h visits))
         × (is_poisoned it ≡ true → AreTurnedAway visits (fault_in end) × (after ≡ it))

@@ -1,7 +1,7 @@
 //! Serves connections and opens the store again, as two runs of the program do.
 
 ghost use Rattle.std.specs.Prelude.{◌≡◌, ◌≤◌, List, length, IfSome, OnOk};
-ghost use Rattle.registry_desk.specs.Server.{Visit, HaveVisited, EndsAt, fault_in};
+ghost use Rattle.registry_desk.specs.Server.{Visit, HaveVisited, EndsConnections, fault_in};
 ghost use Rattle.registry_reopening.specs.Served.{AreServedOver, IsReopenedAfterServing};
 
 use crate::crashing::{close_and_open, crash_and_open, leave_and_open};
@@ -26,7 +26,7 @@ pub fn serve_and_crash<C: Connections, D: Crash + Drop>(
 ) -> (Result<(), ServerStop>, Option<Registry<FileStore<D>>>)
     ensures { (visits : List Visit) × (middle : C)
         × HaveVisited C.opens C.closes C.Reader.remaining C.Reader.failures C.Writer.contents C.Writer.failures connections.old middle visits
-        × EndsAt C.fails middle connections.new result.0
+        × EndsConnections C.fails middle connections.new result.0
         × (length visits ≤ count) × OnOk result.0 (length visits ≡ count)
         × AreServedOver first visits (fault_in result.0)
         × IfSome result.1 (IsReopenedAfterServing first visits) }
@@ -47,7 +47,7 @@ pub fn serve_and_open<C: Connections, D: Disk + Drop>(
 ) -> (Result<(), ServerStop>, Option<Registry<FileStore<D>>>)
     ensures { (visits : List Visit) × (middle : C)
         × HaveVisited C.opens C.closes C.Reader.remaining C.Reader.failures C.Writer.contents C.Writer.failures connections.old middle visits
-        × EndsAt C.fails middle connections.new result.0
+        × EndsConnections C.fails middle connections.new result.0
         × (length visits ≤ count) × OnOk result.0 (length visits ≡ count)
         × AreServedOver first visits (fault_in result.0)
         × IfSome result.1 (IsReopenedAfterServing first visits) }

@@ -5,7 +5,7 @@ use Rattle.registry_desk.proofs.queries.ask_founding.Goals as goal
 pub returns-in_err-vendors : goal.returns-in_err-vendors
 returns-in_err-vendors g c =
     let p = err_from_is_err_and c.from_residual.result c.from_residual.ensures.1 in
-    rw (p.1, p.2) (failed c.in_err-vendors.ensures.query)
+    rw (p.1, p.2) (failed _ c.in_err-vendors.ensures.query)
 
 pub returns-in_err-founding_response : goal.returns-in_err-founding_response
 returns-in_err-founding_response g c =

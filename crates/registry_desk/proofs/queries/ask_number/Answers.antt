@@ -14,7 +14,7 @@ returns-in_err-reserved g c =
 pub returns-in_err-entry : goal.returns-in_err-entry
 returns-in_err-entry g c =
     let p = err_from_is_err_and c.from_residual-in_err-entry.result c.from_residual-in_err-entry.ensures.1 in
-    rw (p.1, p.2) (failed c.in_err-entry.ensures.query)
+    rw (p.1, p.2) (failed _ c.in_err-entry.ensures.query)
 
 pub returns-in_err-number_response : goal.returns-in_err-number_response
 returns-in_err-number_response g c =

@@ -7,7 +7,7 @@ use Rattle.registry_desk.proofs.queries.ask_org.Goals as goal
 pub returns-in_err-org : goal.returns-in_err-org
 returns-in_err-org g c =
     let p = err_from_is_err_and c.from_residual.result c.from_residual.ensures.1 in
-    rw (p.1, p.2) (failed c.in_err-org.ensures.query)
+    rw (p.1, p.2) (failed _ c.in_err-org.ensures.query)
 
 pub returns-in_err-org_response : goal.returns-in_err-org_response
 returns-in_err-org_response g c =

@@ -6,7 +6,7 @@ use Rattle.registry_desk.proofs.queries.ask_petition.Goals as goal
 pub returns-in_err-petition : goal.returns-in_err-petition
 returns-in_err-petition g c =
     let p = err_from_is_err_and c.from_residual.result c.from_residual.ensures.1 in
-    rw (p.1, p.2) (failed c.in_err-petition.ensures.query)
+    rw (p.1, p.2) (failed _ c.in_err-petition.ensures.query)
 
 pub returns-in_err-petition_response : goal.returns-in_err-petition_response
 returns-in_err-petition_response g c =

@@ -48,13 +48,16 @@ returns-in-Err-Broken-clause-served g c =
 pub returns-in-Err-NoMemory-clause-served : goal.returns-in-Err-NoMemory-clause-served
 returns-in-Err-NoMemory-clause-served g c =
     let all = may_give_some (g.R.Source.remaining c.args.source.now) in
-    let given = c.give_up.ensures in (
+    let poison = c.poison_of.ensures in (
       all.0,
       all.1,
       (
         unavailable_response (unavailable_of NoMemory),
-        given.sent,
-        λ h stands clean of. (served_early c.args.registry.now h all.0 c.give_up.result.fault given.fault stands clean, λ next next_is. none_are next c.clear.new.self c.clear.ensures),
-        λ poisoned none. (inl (refl, given.fault), refl {a = c.args.registry.now}, c.clear.ensures),
+        c.give_up-given.ensures.sent,
+        λ h stands clean of. (
+          served_early c.args.registry.now h all.0 c.poison_of.result (poison.none stands.not_poisoned) stands clean,
+          λ next next_is. none_are next c.clear.new.self c.clear.ensures,
+        ),
+        λ poisoned none. (inl (refl, poison.when_poisoned poisoned), refl {a = c.args.registry.now}, c.clear.ensures),
       ),
     )
