@@ -17,8 +17,6 @@ use Rattle.registry_store.proofs.RunLemmas.{leaves_weaker}
 use Rattle.registry_http.specs.declared.refusal.HttpRefusal.{HttpRefusal}
 use Rattle.registry_http.specs.declared.message.Message.{Message}
 use Rattle.registry_http.specs.declared.message.Message.TheVariants as messages
-use Rattle.registry_desk.specs.declared.fault.DeskFault.{DeskFault}
-use Rattle.registry_desk.specs.declared.fault.DeskFault.TheVariants.{NoMemory, Registry}
 use Rattle.registry_desk.specs.declared.serve.Served.{Served}
 use Rattle.registry_desk.specs.Acting.{after_message}
 use Rattle.registry_desk.specs.Serving.{IsNext}
@@ -33,13 +31,13 @@ legal_after_message h (Err refusal) legal = legal
 legal_after_message h (Ok (messages.Query query)) legal = legal
 legal_after_message h (Ok (messages.Request request)) legal = legal_after_one h request legal
 
-legal_next : (h : History) (bytes : List ℕ) (fault : DeskFault) (next : History) → Legal h → IsNext h bytes fault next → Legal next
+legal_next : (h : History) (bytes : List ℕ) (fault : _) (next : History) → Legal h → IsNext h bytes fault next → Legal next
 legal_next h bytes fault next legal (inl same) = subst Legal (sym same.1) legal
 legal_next h bytes fault next legal (inr it) = subst Legal (sym it.2) (legal_after_message h it.0 legal)
 
 legal_turn_at : (h next : History) (bytes text : List ℕ) (end : Result Served Broken) → Legal h → IsTurn h (record { bytes = bytes; text = text; end = end }) next → Legal next
 legal_turn_at h next bytes text (Ok served) legal (inl it) = subst Legal (sym it.next_is) (legal_after_message h it.said legal)
-legal_turn_at h next bytes text (Ok served) legal (inr it) = legal_next h bytes NoMemory next legal it.next_is
+legal_turn_at h next bytes text (Ok served) legal (inr it) = legal_next h bytes _ next legal it.next_is
 legal_turn_at h next bytes text (Err broken) legal same = subst Legal (sym same) legal
 
 legal_turn : (h next : History) (visit : Visit) → Legal h → IsTurn h visit next → Legal next
@@ -65,7 +63,7 @@ module _ {S : Type 0} {g : Ghosts S} where
       (λ found. (found.0, inl (subst (λ (x : History). Turns h visits x) (sym (elim found.1 [ inl e ↦ e | inr e ↦ e ])) ends.1), found.2))
   opened last it h visits (Some fault) legal ends opens clean =
       let before = legal_turns h ends.middle ends.before legal ends.turns in
-      let after = legal_next ends.middle ends.last.bytes (Registry fault) ends.halted.next before ends.halted.next_is in
+      let after = legal_next ends.middle ends.last.bytes _ ends.halted.next before ends.halted.next_is in
       ∥∥₁_map (opens ends.middle ends.halted.next before after (λ _. ends.halted.left.leaves) clean) (λ found. (found.0, inr (in_part last h visits fault ends found.0 found.1), found.2))
 
   abbrev MayOpen : TheRegistry S g → Option (TheRegistry S g) → Type 0
