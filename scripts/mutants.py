@@ -11,8 +11,10 @@ changes a contract, or if the compiler or the borrow checker refuses its form; t
 What is not refused beside others is tried again alone.
 
 Usage: scripts/mutants.py [--jobs N] [--edits FOLDER] [NAME | NAME/EDIT ..], by default all of mutants/, or of FOLDER.
-It runs `rt check` in each crate first; what this keeps is not proved again. The last line counts the edits, and the
-exit status is 0 if all were refused. With --self-test it tries edits of a small crate that it writes."""
+Run `rt ci` on the same files first: the script takes it that each crate is proved as it stands, and checks over the
+libraries that the run left. The first check of a crate proves what its edits leave, unless `rt check` kept that; later
+checks take it from there. The last line counts the edits, and the exit status is 0 if all were refused. With
+--self-test it tries edits of a small crate that it writes."""
 
 import argparse
 import concurrent.futures
@@ -52,7 +54,7 @@ class Crate:
 
     def __init__(self, top, name):
         self.name, self.folder = name, f"{top}/crates/{name}"
-        self.own, self.of_kit = [], ["std"]
+        self.own, self.of_kit, self.kept = [], ["std"], f"{self.folder}/out/incremental"
         files = sorted(Path(self.folder, "src").rglob("*.rt"))
         self.texts = {str(it.relative_to(self.folder)): it.read_text("utf-8") for it in files}
 
@@ -73,12 +75,6 @@ class Crate:
         folders = [f"{KIT}/rlibs", *(f"{it.folder}/out/rlib" for it in self.below().values())]
         words += [word for it in libraries for word in ("--extern", it)]
         return words + [word for it in folders for word in ("-L", f"dependency={it}")]
-
-    def is_proved(self):
-        """Returns whether `rt check` proves it, and shows the end of what that prints if it does not."""
-        ran = subprocess.run(["rt", "check", "--jobs", "1"], cwd=self.folder, check=False, **HEARD)
-        print(ran.stdout[-900:] if ran.returncode else f"{self.name}: proved", flush=True)
-        return ran.returncode == 0
 
 
 def crates_of(top):
@@ -204,18 +200,23 @@ def link(one, other):
 
 
 def check(crate, edits):
-    """Returns what a check of a copy of the crate with these edits prints, over what the crate's own check kept."""
+    """Returns what a check of a copy of the crate with these edits prints, over what an earlier check kept, if any did."""
     with tempfile.TemporaryDirectory(prefix="mutants-") as room:
         for part in ("src", "specs", "proofs"):
             if os.path.isdir(f"{crate.folder}/{part}"):
                 shutil.copytree(f"{crate.folder}/{part}", f"{room}/{part}")
-        shutil.copytree(f"{crate.folder}/out/incremental", f"{room}/kept", copy_function=link)
+        is_first = not os.path.isdir(crate.kept)
+        if not is_first:
+            shutil.copytree(crate.kept, f"{room}/kept", copy_function=link)
         changed = {place: text for edit in edits for place, text in edit.lines.items()}
         for path in {path for path, _ in changed}:
             lines = enumerate(crate.texts[path].split("\n"), 1)
             Path(room, path).write_text("\n".join(changed.get((path, at), text) for at, text in lines), "utf-8")
         words = [f"{KIT}/bin/rattle", "check", *crate.flags(), "--incremental", f"{room}/kept"]
-        return subprocess.run(words, cwd=room, check=False, **HEARD).stdout
+        said = subprocess.run(words, cwd=room, check=False, **HEARD).stdout
+        if is_first and VERDICT.search(said):
+            shutil.move(f"{room}/kept", crate.kept)
+        return said
 
 
 def judge(said, edit):
@@ -269,20 +270,25 @@ def asked(top, edits, names):
 def try_all(top, edits, names, jobs):
     """Tries edits of the crates of a repository. Returns by name why each failed, or None."""
     crates, work = crates_of(top), asked(top, edits, names)
-    found, tried = {}, []
-    with concurrent.futures.ThreadPoolExecutor(jobs) as pool:
-        for crate, is_proved in zip(work, pool.map(lambda it: crates[it].is_proved(), work)):
+    found, first, later = {}, {}, []
+    with tempfile.TemporaryDirectory(prefix="mutants-") as room, concurrent.futures.ThreadPoolExecutor(jobs) as pool:
+        for crate in sorted(map(crates.get, work), key=lambda it: -sum(map(len, it.texts.values()))):
             good = []
-            for name, file in work[crate].items():
+            for name, file in work[crate.name].items():
                 try:
-                    good.append(Edit(name, file.read_text("utf-8"), crates[crate]))
+                    good.append(Edit(name, file.read_text("utf-8"), crate))
                 except ValueError as why:
                     found[name] = f"a bad edit: {why}"
-            if is_proved:
-                tried += [pool.submit(try_round, crates[crate], it) for it in rounds_of(good)]
-            else:
-                found.update({it.name: f"not tried, since {crate} is not proved" for it in good})
-        for it in tried:
+            if not os.path.isdir(crate.kept):
+                crate.kept = f"{room}/{crate.name}"
+            if good:
+                rounds = rounds_of(good)
+                first[pool.submit(try_round, crate, rounds[0])] = crate, rounds[1:]
+        for it in concurrent.futures.as_completed(first):
+            found.update(it.result())
+            crate, rounds = first[it]
+            later += [pool.submit(try_round, crate, others) for others in rounds]
+        for it in later:
             found.update(it.result())
     return found
 
@@ -376,11 +382,10 @@ EDITS = {
 
 
 def self_test(jobs):
-    """Tries the edits of the small crate, and one of a crate that is not proved, and compares each verdict."""
-    files = {"crates.txt": "ropes:\nbroken:\n", "crates/ropes/src/lib.rt": SOURCE, "crates/ropes/proofs/Lib.antt": ""}
+    """Tries the edits of the small crate, and compares each verdict."""
+    files = {"crates.txt": "ropes:\n", "crates/ropes/src/lib.rt": SOURCE, "crates/ropes/proofs/Lib.antt": ""}
     files["crates/ropes/proofs/shorter/Answers.antt"] = ANSWERS
-    files["crates/broken/src/lib.rt"] = "pub fn wheels() -> u32 {\n    true\n}\n"
-    edits, wanted = {"broken/a_body": ("true", "1", "not tried")}, {}
+    edits, wanted = {}, {}
     edits.update({f"ropes/{name}": edit for name, edit in EDITS.items()})
     for name, (old, new, wanted[name]) in edits.items():
         files[f"mutants/{name}.edit"] = f"file: src/lib.rt\nold: {old}\nnew: {new}\n"
