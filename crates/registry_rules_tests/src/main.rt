@@ -15,7 +15,6 @@ fn of_bytes(alloc: Global, kind: &str, bytes: &[u8]) -> Result<Vec<u8>, RowFault
         "founded" => rules::founded(alloc, bytes),
         "form" => values::form(alloc, bytes),
         "read" => values::read(alloc, bytes),
-        "laws" => values::laws(alloc, bytes),
         _ => Err(RowFault::BadRow),
     }
 }

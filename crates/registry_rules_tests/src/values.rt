@@ -1,14 +1,9 @@
-//! Texts and holdings of the rules, and the calls of the laws.
+//! Texts and holdings of the rules.
 
-use registry_rules::laws::{
-    has_entry_if_owned, has_four_states, has_one_organisation, has_one_state,
-    has_own_canonical_form, is_kept_for_good, is_legal_from_start, is_made_by_its_requests,
-    may_be_repeated, stays_legal,
-};
 use registry_rules::{
-    CanonicalForm, Founding, Holdings, Order, ReplyText, Request, order_of_form, request_bytes,
+    CanonicalForm, Holdings, Order, ReplyText, Request, order_of_form, request_bytes,
 };
-use row_records::{founding_of, slug};
+use row_records::slug;
 use row_texts::{RowFault, text_of};
 use std::alloc::Global;
 use usbnum_core::{Key, Slug};
@@ -59,23 +54,4 @@ pub(crate) fn reply(alloc: Global, text: &str) -> Result<Vec<u8>, RowFault> {
 pub(crate) fn holdings(alloc: Global) -> Result<Vec<u8>, RowFault> {
     let count = Holdings::new(Vec::new(alloc)).as_slice().len();
     Ok(format!(in alloc; "{count}")?.into_bytes())
-}
-
-fn cite(founding: &Founding) {
-    is_legal_from_start(founding);
-    stays_legal();
-    may_be_repeated();
-    is_kept_for_good();
-    has_one_organisation();
-    has_one_state();
-    has_four_states();
-    has_own_canonical_form();
-    has_entry_if_owned();
-    is_made_by_its_requests();
-}
-
-/// Cites each law for a founding file.
-pub(crate) fn laws(alloc: Global, bytes: &[u8]) -> Result<Vec<u8>, RowFault> {
-    cite(&founding_of(alloc, bytes)?);
-    text_of(alloc, "cited")
 }
