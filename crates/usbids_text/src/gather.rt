@@ -17,13 +17,9 @@ pub fn pour<W: Sink>(sink: &mut W, waiting: &mut Waiting) -> Result<(), Broken>
     ensures gathers { Gathers (W.contents sink.old) waiting.old.bytes.items (W.contents sink.new) waiting.new.bytes.items (W.failures sink.old) (W.failures sink.new) result [] }
     ensures empty { OnOk result (waiting.new.bytes.items ≡ []) }
 {
-    match put_all(sink, waiting.bytes.as_slice()) {
-        Ok(()) => {
-            waiting.bytes.clear();
-            Ok(())
-        }
-        Err(broken) => Err(broken),
-    }
+    put_all(sink, waiting.bytes.as_slice())?;
+    waiting.bytes.clear();
+    Ok(())
 }
 
 // Adds the bytes to the waiting ones if there is room, and returns whether there is.
@@ -39,15 +35,11 @@ fn keeps(waiting: &mut Waiting, bytes: &[u8]) -> bool
 fn make_room<W: Sink>(sink: &mut W, waiting: &mut Waiting, bytes: &[u8]) -> Result<(), Broken>
     ensures { Gathers (W.contents sink.old) waiting.old.bytes.items (W.contents sink.new) waiting.new.bytes.items (W.failures sink.old) (W.failures sink.new) result bytes.now }
 {
-    match pour(sink, waiting) {
-        Ok(()) => {
-            if keeps(waiting, bytes) {
-                return Ok(());
-            }
-            put_all(sink, bytes)
-        }
-        Err(broken) => Err(broken),
+    pour(sink, waiting)?;
+    if keeps(waiting, bytes) {
+        return Ok(());
     }
+    put_all(sink, bytes)
 }
 
 /// Writes the bytes after the waiting ones.
@@ -70,11 +62,7 @@ pub fn gather_three<W: Sink>(
 ) -> Result<(), Broken>
     ensures { Gathers (W.contents sink.old) waiting.old.bytes.items (W.contents sink.new) waiting.new.bytes.items (W.failures sink.old) (W.failures sink.new) result (first.now ++ (second.now ++ third.now)) }
 {
-    match gather(sink, waiting, first) {
-        Ok(()) => match gather(sink, waiting, second) {
-            Ok(()) => gather(sink, waiting, third),
-            Err(broken) => Err(broken),
-        },
-        Err(broken) => Err(broken),
-    }
+    gather(sink, waiting, first)?;
+    gather(sink, waiting, second)?;
+    gather(sink, waiting, third)
 }

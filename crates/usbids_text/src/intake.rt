@@ -34,13 +34,9 @@ fn feed_next<R: Source, I: Intake>(
     ensures within { IfOk result (λ n. n ≤ length room.old) }
     ensures failed { OnErr result (HasFailed (R.failures source.old) (R.failures source.new)) }
 {
-    match source.take(room) {
-        Ok(count) => {
-            intake.take_in(&room[..count]);
-            Ok(count)
-        }
-        Err(Broken) => Err(Broken),
-    }
+    let count = source.take(room)?;
+    intake.take_in(&room[..count]);
+    Ok(count)
 }
 
 /// Feeds all bytes of the source, also those after a faulty line. Returns `Broken` only if the
@@ -58,15 +54,11 @@ pub fn feed_all<R: Source, I: Intake>(
 {
     let mut total = 0usize;
     while total <= MOST {
-        match feed_next(source, intake, room) {
-            Ok(count) => {
-                if count == 0 {
-                    return Ok(());
-                }
-                total += count;
-            }
-            Err(Broken) => return Err(Broken),
+        let count = feed_next(source, intake, room)?;
+        if count == 0 {
+            return Ok(());
         }
+        total += count;
     }
     Err(Broken)
 }

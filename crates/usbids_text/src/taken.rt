@@ -85,10 +85,7 @@ impl Taken {
         } = self;
         match fault {
             Some(fault) => Err(fault),
-            None => match builder.finish() {
-                Ok(document) => Ok(document),
-                Err(NoMemory) => Err(ReadFault::NoMemory),
-            },
+            None => builder.finish().map_err(|_| ReadFault::NoMemory),
         }
     }
 }

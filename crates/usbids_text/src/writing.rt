@@ -84,10 +84,8 @@ fn put_line<W: Sink>(
     ensures { Gathers (W.contents sink.old) waiting.old.bytes.items (W.contents sink.new) waiting.new.bytes.items (W.failures sink.old) (W.failures sink.new) result (line_text (tag.now ++ space.now) digits code name.now ++ 10 ∷ []) }
 {
     let all = four_digits(code);
-    match gather_three(sink, waiting, tag, space, last_digits(&all, digits)) {
-        Ok(()) => gather_three(sink, waiting, gap(name), name, b"\n"),
-        Err(broken) => Err(broken),
-    }
+    gather_three(sink, waiting, tag, space, last_digits(&all, digits))?;
+    gather_three(sink, waiting, gap(name), name, b"\n")
 }
 
 fn put_leaf<W: Sink>(sink: &mut W, waiting: &mut Waiting, leaf: &Leaf) -> Result<(), Broken>
@@ -108,10 +106,7 @@ fn put_leaves<W: Sink>(sink: &mut W, waiting: &mut Waiting, leaves: &[Leaf]) -> 
     ensures { Gathers (W.contents sink.old) waiting.old.bytes.items (W.contents sink.new) waiting.new.bytes.items (W.failures sink.old) (W.failures sink.new) result (lines_text (leaves_lines leaves.now)) }
 {
     for leaf in leaves {
-        match put_leaf(sink, waiting, leaf) {
-            Ok(()) => {}
-            Err(broken) => return Err(broken),
-        }
+        put_leaf(sink, waiting, leaf)?;
     }
     Ok(())
 }
@@ -133,20 +128,15 @@ fn put_mid_line<W: Sink>(sink: &mut W, waiting: &mut Waiting, mid: &Mid) -> Resu
 fn put_mid<W: Sink>(sink: &mut W, waiting: &mut Waiting, mid: &Mid) -> Result<(), Broken>
     ensures { Gathers (W.contents sink.old) waiting.old.bytes.items (W.contents sink.new) waiting.new.bytes.items (W.failures sink.old) (W.failures sink.new) result (lines_text (mids_lines (mid.now ∷ []))) }
 {
-    match put_mid_line(sink, waiting, mid) {
-        Ok(()) => put_leaves(sink, waiting, mid.leaves()),
-        Err(broken) => Err(broken),
-    }
+    put_mid_line(sink, waiting, mid)?;
+    put_leaves(sink, waiting, mid.leaves())
 }
 
 fn put_mids<W: Sink>(sink: &mut W, waiting: &mut Waiting, mids: &[Mid]) -> Result<(), Broken>
     ensures { Gathers (W.contents sink.old) waiting.old.bytes.items (W.contents sink.new) waiting.new.bytes.items (W.failures sink.old) (W.failures sink.new) result (lines_text (mids_lines mids.now)) }
 {
     for mid in mids {
-        match put_mid(sink, waiting, mid) {
-            Ok(()) => {}
-            Err(broken) => return Err(broken),
-        }
+        put_mid(sink, waiting, mid)?;
     }
     Ok(())
 }
@@ -181,20 +171,15 @@ fn put_top_line<W: Sink>(sink: &mut W, waiting: &mut Waiting, top: &Top) -> Resu
 fn put_top<W: Sink>(sink: &mut W, waiting: &mut Waiting, top: &Top) -> Result<(), Broken>
     ensures { Gathers (W.contents sink.old) waiting.old.bytes.items (W.contents sink.new) waiting.new.bytes.items (W.failures sink.old) (W.failures sink.new) result (lines_text (tops_lines (top.now ∷ []))) }
 {
-    match put_top_line(sink, waiting, top) {
-        Ok(()) => put_mids(sink, waiting, top.mids()),
-        Err(broken) => Err(broken),
-    }
+    put_top_line(sink, waiting, top)?;
+    put_mids(sink, waiting, top.mids())
 }
 
 fn put_tops<W: Sink>(sink: &mut W, waiting: &mut Waiting, tops: &[Top]) -> Result<(), Broken>
     ensures { Gathers (W.contents sink.old) waiting.old.bytes.items (W.contents sink.new) waiting.new.bytes.items (W.failures sink.old) (W.failures sink.new) result (lines_text (tops_lines tops.now)) }
 {
     for top in tops {
-        match put_top(sink, waiting, top) {
-            Ok(()) => {}
-            Err(broken) => return Err(broken),
-        }
+        put_top(sink, waiting, top)?;
     }
     Ok(())
 }
@@ -203,16 +188,14 @@ fn put_tops<W: Sink>(sink: &mut W, waiting: &mut Waiting, tops: &[Top]) -> Resul
 fn put_stamp<W: Sink>(sink: &mut W, waiting: &mut Waiting, stamp: &Stamp) -> Result<(), Broken>
     ensures { Gathers (W.contents sink.old) waiting.old.bytes.items (W.contents sink.new) waiting.new.bytes.items (W.failures sink.old) (W.failures sink.new) result (stamp_text (Some stamp.now)) }
 {
-    match gather_three(sink, waiting, b"# Version: ", &stamp.date(b'.'), b"\n") {
-        Ok(()) => gather_three(
-            sink,
-            waiting,
-            b"# Date:    ",
-            &stamp.date(b'-'),
-            &stamp.time(),
-        ),
-        Err(broken) => Err(broken),
-    }
+    gather_three(sink, waiting, b"# Version: ", &stamp.date(b'.'), b"\n")?;
+    gather_three(
+        sink,
+        waiting,
+        b"# Date:    ",
+        &stamp.date(b'-'),
+        &stamp.time(),
+    )
 }
 
 #[tactic(auto, unfolding(crate::specs::Writing::stamp_text))]
@@ -243,13 +226,9 @@ fn put_head<W: Sink>(
 ) -> Result<(), Broken>
     ensures { Gathers (W.contents sink.old) waiting.old.bytes.items (W.contents sink.new) waiting.new.bytes.items (W.failures sink.old) (W.failures sink.new) result (head_text stamp) }
 {
-    match put_title(sink, waiting) {
-        Ok(()) => match put_stamps(sink, waiting, stamp) {
-            Ok(()) => gather(sink, waiting, b"\n"),
-            Err(broken) => Err(broken),
-        },
-        Err(broken) => Err(broken),
-    }
+    put_title(sink, waiting)?;
+    put_stamps(sink, waiting, stamp)?;
+    gather(sink, waiting, b"\n")
 }
 
 fn put_all_lines<W: Sink>(
@@ -260,10 +239,8 @@ fn put_all_lines<W: Sink>(
 ) -> Result<(), Broken>
     ensures { Gathers (W.contents sink.old) waiting.old.bytes.items (W.contents sink.new) waiting.new.bytes.items (W.failures sink.old) (W.failures sink.new) result (written document.now stamp) }
 {
-    match put_head(sink, waiting, stamp) {
-        Ok(()) => put_tops(sink, waiting, document.tops()),
-        Err(broken) => Err(broken),
-    }
+    put_head(sink, waiting, stamp)?;
+    put_tops(sink, waiting, document.tops())
 }
 
 /// Writes the text of the document: a title, the stamp if there is one, an empty line, and a line
