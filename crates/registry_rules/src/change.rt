@@ -11,7 +11,7 @@ pub enum Change {
     PutOrg(Org),
     /// Puts a petition under its number, from 1.
     PutPetition { id: u32, petition: Petition },
-    /// Puts the data of a number that gets an owner, or that its owner gets again.
+    /// Puts the data of a number: an owner got it, for the first time or again.
     PutEntry { number: Number, entry: Entry },
     /// Sets whether an owned number is held.
     SetHeld { number: Number, held: bool },

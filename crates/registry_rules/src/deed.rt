@@ -3,7 +3,8 @@
 use crate::{Card, Items, NumberName, Order, Org, Petition, SpanName, Tally};
 use usbnum_core::{Key, Slug, Title, Vid};
 
-/// The effect of an accepted request. Each name has its vendor, even if the reply leaves it out.
+/// The effect of an accepted request. Each name in it has the vendor, also the founding vendor,
+/// which replies leave out.
 #[derive(Debug)]
 pub enum Act {
     /// An organisation was enrolled.

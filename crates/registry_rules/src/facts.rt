@@ -8,7 +8,7 @@ use crate::{CanonicalForm, Founding, Holding, Org, Petition, ReplyText, Vendors}
 use std::marker::Model;
 use usbnum_core::{Number, Pid, Spans, Vid};
 
-/// The holdings of some numbers: of those among them that are owned.
+/// The holdings of those of some numbers that are owned.
 #[derive(Debug, Drop)]
 pub struct Holdings {
     items: Vec<Holding>,

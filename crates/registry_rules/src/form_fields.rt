@@ -1,5 +1,6 @@
-//! Values that the fields of a canonical form hold. A value is read from each text that is a form
-//! of it, also from digits in upper case: the reader of a whole form compares it with what was read.
+//! Reads the fields of a canonical form. A field may be written otherwise than in the form, for
+//! example with digits in upper case: the reader of the whole form writes the order again and
+//! refuses a text that differs.
 
 ghost use Rattle.std.specs.Prelude.{◌≡◌, ◌≤◌, ◌<◌, ◌++◌, ◌∷◌, [], List, ℕ, length, map, Option, IfOk};
 ghost use Rattle.std.specs.Result.{IsOkAnd};
@@ -177,10 +178,7 @@ impl Field for u32 {
         let Ok(text) = std::str::from_utf8(field) else {
             return Err(Unread::NoOrder);
         };
-        match text.parse::<u32>() {
-            Ok(number) => Ok(number),
-            Err(_) => Err(Unread::NoOrder),
-        }
+        text.parse::<u32>().map_err(|_| Unread::NoOrder)
     }
 }
 

@@ -122,13 +122,9 @@ fn time(rt: &HostRuntime, bytes: &[u8], times: u32) -> io::Result<()> {
 // end.
 fn feed_next<R: Source>(source: &mut R, reader: &mut Reader) -> Result<bool, Broken> {
     let mut piece = [0u8; 8192];
-    match source.take(&mut piece) {
-        Ok(count) => {
-            let _ = reader.feed(&piece[..count]);
-            Ok(count > 0)
-        }
-        Err(broken) => Err(broken),
-    }
+    let count = source.take(&mut piece)?;
+    let _ = reader.feed(&piece[..count]);
+    Ok(count > 0)
 }
 
 // Reads a list in pieces.
