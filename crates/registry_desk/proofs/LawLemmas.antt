@@ -22,7 +22,7 @@ use Rattle.registry_rules.specs.declared.record.Entry.{Entry}
 use Rattle.registry_rules.specs.declared.record.Petition.{Petition}
 use Rattle.registry_rules.specs.declared.record.Vendor.{Vendor}
 use Rattle.registry_rules.proofs.OpenLemmas.{count_alike}
-use Rattle.registry_reports.specs.Census.{census_lines, census_of, free_count, held_count, returned_count, reserved_count, holds, listed}
+use Rattle.registry_reports.specs.Census.{census_lines, census_of, free_count, held_count, returned_count, reserved_count, passes, listed}
 use Rattle.registry_reports.specs.Holders.{IsHolders, holder_lines}
 use Rattle.registry_reports.specs.Petitions.{petition_lines}
 use Rattle.registry_reports.specs.Numbers.{line_at, lines_to, number_lines}
@@ -69,8 +69,8 @@ one_census_line numbers p q vid spans =
       vid,
       reserved,
       count (λ n. is_none (listed numbers (number q.0 n))),
-      count (λ n. holds (λ pair. pair.1.held) (listed numbers (number q.0 n))),
-      count (λ n. holds (λ pair. not pair.1.held) (listed numbers (number q.0 n))),
+      count (λ n. passes (λ pair. pair.1.held) (listed numbers (number q.0 n))),
+      count (λ n. passes (λ pair. not pair.1.held) (listed numbers (number q.0 n))),
     ) refl
 
 one_census : (h : History) (numbers : List (Number × Entry)) (ps qs : List Reserved) → map (λ pair. pair.0) ps ≡ map (λ pair. pair.0) qs

@@ -21,7 +21,7 @@ use Rattle.registry_rules.specs.declared.order.Request.{Request}
 use Rattle.registry_rules.specs.declared.record.Entry.{Entry}
 use Rattle.registry_rules.specs.declared.record.Vendor.{Vendor}
 use Rattle.registry_reports.specs.History.{held_title, name_in, vendor_name, IsListing}
-use Rattle.registry_reports.specs.Listing.{devices_of, is_listed, list_of, top_of}
+use Rattle.registry_reports.specs.Listing.{devices_of, is_held_of, list_of, top_of}
 use Rattle.registry_wire.specs.Import.{is_of_vendor, import_of}
 use Rattle.registry_laws.specs.Exports.{IsEntry}
 use Rattle.registry_laws.specs.Imports.{AreTitled, IsTakenOver, emptied, without, IsInOrder, CompletesList, GivesSameList}
@@ -31,7 +31,7 @@ use Rattle.registry_laws.proofs.TakingLemmas.{takes}
 
 device_titled : (vid pid : ℕ) (name : List ℕ) (pairs : List (Number × Entry)) → All IsEntry pairs → first_mid pid (devices_of vid pairs) ≡ Some name → IsId pid × IsTitle name
 device_titled vid pid name [] all e = absurd cc
-device_titled vid pid name (pair ∷ pairs) all e = elim (cases_Bool (is_listed vid pair)) [
+device_titled vid pid name (pair ∷ pairs) all e = elim (cases_Bool (is_held_of vid pair)) [
   | inr l ↦
       let past : first_mid pid (devices_of vid (pair ∷ pairs)) ≡ first_mid pid (devices_of vid pairs) = rw l refl in
       device_titled vid pid name pairs (All-tail IsEntry pair pairs all) (sym past ∙ e)

@@ -19,7 +19,7 @@ use Rattle.usbids_text.proofs.UniqueLemmas.{one_spelt, not_both_at_once}
 use Rattle.usbids_text.proofs.WrittenLemmas.{written_text_is_text}
 use Rattle.registry_rules.specs.declared.record.Entry.{Entry}
 use Rattle.registry_rules.specs.declared.record.Vendor.{Vendor}
-use Rattle.registry_reports.specs.Listing.{device_of, devices_of, is_listed, top_of, list_of}
+use Rattle.registry_reports.specs.Listing.{device_of, devices_of, is_held_of, top_of, list_of}
 use Rattle.registry_reports.proofs.TitleLemmas.{title_name}
 use Rattle.registry_laws.specs.Exports.{IsVendor, IsEntry, ReadsAsItself, IsReadBack}
 
@@ -32,14 +32,14 @@ device_line pair is = make_entry One pair.0.pid 4 pair.1.card.title (four pair.0
 devices_lines : (vid : ℕ) (pairs : List (Number × Entry)) → All IsEntry pairs → list_all is_line (mids_lines (devices_of vid pairs)) ≡ true
 unfolding mids_lines leaves_lines
 devices_lines vid [] all = refl
-devices_lines vid (pair ∷ pairs) all = elim (cases_Bool (is_listed vid pair)) [
+devices_lines vid (pair ∷ pairs) all = elim (cases_Bool (is_held_of vid pair)) [
   | inl e ↦ rw e (and_both (is_line (mid_line (device_of pair))) (list_all is_line (mids_lines (devices_of vid pairs))) (device_line pair (All-head IsEntry pair pairs all)) (devices_lines vid pairs (All-tail IsEntry pair pairs all)))
   | inr e ↦ rw e (devices_lines vid pairs (All-tail IsEntry pair pairs all))
 ]
 
 devices_fours : (vid : ℕ) (pairs : List (Number × Entry)) → list_all has_four (devices_of vid pairs) ≡ true
 devices_fours vid [] = refl
-devices_fours vid (pair ∷ pairs) = elim (cases_Bool (is_listed vid pair)) [
+devices_fours vid (pair ∷ pairs) = elim (cases_Bool (is_held_of vid pair)) [
   | inl e ↦ rw e (devices_fours vid pairs)
   | inr e ↦ rw e (devices_fours vid pairs)
 ]

@@ -6,7 +6,7 @@ use Rattle.usbnum_core.specs.Spans.{IsSpread}
 use Rattle.usbnum_core.specs.Text.{IsSlug, IsKey, IsTitle}
 use Rattle.registry_rules.specs.Accepted.{accepted_of}
 use Rattle.registry_rules.specs.History.{History, founded}
-use Rattle.registry_rules.specs.Laws.{requests_in, replies_in}
+use Rattle.registry_rules.specs.Laws.{requests_of_record, replies_in}
 use Rattle.registry_rules.specs.Orders.{IsOrder}
 use Rattle.registry_rules.specs.Run.{Legal, after, replies_to}
 use Rattle.registry_rules.specs.Texts.{IsCurators, IsLicences}
@@ -62,8 +62,8 @@ readings_of h = Ok (lines.Founding h.founding) ∷ map (λ accepted. Ok (lines.A
 -- the same history, and gives the same replies
 pub record IsKeptWhole (h : History) : Type 0 where
   pub read : map record_reading (record_of h) ≡ readings_of h
-  pub history : after (founded h.founding) (requests_in (accepted_of h.deeds)) ≡ h
-  pub replies : replies_to (founded h.founding) (requests_in (accepted_of h.deeds)) ≡ replies_in (accepted_of h.deeds)
+  pub history : after (founded h.founding) (requests_of_record (accepted_of h.deeds)) ≡ h
+  pub replies : replies_to (founded h.founding) (requests_of_record (accepted_of h.deeds)) ≡ replies_in (accepted_of h.deeds)
 
 -- the record of a legal history keeps the whole history
 abbrev pub KeepsWholeHistory : Type 0

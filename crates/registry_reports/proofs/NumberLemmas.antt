@@ -14,7 +14,7 @@ use Rattle.registry_rules.specs.declared.record.Org.{Org}
 use Rattle.registry_reports.specs.Order.{by_number, Ascends}
 use Rattle.registry_reports.specs.Census.{listed}
 use Rattle.registry_reports.specs.Organisations.{org_line, org_lines}
-use Rattle.registry_reports.specs.Numbers.{lines_to, line_at, number_lines, entry_in, ComesBefore, ArePassed, IsPlace}
+use Rattle.registry_reports.specs.Numbers.{lines_to, line_at, number_lines, listed_entry, ComesBefore, ArePassed, IsPlace}
 use Rattle.registry_reports.proofs.CensusLemmas.{Pair}
 use Rattle.registry_reports.proofs.OrderLemmas.{then_less}
 use Rattle.registry_reports.proofs.ListLemmas.{Joins, joins_next}
@@ -143,8 +143,8 @@ all_before n [] place passed over = refl
 all_before n (x ∷ xs) zero passed over = absurd (omega (arith, over))
 all_before n (x ∷ xs) (suc i) passed over = rw (other n x (passed 0 x (omega arith))) (all_before n xs i (λ k e low. passed (suc k) e (omega (arith, low))) (omega (arith, over)))
 
-pub entry_at_place : (n : Number) (xs : List Pair) (place : ℕ) (d : Pair) → Ascends xs → IsPlace xs n place → place < length xs → entry_in xs n ≡ option_map (λ (pair : Pair). pair.1) (its n (get_or xs place d))
+pub entry_at_place : (n : Number) (xs : List Pair) (place : ℕ) (d : Pair) → Ascends xs → IsPlace xs n place → place < length xs → listed_entry xs n ≡ option_map (λ (pair : Pair). pair.1) (its n (get_or xs place d))
 entry_at_place n xs place d up is within = ap (option_map (λ (pair : Pair). pair.1)) (its_entry n xs place d up (λ k e low. is.passed k e (omega arith) low) (is.stands d within) within)
 
-pub no_entry_past : (n : Number) (xs : List Pair) (place : ℕ) → IsPlace xs n place → length xs ≤ place → entry_in xs n ≡ None
+pub no_entry_past : (n : Number) (xs : List Pair) (place : ℕ) → IsPlace xs n place → length xs ≤ place → listed_entry xs n ≡ None
 no_entry_past n xs place is over = ap (option_map (λ (pair : Pair). pair.1)) (all_before n xs place (λ k e low. is.passed k e (omega arith) low) over)

@@ -11,7 +11,7 @@ use Rattle.usbids_text.specs.Entries.{MidEntry, TopEntry}
 use Rattle.usbids_text.proofs.EntryLemmas.{both}
 use Rattle.registry_rules.specs.declared.record.Vendor.{Vendor}
 use Rattle.registry_reports.specs.Order.{by_number, Ascends}
-use Rattle.registry_reports.specs.Listing.{device_of, devices_of, is_listed, top_of, list_of}
+use Rattle.registry_reports.specs.Listing.{device_of, devices_of, is_held_of, top_of, list_of}
 use Rattle.registry_reports.specs.History.{IsDevice, IsVendorOfDevices}
 use Rattle.registry_reports.proofs.CensusLemmas.{Pair}
 
@@ -26,7 +26,7 @@ then_less a b d same e = let tie : nat_cmp a b ≡ Equal = ap (nat_cmp a) (sym s
 
 above : (x : Pair) (vid : ℕ) (ys : List Pair) → AllByRecursion (λ y. by_number x y ≡ Less) ys → nat_eq x.0.vid vid ≡ true → AllByRecursion (λ code. nat_cmp x.0.pid code ≡ Less) (mid_codes (devices_of vid ys))
 above x vid [] below same = tt
-above x vid (y ∷ ys) below same = elim (cases_Bool (is_listed vid y)) [
+above x vid (y ∷ ys) below same = elim (cases_Bool (is_held_of vid y)) [
   | inr e ↦ rw e (above x vid ys below.1 same)
   | inl e ↦
       let of = both (nat_eq y.0.vid vid) y.1.held e in
@@ -36,14 +36,14 @@ above x vid (y ∷ ys) below same = elim (cases_Bool (is_listed vid y)) [
 devices_sorted : (vid : ℕ) (xs : List Pair) → Ascends xs → IsStrictlySortedBy nat_cmp (mid_codes (devices_of vid xs))
 unfolding IsStrictlySortedBy
 devices_sorted vid [] up = tt
-devices_sorted vid (x ∷ xs) up = elim (cases_Bool (is_listed vid x)) [
+devices_sorted vid (x ∷ xs) up = elim (cases_Bool (is_held_of vid x)) [
   | inr e ↦ rw e (devices_sorted vid xs up.1)
   | inl e ↦ rw e (above x vid xs up.0 (both (nat_eq x.0.vid vid) x.1.held e).0, devices_sorted vid xs up.1)
 ]
 
 devices_each : (vid : ℕ) (xs : List Pair) → All IsDevice (devices_of vid xs)
 devices_each vid [] = All-nil IsDevice
-devices_each vid (x ∷ xs) = elim (cases_Bool (is_listed vid x)) [
+devices_each vid (x ∷ xs) = elim (cases_Bool (is_held_of vid x)) [
   | inr e ↦ rw e (devices_each vid xs)
   | inl e ↦ rw e (All-cons IsDevice (device_of x) (devices_of vid xs) (record { digits = refl; leaves = refl }) (devices_each vid xs))
 ]

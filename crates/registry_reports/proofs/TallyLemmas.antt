@@ -12,7 +12,7 @@ use Rattle.std.proofs.lemmas.List.{length-take-le, take_all}
 use Rattle.std.proofs.lemmas.List.Sums.{count_by-le-length, sum_by-cons}
 use Rattle.std.proofs.lemmas.Map.Text.{is_eq-slice_cmp}
 use Rattle.std.proofs.lemmas.Slice.Eq.{bytes_eq-Decides}
-use Rattle.registry_reports.specs.Tallies.{org_of, holds_for, returned_by, tally_of, tallied, with_number}
+use Rattle.registry_reports.specs.Tallies.{owner_slug, holds_for, returned_by, tally_for, tallied, with_number}
 use Rattle.registry_reports.specs.declared.tallies.Tally.{Tally}
 use Rattle.registry_reports.proofs.CensusLemmas.{Pair, count_one_more}
 
@@ -20,7 +20,7 @@ abbrev zero : Tally
 zero = record { held = 0; returned = 0 }
 
 abbrev owns : List ℕ → List Pair → Bool
-owns slug xs = list_any (bytes_eq slug) (map org_of xs)
+owns slug xs = list_any (bytes_eq slug) (map owner_slug xs)
 
 -- an organisation that owns nothing has counts of 0
 nobody : (slug : List ℕ) (xs : List Pair) → owns slug xs ≡ false → (count_by (holds_for slug) xs ≡ 0) × (count_by (returned_by slug) xs ≡ 0)
@@ -37,7 +37,7 @@ nobody slug (x ∷ xs) none = elim (cases_Bool (bytes_eq slug x.1.org)) [
 abbrev tally : ℕ → ℕ → Tally
 tally held returned = record { held = held; returned = returned }
 
-unwrapped : (slug : List ℕ) (xs : List Pair) → unwrap_or (tallied xs slug) zero ≡ tally_of xs slug
+unwrapped : (slug : List ℕ) (xs : List Pair) → unwrap_or (tallied xs slug) zero ≡ tally_for xs slug
 unwrapped slug xs = elim (cases_Bool (owns slug xs)) [
   | inl e ↦ rw e refl
   | inr e ↦ let none = nobody slug xs e in rw e (ap (λ (n : ℕ). tally n 0) (sym none.0) ∙ ap (tally (count_by (holds_for slug) xs)) (sym none.1))
@@ -107,7 +107,7 @@ tallied_next old new xs i x within is so_far step slug = elim (cases_Bool (bytes
 pub tally_below : (m : BTreeMap (List ℕ) Tally) (xs : List Pair) (i : ℕ) (slug : List ℕ) → i < length xs → ((slug : List ℕ) → get (slice_cmp nat_cmp) m slug ≡ tallied (take i xs) slug)
     → ((unwrap_or (get (slice_cmp nat_cmp) m slug) zero).held ≤ i) × ((unwrap_or (get (slice_cmp nat_cmp) m slug) zero).returned ≤ i)
 tally_below m xs i slug within so_far =
-    let is : unwrap_or (get (slice_cmp nat_cmp) m slug) zero ≡ tally_of (take i xs) slug = ap (λ (o : Option Tally). unwrap_or o zero) (so_far slug) ∙ unwrapped slug (take i xs) in
+    let is : unwrap_or (get (slice_cmp nat_cmp) m slug) zero ≡ tally_for (take i xs) slug = ap (λ (o : Option Tally). unwrap_or o zero) (so_far slug) ∙ unwrapped slug (take i xs) in
     let short : length (take i xs) ≡ i = length-take-le i xs (omega arith) in
     rw is ((let most = count_by-le-length (holds_for slug) (take i xs) in omega (arith, short)), (let most = count_by-le-length (returned_by slug) (take i xs) in omega (arith, short)))
 

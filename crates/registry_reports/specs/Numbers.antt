@@ -25,10 +25,10 @@ abbrev pub owned_state : Entry → List ℕ
 owned_state entry = if entry.held then codes "held" else codes "returned"
 
 -- the line of a number that is reserved or not, with its entry; a free number has no line
-abbrev pub line_of : ℕ → ℕ → Bool → Option Entry → List ℕ
-line_of vid pid true entry = number_line vid pid (codes "reserved") entry
-line_of vid pid false None = []
-line_of vid pid false (Some entry) = number_line vid pid (owned_state entry) (Some entry)
+abbrev pub state_line : ℕ → ℕ → Bool → Option Entry → List ℕ
+state_line vid pid true entry = number_line vid pid (codes "reserved") entry
+state_line vid pid false None = []
+state_line vid pid false (Some entry) = number_line vid pid (owned_state entry) (Some entry)
 
 -- the lines of the product IDs from 1 to a limit
 unfoldable pub lines_to : (ℕ → List ℕ) → ℕ → List ℕ
@@ -36,12 +36,12 @@ lines_to line zero = []
 lines_to line (suc n) = lines_to line n ++ line (suc n)
 
 -- the list's entry of a number
-abbrev pub entry_in : List (Number × Entry) → Number → Option Entry
-entry_in numbers n = option_map (λ pair. pair.1) (listed numbers n)
+abbrev pub listed_entry : List (Number × Entry) → Number → Option Entry
+listed_entry numbers n = option_map (λ pair. pair.1) (listed numbers n)
 
 -- the line of a vendor's number
 abbrev pub line_at : List (Number × Entry) → ℕ × List Span → ℕ → List ℕ
-line_at numbers pair pid = line_of pair.0 pid (spans_have pair.1 pid) (entry_in numbers (number pair.0 pid))
+line_at numbers pair pid = state_line pair.0 pid (spans_have pair.1 pid) (listed_entry numbers (number pair.0 pid))
 
 -- a line for each number that is not free, vendor by vendor
 abbrev pub number_lines : List (Number × Entry) → List (ℕ × List Span) → List ℕ

@@ -9,8 +9,8 @@ use Rattle.usbnum_core.specs.declared.number.Number.{Number}
 use Rattle.registry_rules.specs.declared.record.Entry.{Entry}
 use Rattle.registry_reports.specs.declared.tallies.Tally.{Tally}
 
-abbrev pub org_of : Number × Entry → List ℕ
-org_of pair = pair.1.org
+abbrev pub owner_slug : Number × Entry → List ℕ
+owner_slug pair = pair.1.org
 
 abbrev pub holds_for : List ℕ → Number × Entry → Bool
 holds_for slug pair = bytes_eq slug pair.1.org && pair.1.held
@@ -19,12 +19,12 @@ abbrev pub returned_by : List ℕ → Number × Entry → Bool
 returned_by slug pair = bytes_eq slug pair.1.org && not pair.1.held
 
 -- the counts of the numbers that the organisation holds and that it returned
-abbrev pub tally_of : List (Number × Entry) → List ℕ → Tally
-tally_of numbers slug = record { held = count_by (holds_for slug) numbers; returned = count_by (returned_by slug) numbers }
+abbrev pub tally_for : List (Number × Entry) → List ℕ → Tally
+tally_for numbers slug = record { held = count_by (holds_for slug) numbers; returned = count_by (returned_by slug) numbers }
 
 -- the tally of an organisation, if it owns one of the numbers
 abbrev pub tallied : List (Number × Entry) → List ℕ → Option Tally
-tallied numbers slug = if list_any (bytes_eq slug) (map org_of numbers) then Some (tally_of numbers slug) else None
+tallied numbers slug = if list_any (bytes_eq slug) (map owner_slug numbers) then Some (tally_for numbers slug) else None
 
 -- the tally so far
 abbrev pub tally_at : BTreeMap (List ℕ) Tally → List ℕ → Tally

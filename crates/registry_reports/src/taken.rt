@@ -6,7 +6,7 @@ ghost use Rattle.usbnum_core.specs.declared.number.Number.{Number};
 ghost use Rattle.registry_rules.specs.Number.{number};
 ghost use Rattle.registry_rules.specs.declared.record.Entry.{Entry};
 ghost use Rattle.registry_reports.specs.Order.{Ascends};
-ghost use Rattle.registry_reports.specs.Numbers.{owner_columns, number_line, owned_state, line_of, lines_to, line_at, entry_in, number_lines, ComesBefore, ArePassed, IsPlace};
+ghost use Rattle.registry_reports.specs.Numbers.{owner_columns, number_line, owned_state, state_line, lines_to, line_at, listed_entry, number_lines, ComesBefore, ArePassed, IsPlace};
 
 use crate::columns::push_left;
 use registry_rules::Entry;
@@ -60,7 +60,7 @@ fn push_number(
     reserved: bool,
     entry: Option<&Entry>,
 ) -> Result<(), NoMemory>
-    ensures { OnOk result (string_bytes text.new ≡ string_bytes text.old ++ line_of number.now.vid number.now.pid reserved (option_copied entry.entry)) }
+    ensures { OnOk result (string_bytes text.new ≡ string_bytes text.old ++ state_line number.now.vid number.now.pid reserved (option_copied entry.entry)) }
 {
     if reserved {
         return push_line(alloc, text, number, "reserved", entry);
@@ -91,7 +91,7 @@ fn place_from(numbers: &[(Number, Entry)], at: usize, number: &Number) -> usize
 
 /// Returns the number's entry, by its place in the list.
 fn entry_at<'a>(numbers: &'a [(Number, Entry)], place: usize, number: &Number) -> Option<&'a Entry>
-    ensures { Ascends numbers.now → IsPlace numbers.now number.now place → option_copied result ≡ entry_in numbers.now number.now }
+    ensures { Ascends numbers.now → IsPlace numbers.now number.now place → option_copied result ≡ listed_entry numbers.now number.now }
 {
     let pair = numbers.get(place)?;
     if *number == pair.0 {

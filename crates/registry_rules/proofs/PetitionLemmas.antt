@@ -4,7 +4,7 @@ use Rattle.std.specs.Prelude.{nat_eq, slice_get, unwrap_or, if◌then◌else◌}
 use Rattle.std.specs.Option.{option_map, option_or}
 use Rattle.std.proofs.lemmas.Bool.{ne_eqb, eqb-false}
 use Rattle.registry_rules.specs.History.{History, last_of, all_of, with_answer}
-use Rattle.registry_rules.specs.Query.{asks, closes, asked, state_of, petition_of, with_state, answer_if}
+use Rattle.registry_rules.specs.Query.{asks, closes, asked, petition_state, petition_of, with_state, answer_if}
 use Rattle.registry_rules.specs.Run.{Legal}
 use Rattle.registry_rules.proofs.RunLemmas.{legal_before}
 use Rattle.registry_rules.proofs.FollowLemmas.{Follows, legal_follows}
@@ -38,7 +38,7 @@ not_zero i e = eqb-false i 0 e
 
 -- a petition that exists was asked
 pub asked_within : (h : History) (i : ℕ) (petition : Petition) → petition_of h i ≡ Some petition → (1 ≤ i) × (i ≤ length (asked h))
-asked_within h i petition e = asked_by (nat_eq i 0) i (asked h) (state_of h i) petition (not_zero i) e
+asked_within h i petition e = asked_by (nat_eq i 0) i (asked h) (petition_state h i) petition (not_zero i) e
 
 -- and it has its current state
 state_is_by : (found : Option Petition) (state : PetitionState) (petition : Petition) → option_map (with_state state) found ≡ Some petition → petition.state ≡ state
@@ -49,8 +49,8 @@ state_by : (is_zero : Bool) (found : Option Petition) (state : PetitionState) (p
 state_by true found state petition e = absurd cc
 state_by false found state petition e = state_is_by found state petition e
 
-pub state_is : (h : History) (i : ℕ) (petition : Petition) → petition_of h i ≡ Some petition → petition.state ≡ state_of h i
-state_is h i petition e = state_by (nat_eq i 0) (slice_get (asked h) (i - 1)) (state_of h i) petition e
+pub state_is : (h : History) (i : ℕ) (petition : Petition) → petition_of h i ≡ Some petition → petition.state ≡ petition_state h i
+state_is h i petition e = state_by (nat_eq i 0) (slice_get (asked h) (i - 1)) (petition_state h i) petition e
 
 -- No deed closes a petition past the count.
 
@@ -81,5 +81,5 @@ pub unclosed : (h : History) (i : ℕ) → Legal h → length (asked h) < i → 
 unclosed h i legal past = unclosed_in h.founding i h.deeds legal past
 
 -- so the next petition is open
-pub next_is_open : (h : History) → Legal h → state_of h (length (asked h) + 1) ≡ Open
+pub next_is_open : (h : History) → Legal h → petition_state h (length (asked h) + 1) ≡ Open
 next_is_open h legal = ap (λ last. unwrap_or last Open) (unclosed h (length (asked h) + 1) legal (omega arith))

@@ -3,7 +3,7 @@ use Rattle.std.proofs.Common.{◌≡◌, List, [], ◌∷◌, ◌++◌, map, ref
 use Rattle.registry_rules.specs.Accepted.{accepted_of, accepted_by}
 use Rattle.registry_rules.specs.History.{History, founded}
 use Rattle.registry_rules.specs.Run.{Legal, after, after_one, after_verdict, reply_to, reply_of, replies_to, request_of}
-use Rattle.registry_rules.specs.Laws.{requests_in, replies_in}
+use Rattle.registry_rules.specs.Laws.{requests_of_record, replies_in}
 use Rattle.registry_rules.specs.declared.deed.Deed.{Deed}
 use Rattle.registry_rules.specs.declared.founding.Founding.{Founding}
 use Rattle.registry_rules.specs.declared.order.Request.{Request}
@@ -24,19 +24,19 @@ replies_last h [] request = refl
 replies_last h (first ∷ requests) request = ap (λ replies. reply_to h first ∷ replies) (replies_last (after_one h first) requests request)
 
 pub replayed : (founding : Founding) (deeds : List Deed) → Legal (record { founding = founding; deeds = deeds }) →
-    after (founded founding) (requests_in (accepted_of deeds)) ≡ record { founding = founding; deeds = deeds }
+    after (founded founding) (requests_of_record (accepted_of deeds)) ≡ record { founding = founding; deeds = deeds }
 replayed founding [] legal = refl
 replayed founding (deed ∷ earlier) legal =
     ap (after (founded founding)) (map_last (λ accepted. accepted.request) (accepted_of earlier) (accepted_by deed))
-    ∙ after_last (founded founding) (requests_in (accepted_of earlier)) (request_of deed)
+    ∙ after_last (founded founding) (requests_of_record (accepted_of earlier)) (request_of deed)
     ∙ ap (λ h. after_one h (request_of deed)) (replayed founding earlier (legal_before founding deed earlier legal))
     ∙ ap (after_verdict (record { founding = founding; deeds = earlier })) (legal_verdict founding deed earlier legal)
 
 pub replied : (founding : Founding) (deeds : List Deed) → Legal (record { founding = founding; deeds = deeds }) →
-    replies_to (founded founding) (requests_in (accepted_of deeds)) ≡ replies_in (accepted_of deeds)
+    replies_to (founded founding) (requests_of_record (accepted_of deeds)) ≡ replies_in (accepted_of deeds)
 replied founding [] legal = refl
 replied founding (deed ∷ earlier) legal =
-    let requests = requests_in (accepted_of earlier) in
+    let requests = requests_of_record (accepted_of earlier) in
     ap (replies_to (founded founding)) (map_last (λ accepted. accepted.request) (accepted_of earlier) (accepted_by deed))
     ∙ replies_last (founded founding) requests (request_of deed)
     ∙ ap (λ h. replies_to (founded founding) requests ++ reply_to h (request_of deed) ∷ []) (replayed founding earlier (legal_before founding deed earlier legal))

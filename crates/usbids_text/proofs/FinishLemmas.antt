@@ -10,7 +10,7 @@ use Rattle.usbids_text.specs.Documents.{AreLinesOf, FaultAt}
 use Rattle.usbids_text.specs.Entries.{TopEntry}
 use Rattle.usbids_text.specs.Opens.{Open, none_open, whole}
 use Rattle.usbids_text.specs.Building.{open_of}
-use Rattle.usbids_text.specs.Readers.{WasFed, state_of}
+use Rattle.usbids_text.specs.Readers.{WasFed, reader_state}
 use Rattle.usbids_text.specs.Held.{held_of}
 use Rattle.usbids_text.proofs.InnerLemmas.{Pieces, lines_inner}
 use Rattle.usbids_text.specs.declared.reader.Reader.{Reader}
@@ -113,15 +113,15 @@ pub fed_start : (p : List ℕ) (o : Open) → p ≡ [] → o ≡ none_open [] �
 unfolding fed
 fed_start p o e f = ap (λ (l : List ℕ). record { pending = l; held = record { line = 1; built = o; fault = None } }) e ∙ ap (λ (x : Open). record { pending = []; held = record { line = 1; built = x; fault = None } }) f
 
-pub fed_more : (old new : Reader) (t piece : List ℕ) → WasFed old t → (new.taken.fault ≡ Some NoMemory) ⊎ (state_of new ≡ fed (state_of old) piece) → WasFed new (t ++ piece)
+pub fed_more : (old new : Reader) (t piece : List ℕ) → WasFed old t → (new.taken.fault ≡ Some NoMemory) ⊎ (reader_state new ≡ fed (reader_state old) piece) → WasFed new (t ++ piece)
 fed_more old new t piece s (inl m) = inl m
-fed_more old new t piece (inl m) (inr e) = inl (ap (λ (x : Fed). x.held.fault) (e ∙ fed_faulty (state_of old) piece (ap is_some m)) ∙ m)
+fed_more old new t piece (inl m) (inr e) = inl (ap (λ (x : Fed). x.held.fault) (e ∙ fed_faulty (reader_state old) piece (ap is_some m)) ∙ m)
 fed_more old new t piece (inr s) (inr e) = inr (e ∙ (ap (λ (x : Fed). fed x piece) s ∙ sym (fed_append start t piece)))
 
 pub fed_stuck : (old : Reader) (t piece : List ℕ) (f : ReadFault) → old.taken.fault ≡ Some f → WasFed old t → WasFed old (t ++ piece)
-fed_stuck old t piece f e s = fed_more old old t piece s (inr (sym (fed_faulty (state_of old) piece (ap is_some e))))
+fed_stuck old t piece f e s = fed_more old old t piece s (inr (sym (fed_faulty (reader_state old) piece (ap is_some e))))
 
-finished_faulty : (r : Reader) → is_some r.taken.fault ≡ true → finished (state_of r) ≡ held_of r.taken
+finished_faulty : (r : Reader) → is_some r.taken.fault ≡ true → finished (reader_state r) ≡ held_of r.taken
 unfolding finished
 finished_faulty r e = with_last_faulty (held_of r.taken) r.pending.items e
 
@@ -135,13 +135,13 @@ finish_stuck r t f (inr s) e = answers_err t (held_of r.taken) f (sym (finished_
 abbrev pub Ended : Taken → Result (List TopEntry) ReadFault → Type 0
 Ended taken result = IfOk result (λ doc. (taken.fault ≡ None) × (doc ≡ whole (open_of taken.builder))) × IfErr result (λ e. (e ≡ NoMemory) ⊎ (taken.fault ≡ Some e))
 
-finish_err : (r : Reader) (t : List ℕ) (taken : Taken) (f : ReadFault) → WasFed r t → held_of taken ≡ finished (state_of r) → taken.fault ≡ Some f → ReadsAs t (Err f)
+finish_err : (r : Reader) (t : List ℕ) (taken : Taken) (f : ReadFault) → WasFed r t → held_of taken ≡ finished (reader_state r) → taken.fault ≡ Some f → ReadsAs t (Err f)
 finish_err r t taken f (inl m) e is =
     let gone : taken.fault ≡ Some NoMemory = ap (λ (k : Held). k.fault) (e ∙ finished_faulty r (ap is_some m)) ∙ m in
     memory f t (cc)
 finish_err r t taken f (inr s) e is = answers_err t (held_of taken) f (e ∙ ap finished s) is
 
-pub finish_answer : (r : Reader) (t : List ℕ) (taken : Taken) (result : Result (List TopEntry) ReadFault) → WasFed r t → held_of taken ≡ finished (state_of r) → Ended taken result → ReadsAs t result
+pub finish_answer : (r : Reader) (t : List ℕ) (taken : Taken) (result : Result (List TopEntry) ReadFault) → WasFed r t → held_of taken ≡ finished (reader_state r) → Ended taken result → ReadsAs t result
 finish_answer r t taken (Ok doc) (inl m) e h =
     let gone : taken.fault ≡ Some NoMemory = ap (λ (k : Held). k.fault) (e ∙ finished_faulty r (ap is_some m)) ∙ m in
     let none = h.0.0 in absurd cc

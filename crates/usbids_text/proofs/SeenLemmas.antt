@@ -11,7 +11,7 @@ use Rattle.usbids_text.specs.declared.reader.Reader.{Reader}
 use Rattle.usbids_text.specs.Lines.{class_of}
 use Rattle.usbids_text.specs.Documents.{FaultIn, fault_of}
 use Rattle.usbids_text.specs.Opens.{whole}
-use Rattle.usbids_text.specs.Readers.{WasFed, state_of}
+use Rattle.usbids_text.specs.Readers.{WasFed, reader_state}
 use Rattle.usbids_text.proofs.InnerLemmas.{AreInner, cut_inner, with_rest_inner}
 use Rattle.usbids_text.specs.Cut.{cut, lines, with_rest}
 use Rattle.usbids_text.specs.Feeding.{Held, Fed, refused, start, with_last}
@@ -69,7 +69,7 @@ so_far_is r t None s e = tt
 so_far_is r t (Some NoMemory) s e = tt
 so_far_is r t (Some (Line f)) (inl m) e = absurd cc
 so_far_is r t (Some (Line f)) (inr s) e =
-    let held : over (done start.held (cut t).0) (cut t).1 ≡ (state_of r).held = sym (fed_outcome [] start.held t tt (omega arith)) ∙ ap (λ (x : Fed). x.held) (sym s) in
+    let held : over (done start.held (cut t).0) (cut t).1 ≡ (reader_state r).held = sym (fed_outcome [] start.held t tt (omega arith)) ∙ ap (λ (x : Fed). x.held) (sym s) in
     seen_over (done start.held (cut t).0) (cut t).0 (cut t).1 f (verdict_of (cut t).0 (cut_inner t).0) (ap (λ (k : Held). k.fault) held ∙ e)
 
 pub answers_so_far : (r : Reader) (t : List ℕ) → WasFed r t → AnswersSoFar t r.taken.fault
@@ -132,5 +132,5 @@ pub seen_is : (r : Reader) (t : List ℕ) (n : ℕ) (why : Why) → WasFed r t �
 unfolding outcome lines
 seen_is r t n why (inl m) seen = inl m
 seen_is r t n why (inr s) seen =
-    let held : over (done start.held (cut t).0) (cut t).1 ≡ (state_of r).held = sym (fed_outcome [] start.held t tt (omega arith)) ∙ ap (λ (x : Fed). x.held) (sym s) in
+    let held : over (done start.held (cut t).0) (cut t).1 ≡ (reader_state r).held = sym (fed_outcome [] start.held t tt (omega arith)) ∙ ap (λ (x : Fed). x.held) (sym s) in
     inr (ap (λ (k : Held). k.fault) (sym held) ∙ seen_found (cut t).0 (cut t).1 n why (cut_inner t).0 (with_rest_inner (cut t).0 (cut t).1 (cut_inner t).0 (cut_inner t).1) seen)

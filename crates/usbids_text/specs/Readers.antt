@@ -6,8 +6,8 @@ use Rattle.usbids_text.specs.declared.reader.Reader.{Reader}
 use Rattle.usbids_text.specs.Held.{held_of}
 use Rattle.usbids_text.specs.Feeding.{Fed, fed, start}
 
-abbrev pub state_of : Reader → Fed
-state_of r = record { pending = r.pending.items; held = held_of r.taken }
+abbrev pub reader_state : Reader → Fed
+reader_state r = record { pending = r.pending.items; held = held_of r.taken }
 
 -- the fault that the reader returns from now on
 abbrev pub fault_of : Reader → Option ReadFault
@@ -15,4 +15,4 @@ fault_of r = r.taken.fault
 
 -- the reader was fed exactly these bytes, or it has run out of memory and stays so
 abbrev pub WasFed : Reader → List ℕ → Type 0
-WasFed r text = (fault_of r ≡ Some NoMemory) ⊎ (state_of r ≡ fed start text)
+WasFed r text = (fault_of r ≡ Some NoMemory) ⊎ (reader_state r ≡ fed start text)

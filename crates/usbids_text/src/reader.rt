@@ -27,12 +27,12 @@ pub struct Reader {
 
 impl Reader {
     ghost use Rattle.usbids_text.specs.Held.{held_of};
-    ghost use Rattle.usbids_text.specs.Readers.{state_of, fault_of, WasFed};
+    ghost use Rattle.usbids_text.specs.Readers.{reader_state, fault_of, WasFed};
 
     // Ends the pending line with these bytes.
     fn end_pending(&mut self, part: &[u8]) -> Result<(), NoMemory>
         requires { IsTrue (list_all is_inner part.now) }
-        ensures { OnOk result (state_of self.new ≡ record { pending = []; held = step (state_of self.old).held ((state_of self.old).pending ++ part.now) }) }
+        ensures { OnOk result (reader_state self.new ≡ record { pending = []; held = step (reader_state self.old).held ((reader_state self.old).pending ++ part.now) }) }
     {
         self.pending.extend_from_slice(part)?;
         self.taken.take_line(&self.pending)?;
@@ -45,7 +45,7 @@ impl Reader {
     #[tactic(auto, unfolding(crate::specs::Feeding::ended))]
     fn end_line(&mut self, part: &[u8]) -> Result<(), NoMemory>
         requires { IsTrue (list_all is_inner part.now) }
-        ensures { OnOk result (state_of self.new ≡ ended (state_of self.old) part.now) }
+        ensures { OnOk result (reader_state self.new ≡ ended (reader_state self.old) part.now) }
     {
         if self.taken.fault.is_some() {
             return Ok(());
@@ -60,7 +60,7 @@ impl Reader {
     #[tactic(auto, unfolding(crate::specs::Feeding::kept))]
     fn keep(&mut self, part: &[u8]) -> Result<(), NoMemory>
         requires { IsTrue (list_all is_inner part.now) }
-        ensures { OnOk result (state_of self.new ≡ kept (state_of self.old) part.now) }
+        ensures { OnOk result (reader_state self.new ≡ kept (reader_state self.old) part.now) }
     {
         match part {
             [] => Ok(()),
@@ -80,7 +80,7 @@ impl Reader {
     }
 
     fn feed_bytes(&mut self, piece: &[u8]) -> Result<(), NoMemory>
-        ensures { OnOk result (state_of self.new ≡ fed (state_of self.old) piece.now) }
+        ensures { OnOk result (reader_state self.new ≡ fed (reader_state self.old) piece.now) }
     {
         let mut rest = piece;
         while let Some(i) = line_feed(rest) {
@@ -91,7 +91,7 @@ impl Reader {
     }
 
     fn take_piece(&mut self, piece: &[u8])
-        ensures { (fault_of self.new ≡ Some ReadFault.NoMemory) ⊎ (state_of self.new ≡ fed (state_of self.old) piece.now) }
+        ensures { (fault_of self.new ≡ Some ReadFault.NoMemory) ⊎ (reader_state self.new ≡ fed (reader_state self.old) piece.now) }
     {
         if self.feed_bytes(piece).is_err() {
             self.taken.fault = Some(ReadFault::NoMemory);
@@ -109,7 +109,7 @@ impl Reader {
 
     #[tactic(auto, unfolding(crate::specs::Feeding::finished))]
     fn take_rest(&mut self) -> Result<(), NoMemory>
-        ensures { OnOk result (held_of self.new.taken ≡ finished (state_of self.old)) }
+        ensures { OnOk result (held_of self.new.taken ≡ finished (reader_state self.old)) }
     {
         if self.pending.is_empty() {
             return Ok(());

@@ -8,7 +8,7 @@ use Rattle.std.proofs.lemmas.List.{get_or_default}
 use Rattle.std.proofs.lemmas.List.Folds.{list_any_none}
 use Rattle.std.proofs.lemmas.List.Kept.{AllPairs-from_increasing}
 use Rattle.usbnum_core.specs.declared.number.Span.{Span}
-use Rattle.usbnum_core.specs.Spans.{IsSpread, is_taken}
+use Rattle.usbnum_core.specs.Spans.{IsSpread, is_in_either}
 use Rattle.usbnum_core.proofs.SpreadLemmas.{rising_first}
 use Rattle.usbnum_core.proofs.MemberLemmas.{none_between}
 
@@ -21,12 +21,12 @@ pub record IsPassed (parts : List Span) (numbers : List ℕ) (part place free : 
   pub within : free ≤ 65536
   pub parts_below : AllWithin (λ x. x.last < free) parts 0 part
   pub numbers_below : AllWithin (λ x. x < free) numbers 0 place
-  pub below_taken : (n : ℕ) → 1 ≤ n → n < free → is_taken parts numbers n ≡ true
+  pub below_taken : (n : ℕ) → 1 ≤ n → n < free → is_in_either parts numbers n ≡ true
 
 -- if the next part and the next number are above the free number, it is not taken
 pub not_taken : (xs : List Span) (numbers : List ℕ) → IsSpread 1 xs → IsStrictlyIncreasing numbers → (part place free : ℕ)
     → AllWithin (λ x. x.last < free) xs 0 part → AllWithin (λ x. x < free) numbers 0 place
-    → ((d : Span) → part < length xs → free < (get_or xs part d).first) → (place < length numbers → free < get_or numbers place 0) → is_taken xs numbers free ≡ false
+    → ((d : Span) → part < length xs → free < (get_or xs part d).first) → (place < length numbers → free < get_or numbers place 0) → is_in_either xs numbers free ≡ false
 not_taken xs numbers spread rising part place free parts_below numbers_below next_part next_number =
     or_from _ _
     (none_between xs part part free (omega arith) parts_below

@@ -3,7 +3,7 @@ use Rattle.std.specs.Prelude.{◌≡◌, ℕ, ◌+◌, ◌<◌, ◌≤◌, List,
 use Rattle.std.specs.Option.{option_to_list}
 use Rattle.std.specs.List.{AllWithin}
 use Rattle.usbnum_core.specs.declared.number.Span.{Span}
-use Rattle.usbnum_core.specs.Spans.{is_taken}
+use Rattle.usbnum_core.specs.Spans.{is_in_either}
 
 -- the parts that end at `start` or later and begin at `end` or earlier are those from `low` on and before `high`
 pub record IsReach (parts : List Span) (start end low high : ℕ) : Type 0 where
@@ -41,5 +41,5 @@ spliced spans low high left right = take low spans ++ (option_to_list left ++ (o
 pub record IsFirstFree (parts : List Span) (numbers : List ℕ) (free : ℕ) : Type 0 where
   pub above : 1 ≤ free
   pub within : free ≤ 65536
-  pub outside : is_taken parts numbers free ≡ false
-  pub below_taken : (n : ℕ) → 1 ≤ n → n < free → is_taken parts numbers n ≡ true
+  pub outside : is_in_either parts numbers free ≡ false
+  pub below_taken : (n : ℕ) → 1 ≤ n → n < free → is_in_either parts numbers n ≡ true

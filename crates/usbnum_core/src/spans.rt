@@ -6,7 +6,7 @@ ghost use Rattle.std.specs.Cmp.Lexicographic.{pointwise};
 ghost use Rattle.std.specs.Cmp.Rules.{comparing};
 ghost use Rattle.std.specs.Ordering.{on, eq_of_both};
 ghost use Rattle.std.proofs.Common.{rules};
-ghost use Rattle.usbnum_core.specs.Spans.{span_has, span_touches, spans_have, IsSpread, count_to, is_taken, IsLeastOutside};
+ghost use Rattle.usbnum_core.specs.Spans.{span_has, span_touches, spans_have, IsSpread, count_to, is_in_either, IsLeastOutside};
 
 use crate::parts::{
     begins_by_end, ended_before, first_free, is_within, join, reach, replace, rest_after,
@@ -109,7 +109,7 @@ impl Spans {
     /// none left. The list must ascend strictly.
     pub fn least_outside(&self, numbers: &[Pid]) -> Option<Pid>
         requires { IsStrictlyIncreasing numbers.now }
-        ensures { MatchOption result ((n : ℕ) → 1 ≤ n → n ≤ 65535 → is_taken self.now numbers.now n ≡ true) (λ least. IsLeastOutside self.now numbers.now least) }
+        ensures { MatchOption result ((n : ℕ) → 1 ≤ n → n ≤ 65535 → is_in_either self.now numbers.now n ≡ true) (λ least. IsLeastOutside self.now numbers.now least) }
     {
         Pid::new(u16::try_from(first_free(&self.parts, numbers)).ok()?)
     }
