@@ -178,7 +178,10 @@ impl Field for u32 {
         let Ok(text) = std::str::from_utf8(field) else {
             return Err(Unread::NoOrder);
         };
-        text.parse::<u32>().map_err(|_| Unread::NoOrder)
+        match text.parse::<u32>() {
+            Ok(number) => Ok(number),
+            Err(_) => Err(Unread::NoOrder),
+        }
     }
 }
 

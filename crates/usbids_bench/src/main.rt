@@ -122,9 +122,13 @@ fn time(rt: &HostRuntime, bytes: &[u8], times: u32) -> io::Result<()> {
 // end.
 fn feed_next<R: Source>(source: &mut R, reader: &mut Reader) -> Result<bool, Broken> {
     let mut piece = [0u8; 8192];
-    let count = source.take(&mut piece)?;
-    let _ = reader.feed(&piece[..count]);
-    Ok(count > 0)
+    match source.take(&mut piece) {
+        Ok(count) => {
+            let _ = reader.feed(&piece[..count]);
+            Ok(count > 0)
+        }
+        Err(broken) => Err(broken),
+    }
 }
 
 // Reads a list in pieces.
