@@ -34,6 +34,7 @@ module _ {S : Type 0} {g : Ghosts S} {it new : TheRegistry S g} {A : Type 0} {Is
     answered = λ h stands clean. make h stands (q.answered h stands clean);
     kind = λ h stands clean. tt;
     left = q.left;
+    notes = q.notes;
   }
 
   -- memory runs out for it
@@ -44,6 +45,7 @@ module _ {S : Type 0} {g : Ghosts S} {it new : TheRegistry S g} {A : Type 0} {Is
     answered = λ h stands clean. tt;
     kind = λ h stands clean. inl refl;
     left = q.left;
+    notes = q.notes;
   }
 
   -- one or the other
@@ -60,6 +62,7 @@ module _ {S : Type 0} {g : Ghosts S} {it new : TheRegistry S g} {A : Type 0} {Is
     answered = λ h stands clean. tt;
     kind = λ h stands clean. of_query e other (q.kind h stands clean);
     left = q.left;
+    notes = q.notes;
   }
 
   -- the fault of a query
@@ -71,6 +74,7 @@ module _ {S : Type 0} {g : Ghosts S} {it new : TheRegistry S g} {A : Type 0} {Is
     answered = λ h stands clean. tt;
     kind = λ h stands clean. inl refl;
     left = q.left;
+    notes = q.notes;
   }
   failed faults.Foreign q = failed_with (λ never. absurd cc) q
   failed faults.Taken q = failed_with (λ never. absurd cc) q
@@ -85,6 +89,7 @@ module _ {S : Type 0} {g : Ghosts S} {it new : TheRegistry S g} {Is To : History
     answered = λ h stands clean. IfOk-weaker result _ _ (make h stands) (q.answered h stands clean);
     kind = q.kind;
     left = q.left;
+    notes = q.notes;
   }
 
 module _ {S : Type 0} {g : Ghosts S} {it : TheRegistry S g} {To : History → Response → Type 0} where
@@ -97,6 +102,7 @@ module _ {S : Type 0} {g : Ghosts S} {it : TheRegistry S g} {To : History → Re
     answered = λ h stands clean. make h stands;
     kind = λ h stands clean. tt;
     left = left_same it;
+    notes = refl;
   }
   told_same (Err fault) sound err make = subst (λ (f : DeskFault). IsAsked it it (Err f) To) (sym err) (record {
     when_poisoned = λ is. absurd (sound is);
@@ -104,6 +110,7 @@ module _ {S : Type 0} {g : Ghosts S} {it : TheRegistry S g} {To : History → Re
     answered = λ h stands clean. tt;
     kind = λ h stands clean. inl refl;
     left = left_same it;
+    notes = refl;
   })
 
   -- and the registry has nothing in memory, since it is poisoned
@@ -117,4 +124,5 @@ module _ {S : Type 0} {g : Ghosts S} {it : TheRegistry S g} {To : History → Re
         answered = λ h stands clean. tt;
         kind = λ h stands clean. let never = found h stands in absurd (cc never);
         left = left_same it;
+        notes = refl;
       })

@@ -1,5 +1,5 @@
 -- Serving one message.
-use Rattle.std.proofs.Common.{sym, ◌≡◌, inl, inr, ℕ, List, Option, Some, None, refl, subst, ◌∙◌}
+use Rattle.std.proofs.Common.{sym, ◌≡◌, inl, inr, Bool, true, false, ℕ, List, Option, Some, None, refl, ap, subst, ◌∙◌}
 use Rattle.std.specs.Prelude.{◌≢◌, Result, Ok, Err, IfOk, IfErr, IsOk, OnOk}
 use Rattle.sqlite.specs.Store.{Ghosts}
 use Rattle.sqlite.specs.State.{HasCleanDisk}
@@ -18,10 +18,11 @@ use Rattle.registry_http.specs.Messages.{Says}
 use Rattle.registry_http.proofs.MessageLemmas.{message_says_one_thing}
 use Rattle.registry_desk.specs.declared.fault.DeskFault.{DeskFault}
 use Rattle.registry_desk.specs.declared.fault.DeskFault.TheVariants.{NoMemory, Registry}
-use Rattle.registry_desk.specs.Faults.{unavailable_of}
+use Rattle.registry_store.specs.Faults.{is_foreign}
+use Rattle.registry_desk.specs.Faults.{fault_of, unavailable_of}
 use Rattle.registry_http.specs.declared.unavailable.Unavailable.{Unavailable}
 use Rattle.registry_desk.specs.Acting.{IsResponse, after_message, IsOfSoundRegistry, IsLeftUnavailable, IsFaultOf}
-use Rattle.registry_desk.specs.Serving.{IsSaidPoisoned, IsSent, IsTold, IsServed}
+use Rattle.registry_desk.specs.Serving.{IsSaidPoisoned, IsSent, IsTold, IsToldBy, IsServed}
 use Rattle.registry_desk.proofs.AskLemmas.{left_first, left_second}
 
 -- refusals 30 and 31 have status 503
@@ -103,6 +104,22 @@ module _ {S : Type 0} {g : Ghosts S} where
   turned_away it new (Err refusal) (Ok wanted) response fault refused poisoned told = (inl (subst (λ (r : Response). IsSent r response fault) refused.0 told), refused.2)
   turned_away it new (Err refusal) (Err why) response fault refused poisoned told =
       (inr (subst (λ (f : DeskFault). IsTold (Err f) response fault) refused.1 told), refused.2)
+
+-- the fault is that of the registry
+pub same_fault : (done : Result Response DeskFault) (response : Response) (fault : Option Fault) → IsTold done response fault → fault ≡ fault_of done
+same_fault (Ok wanted) response fault told = told.1
+same_fault (Err why) response fault told = told.1
+
+-- it is told
+pub told_by : (done : Result Response DeskFault) (response : Response) (fault : Option Fault) → IsTold done response fault → IsToldBy fault response
+told_by (Ok wanted) response fault told = subst (λ (f : Option Fault). IsToldBy f response) (sym told.1) tt
+told_by (Err NoMemory) response fault told = subst (λ (f : Option Fault). IsToldBy f response) (sym told.1) tt
+told_by (Err (Registry why)) response fault told = subst (λ (f : Option Fault). IsToldBy f response) (sym told.1) told.0
+
+-- a poisoned registry was not asked
+pub not_asked : (spent : Bool) (fault : Option Fault) → (spent ≡ true → fault ≡ Some faults.Poisoned) → (spent ≡ false → fault ≡ None) → is_foreign fault ≡ false
+not_asked true fault poisoned none = ap is_foreign (poisoned refl)
+not_asked false fault poisoned none = ap is_foreign (none refl)
 
 -- the fault is Poisoned only if that was the fault of the registry
 pub tells_poisoned : (done : Result Response DeskFault) (response : Response) (fault : Option Fault) → IsTold done response fault → fault ≡ Some faults.Poisoned → done ≡ Err (Registry faults.Poisoned)

@@ -1,6 +1,6 @@
 -- Serving one connection after another.
 use Rattle.std.proofs.Common.{◌≡◌, ◌⊎◌, inl, inr, ℕ, ◌+◌, ◌<◌, ◌≤◌, List, [], ◌∷◌, ◌++◌, length, refl, sym, ap, subst, ◌∙◌, arith, length-append}
-use Rattle.std.specs.Prelude.{true, Option, Some, None, Result, Ok, Err, OnOk, OnErr, IfOk}
+use Rattle.std.specs.Prelude.{true, false, Option, Some, None, Result, Ok, Err, OnOk, OnErr, IfOk, IfSome}
 use Rattle.sqlite.specs.Store.{Ghosts}
 use Rattle.sqlite.specs.State.{HasCleanDisk}
 use Rattle.byte_streams.specs.declared.streams.Broken.{Broken}
@@ -22,10 +22,10 @@ use Rattle.registry_desk.specs.declared.serve.Served.{Served}
 use Rattle.registry_desk.specs.Faults.{registry_fault, unavailable_of}
 use Rattle.registry_store.specs.Files.{IsEither}
 use Rattle.registry_desk.specs.Acting.{after_message, IsOfSoundRegistry, IsLeftUnavailable, IsFaultOf}
-use Rattle.registry_desk.specs.Serving.{IsNext, IsServed, IsTurnedAway, Sends}
+use Rattle.registry_desk.specs.Serving.{IsNext, IsServed, IsToldBy, IsTurnedAway, Sends}
 use Rattle.registry_desk.specs.declared.server.ServerStop.{ServerStop}
 use Rattle.registry_desk.specs.declared.server.ServerStop.TheVariants as stops
-use Rattle.registry_desk.specs.Server.{Visit, IsRead, IsVisit, IsTurnedAwayAt, IsWritten, AreTurnedAway, HaveVisited, IsTurn, Turns, RepresentsAfter, IsServedInPart, IsStoppedServing, EndsVisit, EndsServing, IsLeftAfter, EndsConnections, IfVisited, fault_behind, fault_in, status_of}
+use Rattle.registry_desk.specs.Server.{Visit, IsRead, IsVisit, IsToldAt, IsTurnedAwayAt, IsWritten, AreTurnedAway, HaveVisited, IsTurn, Turns, RepresentsAfter, IsServedInPart, IsStoppedServing, EndsVisit, EndsServing, IsLeftAfter, EndsConnections, IfVisited, fault_behind, fault_in, status_of}
 use Rattle.registry_desk.specs.declared.kept.Kept.{Kept}
 use Rattle.registry_desk.specs.Kept.{AreTextsAfter, AreTextsAfterVisit, AreTextsOf, no_texts}
 use Rattle.registry_desk.proofs.KeptLemmas.{none_are, texts_after_visit}
@@ -78,6 +78,14 @@ module _ {S : Type 0} {g : Ghosts S} where
       let unavailable = ap (λ (r : Response). r.status) it.response_is ∙ status_503 (unavailable_of it.why) in
       subst (λ (f : Option Fault). EndsVisit new h (record { bytes = bytes; text = response_bytes response; end = Ok served }) f) (sym it.fault_is)
       (given_up_visit new h bytes (response_bytes response) served it.why it.next it.kind (ap response_bytes it.response_is) (subst (λ (n : ℕ). IfOk served.status (λ sent. sent ≡ n)) unavailable sent) it.next_is it.left it.fault_of)
+
+  -- a fault is told at its connection
+  told_at : (bytes : List ℕ) (response : Response) (served : Served) (fault : Option Fault) → IfOk served.status (λ sent. sent ≡ response.status) → IsToldBy fault response
+      → IsToldAt (record { bytes = bytes; text = response_bytes response; end = Ok served }) fault
+  told_at bytes response served None sent told = tt
+  told_at bytes response served (Some fault) sent told =
+      let unavailable = ap (λ (r : Response). r.status) told ∙ status_503 (unavailable_of (Registry fault)) in
+      (ap response_bytes told, subst (λ (n : ℕ). IfOk served.status (λ sent. sent ≡ n)) unavailable sent)
 
   -- the registry represents the history after these connections, and the texts that are kept are of it
   abbrev pub RepresentsBeside : TheRegistry S g → Kept → History → List Visit → Type 0
@@ -164,13 +172,15 @@ module _ {S C R W : Type 0} {g : Ghosts S} (opens : C → C → R → W → Type
       → opens old opened reader writer → closes opened new reader_new writer_new status → status ≡ status_of served → fault ≡ fault_behind served → MayGive (remaining reader) bytes
       → IfOk served (λ served. (response : Response) × Sends contents writes_failed writer writer_new response served.status
       × ((h : History) → Represents mid h → HasCleanDisk (state_of last) → AreTextsOf h kept → IsServed last h bytes response served.fault × AreTextsAfter h bytes kept_new)
-      × (is_poisoned mid ≡ true → kept ≡ no_texts → IsTurnedAway bytes response served.fault × (last ≡ mid) × (kept_new ≡ no_texts)))
+      × (is_poisoned mid ≡ true → kept ≡ no_texts → IsTurnedAway bytes response served.fault × (last ≡ mid) × (kept_new ≡ no_texts))
+      × (is_poisoned mid ≡ false → IsToldBy served.fault response))
       → OnErr served (FailsAfter (remaining reader) (remaining reader_new) (reads_failed reader) (reads_failed reader_new) IsIncomplete × (writer_new ≡ writer) × (last ≡ mid) × (kept_new ≡ kept))
       → OnOk served (reads_failed reader_new ≡ reads_failed reader)
       → (visit : Visit)
       × IsVisit opens closes remaining reads_failed contents writes_failed old new visit
       × ((h : History) → Represents mid h → HasCleanDisk (state_of last) → AreTextsOf h kept → EndsVisit last h visit fault × AreTextsAfterVisit h visit kept_new)
       × (is_poisoned mid ≡ true → kept ≡ no_texts → IsTurnedAwayAt visit fault × (last ≡ mid) × (kept_new ≡ no_texts))
+      × (is_poisoned mid ≡ false → IsToldAt visit fault)
   visit_of old opened new reader reader_new writer writer_new mid last kept kept_new (Ok served) status fault bytes opens_with closes_with status_is fault_is gives said failed came =
       let visit : Visit = record { bytes = bytes; text = response_bytes said.0; end = Ok served } in (
         visit,
@@ -179,6 +189,7 @@ module _ {S C R W : Type 0} {g : Ghosts S} (opens : C → C → R → W → Type
             let both = said.2 h stands clean of in
             (subst (λ (f : Option Fault). EndsVisit last h visit f) (sym fault_is) (served_visit last h bytes said.0 served said.1.1 both.0), texts_after_visit h bytes visit.text served kept_new both.1),
         λ poisoned none. let away = said.3 poisoned none in ((said.0, refl, said.1.1, away.0, fault_is), away.1, away.2),
+        λ sane. subst (λ (f : Option Fault). IsToldAt visit f) (sym fault_is) (told_at bytes said.0 served served.fault said.1.1 (said.4 sane)),
       )
   visit_of old opened new reader reader_new writer writer_new mid last kept kept_new (Err broken) status fault bytes opens_with closes_with status_is fault_is gives said failed came =
       let visit : Visit = record { bytes = bytes; text = []; end = Err broken } in (
@@ -189,6 +200,7 @@ module _ {S C R W : Type 0} {g : Ghosts S} (opens : C → C → R → W → Type
           λ next same. subst (λ (k : Kept). AreTextsOf next k) (sym failed.3) (subst (λ (x : History). AreTextsOf x kept) (sym same) of),
         ),
         λ poisoned none. (fault_is, failed.2, failed.3 ∙ none),
+        λ sane. subst (λ (f : Option Fault). IsToldAt visit f) (sym fault_is) tt,
       )
 
   -- one connection came beside texts that are kept, with this result
@@ -196,19 +208,22 @@ module _ {S C R W : Type 0} {g : Ghosts S} (opens : C → C → R → W → Type
   CameBeside old new mid last kept kept_new result = IfVisited result ((visit : Visit)
       × IsVisit opens closes remaining reads_failed contents writes_failed old new visit
       × ((h : History) → Represents mid h → HasCleanDisk (state_of last) → AreTextsOf h kept → EndsVisit last h visit (fault_in result) × AreTextsAfterVisit h visit kept_new)
-      × (is_poisoned mid ≡ true → kept ≡ no_texts → IsTurnedAwayAt visit (fault_in result) × (last ≡ mid) × (kept_new ≡ no_texts)))
+      × (is_poisoned mid ≡ true → kept ≡ no_texts → IsTurnedAwayAt visit (fault_in result) × (last ≡ mid) × (kept_new ≡ no_texts))
+      × (is_poisoned mid ≡ false → IsToldAt visit (fault_in result)))
 
   -- the same beside no text
   pub came_alone : (old new : C) (mid last : TheRegistry S g) (kept kept_new : Kept) (result : Result (Unit {0}) ServerStop) → kept ≡ no_texts → CameBeside old new mid last kept kept_new result
       → IfVisited result ((visit : Visit)
       × IsVisit opens closes remaining reads_failed contents writes_failed old new visit
       × ((h : History) → Represents mid h → HasCleanDisk (state_of last) → EndsVisit last h visit (fault_in result))
-      × (is_poisoned mid ≡ true → IsTurnedAwayAt visit (fault_in result) × (last ≡ mid)))
+      × (is_poisoned mid ≡ true → IsTurnedAwayAt visit (fault_in result) × (last ≡ mid))
+      × (is_poisoned mid ≡ false → IsToldAt visit (fault_in result)))
   came_alone old new mid last kept kept_new (Ok done) none came = (
     came.0,
     came.1,
     λ h stands clean. (came.2 h stands clean (none_are h kept none)).0,
     λ poisoned. let away = came.3 poisoned none in (away.0, away.1),
+    came.4,
   )
   came_alone old new mid last kept kept_new (Err stops.Connections) none came = tt
   came_alone old new mid last kept kept_new (Err (stops.Registry fault)) none came = (
@@ -216,7 +231,16 @@ module _ {S C R W : Type 0} {g : Ghosts S} (opens : C → C → R → W → Type
     came.1,
     λ h stands clean. (came.2 h stands clean (none_are h kept none)).0,
     λ poisoned. let away = came.3 poisoned none in (away.0, away.1),
+    came.4,
   )
+
+  -- a fault is told at the last connection
+  pub told_last : (old middle new : C) (mid last : TheRegistry S g) (kept kept_new : Kept) (visits : List Visit) (result : Result (Unit {0}) ServerStop) (stop : ServerStop) → result ≡ Err stop
+      → HaveVisited opens closes remaining reads_failed contents writes_failed old middle visits → CameBeside middle new mid last kept kept_new (Err stop) → is_poisoned mid ≡ false
+      → IfSome (fault_in result) (λ fault. (visits : List Visit) × (middle : C) × (last : Visit) × HaveVisited opens closes remaining reads_failed contents writes_failed old middle visits
+      × IsVisit opens closes remaining reads_failed contents writes_failed middle new last × IsToldAt last (Some fault))
+  told_last old middle new mid last kept kept_new visits result stops.Connections is before came sane = rw is tt
+  told_last old middle new mid last kept kept_new visits result (stops.Registry fault) is before came sane = rw is (visits, middle, came.0, before, came.1, came.4 sane)
 
   -- a server stops when no more connections come, or at a fault
   pub stops_at : (old middle new : C) (first mid last : TheRegistry S g) (kept kept_new : Kept) (count : ℕ) (visits : List Visit) (stop : ServerStop)

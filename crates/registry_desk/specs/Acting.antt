@@ -23,7 +23,7 @@ use Rattle.registry_tables.specs.Rows.{newest}
 use Rattle.registry_store.specs.declared.fault.Fault.TheVariants as faults
 use Rattle.registry_store.specs.declared.registry.Registry.{Registry as TheRegistry}
 use Rattle.registry_store.specs.Files.{IsEither}
-use Rattle.registry_store.specs.Promise.{Leaves, Represents, is_poisoned, poisoned_by, state_of}
+use Rattle.registry_store.specs.Promise.{Leaves, NotesForeign, Represents, is_poisoned, poisoned_by, state_of}
 use Rattle.registry_store.specs.Queries.{IsUntouched}
 use Rattle.registry_views.specs.Records.{IsRecordPage}
 use Rattle.registry_views.specs.Reports.{IsReport}
@@ -38,6 +38,7 @@ use Rattle.registry_http.specs.Foundings.{founding_response}
 use Rattle.registry_http.specs.Resources.{number_response, org_response, petition_response}
 use Rattle.registry_desk.specs.declared.fault.DeskFault.{DeskFault}
 use Rattle.registry_desk.specs.declared.fault.DeskFault.TheVariants.{Registry, NoMemory}
+use Rattle.registry_desk.specs.Faults.{fault_of}
 
 -- a number of a vendor that the query names; refusal 34 if the registry has no such vendor
 abbrev pub vendor_number_at : History → ℕ → ℕ → Response
@@ -105,13 +106,15 @@ IsOfQuery fault = (fault ≡ NoMemory) ⊎ (fault ≡ Registry faults.Store)
 
 module _ {S : Type 0} {g : Ghosts S} (it new : TheRegistry S g) where
   -- A query over HTTP: over a clean disk the response is that of each history that the registry represented, and a fault is
-  -- one of a query. A poisoned registry gives Poisoned and stays the same value, and no other gives that.
+  -- one of a query. A poisoned registry gives Poisoned and stays the same value, and no other gives that. If the registry found
+  -- the rows of no history, the fault says so, and there is no response.
   pub record IsAsked (result : Result Response DeskFault) (Is : History → Response → Type 0) : Type 0 where
     pub when_poisoned : is_poisoned it ≡ true → (result ≡ Err (Registry faults.Poisoned)) × (new ≡ it)
     pub only_poisoned : result ≡ Err (Registry faults.Poisoned) → is_poisoned it ≡ true
     pub answered : (h : History) → Represents it h → HasCleanDisk (state_of new) → IfOk result (Is h)
     pub kind : (h : History) → Represents it h → HasCleanDisk (state_of new) → IfErr result IsOfQuery
     pub left : IsUntouched it new
+    pub notes : NotesForeign it new (fault_of result)
 
 module _ {S : Type 0} {g : Ghosts S} where
   -- After a fault of the registry it is poisoned by this fault, or it represents the history before the message, and the

@@ -1,7 +1,8 @@
 -- What is sent where the registry has a fault or memory runs out.
-use Rattle.std.specs.Prelude.{ℕ, List, codes, Option, Some, None}
+use Rattle.std.specs.Prelude.{ℕ, List, codes, Option, Some, None, Result, Ok, Err}
 use Rattle.registry_store.specs.declared.fault.Fault.{Fault}
 use Rattle.registry_store.specs.declared.fault.Fault.TheVariants as faults
+use Rattle.registry_http.specs.declared.response.Response.{Response}
 use Rattle.registry_http.specs.declared.unavailable.Unavailable.{Unavailable}
 use Rattle.registry_http.specs.declared.unavailable.Unavailable.TheVariants as unavailable
 use Rattle.registry_store.specs.Faults as store_faults
@@ -23,6 +24,11 @@ unavailable_of (Registry faults.Poisoned) = unavailable.StoreFault
 abbrev pub registry_fault : DeskFault → Option Fault
 registry_fault (Registry fault) = Some fault
 registry_fault NoMemory = None
+
+-- the fault of the registry behind what was done for a message
+abbrev pub fault_of : Result Response DeskFault → Option Fault
+fault_of (Ok response) = None
+fault_of (Err why) = registry_fault why
 
 -- the fault for one of a query: memory that runs out for a query is no fault of the registry
 abbrev pub failed_by : Fault → DeskFault

@@ -89,6 +89,11 @@ module _ {C R W : Type 0} (opens : C → C → R → W → Type 0) (closes : C �
   HaveVisited old new [] = new ≡ old
   HaveVisited old new (visit ∷ visits) = (middle : C) × IsVisit old middle visit × HaveVisited middle new visits
 
+-- A fault of the registry was told by refusal 30 or 31, with status 503 if all was written.
+abbrev pub IsToldAt : Visit → Option Fault → Type 0
+IsToldAt visit None = ⊤
+IsToldAt visit (Some fault) = (visit.text ≡ response_bytes (unavailable_response (unavailable_of (Registry fault)))) × IsSentWith visit.end 503
+
 -- What a connection gets over a poisoned registry, which is not changed: its message is turned away, with the status of what
 -- was written if all was. The fault is that of the registry, unless the message is refused by itself or did not come.
 abbrev pub IsTurnedAwayAt : Visit → Option Fault → Type 0

@@ -1,7 +1,7 @@
 -- What serving one message writes, and what the registry then represents.
 --
 -- The response is the one that is written, and the fault is that of the registry behind it.
-use Rattle.std.specs.Prelude.{◌≡◌, ◌≢◌, ◌⊎◌, ℕ, List, Option, Some, None, Result, Ok, Err, IsOk, IfOk}
+use Rattle.std.specs.Prelude.{◌≡◌, ◌≢◌, ◌⊎◌, ⊤, ℕ, List, Option, Some, None, Result, Ok, Err, IsOk, IfOk}
 use Rattle.sqlite.specs.Store.{Ghosts}
 use Rattle.byte_streams.specs.Streams.{Writes}
 use Rattle.byte_streams.specs.declared.streams.Broken.{Broken}
@@ -33,6 +33,11 @@ IsSent wanted response fault = IsInPlaceOf response wanted × (fault ≡ None)
 abbrev pub IsTold : Result Response DeskFault → Response → Option Fault → Type 0
 IsTold (Ok wanted) response fault = IsSent wanted response fault
 IsTold (Err why) response fault = (response ≡ unavailable_response (unavailable_of why)) × (fault ≡ registry_fault why)
+
+-- A fault of the registry is told by refusal 30 or 31, and not by another response.
+abbrev pub IsToldBy : Option Fault → Response → Type 0
+IsToldBy None response = ⊤
+IsToldBy (Some fault) response = response ≡ unavailable_response (unavailable_of (Registry fault))
 
 -- What is written over a poisoned registry, which is not changed: refusal 30 to an order or a query, and its refusal to a
 -- message that is refused; refusal 31 may come in place of a refusal.

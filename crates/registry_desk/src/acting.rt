@@ -1,15 +1,16 @@
 //! Returns the response to a query, or acts on an order.
 
-ghost use Rattle.std.specs.Prelude.{◌≡◌, ◌≢◌, true, None, Err, IfOk, IfErr, OnOk, IsOk};
+ghost use Rattle.std.specs.Prelude.{◌≡◌, ◌≢◌, true, false, None, Err, IfOk, IfErr, OnOk, IsOk};
 ghost use Rattle.sqlite.specs.State.{HasCleanDisk};
 ghost use Rattle.registry_rules.specs.History.{History};
 ghost use Rattle.registry_rules.specs.Run.{after_one, reply_to};
-ghost use Rattle.registry_store.specs.Promise.{Represents, Endures, is_poisoned, state_of};
+ghost use Rattle.registry_store.specs.Promise.{Represents, Endures, NotesForeign, is_poisoned, state_of};
 ghost use Rattle.registry_store.specs.declared.fault.Fault.TheVariants as faults;
 ghost use Rattle.registry_desk.specs.declared.fault.DeskFault.TheVariants as desk_faults;
 ghost use Rattle.registry_store.specs.Queries.{IsUntouched};
 ghost use Rattle.registry_http.specs.Responses.{refusal_response, reply_response};
 ghost use Rattle.registry_desk.specs.Acting.{IsQueryResponse, IsResponse, after_message, IsOfQuery, IsOfSoundRegistry, IsLeftUnavailable, HasPoisoned, IsFaultOf};
+ghost use Rattle.registry_desk.specs.Faults.{fault_of};
 ghost use Rattle.registry_desk.specs.Kept.{AreTextsOf, kept_beside, no_texts, with_text};
 
 use crate::fault::DeskFault;
@@ -21,7 +22,8 @@ use registry_store::Registry;
 use sqlite::Alter;
 use std::alloc::Global;
 
-/// Acts on an order, and returns the response.
+/// Acts on an order, and returns the response. Without a fault of `act` the registry is not
+/// poisoned, whatever its store holds.
 fn respond_to_order<S: Alter>(
     alloc: Global,
     registry: &mut Registry<S>,
@@ -31,6 +33,9 @@ fn respond_to_order<S: Alter>(
         → IfOk result (λ response. (response ≡ reply_response (reply_to h request.now)) × Represents registry.new (after_one h request.now)) }
     ensures left { (h : History) → Represents registry.old h → HasCleanDisk (state_of registry.new)
         → IfErr result (λ fault. IsOfSoundRegistry fault × HasPoisoned fault registry.new × IsLeftUnavailable fault registry.new h (after_one h request.now)) }
+    ensures goes_on { fault_of result ≡ None → is_poisoned registry.new ≡ false }
+    ensures keeps_fault { is_poisoned registry.old ≡ false → IfErr result (λ fault. HasPoisoned fault registry.new) }
+    ensures notes { NotesForeign registry.old registry.new (fault_of result) }
     ensures only_poisoned { result ≡ Err (desk_faults.Registry faults.Poisoned) → is_poisoned registry.old ≡ true }
     ensures when_poisoned { is_poisoned registry.old ≡ true → (result ≡ Err (desk_faults.Registry faults.Poisoned)) × (registry.new ≡ registry.old) }
     ensures endures { Endures (state_of registry.old) (state_of registry.new) }
@@ -51,6 +56,7 @@ fn take_or_ask<S: Alter>(
     ensures answered { (h : History) → Represents registry.old h → HasCleanDisk (state_of registry.new) → AreTextsOf h kept.old → IfOk result (IsQueryResponse h query.now) }
     ensures kind { (h : History) → Represents registry.old h → HasCleanDisk (state_of registry.new) → IfErr result IsOfQuery }
     ensures left { IsUntouched registry.old registry.new }
+    ensures notes { NotesForeign registry.old registry.new (fault_of result) }
     ensures only_poisoned { result ≡ Err (desk_faults.Registry faults.Poisoned) → is_poisoned registry.old ≡ true }
     ensures when_poisoned { is_poisoned registry.old ≡ true → kept.old ≡ no_texts → (result ≡ Err (desk_faults.Registry faults.Poisoned)) × (registry.new ≡ registry.old) }
     ensures taken { kept.new ≡ with_text kept.old query.now None }
@@ -81,6 +87,10 @@ pub(crate) fn response_to<S: Alter>(
     ensures left { (h : History) → Represents registry.old h → HasCleanDisk (state_of registry.new)
         → IfErr result (λ fault. IsOfSoundRegistry fault × IsFaultOf said.now fault registry.new × IsLeftUnavailable fault registry.new h (after_message h said.now)) }
     ensures asked { IfErr result (λ fault. fault ≢ desk_faults.NoMemory → IsOk said.now) }
+    // Whatever the store holds: without a fault of the registry it is not poisoned, and no call of it
+    // found the rows of no history.
+    ensures goes_on { is_poisoned registry.old ≡ false → fault_of result ≡ None → is_poisoned registry.new ≡ false }
+    ensures notes { NotesForeign registry.old registry.new (fault_of result) }
     // A message that is refused gets its refusal, over any registry.
     ensures refused { IfErr said.now (λ refusal. IfOk result (λ response. response ≡ refusal_response refusal) × IfErr result (λ fault. fault ≡ desk_faults.NoMemory) × (registry.new ≡ registry.old)) }
     // An order or a query gets no response over a poisoned registry.

@@ -4,13 +4,14 @@ ghost use Rattle.std.specs.Prelude.{◌≡◌, true, false, List, ℕ, Option, S
 ghost use Rattle.sqlite.specs.State.{HasCleanDisk};
 ghost use Rattle.byte_streams.specs.Streams.{MayGive};
 ghost use Rattle.registry_rules.specs.History.{History};
-ghost use Rattle.registry_store.specs.Promise.{Represents, Endures, is_poisoned, state_of};
+ghost use Rattle.registry_store.specs.Promise.{Represents, Endures, NotesForeign, is_poisoned, state_of};
 ghost use Rattle.registry_store.specs.declared.fault.Fault.TheVariants as faults;
 ghost use Rattle.registry_http.specs.declared.response.Response.{Response as TheResponse};
 ghost use Rattle.registry_http.specs.Incomplete.{FailsAfter, IsIncomplete};
 ghost use Rattle.registry_http.specs.Responses.{unavailable_response};
 ghost use Rattle.registry_desk.specs.Faults.{unavailable_of, registry_fault};
-ghost use Rattle.registry_desk.specs.Serving.{IsSent, IsTold, IsServed, IsTurnedAway, Sends};
+ghost use Rattle.registry_desk.specs.Serving.{IsSent, IsTold, IsToldBy, IsServed, IsTurnedAway, Sends};
+ghost use Rattle.registry_desk.specs.Server.{fault_behind};
 ghost use Rattle.registry_desk.specs.Kept.{AreTextsAfter, AreTextsOf, no_texts};
 
 use crate::acting::response_to;
@@ -95,7 +96,10 @@ pub(crate) fn serve_message<R: Source, W: Sink, S: Alter>(
     ensures served { (bytes : List ℕ) × MayGive (R.remaining source.old) bytes × IfOk result (λ served. (response : TheResponse)
         × Sends W.contents W.failures sink.old sink.new response served.status
         × ((h : History) → Represents registry.old h → HasCleanDisk (state_of registry.new) → AreTextsOf h kept.old → IsServed registry.new h bytes response served.fault × AreTextsAfter h bytes kept.new)
-        × (is_poisoned registry.old ≡ true → kept.old ≡ no_texts → IsTurnedAway bytes response served.fault × (registry.new ≡ registry.old) × (kept.new ≡ no_texts))) }
+        × (is_poisoned registry.old ≡ true → kept.old ≡ no_texts → IsTurnedAway bytes response served.fault × (registry.new ≡ registry.old) × (kept.new ≡ no_texts))
+        × (is_poisoned registry.old ≡ false → IsToldBy served.fault response)) }
+    ensures goes_on { is_poisoned registry.old ≡ false → fault_behind result ≡ None → is_poisoned registry.new ≡ false }
+    ensures notes { NotesForeign registry.old registry.new (fault_behind result) }
     ensures poisoned { IfOk result (λ served. served.fault ≡ Some faults.Poisoned → is_poisoned registry.old ≡ true) }
     ensures read { OnErr result (FailsAfter (R.remaining source.old) (R.remaining source.new) (R.failures source.old) (R.failures source.new) IsIncomplete × (sink.new ≡ sink.old) × (registry.new ≡ registry.old) × (kept.new ≡ kept.old)) }
     ensures kept { OnOk result (R.failures source.new ≡ R.failures source.old) }
@@ -140,7 +144,12 @@ pub fn serve_one<R: Source, W: Sink, S: Alter>(
     ensures served { (bytes : List ℕ) × MayGive (R.remaining source.old) bytes × IfOk result (λ served. (response : TheResponse)
         × Sends W.contents W.failures sink.old sink.new response served.status
         × ((h : History) → Represents registry.old h → HasCleanDisk (state_of registry.new) → IsServed registry.new h bytes response served.fault)
-        × (is_poisoned registry.old ≡ true → IsTurnedAway bytes response served.fault × (registry.new ≡ registry.old))) }
+        × (is_poisoned registry.old ≡ true → IsTurnedAway bytes response served.fault × (registry.new ≡ registry.old))
+        × (is_poisoned registry.old ≡ false → IsToldBy served.fault response)) }
+    // Whatever the store holds: without a fault of the registry it is not poisoned, and no call of it
+    // found the rows of no history.
+    ensures goes_on { is_poisoned registry.old ≡ false → fault_behind result ≡ None → is_poisoned registry.new ≡ false }
+    ensures notes { NotesForeign registry.old registry.new (fault_behind result) }
     ensures poisoned { IfOk result (λ served. served.fault ≡ Some faults.Poisoned → is_poisoned registry.old ≡ true) }
     ensures read { OnErr result (FailsAfter (R.remaining source.old) (R.remaining source.new) (R.failures source.old) (R.failures source.new) IsIncomplete × (sink.new ≡ sink.old) × (registry.new ≡ registry.old)) }
     ensures kept { OnOk result (R.failures source.new ≡ R.failures source.old) }

@@ -1,12 +1,12 @@
 //! The server: it serves one connection after another over one registry.
 
-ghost use Rattle.std.specs.Prelude.{◌≡◌, ◌≤◌, true, ℕ, List, Option, Some, length, IfOk, IfErr, OnOk, Err};
+ghost use Rattle.std.specs.Prelude.{◌≡◌, ◌≤◌, true, false, ℕ, List, Option, Some, None, length, IfOk, IfErr, IfSome, OnOk, Err};
 ghost use Rattle.sqlite.specs.State.{HasCleanDisk};
 ghost use Rattle.registry_rules.specs.History.{History};
 ghost use Rattle.registry_tables.specs.Rows.{newest};
-ghost use Rattle.registry_store.specs.Promise.{Represents, Endures, Leaves, is_poisoned, state_of};
+ghost use Rattle.registry_store.specs.Promise.{Represents, Endures, Leaves, NotesForeign, is_poisoned, state_of};
 ghost use Rattle.registry_desk.specs.Faults.{server_stop_text};
-ghost use Rattle.registry_desk.specs.Server.{Visit, IsVisit, IsTurnedAwayAt, AreTurnedAway, HaveVisited, EndsVisit, EndsServing, IsLeftAfter, EndsConnections, IfVisited, fault_behind, fault_in, status_of};
+ghost use Rattle.registry_desk.specs.Server.{Visit, IsVisit, IsToldAt, IsTurnedAwayAt, AreTurnedAway, HaveVisited, EndsVisit, EndsServing, IsLeftAfter, EndsConnections, IfVisited, fault_behind, fault_in, status_of};
 ghost use Rattle.registry_desk.specs.Kept.{AreTextsAfterVisit, AreTextsOf, no_texts};
 
 use crate::kept::Kept;
@@ -109,7 +109,10 @@ fn serve_beside<C: Connections, S: Alter>(
     ensures visited { IfVisited result ((visit : Visit)
         × IsVisit C.opens C.closes C.Reader.remaining C.Reader.failures C.Writer.contents C.Writer.failures connections.old connections.new visit
         × ((h : History) → Represents registry.old h → HasCleanDisk (state_of registry.new) → AreTextsOf h kept.old → EndsVisit registry.new h visit (fault_in result) × AreTextsAfterVisit h visit kept.new)
-        × (is_poisoned registry.old ≡ true → kept.old ≡ no_texts → IsTurnedAwayAt visit (fault_in result) × (registry.new ≡ registry.old) × (kept.new ≡ no_texts))) }
+        × (is_poisoned registry.old ≡ true → kept.old ≡ no_texts → IsTurnedAwayAt visit (fault_in result) × (registry.new ≡ registry.old) × (kept.new ≡ no_texts))
+        × (is_poisoned registry.old ≡ false → IsToldAt visit (fault_in result))) }
+    ensures goes_on { is_poisoned registry.old ≡ false → fault_in result ≡ None → is_poisoned registry.new ≡ false }
+    ensures notes { NotesForeign registry.old registry.new (fault_in result) }
     ensures none { result ≡ Err ServerStop.Connections → C.fails connections.old connections.new × (registry.new ≡ registry.old) }
     ensures endures { Endures (state_of registry.old) (state_of registry.new) }
 {
@@ -130,8 +133,8 @@ fn serve_beside<C: Connections, S: Alter>(
 /// Opens the next connection, serves its message, and closes it.
 ///
 /// Returns `ServerStop::Registry` if the registry had a fault, whether the response was written
-/// or the peer was gone. A peer's fault, or a 503 because memory ran out outside the registry, is
-/// not an error.
+/// or the peer was gone. A peer's fault is not an error, and neither is a 503 because memory ran
+/// out, at a query or outside the registry, unless the registry is poisoned.
 pub fn serve_next<C: Connections, S: Alter>(
     alloc: Global,
     connections: &mut C,
@@ -140,7 +143,10 @@ pub fn serve_next<C: Connections, S: Alter>(
     ensures visited { IfVisited result ((visit : Visit)
         × IsVisit C.opens C.closes C.Reader.remaining C.Reader.failures C.Writer.contents C.Writer.failures connections.old connections.new visit
         × ((h : History) → Represents registry.old h → HasCleanDisk (state_of registry.new) → EndsVisit registry.new h visit (fault_in result))
-        × (is_poisoned registry.old ≡ true → IsTurnedAwayAt visit (fault_in result) × (registry.new ≡ registry.old))) }
+        × (is_poisoned registry.old ≡ true → IsTurnedAwayAt visit (fault_in result) × (registry.new ≡ registry.old))
+        × (is_poisoned registry.old ≡ false → IsToldAt visit (fault_in result))) }
+    ensures goes_on { is_poisoned registry.old ≡ false → fault_in result ≡ None → is_poisoned registry.new ≡ false }
+    ensures notes { NotesForeign registry.old registry.new (fault_in result) }
     ensures none { result ≡ Err ServerStop.Connections → C.fails connections.old connections.new × (registry.new ≡ registry.old) }
     ensures endures { Endures (state_of registry.old) (state_of registry.new) }
 {
@@ -160,6 +166,9 @@ pub fn serve_next<C: Connections, S: Alter>(
 /// The last list and the last report of each kind are kept in memory, and written again until an
 /// order comes.
 ///
+/// If `act` or a query finds the rows of no history, whatever the store holds, the message gets
+/// refusal 30 and no response of its own, and ends the server.
+///
 /// A poisoned registry is not changed: the first message that is not refused by itself gets refusal
 /// 30, or 31 if memory runs out before it is read, and ends the server.
 pub fn serve_all<C: Connections, S: Alter>(
@@ -174,6 +183,14 @@ pub fn serve_all<C: Connections, S: Alter>(
         × (length visits ≤ count) × OnOk result (length visits ≡ count)
         × ((h : History) → Represents registry.old h → HasCleanDisk (state_of registry.new) → EndsServing registry.new h visits (fault_in result) × Leaves newest (state_of registry.new) (IsLeftAfter h visits))
         × (is_poisoned registry.old ≡ true → AreTurnedAway visits (fault_in result) × (registry.new ≡ registry.old)) }
+    // Whatever the store holds: a fault of the registry is told at the last connection; without one
+    // the registry is not poisoned, and no call of it found the rows of no history.
+    ensures told { is_poisoned registry.old ≡ false → IfSome (fault_in result) (λ fault. (visits : List Visit) × (middle : C) × (last : Visit)
+        × HaveVisited C.opens C.closes C.Reader.remaining C.Reader.failures C.Writer.contents C.Writer.failures connections.old middle visits
+        × IsVisit C.opens C.closes C.Reader.remaining C.Reader.failures C.Writer.contents C.Writer.failures middle connections.new last
+        × IsToldAt last (Some fault)) }
+    ensures goes_on { is_poisoned registry.old ≡ false → fault_in result ≡ None → is_poisoned registry.new ≡ false }
+    ensures notes { NotesForeign registry.old registry.new (fault_in result) }
     ensures endures { Endures (state_of registry.old) (state_of registry.new) }
 {
     let mut routes = Routes::new();

@@ -1,78 +1,156 @@
 -- Queries of a registry, whatever they look up.
-use Rattle.std.proofs.Common.{◌≡◌, ◌≢◌, false, inr, Result, Ok, Err, refl, sym, subst, ◌∙◌}
+use Rattle.std.proofs.Common.{◌≡◌, ◌≢◌, ◌⊎◌, ◌||◌, Bool, true, false, Option, None, inl, inr, Result, Ok, Err, refl, sym, ap, subst, ◌∙◌}
+use Rattle.std.specs.Prelude.{MatchResult, is_some}
+use Rattle.std.specs.Result.{result_err}
+use Rattle.std.proofs.lemmas.Result.{IfOk-weaker}
 use Rattle.sqlite.specs.Store.{Ghosts}
+use Rattle.sqlite.specs.State.{State, HasCleanDisk}
 use Rattle.registry_schema.specs.declared.fault.TableFault.{TableFault}
-use Rattle.registry_schema.specs.declared.fault.TableFault.TheVariants.{Foreign}
+use Rattle.registry_schema.specs.declared.fault.TableFault.TheVariants as tables
 use Rattle.registry_rules.specs.History.{History}
-use Rattle.registry_tables.specs.Calls.{IsLookUp}
+use Rattle.registry_rules.specs.Run.{Legal}
+use Rattle.registry_tables.specs.Calls.{IsForeign, IsLookUp}
+use Rattle.registry_tables.specs.Rows.{newest}
 use Rattle.registry_store.specs.declared.fault.Fault.{Fault}
 use Rattle.registry_store.specs.declared.fault.Fault.TheVariants as of
 use Rattle.registry_store.specs.declared.registry.Registry.{Registry}
-use Rattle.registry_store.specs.Promise.{Represents, IsLegalWith, is_poisoned, state_of}
-use Rattle.registry_store.specs.Queries.{IsUntouched, IsQuery}
-use Rattle.registry_store.proofs.OpeningLemmas.{still_at, earlier}
-use Rattle.registry_store.proofs.QueryLemmas.{listed, kind_of}
+use Rattle.registry_store.specs.Faults.{fault_of, is_foreign}
+use Rattle.registry_store.specs.Promise.{IsAt, IsLegalWith, NotesForeign, Represents, is_poisoned, poisoned_by, state_of}
+use Rattle.registry_store.specs.Queries.{IsNoted, IsQuery, IsUntouched}
+use Rattle.registry_store.proofs.OpeningLemmas.{earlier, rows_now, still_at}
+use Rattle.registry_store.proofs.QueryLemmas.{listed}
 
-module _ {S : Type 0} {g : Ghosts S} {it new : Registry S g} {A : Type 0} {Is : History → A → Type 0} (sound : is_poisoned it ≡ false) (totals : new.totals ≡ it.totals) (poisoned : is_poisoned new ≡ is_poisoned it) where
-  left : (result : Result A TableFault) → IsLookUp (state_of it) (state_of new) result Is → IsUntouched it new
-  left result looked = record {
+-- ---- the faults of the tables
+
+never_poisoned : (fault : TableFault) → fault_of fault ≢ of.Poisoned
+never_poisoned tables.Store is = cc
+never_poisoned tables.NoMemory is = cc
+never_poisoned tables.Foreign is = cc
+
+never_taken : (fault : TableFault) → fault_of fault ≢ of.Taken
+never_taken tables.Store is = cc
+never_taken tables.NoMemory is = cc
+never_taken tables.Foreign is = cc
+
+-- the tables hold the rows of a history, so the fault is of the store or of memory
+kind_of : {A : Type 0} (old new : State) (h : History) → IsAt newest old h → Legal h → HasCleanDisk old → (fault : TableFault) (result : Result A TableFault) → result ≡ Err fault → IsForeign old new result
+    → (fault_of fault ≡ of.Store) ⊎ (fault_of fault ≡ of.NoMemory)
+kind_of old new h at legal clean tables.Store result is foreign = inl refl
+kind_of old new h at legal clean tables.NoMemory result is foreign = inr refl
+kind_of old new h at legal clean tables.Foreign result is foreign = let none = foreign is in absurd (none.1 h legal (rows_now old h at clean none.0))
+
+-- ---- a look-up, and the note of it
+
+swap : (a b c : Bool) → (a || (b || c)) ≡ (b || (a || c))
+swap true true c = refl
+swap true false c = refl
+swap false b c = refl
+
+module _ {S : Type 0} {g : Ghosts S} {it mid new : Registry S g} {A : Type 0} {Is : History → A → Type 0} (sound : is_poisoned it ≡ false)
+    (totals : mid.totals ≡ it.totals) (fault : poisoned_by mid ≡ poisoned_by it) (foreign : mid.foreign ≡ it.foreign) where
+  -- the registry after the note
+  abbrev noted : Result A Fault → Registry S g
+  noted result = record mid { foreign = is_foreign (result_err result) || mid.foreign }
+
+  left : (found : Result A TableFault) (result : Result A Fault) → IsLookUp (state_of it) (state_of mid) found Is → IsUntouched it (noted result)
+  left found result looked = record {
     stays = λ h stands. record {
-      not_poisoned = poisoned ∙ sound;
+      not_poisoned = ap (λ (f : Option Fault). is_some f) fault ∙ sound;
       legal_with = subst (λ t. IsLegalWith t h) (sym totals) stands.legal_with;
-      at = still_at (state_of it) (state_of new) h stands.at looked.same looked.survives;
+      at = still_at (state_of it) (state_of mid) h stands.at looked.same looked.survives;
     };
-    poisons_nothing = poisoned;
+    poisons_nothing = ap (λ (f : Option Fault). is_some f) fault;
     survives = looked.survives;
   }
 
-  pub queried : {found : A} → IsLookUp (state_of it) (state_of new) (Ok found) Is → IsQuery it new (Ok found) Is
-  queried {found} looked = record {
+  notes : (result : Result A Fault) → NotesForeign it (noted result) (result_err result)
+  notes result =
+      swap (is_foreign (poisoned_by mid)) (is_foreign (result_err result)) mid.foreign
+      ∙ ap (λ (b : Bool). is_foreign (result_err result) || b) (ap (λ (f : Option Fault). is_foreign f || mid.foreign) fault ∙ ap (λ (b : Bool). is_foreign (poisoned_by it) || b) foreign)
+
+  found_by : (found : A) → IsLookUp (state_of it) (state_of mid) (Ok found) Is → IsQuery it (noted (Ok found)) (Ok found) Is
+  found_by found looked = record {
     when_poisoned = λ is. absurd cc;
     only_poisoned = λ never. absurd cc;
     never_taken = λ never. cc;
-    answered = λ h stands clean. listed (state_of it) (state_of new) h stands.at stands.legal_with.legal (earlier (state_of it) (state_of new) _ looked.survives clean) Is found (looked.answer clean);
+    answered = λ h stands clean. listed (state_of it) (state_of mid) h stands.at stands.legal_with.legal (earlier (state_of it) (state_of mid) _ looked.survives clean) Is found (looked.answer clean);
     kind = λ h stands clean. tt;
-    left = left (Ok found) looked;
+    left = left (Ok found) (Ok found) looked;
+    notes = notes (Ok found);
   }
 
-  pub faulted : {was : TableFault} {e : Fault} → e ≢ of.Poisoned → e ≢ of.Taken → (e ≡ of.Foreign → was ≡ Foreign) → IsLookUp (state_of it) (state_of new) (Err was) Is → IsQuery it new (Err e) Is
-  faulted {was} {e} not_poisoned found foreign looked = record {
+  failed_by : (was : TableFault) → IsLookUp (state_of it) (state_of mid) (Err was) Is → IsQuery it (noted (Err (fault_of was))) (Err (fault_of was)) Is
+  failed_by was looked = record {
     when_poisoned = λ is. absurd cc;
-    only_poisoned = λ is. absurd (not_poisoned cc);
-    never_taken = λ is. found cc;
+    only_poisoned = λ is. absurd (never_poisoned was cc);
+    never_taken = λ is. never_taken was cc;
     answered = λ h stands clean. tt;
-    kind = λ h stands clean. kind_of (state_of it) (state_of new) h stands.at stands.legal_with.legal (earlier (state_of it) (state_of new) _ looked.survives clean) (Err was) was e (looked.foreign clean) refl not_poisoned found foreign;
-    left = left (Err was) looked;
+    kind = λ h stands clean. kind_of (state_of it) (state_of mid) h stands.at stands.legal_with.legal (earlier (state_of it) (state_of mid) _ looked.survives clean) was (Err was) refl (looked.foreign clean);
+    left = left (Err was) (Err (fault_of was)) looked;
+    notes = notes (Err (fault_of was));
   }
 
-  -- an answer made of what was looked up, and the faults of such a query
-  module _ {B : Type 0} {Also : History → B → Type 0} where
-    pub queried_as : {found : A} {answer : B} → ((h : History) → Represents it h → Is h found → Also h answer) → IsLookUp (state_of it) (state_of new) (Ok found) Is → IsQuery it new (Ok answer) Also
-    queried_as {found} {answer} means looked = let plain = queried looked in record {
-      when_poisoned = λ is. absurd cc;
-      only_poisoned = λ never. absurd cc;
-      never_taken = λ never. cc;
-      answered = λ h stands clean. means h stands (plain.answered h stands clean);
-      kind = λ h stands clean. tt;
-      left = plain.left;
-    }
+  told : (found : Result A TableFault) (result : Result A Fault) → IsLookUp (state_of it) (state_of mid) found Is
+      → MatchResult found (λ value. result ≡ Ok value) (λ fault. result ≡ Err (fault_of fault)) → IsQuery it (noted result) result Is
+  told (Ok found) result looked is = subst (λ (r : Result A Fault). IsQuery it (noted r) r Is) (sym is) (found_by found looked)
+  told (Err was) result looked is = subst (λ (r : Result A Fault). IsQuery it (noted r) r Is) (sym is) (failed_by was looked)
 
-    pub faulted_as : {was : TableFault} {e : Fault} → e ≢ of.Poisoned → e ≢ of.Taken → (e ≡ of.Foreign → was ≡ Foreign) → IsLookUp (state_of it) (state_of new) (Err was) Is → IsQuery it new (Err e) Also
-    faulted_as {was} {e} not_poisoned found foreign looked = let plain = faulted not_poisoned found foreign looked in record {
-      when_poisoned = λ is. absurd cc;
-      only_poisoned = λ is. absurd (not_poisoned cc);
-      never_taken = λ is. found cc;
-      answered = λ h stands clean. tt;
-      kind = plain.kind;
-      left = plain.left;
-    }
+  -- a look-up whose fault is noted is a query
+  pub queried : {found : Result A TableFault} {result : Result A Fault} → IsLookUp (state_of it) (state_of mid) found Is → IsNoted mid new found result → IsQuery it new result Is
+  queried {found} {result} looked note = subst (λ (n : Registry S g). IsQuery it n result Is) (sym note.same) (told found result looked note.told)
 
-    pub ran_short : {found : A} → IsLookUp (state_of it) (state_of new) (Ok found) Is → IsQuery it new (Err of.NoMemory) Also
-    ran_short {found} looked = record {
-      when_poisoned = λ is. absurd cc;
-      only_poisoned = λ is. absurd cc;
-      never_taken = λ is. cc;
-      answered = λ h stands clean. tt;
-      kind = λ h stands clean. inr refl;
-      left = left (Ok found) looked;
-    }
+-- what a call notes after one without a fault
+pub notes_then : {S : Type 0} {g : Ghosts S} (it mid new : Registry S g) (fault : Option Fault) → NotesForeign it mid None → NotesForeign mid new fault → NotesForeign it new fault
+notes_then it mid new fault a b = b ∙ ap (λ (met : Bool). is_foreign fault || met) a
+
+-- ---- what is made of a query
+
+module _ {S : Type 0} {g : Ghosts S} {it new : Registry S g} {A : Type 0} {Is Also : History → A → Type 0} where
+  -- what was found is also this
+  pub queried_as : {result : Result A Fault} → ((h : History) → Represents it h → (found : A) → Is h found → Also h found) → IsQuery it new result Is → IsQuery it new result Also
+  queried_as {result} means q = record {
+    when_poisoned = q.when_poisoned;
+    only_poisoned = q.only_poisoned;
+    never_taken = q.never_taken;
+    answered = λ h stands clean. IfOk-weaker result _ _ (means h stands) (q.answered h stands clean);
+    kind = q.kind;
+    left = q.left;
+    notes = q.notes;
+  }
+
+module _ {S : Type 0} {g : Ghosts S} {it new : Registry S g} {A B : Type 0} {Is : History → A → Type 0} {To : History → B → Type 0} where
+  -- something is made of what was found
+  pub made : {found : A} {b : B} → IsQuery it new (Ok found) Is → ((h : History) → Represents it h → Is h found → To h b) → IsQuery it new (Ok b) To
+  made {found} {b} q make = record {
+    when_poisoned = λ is. let failed = q.when_poisoned is in absurd (cc failed.0);
+    only_poisoned = λ never. absurd cc;
+    never_taken = λ never. cc;
+    answered = λ h stands clean. make h stands (q.answered h stands clean);
+    kind = λ h stands clean. tt;
+    left = q.left;
+    notes = q.notes;
+  }
+
+  -- memory runs out for it
+  pub lacks_memory : {found : A} → IsQuery it new (Ok found) Is → IsQuery it new (Err of.NoMemory) To
+  lacks_memory {found} q = record {
+    when_poisoned = λ is. let failed = q.when_poisoned is in absurd (cc failed.0);
+    only_poisoned = λ never. absurd cc;
+    never_taken = λ never. cc;
+    answered = λ h stands clean. tt;
+    kind = λ h stands clean. inr refl;
+    left = q.left;
+    notes = q.notes;
+  }
+
+  -- a query that fails finds nothing to make it of
+  pub fails : {e : Fault} → IsQuery it new (Err e) Is → IsQuery it new (Err e) To
+  fails {e} q = record {
+    when_poisoned = λ is. let failed = q.when_poisoned is in let spent : e ≡ of.Poisoned = cc failed.0 in (ap Err spent, failed.1);
+    only_poisoned = λ is. let spent : e ≡ of.Poisoned = cc is in q.only_poisoned (ap Err spent);
+    never_taken = λ is. let taken : e ≡ of.Taken = cc is in q.never_taken (ap Err taken);
+    answered = λ h stands clean. tt;
+    kind = q.kind;
+    left = q.left;
+    notes = q.notes;
+  }

@@ -1,5 +1,5 @@
 -- What a registry promises about its store.
-use Rattle.std.specs.Prelude.{◌≡◌, ◌≤◌, ◌⊎◌, ℕ, Bool, false, IsTrue, Option, is_some}
+use Rattle.std.specs.Prelude.{◌≡◌, ◌≤◌, ◌⊎◌, ◌||◌, ℕ, Bool, false, IsTrue, Option, is_some}
 use Rattle.sqlite.specs.Tree.{Trees}
 use Rattle.sqlite.specs.View.{doubt}
 use Rattle.sqlite.specs.Disk.{MoreFaults}
@@ -13,6 +13,7 @@ use Rattle.registry_rules.specs.TotalsOf.{AreTotalsOf}
 use Rattle.registry_tables.specs.Rows.{Rows, newest}
 use Rattle.registry_store.specs.declared.fault.Fault.{Fault}
 use Rattle.registry_store.specs.declared.registry.Registry.{Registry}
+use Rattle.registry_store.specs.Faults.{is_foreign}
 
 -- each database that a crash may now leave holds the rows of one of these histories, in this schema
 abbrev pub Leaves : ℕ → State → (History → Type 0) → Type 0
@@ -65,6 +66,15 @@ module _ {S : Type 0} {g : Ghosts S} where
   -- an earlier `act` had a fault
   abbrev pub is_poisoned : Registry S g → Bool
   is_poisoned it = is_some (poisoned_by it)
+
+  -- an `act` or a query found that the tables hold the rows of no history
+  abbrev pub has_met_foreign : Registry S g → Bool
+  has_met_foreign it = is_foreign (poisoned_by it) || it.foreign
+
+  -- A call with this fault, or without one, leaves a note of it: the call found that the tables hold the rows of no history, or
+  -- an earlier one did. So a caller that hides this fault is found out, whatever the store holds.
+  abbrev pub NotesForeign : Registry S g → Registry S g → Option Fault → Type 0
+  NotesForeign it new fault = has_met_foreign new ≡ (is_foreign fault || has_met_foreign it)
 
   -- a registry represents a legal history: it is not poisoned, its totals are those of the history, and over a clean disk so
   -- are its tables and what a crash may leave

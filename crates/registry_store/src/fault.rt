@@ -1,10 +1,11 @@
 //! Why a call of a registry fails.
 
-ghost use Rattle.std.specs.Prelude.{◌≡◌, ◌≢◌, ◌↔◌, Some};
-ghost use Rattle.registry_store.specs.Faults.{fault_text};
+ghost use Rattle.std.specs.Prelude.{◌≡◌, Some};
+ghost use Rattle.registry_store.specs.Faults.{fault_of, fault_text};
 ghost use Rattle.registry_store.specs.declared.fault.Fault.TheVariants.{NoMemory as OutOfMemory};
 
 use registry_tables::TableFault;
+use std::alloc::AllocError;
 use std::error::Error;
 use std::fmt;
 use usbnum_core::NoMemory;
@@ -50,16 +51,23 @@ impl From<NoMemory> for Fault {
     }
 }
 
-/// Maps a fault of the tables to a fault of the registry.
-pub(crate) fn fault_of(fault: TableFault) -> Fault
-    ensures not_poisoned { result ≢ Fault.Poisoned }
-    ensures found { result ≢ Fault.Taken }
-    ensures foreign { (result ≡ Fault.Foreign) ↔ (fault ≡ TableFault.Foreign) }
-    ensures memory { (result ≡ Fault.NoMemory) ↔ (fault ≡ TableFault.NoMemory) }
-{
-    match fault {
-        TableFault::Store => Fault::Store,
-        TableFault::NoMemory => Fault::NoMemory,
-        TableFault::Foreign => Fault::Foreign,
+impl From<AllocError> for Fault {
+    ghost from_gives = { λ _ fault. fault ≡ OutOfMemory };
+
+    fn from(_error: AllocError) -> Fault {
+        Fault::NoMemory
+    }
+}
+
+/// Turns a fault of the tables by `fault_of`.
+impl From<TableFault> for Fault {
+    ghost from_gives = { λ fault gives. gives ≡ fault_of fault };
+
+    fn from(fault: TableFault) -> Fault {
+        match fault {
+            TableFault::Store => Fault::Store,
+            TableFault::NoMemory => Fault::NoMemory,
+            TableFault::Foreign => Fault::Foreign,
+        }
     }
 }

@@ -3,7 +3,7 @@
 
 ghost use Rattle.std.specs.Prelude.{◌≡◌, IfOk};
 
-use crate::fault::{Fault, fault_of};
+use crate::fault::Fault;
 use crate::registry::Registry;
 use registry_rules::{Accepted, Founding, Licences};
 use registry_tables::{accepted_after, first_licences};
@@ -45,10 +45,8 @@ impl<S: Alter> Registry<S> {
         let Ok(after) = u32::try_from(after) else {
             return Err(Fault::Store);
         };
-        match accepted_after(self.alloc, &mut self.conn, after, most) {
-            Ok(accepted) => Ok(accepted),
-            Err(fault) => Err(fault_of(fault)),
-        }
+        let accepted = accepted_after(self.alloc, &mut self.conn, after, most);
+        self.note(accepted)
     }
 
     /// Returns the founding, with its first licences. The store reads the replies to all accepted
@@ -64,10 +62,9 @@ impl<S: Alter> Registry<S> {
         ensures query { IsQuery self.old self.new result (λ h founding. AreValid h.deeds → founding ≡ h.founding) }
     {
         self.check_not_poisoned()?;
-        let founding = self.totals.founding();
-        match first_licences(self.alloc, &mut self.conn, &founding.licences) {
-            Ok(licences) => Ok(with_licences(founding, licences)?),
-            Err(fault) => Err(fault_of(fault)),
-        }
+        let current = &self.totals.founding().licences;
+        let licences = first_licences(self.alloc, &mut self.conn, current);
+        let first = self.note(licences)?;
+        Ok(with_licences(self.totals.founding(), first)?)
     }
 }

@@ -12,10 +12,11 @@ use Rattle.registry_reports.specs.declared.page.Page.{Page}
 use Rattle.registry_store.specs.declared.fault.Fault.{Fault}
 use Rattle.registry_store.specs.declared.fault.Fault.TheVariants as of
 use Rattle.registry_store.specs.declared.registry.Registry.{Registry}
-use Rattle.registry_store.specs.Promise.{Represents, is_poisoned, state_of}
+use Rattle.registry_store.specs.Promise.{NotesForeign, Represents, is_poisoned, state_of}
 use Rattle.registry_store.specs.Queries.{IsUntouched, IsQuery}
 use Rattle.registry_views.specs.Records.{IsBegun, IsPageText, IsRecordPage, lines_after}
 use Rattle.registry_views.proofs.RecordLemmas.{begun_empty, never_full}
+use Rattle.registry_store.proofs.IsQueryLemmas.{notes_then}
 use Rattle.registry_views.proofs.ViewLemmas.{clean_before, left_then, sound}
 
 -- what one piece finds
@@ -29,6 +30,7 @@ module _ {S : Type 0} {g : Ghosts S} where
     pub start : index ≡ 0 → now ≡ it
     pub later : 0 < index → is_poisoned it ≡ false
     pub left : IsUntouched it now
+    pub notes : NotesForeign it now None
     pub begun : (h : History) → Represents it h → HasCleanDisk (state_of now) → AreValid h.deeds → IsBegun (lines_after h after) page × (page.count ≡ 64 * index) × (place ≡ after + page.count)
 
   pub none_read : (it : Registry S g) (after : ℕ) (page : Page) → HasLines page [] → Reads it it after after 0 page
@@ -36,6 +38,7 @@ module _ {S : Type 0} {g : Ghosts S} where
     start = λ is. refl;
     later = λ less. absurd (omega (arith, less));
     left = record { stays = λ h stands. stands; poisons_nothing = refl; survives = record { clean = omega arith; shield = λ is. is; counts = omega arith; limit = refl; closes = λ clean is. inl is; crash = λ clean db may. inl may } };
+    notes = refl;
     begun = λ h stands clean valid. let count : page.count ≡ 0 = none.1 in (begun_empty (lines_after h after) page none, omega (arith, count), omega (arith, count));
   }
 
@@ -48,6 +51,7 @@ module _ {S : Type 0} {g : Ghosts S} where
     start = λ is. absurd (omega (arith, is));
     later = λ less. not_poisoned it now new reads.left q;
     left = left_then it now new reads.left q.left;
+    notes = notes_then it now new None reads.notes q.notes;
     begun = λ h stands clean valid.
         let so_far = reads.begun h stands (clean_before now new q.left clean) valid in
         let piece = q.answered h (reads.left.stays h stands) clean valid after so_far.2 so_far.0 in
@@ -66,19 +70,21 @@ module _ {S : Type 0} {g : Ghosts S} where
       rw is (q.answered h (reads.left.stays h stands) clean valid after so_far.2 so_far.0)
 
   -- a query over all pieces
-  pub whole : {A : Type 0} (it new : Registry S g) (found : A) (Is : History → A → Type 0) → is_poisoned it ≡ false → IsUntouched it new → ((h : History) → Represents it h → HasCleanDisk (state_of new) → Is h found) → IsQuery it new (Ok found) Is
-  whole it new found Is sane left answered = record {
+  pub whole : {A : Type 0} (it new : Registry S g) (found : A) (Is : History → A → Type 0) → is_poisoned it ≡ false → IsUntouched it new → NotesForeign it new None → ((h : History) → Represents it h → HasCleanDisk (state_of new) → Is h found) → IsQuery it new (Ok found) Is
+  whole it new found Is sane left notes answered = record {
     when_poisoned = λ is. absurd (let never : true ≡ false = sym is ∙ sane in cc);
     only_poisoned = λ never. absurd cc;
     never_taken = λ never. cc;
     answered = answered;
     kind = λ h stands clean. tt;
     left = left;
+    notes = notes;
   }
 
   pub ends_read : {A : Type 0} (it now new : Registry S g) (after place index : ℕ) (page page_new : Page) (found : A) (Is : History → A → Type 0) → Reads it now after place index page → IsQuery now new (Ok None) (Piece page page_new place)
       → ((h : History) → Represents it h → HasCleanDisk (state_of new) → Is h found) → IsQuery it new (Ok found) Is
-  ends_read it now new after place index page page_new found Is reads q answered = whole it new found Is (not_poisoned it now new reads.left q) (left_then it now new reads.left q.left) answered
+  ends_read it now new after place index page page_new found Is reads q answered =
+      whole it new found Is (not_poisoned it now new reads.left q) (left_then it now new reads.left q.left) (notes_then it now new None reads.notes q.notes) answered
 
   -- a piece that is not read
   pub fails_read : {A B : Type 0} (it now new : Registry S g) (after place index : ℕ) (page : Page) (e : Fault) {Is : History → A → Type 0} (To : History → B → Type 0) → Reads it now after place index page → IsQuery now new (Err e) Is → IsQuery it new (Err e) To
@@ -96,11 +102,12 @@ module _ {S : Type 0} {g : Ghosts S} where
     answered = λ h stands clean. tt;
     kind = λ h stands clean. q.kind h (reads.left.stays h stands) clean;
     left = left_then it now new reads.left q.left;
+    notes = notes_then it now new (Some e) reads.notes q.notes;
   }
 
   -- sixteen pieces do not fit on a page
   pub too_many : {A : Type 0} (it now : Registry S g) (after place index : ℕ) (page : Page) (found : A) → Reads it now after place index page → index ≡ 16 → (Is : History → A → Type 0) → ((h : History) → (AreValid h.deeds → ⊥) → Is h found) → IsQuery it now (Ok found) Is
-  too_many it now after place index page found reads is Is never = whole it now found Is (reads.later (omega (arith, is))) reads.left (λ h stands clean. never h (λ valid.
+  too_many it now after place index page found reads is Is never = whole it now found Is (reads.later (omega (arith, is))) reads.left reads.notes (λ h stands clean. never h (λ valid.
       let so_far = reads.begun h stands clean valid in
       let count = so_far.1 in
       never_full (lines_after h after) page so_far.0 (omega (arith, count, is))))

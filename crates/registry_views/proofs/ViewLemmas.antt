@@ -1,15 +1,17 @@
 -- What is made of what one query found, or two.
-use Rattle.std.proofs.Common.{◌≡◌, Bool, true, false, Result, Ok, Err, refl, sym, ap, ◌∙◌, inr, arith}
+use Rattle.std.proofs.Common.{◌≡◌, Bool, true, false, Result, Ok, refl, sym, ◌∙◌, arith}
+use Rattle.std.specs.Result.{result_err}
 use Rattle.std.proofs.lemmas.Result.{IfOk-weaker}
 use Rattle.sqlite.specs.Store.{Ghosts}
 use Rattle.sqlite.specs.State.{HasCleanDisk}
 use Rattle.registry_rules.specs.History.{History}
 use Rattle.registry_store.specs.declared.fault.Fault.{Fault}
-use Rattle.registry_store.specs.declared.fault.Fault.TheVariants as of
 use Rattle.registry_store.specs.declared.registry.Registry.{Registry}
 use Rattle.registry_store.specs.Promise.{Represents, is_poisoned, state_of}
 use Rattle.registry_store.specs.Queries.{IsUntouched, IsQuery}
 use Rattle.registry_store.proofs.TransactionLemmas.{quiet_then}
+use Rattle.registry_store.proofs.IsQueryLemmas.{notes_then}
+pub use Rattle.registry_store.proofs.IsQueryLemmas.{fails, lacks_memory, made}
 
 module _ {S : Type 0} {g : Ghosts S} where
   pub left_then : (it mid new : Registry S g) → IsUntouched it mid → IsUntouched mid new → IsUntouched it new
@@ -32,40 +34,6 @@ module _ {S : Type 0} {g : Ghosts S} {it new : Registry S g} {A : Type 0} {Is : 
       go true is = let failed = q.when_poisoned is in absurd (cc failed.0)
       go false is = q.left.poisons_nothing ∙ is
 
-module _ {S : Type 0} {g : Ghosts S} {it new : Registry S g} {A B : Type 0} {Is : History → A → Type 0} {To : History → B → Type 0} where
-  -- something is made of what was found
-  pub made : {found : A} {b : B} → IsQuery it new (Ok found) Is → ((h : History) → Represents it h → Is h found → To h b) → IsQuery it new (Ok b) To
-  made {found} {b} q make = record {
-    when_poisoned = λ is. let failed = q.when_poisoned is in absurd (cc failed.0);
-    only_poisoned = λ never. absurd cc;
-    never_taken = λ never. cc;
-    answered = λ h stands clean. make h stands (q.answered h stands clean);
-    kind = λ h stands clean. tt;
-    left = q.left;
-  }
-
-  -- memory runs out for it
-  pub lacks_memory : {found : A} → IsQuery it new (Ok found) Is → IsQuery it new (Err of.NoMemory) To
-  lacks_memory {found} q = record {
-    when_poisoned = λ is. let failed = q.when_poisoned is in absurd (cc failed.0);
-    only_poisoned = λ never. absurd cc;
-    never_taken = λ never. cc;
-    answered = λ h stands clean. tt;
-    kind = λ h stands clean. inr refl;
-    left = q.left;
-  }
-
-  -- a query that fails finds nothing to make it of
-  pub fails : {e : Fault} → IsQuery it new (Err e) Is → IsQuery it new (Err e) To
-  fails {e} q = record {
-    when_poisoned = λ is. let failed = q.when_poisoned is in let spent : e ≡ of.Poisoned = cc failed.0 in (ap Err spent, failed.1);
-    only_poisoned = λ is. let spent : e ≡ of.Poisoned = cc is in q.only_poisoned (ap Err spent);
-    never_taken = λ is. let taken : e ≡ of.Taken = cc is in q.never_taken (ap Err taken);
-    answered = λ h stands clean. tt;
-    kind = q.kind;
-    left = q.left;
-  }
-
 module _ {S : Type 0} {g : Ghosts S} {it mid new : Registry S g} {A B : Type 0} {Is : History → A → Type 0} {Then : History → B → Type 0} where
   -- two queries, one after the other
   pub both : {found : A} {r : Result B Fault} → IsQuery it mid (Ok found) Is → IsQuery mid new r Then → IsQuery it new r (λ h b. Is h found × Then h b)
@@ -77,4 +45,5 @@ module _ {S : Type 0} {g : Ghosts S} {it mid new : Registry S g} {A B : Type 0} 
         IfOk-weaker r _ _ (λ b is. (first.answered h stands (clean_before mid new second.left clean), is)) (second.answered h (first.left.stays h stands) clean);
     kind = λ h stands clean. second.kind h (first.left.stays h stands) clean;
     left = left_then it mid new first.left second.left;
+    notes = notes_then it mid new (result_err r) first.notes second.notes;
   }

@@ -7,6 +7,7 @@ returns-in-Some g c = record {
   answered = λ h stands clean are. taken_of h c.args.kept.now c.args.query.now c.in-Some.response c.in-Some.ensures.taken are;
   kind = λ h stands clean. tt;
   left = left_same c.args.registry.now;
+  notes = refl;
   only_poisoned = λ never. absurd cc;
   when_poisoned = λ poisoned none. absurd (never_taken c.args.kept.now c.args.query.now c.in-Some.response c.in-Some.ensures.taken none);
   taken = c.in-Some.ensures.left;

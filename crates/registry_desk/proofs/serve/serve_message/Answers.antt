@@ -1,11 +1,14 @@
-use Rattle.std.proofs.Common.{inr, inl, ℕ, refl, subst}
+use Rattle.std.proofs.Common.{inr, inl, ◌||◌, Bool, ℕ, Option, refl, sym, ap, subst, ◌∙◌}
 use Rattle.registry_http.specs.Messages.{Says}
 use Rattle.registry_http.specs.Responses.{unavailable_response}
 use Rattle.registry_http.proofs.MessageLemmas.{may_give_some}
+use Rattle.registry_store.specs.declared.fault.Fault.{Fault}
+use Rattle.registry_store.specs.Promise.{NotesForeign, has_met_foreign, is_poisoned}
 use Rattle.registry_desk.specs.declared.fault.DeskFault.TheVariants.{NoMemory}
 use Rattle.registry_desk.specs.Faults.{unavailable_of}
 use Rattle.registry_desk.proofs.KeptLemmas.{none_after, none_are, only_done, texts_after}
-use Rattle.registry_desk.proofs.ServeLemmas.{served_early, served_then, tells_poisoned, turned_away}
+use Rattle.registry_desk.specs.Serving.{IsToldBy}
+use Rattle.registry_desk.proofs.ServeLemmas.{not_asked, same_fault, served_early, served_then, tells_poisoned, told_by, turned_away}
 use Rattle.registry_desk.proofs.serve.serve_message.Goals as goal
 
 pub returns-in-Ok-clause-served : goal.returns-in-Ok-clause-served
@@ -32,8 +35,20 @@ returns-in-Ok-clause-served g c =
               turned.1,
               none_after c.args.kept.now c.response_to-done.new.kept c.keep.new.self c.response_to-done.result c.in-Ok.said acted.beside c.keep.ensures none (only_done _ _ c.in-Ok.said away),
             ),
+        λ sane. told_by c.response_to-done.result told.0 fault told.1,
       ),
     )
+
+pub returns-in-Ok-clause-goes_on : goal.returns-in-Ok-clause-goes_on
+returns-in-Ok-clause-goes_on g c = λ sane none.
+    let told = c.send-served.ensures in
+    c.response_to-done.ensures.goes_on sane (sym (same_fault c.response_to-done.result told.0 c.send-served.result.fault told.1) ∙ none)
+
+pub returns-in-Ok-clause-notes : goal.returns-in-Ok-clause-notes
+returns-in-Ok-clause-notes g c =
+    let told = c.send-served.ensures in
+    subst (λ (fault : Option Fault). NotesForeign c.args.registry.now c.response_to-done.new.registry fault)
+    (sym (same_fault c.response_to-done.result told.0 c.send-served.result.fault told.1)) c.response_to-done.ensures.notes
 
 pub returns-in-Ok-clause-poisoned : goal.returns-in-Ok-clause-poisoned
 returns-in-Ok-clause-poisoned g c = λ poisoned.
@@ -59,5 +74,12 @@ returns-in-Err-NoMemory-clause-served g c =
           λ next next_is. none_are next c.clear.new.self c.clear.ensures,
         ),
         λ poisoned none. (inl (refl, poison.when_poisoned poisoned), refl {a = c.args.registry.now}, c.clear.ensures),
+        λ sane. subst (λ (fault : Option Fault). IsToldBy fault (unavailable_response (unavailable_of NoMemory))) (sym (poison.none sane)) tt,
       ),
     )
+
+pub returns-in-Err-NoMemory-clause-notes : goal.returns-in-Err-NoMemory-clause-notes
+returns-in-Err-NoMemory-clause-notes g c =
+    let poison = c.poison_of.ensures in
+    let it = c.args.registry.now in
+    ap (λ (met : Bool). met || has_met_foreign it) (sym (not_asked (is_poisoned it) c.poison_of.result poison.when_poisoned poison.none))

@@ -9,7 +9,7 @@ returns-clause-served g c =
       it.0,
       it.1,
       IfOk-weaker c.serve_message.result _ _
-          (λ served said. (said.0, said.1, λ h stands clean. (said.2 h stands clean (none_are h c.new-kept.result none)).0, λ poisoned. let away = said.3 poisoned none in (away.0, away.1)))
+          (λ served said. (said.0, said.1, λ h stands clean. (said.2 h stands clean (none_are h c.new-kept.result none)).0, λ poisoned. let away = said.3 poisoned none in (away.0, away.1), said.4))
           it.2,
     )
 

@@ -1,8 +1,8 @@
 use Rattle.std.proofs.Common.{◌≡◌, List, length}
-use Rattle.std.specs.Prelude.{true, None}
+use Rattle.std.specs.Prelude.{true, false, None}
 use Rattle.sqlite.specs.State.{HasCleanDisk}
 use Rattle.registry_rules.specs.History.{History}
-use Rattle.registry_store.specs.Promise.{Represents, Endures, is_poisoned, state_of}
+use Rattle.registry_store.specs.Promise.{Represents, Endures, NotesForeign, is_poisoned, state_of}
 use Rattle.registry_desk.specs.Server.{Visit, HaveVisited, AreTurnedAway}
 use Rattle.registry_desk.specs.Kept.{no_texts}
 use Rattle.registry_desk.proofs.ServerLemmas.{RepresentsBeside}
@@ -18,4 +18,6 @@ invariant-loop g l = record {
       × (length visits ≡ l.counter)
       × ((h : History) → Represents l.initial.registry h → HasCleanDisk (state_of l.registry) → RepresentsBeside l.registry l.kept h visits)
       × (is_poisoned l.initial.registry ≡ true → AreTurnedAway visits None × (l.registry ≡ l.initial.registry) × (l.kept ≡ no_texts));
+  goes_on : is_poisoned l.initial.registry ≡ false → is_poisoned l.registry ≡ false;
+  notes : NotesForeign l.initial.registry l.registry None;
 }
