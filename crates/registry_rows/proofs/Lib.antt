@@ -3,6 +3,7 @@ pub mod HoldLemmas
 pub mod KeyLemmas
 pub mod PutTexts
 pub mod ReadTexts
+pub mod TypedTexts
 pub mod SpanTexts
 pub mod SpanLemmas
 pub mod UpdateTexts

@@ -1,5 +1,5 @@
 -- From what a statement did or showed to what a call does within a transaction.
-use Rattle.std.proofs.Common.{◌≡◌, ◌≢◌, ◌⊎◌, sym, subst, Bool, true, false, cond, ℕ, zero, suc, take, drop, IsTrue, List, [], ◌∷◌, map, filter, find, slice_get, Option, Result, Ok, Err, inl, MatchResult, Vec, Global, Ordering, is_gt, ◌∙◌}
+use Rattle.std.proofs.Common.{◌≡◌, ◌≢◌, ◌⊎◌, sym, ap, subst, Bool, true, false, cond, ℕ, zero, suc, take, drop, IsTrue, List, [], ◌∷◌, map, filter, find, slice_get, Option, Result, Ok, Err, inl, inr, MatchResult, Vec, Global, Ordering, is_gt, ◌∙◌}
 use Rattle.std.specs.Prelude.{IsErrAnd}
 use Rattle.std.specs.Borrow.{MutBor}
 use Rattle.std.specs.List.{AllByRecursion}
@@ -8,18 +8,27 @@ use Rattle.sqlite_trees.specs.declared.store.Store.{Ghosts}
 use Rattle.sqlite_keyed.specs.Lists.{insert_sorted, sort_by}
 use Rattle.sqlite_keyed.proofs.ListLemmas.{all-filter, slice_get-filter}
 use Rattle.sqlite.specs.Effect.{Database}
+use Rattle.sqlite.specs.Query.{Query}
+use Rattle.sqlite.specs.Schema.{Schema}
 use Rattle.sqlite.specs.Held.{Held, state}
 use Rattle.sqlite.specs.Order.{Row}
 use Rattle.sqlite.specs.declared.error.Error.{Error}
 use Rattle.sqlite.specs.State.{State, HasCleanDisk, IsUnchanged, Shown, FailsToQuery, IsTooLate, Executes, ExecutesInside}
-use Rattle.table_laws.specs.Inside.{CommitsNothing, GoesOn}
+use Rattle.table_laws.specs.Inside.{CommitsNothing, GoesOn, StoreFailed}
 use Rattle.table_laws.proofs.InsideLemmas.{query_goes, query_fails}
+use Rattle.table_laws.proofs.StatementLemmas.{IsSelect}
+use Rattle.table_laws.proofs.FailLemmas.{IsExcused, IsTyped, query_stops}
 use Rattle.registry_schema.specs.Faults.{IsFaultOf}
 use Rattle.registry_schema.specs.declared.fault.TableFault.{TableFault}
-use Rattle.registry_schema.specs.declared.fault.TableFault.TheVariants.{Foreign}
+use Rattle.registry_schema.specs.declared.fault.TableFault.TheVariants.{Store, NoMemory, Foreign}
 use Rattle.registry_rows.specs.Steps.{Decodes, Tells, Changes, Writes, Reads, ReadsRows}
 use Rattle.registry_rows.specs.Columns.{DecodesFirst, DecodesAll}
 use Rattle.registry_rows.specs.Tables.{Tables, Holds}
+
+-- an error that is told as Store is not out of memory
+store_failed : (old new : State) (error : Error) (fault : TableFault) → IsFaultOf error fault → fault ≡ Store → IsExcused old new error → StoreFailed old new
+store_failed old new error fault of is (inl memory) = absurd (let never = sym is ∙ of.0.1 memory in cc)
+store_failed old new error fault of is (inr failed) = failed
 
 module _ {S : Type 0} {g : Ghosts S} {old new : MutBor (Held S)} (same : new.ghost_name ≡ old.ghost_name) (quiet : CommitsNothing (state g old.now) (state g new.now)) where
   -- a statement that was executed
@@ -41,12 +50,12 @@ module _ {S : Type 0} {g : Ghosts S} {old new : MutBor (Held S)} (same : new.gho
       fault = λ never. absurd cc;
     }
 
-    pub shows_nothing : {result : Result (Vec Row Global) TableFault} {error : Error} → IsErrAnd result (IsFaultOf error)
-        → (HasCleanDisk (state g new.now) → FailsToQuery sql params (state g old.now) (state g new.now) error ⊎ IsTooLate sql params (state g old.now) (state g new.now) error) → ReadsRows g old new result Is shown
-    shows_nothing {result} {error} of err =
+    pub shows_nothing : {schema : Schema} {q : Query} {names : List (List ℕ)} → IsSelect schema sql q names → IsTyped schema sql q params → ((x : X) → Is (state g old.now).now x → (state g old.now).now.schema ≡ schema)
+        → {result : Result (Vec Row Global) TableFault} {error : Error} → IsErrAnd result (IsFaultOf error) → (HasCleanDisk (state g new.now) → FailsToQuery sql params (state g old.now) (state g new.now) error ⊎ IsTooLate sql params (state g old.now) (state g new.now) error) → ReadsRows g old new result Is shown
+    shows_nothing {schema} {q} {names} text typed known {result} {error} of err =
         let failed = err_from_is_err_and result of in
         subst (λ r. ReadsRows g old new r Is shown) (sym failed.1) (record {
-          reads = record { same_reference = same; told = λ clean inside. (λ foreign. absurd (failed.2.1 foreign), query_fails (state g old.now) (state g new.now) inside sql params error (err clean)); survives = quiet };
+          reads = record { same_reference = same; told = λ clean inside. (λ foreign. absurd (failed.2.1 foreign), query_fails (state g old.now) (state g new.now) inside sql params error (err clean), λ is x has. store_failed (state g old.now) (state g new.now) error failed.0 failed.2 is (query_stops (state g old.now) (state g new.now) sql params schema (known x has) q names text typed error (err clean))); survives = quiet };
           fault = λ foreign. absurd (failed.2.1 cc);
         })
 
@@ -54,16 +63,16 @@ module _ {S : Type 0} {g : Ghosts S} {old new : MutBor (Held S)} (same : new.gho
 
 module _ {V X : Type 0} (IsValid : V → Type 0) (show : V → Row) (old new : State) (Held : X → Type 0) (rows : List Row) (pick : X → List V)
     (read : GoesOn old new × ((x : X) → Held x → IsUnchanged old new × (rows ≡ map show (pick x)))) (valid : (x : X) → Held x → AllByRecursion IsValid (pick x)) where
-  tells_first : (result : Result (Option V) TableFault) → ((values : List V) → AllByRecursion IsValid values → rows ≡ map show values → Decodes result (slice_get values 0))
+  tells_first : (result : Result (Option V) TableFault) → ((values : List V) → AllByRecursion IsValid values → rows ≡ map show values → Decodes result (slice_get values 0)) → result ≢ Err Store
       → Tells old new Held result (λ x found. found ≡ slice_get (pick x) 0)
-  tells_first (Ok found) decodes = (read.0, λ x has. (let h = read.1 x has in (h.0, decodes (pick x) (valid x has) h.1)))
-  tells_first (Err fault) decodes = (λ foreign. (read.0, λ x has. decodes (pick x) (valid x has) (read.1 x has).1 foreign), inl read.0)
+  tells_first (Ok found) decodes kind = (read.0, λ x has. (let h = read.1 x has in (h.0, decodes (pick x) (valid x has) h.1)))
+  tells_first (Err fault) decodes kind = (λ foreign. (read.0, λ x has. decodes (pick x) (valid x has) (read.1 x has).1 foreign), inl read.0, λ is. absurd (kind (ap Err is)))
 
   tells_all : {A : Type 0} (items : A → List V) (result : Result A TableFault)
-      → ((values : List V) → AllByRecursion IsValid values → rows ≡ map show values → MatchResult result (λ all. items all ≡ values) (λ fault. fault ≢ Foreign))
+      → ((values : List V) → AllByRecursion IsValid values → rows ≡ map show values → MatchResult result (λ all. items all ≡ values) (λ fault. fault ≢ Foreign)) → result ≢ Err Store
       → Tells old new Held result (λ x all. items all ≡ pick x)
-  tells_all items (Ok all) decodes = (read.0, λ x has. (let h = read.1 x has in (h.0, decodes (pick x) (valid x has) h.1)))
-  tells_all items (Err fault) decodes = (λ foreign. (read.0, λ x has. decodes (pick x) (valid x has) (read.1 x has).1 foreign), inl read.0)
+  tells_all items (Ok all) decodes kind = (read.0, λ x has. (let h = read.1 x has in (h.0, decodes (pick x) (valid x has) h.1)))
+  tells_all items (Err fault) decodes kind = (λ foreign. (read.0, λ x has. decodes (pick x) (valid x has) (read.1 x has).1 foreign), inl read.0, λ is. absurd (kind (ap Err is)))
 
 -- a result that satisfies one relation satisfies a weaker one
 pub tells_as : {A X : Type 0} (old new : State) (Held : X → Type 0) (Says Also : X → A → Type 0) (result : Result A TableFault) → ((x : X) (a : A) → Says x a → Also x a) → Tells old new Held result Says → Tells old new Held result Also
@@ -73,20 +82,20 @@ tells_as old new Held Says Also (Err e) means h = h
 module _ {S : Type 0} {g : Ghosts S} {old new : MutBor (Held S)} {V X : Type 0} (IsValid : V → Type 0) (show : V → Row) {Is : Database → X → Type 0} {rows : Vec Row Global} where
   -- all rows read as all values
   pub reads_all_by : (pick : X → List V) → ReadsRows g old new (Ok rows) Is (λ x. map show (pick x)) → ((x : X) → Is (state g old.now).now x → AllByRecursion IsValid (pick x)) → {A : Type 0} (items : A → List V) {result : Result A TableFault}
-      → ((values : List V) → AllByRecursion IsValid values → rows.items ≡ map show values → MatchResult result (λ all. items all ≡ values) (λ fault. fault ≢ Foreign)) → Reads g old new result Is (λ x all. items all ≡ pick x)
-  reads_all_by pick read valid {A} items {result} decodes =
-      record { same_reference = read.reads.same_reference; told = λ clean inside. tells_all IsValid show (state g old.now) (state g new.now) (Is (state g old.now).now) rows.items pick (read.reads.told clean inside) valid items result decodes; survives = read.reads.survives }
+      → ((values : List V) → AllByRecursion IsValid values → rows.items ≡ map show values → MatchResult result (λ all. items all ≡ values) (λ fault. fault ≢ Foreign)) → result ≢ Err Store → Reads g old new result Is (λ x all. items all ≡ pick x)
+  reads_all_by pick read valid {A} items {result} decodes kind =
+      record { same_reference = read.reads.same_reference; told = λ clean inside. tells_all IsValid show (state g old.now) (state g new.now) (Is (state g old.now).now) rows.items pick (read.reads.told clean inside) valid items result decodes kind; survives = read.reads.survives }
 
   pub reads_all : (pick : X → List V) → ReadsRows g old new (Ok rows) Is (λ x. map show (pick x)) → ((x : X) → Is (state g old.now).now x → AllByRecursion IsValid (pick x)) → {A : Type 0} (items : A → List V) {result : Result A TableFault}
       → DecodesAll IsValid show rows.items items result → Reads g old new result Is (λ x all. items all ≡ pick x)
-  reads_all pick read valid items decoded = reads_all_by pick read valid items decoded.decodes
+  reads_all pick read valid items decoded = reads_all_by pick read valid items decoded.decodes decoded.fault
 
   -- the first of them reads as the value that the test finds
   pub reads_first : (test : V → Bool) (all : X → List V) → ReadsRows g old new (Ok rows) Is (λ x. map show (filter test (all x))) → ((x : X) → Is (state g old.now).now x → AllByRecursion IsValid (all x)) → {result : Result (Option V) TableFault}
       → DecodesFirst IsValid show rows.items result → Reads g old new result Is (λ x found. found ≡ find test (all x))
   reads_first test all read valid {result} decoded = record {
     same_reference = read.reads.same_reference;
-    told = λ clean inside. tells_as (state g old.now) (state g new.now) (Is (state g old.now).now) (λ x found. found ≡ slice_get (filter test (all x)) 0) (λ x found. found ≡ find test (all x)) result (λ x found is. is ∙ slice_get-filter test (all x)) (tells_first IsValid show (state g old.now) (state g new.now) (Is (state g old.now).now) rows.items (λ x. filter test (all x)) (read.reads.told clean inside) (λ x has. all-filter IsValid test (all x) (valid x has)) result decoded.decodes);
+    told = λ clean inside. tells_as (state g old.now) (state g new.now) (Is (state g old.now).now) (λ x found. found ≡ slice_get (filter test (all x)) 0) (λ x found. found ≡ find test (all x)) result (λ x found is. is ∙ slice_get-filter test (all x)) (tells_first IsValid show (state g old.now) (state g new.now) (Is (state g old.now).now) rows.items (λ x. filter test (all x)) (read.reads.told clean inside) (λ x has. all-filter IsValid test (all x) (valid x has)) result decoded.decodes decoded.fault);
     survives = read.reads.survives;
   }
 

@@ -1,12 +1,12 @@
 -- What a value that was read says of its row.
-use Rattle.std.specs.Prelude.{◌≡◌, ◌≢◌, ◌+◌, ℕ, ⊤, List, [], ◌∷◌, map, slice_get, Option, Some, Result, IfOk, MatchOption, MatchResult}
+use Rattle.std.specs.Prelude.{◌≡◌, ◌≢◌, ◌+◌, ℕ, ⊤, List, [], ◌∷◌, map, slice_get, Option, Some, Result, Err, IfOk, MatchOption, MatchResult}
 use Rattle.std.specs.List.{AllByRecursion}
 use Rattle.sqlite.specs.Order.{Row, column}
 use Rattle.sqlite.specs.declared.types.Value.TheVariants.{Text}
 use Rattle.registry_rules.specs.declared.record.Entry.{Entry}
 use Rattle.registry_rules.specs.declared.record.Terms.{Terms}
 use Rattle.registry_schema.specs.declared.fault.TableFault.{TableFault}
-use Rattle.registry_schema.specs.declared.fault.TableFault.TheVariants.{Foreign}
+use Rattle.registry_schema.specs.declared.fault.TableFault.TheVariants.{Store, Foreign}
 use Rattle.registry_rows.specs.Rows.{flag, part}
 use Rattle.registry_rows.specs.Steps.{Decodes}
 
@@ -34,8 +34,10 @@ module _ {V : Type 0} (IsValid : V → Type 0) (show : V → Row) (rows : List R
   pub record DecodesFirst (result : Result (Option V) TableFault) : Type 0 where
     pub decodes : (values : List V) → AllByRecursion IsValid values → rows ≡ map show values → Decodes result (slice_get values 0)
     pub there : IfOk result (λ found. MatchOption found (rows ≡ []) (λ value. (row : Row) × (slice_get rows 0 ≡ Some row) × HasColumns row 0 (show value)))
+    pub fault : result ≢ Err Store
 
   -- The rows of valid values give these, unless out of memory. Whatever the rows are, each gives one value, which it shows.
   pub record DecodesAll {A : Type 0} (items : A → List V) (result : Result A TableFault) : Type 0 where
     pub decodes : (values : List V) → AllByRecursion IsValid values → rows ≡ map show values → MatchResult result (λ all. items all ≡ values) (λ fault. fault ≢ Foreign)
     pub whole : IfOk result (λ all. AreShown show rows (items all))
+    pub fault : result ≢ Err Store

@@ -7,9 +7,9 @@ use Rattle.sqlite.specs.Effect.{Database}
 use Rattle.sqlite.specs.Held.{Held, state}
 use Rattle.sqlite.specs.Order.{Row}
 use Rattle.sqlite.specs.State.{State, HasCleanDisk, IsUnchanged}
-use Rattle.table_laws.specs.Inside.{GoesOn, StaysInside, CommitsNothing}
+use Rattle.table_laws.specs.Inside.{GoesOn, StaysInside, CommitsNothing, StoreFailed}
 use Rattle.registry_schema.specs.declared.fault.TableFault.{TableFault}
-use Rattle.registry_schema.specs.declared.fault.TableFault.TheVariants.{Foreign}
+use Rattle.registry_schema.specs.declared.fault.TableFault.TheVariants.{Store, Foreign}
 use Rattle.registry_rows.specs.Tables.{Tables, Holds}
 
 -- the result is this value, unless out of memory
@@ -22,10 +22,11 @@ abbrev pub Changes : (Tables → Tables) → State → State → Type 0
 Changes after old new = GoesOn old new × ((t : Tables) → Holds old.now t → Holds new.now (after t))
 
 module _ (old new : State) where
-  -- what is held determines the result, and does not change; Foreign comes only if nothing of that kind is held
+  -- What is held determines the result, and does not change. Foreign comes only if nothing of that kind is held, and Store only if
+  -- nothing of that kind is or the store failed.
   abbrev pub Tells : {A X : Type 0} → (X → Type 0) → Result A TableFault → (X → A → Type 0) → Type 0
   Tells {A} {X} Held (Ok a) Says = GoesOn old new × ((x : X) → Held x → IsUnchanged old new × Says x a)
-  Tells {A} {X} Held (Err e) Says = (e ≡ Foreign → GoesOn old new × ((x : X) → ¬ Held x)) × StaysInside old new
+  Tells {A} {X} Held (Err e) Says = (e ≡ Foreign → GoesOn old new × ((x : X) → ¬ Held x)) × StaysInside old new × (e ≡ Store → (x : X) → Held x → StoreFailed old new)
 
 module _ {S : Type 0} (g : Ghosts S) (old new : MutBor (Held S)) where
   -- This is done within the transaction, or a fault comes that is not Foreign, and the transaction goes on or was rolled back.

@@ -19,6 +19,7 @@ use usbnum_core::{Pid, Span, Text, TextRule, Vid};
 pub fn text_at<R: TextRule>(alloc: Global, row: &Row, at: usize) -> Result<Text<R>, TableFault>
     ensures ok { IfOk result (λ text. column row.now at ≡ TextValue text) }
     ensures foreign { result ≡ Err TableFault.Foreign → (text : _) → R.IsValid text → column row.now at ≢ TextValue text }
+    ensures fault { result ≢ Err TableFault.Store }
 {
     let Ok(ValueRef::Text(bytes)) = row.get_ref(at) else {
         return Err(TableFault::Foreign);
@@ -38,6 +39,7 @@ pub fn text_or_null_at<R: TextRule>(
 ) -> Result<Option<Text<R>>, TableFault>
     ensures ok { IfOk result (λ text. MatchOption text (column row.now at ≡ Null) (λ text. column row.now at ≡ TextValue text)) }
     ensures foreign { result ≡ Err TableFault.Foreign → at < length row.now → (column row.now at ≢ Null) × ((text : _) → R.IsValid text → column row.now at ≢ TextValue text) }
+    ensures fault { result ≢ Err TableFault.Store }
 {
     match row.get_ref(at) {
         Ok(ValueRef::Null) => Ok(None),
@@ -50,6 +52,7 @@ pub fn text_or_null_at<R: TextRule>(
 pub fn reply_at(alloc: Global, row: &Row, at: usize) -> Result<ReplyText, TableFault>
     ensures ok { IfOk result (λ text. column row.now at ≡ TextValue text) }
     ensures foreign { result ≡ Err TableFault.Foreign → (text : _) → IsUtf8 text → column row.now at ≢ TextValue text }
+    ensures fault { result ≢ Err TableFault.Store }
 {
     let Ok(ValueRef::Text(bytes)) = row.get_ref(at) else {
         return Err(TableFault::Foreign);
@@ -67,6 +70,7 @@ pub fn reply_at(alloc: Global, row: &Row, at: usize) -> Result<ReplyText, TableF
 pub fn canonical_form_at(alloc: Global, row: &Row, at: usize) -> Result<CanonicalForm, TableFault>
     ensures ok { IfOk result (λ bytes. column row.now at ≡ Blob bytes) }
     ensures foreign { result ≡ Err TableFault.Foreign → (bytes : _) → column row.now at ≢ Blob bytes }
+    ensures fault { result ≢ Err TableFault.Store }
 {
     let Ok(ValueRef::Blob(bytes)) = row.get_ref(at) else {
         return Err(TableFault::Foreign);
@@ -81,6 +85,7 @@ pub fn canonical_form_at(alloc: Global, row: &Row, at: usize) -> Result<Canonica
 pub fn flag_at(row: &Row, at: usize) -> Result<bool, TableFault>
     ensures ok { IfOk result (λ b. column row.now at ≡ flag b) }
     ensures foreign { result ≡ Err TableFault.Foreign → (b : _) → column row.now at ≢ flag b }
+    ensures fault { result ≢ Err TableFault.Store }
 {
     match row.get_ref(at) {
         Ok(ValueRef::Int(0)) => Ok(false),
@@ -93,6 +98,7 @@ pub fn flag_at(row: &Row, at: usize) -> Result<bool, TableFault>
 pub fn number_at(row: &Row, at: usize) -> Result<u32, TableFault>
     ensures ok { IfOk result (λ n. column row.now at ≡ whole n) }
     ensures foreign { result ≡ Err TableFault.Foreign → (n : ℕ) → n < 2 ^ 32 → column row.now at ≢ whole n }
+    ensures fault { result ≢ Err TableFault.Store }
 {
     let Ok(ValueRef::Int(number)) = row.get_ref(at) else {
         return Err(TableFault::Foreign);
@@ -107,6 +113,7 @@ pub fn number_at(row: &Row, at: usize) -> Result<u32, TableFault>
 pub fn vid_at(row: &Row, at: usize) -> Result<Vid, TableFault>
     ensures ok { IfOk result (λ n. column row.now at ≡ whole n) }
     ensures foreign { result ≡ Err TableFault.Foreign → (n : ℕ) → IsId n → column row.now at ≢ whole n }
+    ensures fault { result ≢ Err TableFault.Store }
 {
     let number = number_at(row, at)?;
     let Ok(number) = u16::try_from(number) else {
@@ -122,6 +129,7 @@ pub fn vid_at(row: &Row, at: usize) -> Result<Vid, TableFault>
 pub fn pid_at(row: &Row, at: usize) -> Result<Pid, TableFault>
     ensures ok { IfOk result (λ n. column row.now at ≡ whole n) }
     ensures foreign { result ≡ Err TableFault.Foreign → (n : ℕ) → IsId n → column row.now at ≢ whole n }
+    ensures fault { result ≢ Err TableFault.Store }
 {
     let number = number_at(row, at)?;
     let Ok(number) = u16::try_from(number) else {
@@ -137,6 +145,7 @@ pub fn pid_at(row: &Row, at: usize) -> Result<Pid, TableFault>
 pub fn pid_or_null_at(row: &Row, at: usize) -> Result<Option<Pid>, TableFault>
     ensures ok { IfOk result (λ pid. MatchOption pid (column row.now at ≡ Null) (λ n. column row.now at ≡ whole n)) }
     ensures foreign { result ≡ Err TableFault.Foreign → at < length row.now → (column row.now at ≢ Null) × ((n : ℕ) → IsId n → column row.now at ≢ whole n) }
+    ensures fault { result ≢ Err TableFault.Store }
 {
     match row.get_ref(at) {
         Ok(ValueRef::Null) => Ok(None),
@@ -150,6 +159,7 @@ pub fn span_at(row: &Row, at: usize) -> Result<Span, TableFault>
     requires { at < 1000 }
     ensures ok { IfOk result (λ span. (column row.now at ≡ whole span.first) × (column row.now (at + 1) ≡ whole span.last)) }
     ensures foreign { result ≡ Err TableFault.Foreign → (span : SpanValue) → IsSpan span → column row.now at ≡ whole span.first → column row.now (at + 1) ≢ whole span.last }
+    ensures fault { result ≢ Err TableFault.Store }
 {
     let first = pid_at(row, at)?;
     let last = pid_at(row, at + 1)?;

@@ -1,6 +1,6 @@
 //! Rows as values.
 
-ghost use Rattle.std.specs.Prelude.{◌≡◌, IfOk};
+ghost use Rattle.std.specs.Prelude.{◌≡◌, ◌≢◌, IfOk};
 ghost use Rattle.sqlite.specs.Order.{Row as Columns};
 ghost use Rattle.registry_rows.specs.Steps.{Decodes};
 ghost use Rattle.registry_rows.specs.Columns.{HasColumns, DecodesFirst, DecodesAll};
@@ -18,7 +18,8 @@ pub trait FromRow: Sized {
 
     fn from_row(alloc: Global, row: &Row) -> Result<Self, TableFault>
         ensures decodes { (value : Self) → is_valid value → row.now ≡ columns value → Decodes result value }
-        ensures shown { IfOk result (λ value. HasColumns row.now 0 (columns value)) };
+        ensures shown { IfOk result (λ value. HasColumns row.now 0 (columns value)) }
+        ensures fault { result ≢ Err TableFault.Store };
 }
 
 /// Reads the value of the first row, if any.

@@ -1,6 +1,6 @@
 //! The numbers that have an owner.
 
-ghost use Rattle.std.specs.Prelude.{◌≡◌, [], ◌∷◌, ◌++◌, map, filter, find, IfOk, IfSome};
+ghost use Rattle.std.specs.Prelude.{◌≡◌, ◌≢◌, [], ◌∷◌, ◌++◌, map, filter, find, IfOk, IfSome};
 ghost use Rattle.std.specs.Option.{option_map, option_copied};
 ghost use Rattle.usbnum_core.specs.Text.{IsTitle, IsLink};
 ghost use Rattle.sqlite_keyed.specs.Lists.{update_where, delete_where, sort_by};
@@ -22,6 +22,7 @@ use usbnum_core::{Number, Pid, Vid};
 fn terms_from(alloc: Global, row: &Row) -> Result<Option<Terms>, TableFault>
     ensures decodes { (e : _) → IsEntry e → row.now ≡ entry_row e → Decodes result e.1.card.terms }
     ensures shown { IfOk result (λ terms. HasColumns row.now 5 (terms_columns terms)) }
+    ensures fault { result ≢ Err TableFault.Store }
 {
     let licence = text_or_null_at(alloc, row, 5)?;
     let site = text_or_null_at(alloc, row, 6)?;
@@ -40,6 +41,7 @@ fn terms_from(alloc: Global, row: &Row) -> Result<Option<Terms>, TableFault>
 fn card_from(alloc: Global, row: &Row) -> Result<Card, TableFault>
     ensures decodes { (e : _) → IsEntry e → row.now ≡ entry_row e → Decodes result e.1.card }
     ensures shown { IfOk result (λ card. HasColumns row.now 4 (Text card.title ∷ terms_columns card.terms)) }
+    ensures fault { result ≢ Err TableFault.Store }
 {
     Ok(Card {
         title: text_at(alloc, row, 4)?,
@@ -50,6 +52,7 @@ fn card_from(alloc: Global, row: &Row) -> Result<Card, TableFault>
 fn entry_from(alloc: Global, row: &Row) -> Result<Entry, TableFault>
     ensures decodes { (e : _) → IsEntry e → row.now ≡ entry_row e → Decodes result e.1 }
     ensures shown { IfOk result (λ entry. HasColumns row.now 2 (entry_columns entry)) }
+    ensures fault { result ≢ Err TableFault.Store }
 {
     Ok(Entry {
         org: text_at(alloc, row, 2)?,
@@ -61,6 +64,7 @@ fn entry_from(alloc: Global, row: &Row) -> Result<Entry, TableFault>
 fn number_from(row: &Row) -> Result<Number, TableFault>
     ensures decodes { (e : _) → IsEntry e → row.now ≡ entry_row e → Decodes result e.0 }
     ensures shown { IfOk result (λ number. HasColumns row.now 0 (whole number.vid ∷ whole number.pid ∷ [])) }
+    ensures fault { result ≢ Err TableFault.Store }
 {
     Ok(Number {
         vid: vid_at(row, 0)?,

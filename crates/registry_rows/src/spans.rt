@@ -1,6 +1,6 @@
 //! The numbers that orders reserved, as spans.
 
-ghost use Rattle.std.specs.Prelude.{◌≡◌, [], ◌∷◌, ◌++◌, map, filter, IfOk};
+ghost use Rattle.std.specs.Prelude.{◌≡◌, ◌≢◌, [], ◌∷◌, ◌++◌, map, filter, IfOk};
 ghost use Rattle.sqlite_keyed.specs.Lists.{delete_where, sort_by};
 ghost use Rattle.registry_rows.specs.Rows.{IsVendorSpan, whole, span_row, begins_at, meets, by_beginning};
 ghost use Rattle.registry_rows.specs.Columns.{HasColumns};
@@ -17,6 +17,7 @@ use usbnum_core::{Span, Vid};
 fn span_from(row: &Row) -> Result<Span, TableFault>
     ensures decodes { (s : _) → IsVendorSpan s → row.now ≡ span_row s → Decodes result s.1 }
     ensures shown { IfOk result (λ span. HasColumns row.now 1 (whole span.first ∷ whole span.last ∷ [])) }
+    ensures fault { result ≢ Err TableFault.Store }
 {
     span_at(row, 1)
 }

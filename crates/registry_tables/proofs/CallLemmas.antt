@@ -1,20 +1,26 @@
 -- A transaction that reads and is rolled back.
-use Rattle.std.proofs.Common.{◌≡◌, IsTrue, true, refl, sym, ap, subst, ◌∙◌, arith, Result, Ok, Err, IfOk}
+use Rattle.std.proofs.Common.{◌≡◌, ◌≤◌, inl, inr, IsTrue, true, refl, sym, ap, subst, ◌∙◌, arith, Result, Ok, Err, IfOk}
 use Rattle.std.specs.Borrow.{MutBor}
 use Rattle.sqlite.specs.Store.{Ghosts}
-use Rattle.sqlite.specs.State.{HasCleanDisk, IsLive, IsRolledBack, KeepsCommit}
+use Rattle.sqlite.specs.State.{State, HasCleanDisk, IsLive, IsRolledBack, KeepsCommit}
 use Rattle.sqlite.specs.Held.{Held, state}
 use Rattle.sqlite.proofs.StateLemmas.{survives_then}
 use Rattle.sqlite.proofs.Callers.{survives_begin}
-use Rattle.table_laws.specs.Inside.{CommitsNothing}
+use Rattle.table_laws.specs.Inside.{CommitsNothing, StoreFailed}
 use Rattle.registry_schema.specs.declared.fault.TableFault.{TableFault}
 use Rattle.registry_schema.specs.declared.fault.TableFault.TheVariants.{Foreign}
 use Rattle.registry_rules.specs.History.{History}
 use Rattle.registry_tables.specs.Rows.{newest, Rows, HoldsRows}
-use Rattle.registry_tables.specs.Calls.{Lists, IsForeign, IsLookUp}
-use Rattle.registry_tables.specs.Finds.{Finds, ReadsHistory}
+use Rattle.registry_tables.specs.Calls.{Lists, IsForeign, IsStoreFault, IsLookUp}
+use Rattle.registry_tables.specs.Finds.{Finds, ReadsHistory, TellsStore}
 use Rattle.registry_tables.proofs.FindLemmas.{goes_keeps}
+use Rattle.registry_tables.proofs.ReadLemmas.{is_open_or_not}
 use Rattle.registry_tables.proofs.RowsLemmas.{enters}
+
+-- the store failed by then, and so by now
+failed_on : (a b c : State) → b.faults ≤ c.faults → StoreFailed a b → StoreFailed a c
+failed_on a b c le (inl more) = inl (omega (arith, le, more))
+failed_on a b c le (inr other) = inr other
 
 module _ {S : Type 0} (g : Ghosts S) (old begun mid end : Held S) (is : begun ≡ record old { in_transaction = true }) where
   inside : IsTrue (state g begun).in_transaction
@@ -63,3 +69,13 @@ look_up {S} {A} {g} {end} {shown} {begun} {mid} {result} {Is} old is live reads 
   where
     tells : HasCleanDisk (state g end) → Finds (state g begun.now) (state g mid.now) result Is
     tells clean = reads.found (omega (arith, last.clean)) (inside g old begun.now mid.now end is)
+
+-- Store comes from it only if the store failed
+pub store_fault : {S A : Type 0} {g : Ghosts S} {end shown : Held S} {begun mid : MutBor (Held S)} {result : Result A TableFault} (old : Held S) → begun.now ≡ record old { in_transaction = true } → IsLive (state g old)
+    → TellsStore g begun mid result → CommitsNothing (state g mid.now) (state g end) → end ≡ shown → IsStoreFault (state g old) (state g shown) result
+store_fault {S} {A} {g} {end} {shown} {begun} {mid} {result} old is live tells last same = subst (λ e. IsStoreFault (state g old) (state g e) result) same
+    (λ clean fault h legal rows. elim (is_open_or_not (state g old).is_open) [
+      | inl is_open ↦ subst (λ (b : Held S). StoreFailed (state g b) (state g end)) is (failed_on (state g begun.now) (state g mid.now) (state g end) last.counts
+          (tells.store (omega (arith, last.clean)) (inside g old begun.now mid.now end is) fault h legal (held g old begun.now mid.now end is live h is_open rows)))
+      | inr shut ↦ inr (inr shut)
+    ])

@@ -2,10 +2,10 @@
 use Rattle.std.proofs.Common.{◌≡◌, inl, inr, Result, Ok, Err, sym, subst, ◌∙◌}
 use Rattle.sqlite.specs.State.{State, IsUnchanged, KeepsCommit}
 use Rattle.sqlite.proofs.Callers.{unchanged_then}
-use Rattle.table_laws.specs.Inside.{GoesOn, StaysInside}
+use Rattle.table_laws.specs.Inside.{GoesOn, StaysInside, StoreFailed}
 use Rattle.table_laws.proofs.InsideLemmas.{goes_then}
 use Rattle.registry_schema.specs.declared.fault.TableFault.{TableFault}
-use Rattle.registry_schema.specs.declared.fault.TableFault.TheVariants.{Foreign}
+use Rattle.registry_schema.specs.declared.fault.TableFault.TheVariants.{Store, Foreign}
 use Rattle.registry_rules.specs.History.{History}
 use Rattle.registry_rules.specs.Run.{Legal}
 use Rattle.registry_rows.specs.Steps.{Tells}
@@ -42,7 +42,7 @@ module _ (old new : State) where
     unfolding HoldsRows
     refuses Says never read = (λ _. (read.0.was_open, λ h legal rows. never h rows.1 legal rows.2 rows.3 (read.1 rows.1 rows.2).1), goes_keeps old new read.0)
 
-    pub fails : (e : TableFault) → (e ≡ Foreign → GoesOn old new × ((t : Tables) → ¬ Holds old.now t)) × StaysInside old new → Finds old new (Err e) Is
+    pub fails : (e : TableFault) → (e ≡ Foreign → GoesOn old new × ((t : Tables) → ¬ Holds old.now t)) × StaysInside old new × (e ≡ Store → (t : Tables) → Holds old.now t → StoreFailed old new) → Finds old new (Err e) Is
     unfolding HoldsRows
     fails e read = (λ foreign. (let none = read.0 foreign in (none.0.was_open, λ h legal rows. none.1 rows.1 rows.2)), stays_keeps old new read.1)
 
@@ -55,6 +55,12 @@ module _ (old new : State) where
       → ((h : History) (t : Tables) → Legal h → Holds old.now t → AreRecords h t → (a : A) → Says t a → Is h a) → Tells old new (Holds old.now) result Says → Finds old new result Is
   tells (Ok a) Says Is means read = passes Is (λ t. Says t a) a (λ h t legal has had kept says. means h t legal has had a says) read
   tells (Err e) Says Is means read = fails Is e read
+
+  -- Store comes only if the store failed
+  pub store_told : {A : Type 0} (result : Result A TableFault) (Says : Tables → A → Type 0) → Tells old new (Holds old.now) result Says → result ≡ Err Store → (h : History) → Legal h → HoldsRows newest old.now h → StoreFailed old new
+  unfolding HoldsRows
+  store_told (Ok a) Says read is h legal rows = absurd (let never = is in cc)
+  store_told (Err e) Says read is h legal rows = let same : e ≡ Store = cc in read.2 same rows.1 rows.2
 
   -- ---- from one result to another
 

@@ -39,6 +39,7 @@ module _ (version : ℕ) (old new : State) (all : List Meta) (read : GoesOn old 
           says.1 (ap (λ (m : Meta). m.version) same ∙ marked.named)),
     ),
     inl read.0,
+    λ is. (let never = sym says.0 ∙ is in absurd cc),
   )
 
   -- and so a row of meta names the version
@@ -51,9 +52,9 @@ module _ (version : ℕ) (old new : State) (all : List Meta) (read : GoesOn old 
   marked_says rest meta is (Err e) says = tt
 
   pub none_marked : (0 < length all → ⊥) → Tells old new (IsMarked version old.now) (Err Foreign) (λ x (m : Meta). x.tables.metas ≡ m ∷ [])
-  none_marked none = (λ _. (read.0, λ x marked. (let it = read.1 x marked.held in absurd (none (subst (λ l. 0 < length l) (sym (it.1 ∙ marked.only)) (omega arith))))), inl read.0)
+  none_marked none = (λ _. (read.0, λ x marked. (let it = read.1 x marked.held in absurd (none (subst (λ l. 0 < length l) (sym (it.1 ∙ marked.only)) (omega arith))))), inl read.0, λ is. absurd cc)
 
 -- a fault that refutes each held store refutes each marked one
 pub fails_marked : {S : Type 0} {g : Ghosts S} {a b : MutBor (Held S)} {A B : Type 0} {version : ℕ} {Says : Second → A → Type 0} {Also : Second → B → Type 0} {e : TableFault} {r : Result B TableFault} → r ≡ Err e
     → Reads g a b (Err e) IsHeld Says → Reads g a b r (IsMarked version) Also
-fails_marked {S} {g} {a} {b} {A} {B} {version} {Says} {Also} {e} {r} is read = subst (λ r. Reads g a b r (IsMarked version) Also) (sym is) (reads_by (λ read. (λ foreign. (let none = read.0 foreign in (none.0, λ x marked. none.1 x marked.held)), read.1)) read)
+fails_marked {S} {g} {a} {b} {A} {B} {version} {Says} {Also} {e} {r} is read = subst (λ r. Reads g a b r (IsMarked version) Also) (sym is) (reads_by (λ read. (λ foreign. (let none = read.0 foreign in (none.0, λ x marked. none.1 x marked.held)), read.1, λ is x marked. read.2 is x marked.held)) read)

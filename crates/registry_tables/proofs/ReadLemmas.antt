@@ -1,5 +1,5 @@
 -- One look-up of a transaction after another.
-use Rattle.std.proofs.Common.{◌≡◌, ◌≢◌, ℕ, Bool, Global, Vec, List, IsTrue, Result, Ok, Err, IfOk, refl, sym, ap, subst, ◌∙◌, arith}
+use Rattle.std.proofs.Common.{◌≡◌, ◌≢◌, ◌⊎◌, ◌≤◌, inl, inr, true, false, IsSome, ℕ, Bool, Global, Vec, List, IsTrue, Result, Ok, Err, IfOk, refl, sym, ap, subst, ◌∙◌, arith}
 use Rattle.std.specs.List.{list_any}
 use Rattle.std.specs.Borrow.{MutBor}
 use Rattle.sqlite_trees.specs.declared.store.Store.{Ghosts}
@@ -10,9 +10,9 @@ use Rattle.sqlite_keyed.specs.Lists.{sort_by}
 use Rattle.usbnum_core.specs.Spans.{IsSpread}
 use Rattle.usbnum_core.specs.declared.number.Number.{Number as NumberValue}
 use Rattle.usbnum_core.specs.declared.number.Span.{Span}
-use Rattle.table_laws.specs.Inside.{CommitsNothing}
+use Rattle.table_laws.specs.Inside.{CommitsNothing, StoreFailed}
 use Rattle.registry_schema.specs.declared.fault.TableFault.{TableFault}
-use Rattle.registry_schema.specs.declared.fault.TableFault.TheVariants.{Foreign}
+use Rattle.registry_schema.specs.declared.fault.TableFault.TheVariants.{Store, Foreign}
 use Rattle.registry_rules.specs.History.{History}
 use Rattle.registry_rules.specs.Query.{is_reserved_by_order}
 use Rattle.registry_rules.specs.Run.{Legal}
@@ -21,12 +21,12 @@ use Rattle.registry_rules.specs.declared.record.Entry.{Entry}
 use Rattle.registry_rows.specs.Rows.{by_slug, by_number, by_beginning}
 use Rattle.registry_rows.specs.Steps.{Reads}
 use Rattle.registry_rows.specs.Tables.{Tables, Holds}
-use Rattle.registry_tables.specs.Finds.{ReadsHistory, ReadsHistoryOpen}
+use Rattle.registry_tables.specs.Finds.{ReadsHistory, ReadsHistoryOpen, TellsStore}
 use Rattle.registry_tables.specs.Lists.{IsOrgList, IsNumberList}
-use Rattle.registry_tables.specs.Rows.{AreRecords, AreKeptReplies, vendor_span_has}
+use Rattle.registry_tables.specs.Rows.{newest, HoldsRows, AreRecords, AreKeptReplies, vendor_span_has}
 use Rattle.registry_tables.proofs.ListLemmas.{org_list, number_list}
 use Rattle.registry_tables.proofs.OpeningLemmas.{spans_told}
-use Rattle.registry_tables.proofs.FindLemmas.{finds_then, finds_ok, finds_as, fails_then, passes, refuses, fails, short, tells}
+use Rattle.registry_tables.proofs.FindLemmas.{finds_then, finds_ok, finds_as, fails_then, passes, refuses, fails, short, tells, store_told}
 
 pub quiet_then : (a b c : State) → CommitsNothing a b → CommitsNothing b c → CommitsNothing a c
 quiet_then a b c p q = survives_then a b c _ _ (λ _. ⊥) (λ _ db none. none) (λ _ db none. none) p q
@@ -77,6 +77,16 @@ pub rows_tell : {S : Type 0} {g : Ghosts S} {a b : MutBor (Held S)} {A : Type 0}
 rows_tell {S} {g} {a} {b} {A} {Says} {Is} {r} means rows =
     record { same_reference = rows.same_reference; found = λ clean inside. tells (state g a.now) (state g b.now) r Says Is means (rows.told clean inside); survives = rows.survives }
 
+-- Store comes from the rows only if the store failed, whatever is made of them
+pub rows_store : {S : Type 0} {g : Ghosts S} {a b : MutBor (Held S)} {A : Type 0} {Says : Tables → A → Type 0} {r : Result A TableFault} → Reads g a b r Holds Says → TellsStore g a b r
+rows_store {S} {g} {a} {b} {A} {Says} {r} rows = record { store = λ clean inside. store_told (state g a.now) (state g b.now) r Says (rows.told clean inside) }
+
+pub passes_store : {S : Type 0} {g : Ghosts S} {a b : MutBor (Held S)} {A B : Type 0} {e : TableFault} {r : Result B TableFault} → r ≡ Err e → TellsStore g a b {A = A} (Err e) → TellsStore g a b r
+passes_store {S} {g} {a} {b} {A} {B} {e} {r} of tells = record { store = λ clean inside is. (let same : e ≡ Store = cc in tells.store clean inside (ap Err same)) }
+
+pub fault_store : {S : Type 0} {g : Ghosts S} {a b : MutBor (Held S)} {A B : Type 0} {Says : Tables → A → Type 0} {e : TableFault} {r : Result B TableFault} → r ≡ Err e → Reads g a b (Err e) Holds Says → TellsStore g a b r
+fault_store of rows = passes_store of (rows_store rows)
+
 module _ {S : Type 0} {g : Ghosts S} {a b c : MutBor (Held S)} {A : Type 0} {P : History → A → Type 0} {x : A} where
   -- two look-ups as one, and a fault of the second as a fault of both
   pub then_open : {B : Type 0} {Q : History → B → Type 0} {r : Result B TableFault} → ReadsHistory g a b (Ok x) P → ReadsHistoryOpen g b c r Q → ReadsHistory g a c r (λ h y. P h x × Q h y)
@@ -97,6 +107,30 @@ module _ {S : Type 0} {g : Ghosts S} {a b c : MutBor (Held S)} {A : Type 0} {P :
         fails_then (state g a.now) (state g b.now) (state g c.now) (λ h. P h x) first e Q Is (two.found clean first.0.mode first.0.is_open));
     survives = quiet_then (state g a.now) (state g b.now) (state g c.now) one.survives two.survives;
   })
+
+-- a fault of a second look-up, if the connection is open
+failed_since : (a b c : State) → a.faults ≤ b.faults → b.step_limit ≡ a.step_limit → IsTrue b.is_open → StoreFailed b c → StoreFailed a c
+failed_since a b c le limit is_open (inl more) = inl (omega (arith, le, more))
+failed_since a b c le limit is_open (inr (inl limited)) = inr (inl (subst IsSome limit limited))
+failed_since a b c le limit is_open (inr (inr shut)) = absurd (let never = sym is_open ∙ shut in cc)
+
+pub is_open_or_not : (b : Bool) → IsTrue b ⊎ (b ≡ false)
+is_open_or_not true = inl refl
+is_open_or_not false = inr refl
+
+pub open_store : {S : Type 0} {g : Ghosts S} {a b c : MutBor (Held S)} {A B C : Type 0} {P : History → A → Type 0} {x : A} {e : TableFault} {r : Result C TableFault} → r ≡ Err e → ReadsHistoryOpen g a b (Ok x) P
+    → CommitsNothing (state g b.now) (state g c.now) → TellsStore g b c {A = B} (Err e) → TellsStore g a c r
+open_store {S} {g} {a} {b} {c} {A} {B} {C} {P} {x} {e} {r} of one quiet tells = record {
+  store = λ clean inside is h legal rows. elim (is_open_or_not (state g a.now).is_open) [
+    | inl is_open ↦ (
+        let first = one.found (omega (arith, quiet.clean)) inside is_open in
+        let unchanged = (first.1 h legal rows).0 in
+        let same : e ≡ Store = cc in
+        failed_since (state g a.now) (state g b.now) (state g c.now) one.survives.counts one.survives.limit first.0.is_open
+        (tells.store clean first.0.mode (ap Err same) h legal (subst (λ db. HoldsRows newest db h) (sym unchanged.0.now_is) rows)))
+    | inr shut ↦ inr (inr shut)
+  ];
+}
 
 -- the same where the first look-up may need no read
 module _ {S : Type 0} {g : Ghosts S} {a b c : MutBor (Held S)} {A : Type 0} {P : History → A → Type 0} {x : A} where

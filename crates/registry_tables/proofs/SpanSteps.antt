@@ -12,12 +12,12 @@ use Rattle.registry_rows.specs.Rows.{begins_at, meets, by_beginning}
 use Rattle.registry_rows.specs.Steps.{Changes}
 use Rattle.registry_rows.specs.Tables.{Tables, Holds}
 use Rattle.registry_tables.specs.Changed.{with_spans, Makes}
-use Rattle.registry_tables.specs.Reserved.{Reaches, part_of, Puts}
+use Rattle.registry_tables.specs.Reserved.{Reaches, part_of, PutsPart}
 use Rattle.registry_tables.specs.Rows.{AreApart}
 use Rattle.registry_tables.proofs.SpanLists.{none_replaced, is_cut}
 use Rattle.registry_tables.proofs.ReservedLemmas.{ascend_part, beside_one, join_apart, join_each, left_beside, right_beside, parts_each}
 
-pub part_put : (old new : State) (vid : ℕ) (span : Span) → Changes (λ t. record t { spans = delete_where (λ other. begins_at vid span.first other) t.spans ++ (vid, span) ∷ [] }) old new → Puts vid (Some span) old new
+pub part_put : (old new : State) (vid : ℕ) (span : Span) → Changes (λ t. record t { spans = delete_where (λ other. begins_at vid span.first other) t.spans ++ (vid, span) ∷ [] }) old new → PutsPart vid (Some span) old new
 part_put old new vid span h = (
   h.0,
   λ t has apart.
@@ -36,7 +36,7 @@ module _ (a b c : State) (vid low high : ℕ) (found : List (ℕ × Span))
   is_left t has = cut.1 t (subst (λ db. Holds db t) (sym (read.1 t has).0.0.now_is) has)
 
   pub reserves : (d : State) → low ≡ span.first - 1 → high ≡ span.last + 1 → (part : Option Span) → IsSome part ↔ (least ≤ greatest) → IfSome part (λ p. (p.first ≡ least) × (p.last ≡ greatest))
-      → Puts vid part c d → Makes (ReserveSpan vid span) a d
+      → PutsPart vid part c d → Makes (ReserveSpan vid span) a d
   reserves d from_low to_high None valid ends put = let own = span.ordered in let never : false ≡ true = valid.1 (omega (arith, reach.below, reach.above)) in absurd cc
   reserves d from_low to_high (Some join) valid ends put = (
     goes_then a c d goes_on put.0,
@@ -54,7 +54,7 @@ module _ (a b c : State) (vid low high : ℕ) (found : List (ℕ × Span))
   )
 
   pub releases : (d e : State) → low ≡ span.first → high ≡ span.last → (left right : Option Span) → MatchOption left (span.first ≤ least) (λ part. (part.first ≡ least) × (part.last + 1 ≡ span.first))
-      → MatchOption right (greatest ≤ span.last) (λ part. (part.first ≡ span.last + 1) × (part.last ≡ greatest)) → Puts vid left c d → Puts vid right d e → Makes (ReleaseSpan vid span) a e
+      → MatchOption right (greatest ≤ span.last) (λ part. (part.first ≡ span.last + 1) × (part.last ≡ greatest)) → PutsPart vid left c d → PutsPart vid right d e → Makes (ReleaseSpan vid span) a e
   releases d e from_low to_high left right is_before is_after put more = (
     goes_then a d e (goes_then a c d goes_on put.0) more.0,
     λ t has up.

@@ -7,14 +7,14 @@ use Rattle.sqlite.specs.State.{State, HasCleanDisk}
 use Rattle.sqlite.specs.Effect.{Database}
 use Rattle.registry_schema.specs.Meta.{has_meta_table}
 use Rattle.registry_schema.specs.declared.fault.TableFault.{TableFault}
-use Rattle.registry_schema.specs.declared.fault.TableFault.TheVariants.{Foreign}
+use Rattle.registry_schema.specs.declared.fault.TableFault.TheVariants.{Store, Foreign}
 use Rattle.registry_rules.specs.History.{History}
 use Rattle.registry_rules.specs.Reply.{act_text}
 use Rattle.registry_rules.specs.Run.{Legal}
 use Rattle.registry_rules.specs.declared.deed.Deed.{Deed}
 use Rattle.registry_rules.specs.declared.order.Request.{Request}
 use Rattle.std.specs.Prelude.{List, ℕ}
-use Rattle.table_laws.specs.Inside.{CommitsNothing}
+use Rattle.table_laws.specs.Inside.{CommitsNothing, StoreFailed}
 use Rattle.sqlite_keyed.specs.Keyed.{insert_by}
 use Rattle.registry_rules.specs.declared.founding.Founding.{Founding}
 use Rattle.registry_rows.specs.Rows.{meta_key, vendor_key}
@@ -45,6 +45,10 @@ module _ (old new : State) where
   -- Foreign comes only from an open connection that shows the rows of no history
   abbrev pub IsForeign : {A : Type 0} → Result A TableFault → Type 0
   IsForeign result = result ≡ Err Foreign → IsTrue old.is_open × ((h : History) → Legal h → ¬ Rows newest old.now.trees h)
+
+  -- Store comes only if the store failed, or from a connection that shows the rows of no history
+  abbrev pub IsStoreFault : {A : Type 0} → Result A TableFault → Type 0
+  IsStoreFault result = HasCleanDisk new → result ≡ Err Store → (h : History) → Legal h → Rows newest old.now.trees h → StoreFailed old new
 
 -- a look-up in a transaction of its own, which is rolled back: the result is that of each history whose rows were shown, and nothing changes
 pub record IsLookUp {A : Type 0} (old new : State) (result : Result A TableFault) (Is : History → A → Type 0) : Type 0 where

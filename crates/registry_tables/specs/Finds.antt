@@ -6,9 +6,9 @@ use Rattle.sqlite.specs.Held.{Held, state}
 use Rattle.sqlite.specs.State.{State, HasCleanDisk, IsUnchanged, KeepsCommit}
 use Rattle.usbnum_core.specs.Spans.{span_has}
 use Rattle.usbnum_core.specs.declared.number.Number.{Number}
-use Rattle.table_laws.specs.Inside.{GoesOn, CommitsNothing}
+use Rattle.table_laws.specs.Inside.{GoesOn, CommitsNothing, StoreFailed}
 use Rattle.registry_schema.specs.declared.fault.TableFault.{TableFault}
-use Rattle.registry_schema.specs.declared.fault.TableFault.TheVariants.{Foreign}
+use Rattle.registry_schema.specs.declared.fault.TableFault.TheVariants.{Store, Foreign}
 use Rattle.registry_rules.specs.FactsOf.{holding_in, holding_of}
 use Rattle.registry_rules.specs.History.{History}
 use Rattle.registry_rules.specs.Run.{Legal}
@@ -37,14 +37,18 @@ module _ {S : Type 0} (g : Ghosts S) (old new : MutBor (Held S)) {A : Type 0} (r
     pub found : HasCleanDisk (state g new.now) → IsTrue (state g old.now).in_transaction → IsTrue (state g old.now).is_open → Finds (state g old.now) (state g new.now) result Is
     pub survives : CommitsNothing (state g old.now) (state g new.now)
 
+-- within a transaction Store comes only if the store failed, or where the database holds the rows of no history
+pub record TellsStore {S : Type 0} (g : Ghosts S) (old new : MutBor (Held S)) {A : Type 0} (result : Result A TableFault) : Type 0 where
+  pub store : HasCleanDisk (state g new.now) → IsTrue (state g old.now).in_transaction → result ≡ Err Store → (h : History) → Legal h → HoldsRows newest (state g old.now).now h → StoreFailed (state g old.now) (state g new.now)
+
 -- the owner of a number that has an entry, and whether the number is held
 abbrev pub holding_at : Number × Entry → Holding
 holding_at e = record { number = e.0; org = e.1.org; held = e.1.held }
 
 -- the vendor's span has the number
-abbrev pub IsWithin : Number → VendorSpan → Type 0
-IsWithin n range = (range.vid ≡ n.vid) × (span_has range.span n.pid ≡ true)
+abbrev pub IsOfRange : Number → VendorSpan → Type 0
+IsOfRange n range = (range.vid ≡ n.vid) × (span_has range.span n.pid ≡ true)
 
 -- for each number in the range the holdings are those of the history
 abbrev pub AreHoldings : VendorSpan → History → List Holding → Type 0
-AreHoldings range h holdings = (n : Number) → IsWithin n range → holding_in holdings n ≡ holding_of h n
+AreHoldings range h holdings = (n : Number) → IsOfRange n range → holding_in holdings n ≡ holding_of h n

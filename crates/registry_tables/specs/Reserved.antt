@@ -26,5 +26,5 @@ abbrev pub AreApartFrom : List (ℕ × Span) → List (ℕ × Span) → Type 0
 AreApartFrom parts = AllByRecursion (λ span. AllByRecursion (AreApart span) parts)
 
 -- the transaction goes on, and the part is added to spans that it is apart from
-abbrev pub Puts : ℕ → Option Span → State → State → Type 0
-Puts vid part old new = GoesOn old new × ((t : Tables) → Holds old.now t → AreApartFrom (part_of vid part) t.spans → Holds new.now (with_spans (t.spans ++ part_of vid part) t))
+abbrev pub PutsPart : ℕ → Option Span → State → State → Type 0
+PutsPart vid part old new = GoesOn old new × ((t : Tables) → Holds old.now t → AreApartFrom (part_of vid part) t.spans → Holds new.now (with_spans (t.spans ++ part_of vid part) t))

@@ -60,10 +60,8 @@ fn read_accepted<S: Alter>(
 ) -> Result<Vec<Accepted>, TableFault>
     ensures reads { ReadsHistory S.Store tx.old.conn tx.new.conn result (λ h list. AreValid h.deeds → list.items ≡ take most (drop after (accepted_of h.deeds))) }
 {
-    match kept_after(alloc, tx, after, most) {
-        Ok(rows) => accepted_from(alloc, &rows),
-        Err(fault) => Err(fault),
-    }
+    let rows = kept_after(alloc, tx, after, most)?;
+    accepted_from(alloc, &rows)
 }
 
 /// Returns at most `most` accepted requests after the first `after`, oldest first, each with the

@@ -70,10 +70,8 @@ fn read_first_licences<S: Alter>(
     ensures reads { ReadsHistory S.Store tx.old.conn tx.new.conn result (λ h first. ((licence : List ℕ) → list_any (bytes_eq licence) licences.now ≡ is_licence h licence) → first ≡ h.founding.licences) }
 {
     // The replies that name a licence are those between these texts.
-    match kept_with_replies(alloc, tx, "added licence ", "added licence!") {
-        Ok(rows) => licences_left(alloc, licences, &rows),
-        Err(fault) => Err(fault),
-    }
+    let rows = kept_with_replies(alloc, tx, "added licence ", "added licence!")?;
+    licences_left(alloc, licences, &rows)
 }
 
 /// Returns the licences of the founding, from those that the registry allows now. The store reads

@@ -2,7 +2,7 @@
 
 ghost use Rattle.std.specs.Prelude.{◌≡◌, false};
 ghost use Rattle.sqlite.specs.Held.{state};
-ghost use Rattle.registry_tables.specs.Calls.{IsLookUp};
+ghost use Rattle.registry_tables.specs.Calls.{IsLookUp, IsStoreFault};
 ghost use Rattle.registry_tables.specs.Lists.{IsOrgList, IsPetitionList, IsNumberList, IsVendorList};
 
 use crate::TableFault;
@@ -21,6 +21,7 @@ pub fn list_orgs<S: Alter>(alloc: Global, conn: &mut Connection<S>) -> Result<Ve
     requires { conn.old.in_transaction ≡ false }
     ensures idle { conn.new.in_transaction ≡ false }
     ensures looked_up { IsLookUp (state S.Store conn.old) (state S.Store conn.new) result (λ h list. IsOrgList h list.items) }
+    ensures store { IsStoreFault (state S.Store conn.old) (state S.Store conn.new) result }
 {
     // For the proof only: the schema that the connection shows.
     let _schema = conn.schema();
@@ -43,6 +44,7 @@ pub fn list_petitions<S: Alter>(
     requires { conn.old.in_transaction ≡ false }
     ensures idle { conn.new.in_transaction ≡ false }
     ensures looked_up { IsLookUp (state S.Store conn.old) (state S.Store conn.new) result (λ h list. IsPetitionList h list.items) }
+    ensures store { IsStoreFault (state S.Store conn.old) (state S.Store conn.new) result }
 {
     // For the proof only: the schema that the connection shows.
     let _schema = conn.schema();
@@ -65,6 +67,7 @@ pub fn list_numbers<S: Alter>(
     requires { conn.old.in_transaction ≡ false }
     ensures idle { conn.new.in_transaction ≡ false }
     ensures looked_up { IsLookUp (state S.Store conn.old) (state S.Store conn.new) result (λ h list. IsNumberList h list.items) }
+    ensures store { IsStoreFault (state S.Store conn.old) (state S.Store conn.new) result }
 {
     // For the proof only: the schema that the connection shows.
     let _schema = conn.schema();
@@ -87,6 +90,7 @@ pub fn list_vendors<S: Alter>(
     requires { conn.old.in_transaction ≡ false }
     ensures idle { conn.new.in_transaction ≡ false }
     ensures looked_up { IsLookUp (state S.Store conn.old) (state S.Store conn.new) result (λ h list. IsVendorList h list.items) }
+    ensures store { IsStoreFault (state S.Store conn.old) (state S.Store conn.new) result }
 {
     // For the proof only: the schema that the connection shows.
     let _schema = conn.schema();

@@ -7,7 +7,7 @@ ghost use Rattle.registry_rows.specs.Steps.{Reads};
 ghost use Rattle.registry_rows.specs.Tables.{Holds};
 ghost use Rattle.registry_tables.specs.Calls.{WritesTables, WritesTablesOpen};
 ghost use Rattle.registry_tables.specs.Changed.{Makes};
-ghost use Rattle.registry_tables.specs.Reserved.{Reaches, Puts};
+ghost use Rattle.registry_tables.specs.Reserved.{Reaches, PutsPart};
 
 use crate::TableFault;
 use registry_rows::{cut_spans, find_spans, put_span};
@@ -70,7 +70,7 @@ fn put_part<S: Alter>(
     vid: Vid,
     part: Option<Span>,
 ) -> Result<(), TableFault>
-    ensures writes { WritesTablesOpen S.Store tx.old.conn tx.new.conn result (Puts vid part) }
+    ensures writes { WritesTablesOpen S.Store tx.old.conn tx.new.conn result (PutsPart vid part) }
 {
     match part {
         Some(span) => put_span(tx, vid, span),

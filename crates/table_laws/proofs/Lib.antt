@@ -15,3 +15,4 @@ pub mod InsideLemmas
 pub mod CatalogLemmas
 pub mod MakeLemmas
 pub mod StatementLemmas
+pub mod FailLemmas

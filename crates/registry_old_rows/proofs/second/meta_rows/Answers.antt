@@ -1,4 +1,5 @@
 use Rattle.registry_rows.proofs.StepLemmas.{shows, shows_nothing}
+use Rattle.registry_old_rows.proofs.OldTexts.{old_meta_is, old_meta_typed}
 use Rattle.registry_old_rows.proofs.SecondLemmas.{reads_old_meta}
 use Rattle.registry_old_rows.proofs.second.meta_rows.Goals as goal
 
@@ -6,4 +7,4 @@ pub returns : goal.returns
 returns g c = record { reads = shows c.query_all.ensures.same_reference c.query_all.ensures.survives _ _ c.in_ok-query_all.ensures.ok (λ shown x has. reads_old_meta x.vid _ _ _ shown x.tables x.numbers has) }
 
 pub returns-in_err-query_all : goal.returns-in_err-query_all
-returns-in_err-query_all g c = record { reads = shows_nothing c.query_all.ensures.same_reference c.query_all.ensures.survives _ _ c.from_residual.ensures.1 c.in_err-query_all.ensures.err }
+returns-in_err-query_all g c = record { reads = shows_nothing c.query_all.ensures.same_reference c.query_all.ensures.survives _ _ old_meta_is old_meta_typed (λ x has. has.schema) c.from_residual.ensures.1 c.in_err-query_all.ensures.err }

@@ -1,7 +1,8 @@
-use Rattle.std.proofs.Common.{◌≡◌, ◌+◌, true, take, ◌++◌, ◌∷◌, [], is_ok, sym, ap, subst, ◌∙◌, rules}
+use Rattle.std.proofs.Common.{Err, ◌≡◌, ◌+◌, true, take, ◌++◌, ◌∷◌, [], is_ok, sym, ap, subst, ◌∙◌, rules}
 use Rattle.std.proofs.lemmas.List.{take_more}
 use Rattle.registry_rows.specs.Columns.{AreShown}
 use Rattle.registry_rows.proofs.DecodeLemmas.{one_more, not_foreign, shown_more}
+use Rattle.registry_schema.specs.declared.fault.TableFault.TheVariants.{Store}
 use Rattle.registry_rows.proofs.decode.all_from.Goals as goal
 
 pub loop-row-preserved : goal.loop-row-preserved
@@ -26,4 +27,5 @@ returns-in-Err g c = record {
   decodes = λ values valid same.
       not_foreign g.T.FromRow.is_valid g.T.FromRow.columns values c.args.rows.now valid same c.loop-row.row-index c.row-item.result c.in-Err.fault c.loop-row-test.true c.row-item.is c.in-Err.ensures.decodes;
   whole = tt;
+  fault = λ is. (let same : c.in-Err.fault ≡ Store = cc in c.in-Err.ensures.fault (ap Err same));
 }

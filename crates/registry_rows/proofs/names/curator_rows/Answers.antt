@@ -1,9 +1,11 @@
 use Rattle.registry_rows.proofs.StepLemmas.{shows, shows_nothing}
 use Rattle.registry_rows.proofs.ReadLemmas.{reads_list_curators}
+use Rattle.registry_rows.proofs.ReadTexts.{list_curators_is}
+use Rattle.registry_rows.proofs.TypedTexts.{list_curators_typed}
 use Rattle.registry_rows.proofs.names.curator_rows.Goals as goal
 
 pub returns : goal.returns
 returns g c = record { reads = shows c.query_all.ensures.same_reference c.query_all.ensures.survives _ _ c.in_ok-query_all.ensures.ok (reads_list_curators _ _ _) }
 
 pub returns-in_err-query_all : goal.returns-in_err-query_all
-returns-in_err-query_all g c = record { reads = shows_nothing c.query_all.ensures.same_reference c.query_all.ensures.survives _ _ c.from_residual.ensures.1 c.in_err-query_all.ensures.err }
+returns-in_err-query_all g c = record { reads = shows_nothing c.query_all.ensures.same_reference c.query_all.ensures.survives _ _ list_curators_is list_curators_typed (λ t has. has.schema) c.from_residual.ensures.1 c.in_err-query_all.ensures.err }

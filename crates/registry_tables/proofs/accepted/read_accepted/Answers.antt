@@ -1,10 +1,10 @@
 use Rattle.registry_tables.proofs.ReadLemmas.{rows_fail}
 use Rattle.registry_tables.proofs.RecordLemmas.{accepted_tell}
-use Rattle.std.proofs.Common.{refl}
+use Rattle.std.proofs.Common.{rules}
 use Rattle.registry_tables.proofs.accepted.read_accepted.Goals as goal
 
-pub returns-in-Ok : goal.returns-in-Ok
-returns-in-Ok g c = record { reads = accepted_tell c.args.most c.args.after _ (rw c.deref.ensures.value at c.accepted_from.ensures.reads) c.accepted_from.ensures.kind c.in-Ok.ensures.reads }
+pub returns : goal.returns
+returns g c = record { reads = accepted_tell c.args.most c.args.after _ (rw c.deref.ensures.value at c.accepted_from.ensures.reads) c.accepted_from.ensures.kind c.in_ok-rows.ensures.reads }
 
-pub returns-in-Err : goal.returns-in-Err
-returns-in-Err g c = record { reads = rows_fail refl c.in-Err.ensures.reads }
+pub returns-in_err-rows : goal.returns-in_err-rows
+returns-in_err-rows g c = record { reads = rows_fail (search rules) c.in_err-rows.ensures.reads }
