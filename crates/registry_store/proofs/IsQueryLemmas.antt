@@ -1,10 +1,11 @@
 -- Queries of a registry, whatever they look up.
-use Rattle.std.proofs.Common.{◌≡◌, ◌≢◌, ◌⊎◌, ◌||◌, Bool, true, false, Option, None, inl, inr, Result, Ok, Err, refl, sym, ap, subst, ◌∙◌}
+use Rattle.std.proofs.Common.{◌≡◌, ◌≢◌, ◌⊎◌, ◌||◌, Bool, true, false, Option, Some, None, inl, inr, Result, Ok, Err, refl, sym, ap, subst, ◌∙◌}
 use Rattle.std.specs.Prelude.{MatchResult, is_some}
 use Rattle.std.specs.Result.{result_err}
 use Rattle.std.proofs.lemmas.Result.{IfOk-weaker}
 use Rattle.sqlite.specs.Store.{Ghosts}
 use Rattle.sqlite.specs.State.{State, HasCleanDisk}
+use Rattle.sqlite.specs.Held.{Held, state}
 use Rattle.registry_schema.specs.declared.fault.TableFault.{TableFault}
 use Rattle.registry_schema.specs.declared.fault.TableFault.TheVariants as tables
 use Rattle.registry_rules.specs.History.{History}
@@ -15,7 +16,7 @@ use Rattle.registry_store.specs.declared.fault.Fault.{Fault}
 use Rattle.registry_store.specs.declared.fault.Fault.TheVariants as of
 use Rattle.registry_store.specs.declared.registry.Registry.{Registry}
 use Rattle.registry_store.specs.Faults.{fault_of, is_foreign}
-use Rattle.registry_store.specs.Promise.{IsAt, IsLegalWith, NotesForeign, Represents, is_poisoned, poisoned_by, state_of}
+use Rattle.registry_store.specs.Promise.{IsAt, IsLegalWith, NotesForeign, Represents, has_met_foreign, is_poisoned, poisoned_by, state_of}
 use Rattle.registry_store.specs.Queries.{IsNoted, IsQuery, IsUntouched}
 use Rattle.registry_store.proofs.OpeningLemmas.{earlier, rows_now, still_at}
 use Rattle.registry_store.proofs.QueryLemmas.{listed}
@@ -46,58 +47,67 @@ swap true true c = refl
 swap true false c = refl
 swap false b c = refl
 
-module _ {S : Type 0} {g : Ghosts S} {it mid new : Registry S g} {A : Type 0} {Is : History → A → Type 0} (sound : is_poisoned it ≡ false)
-    (totals : mid.totals ≡ it.totals) (fault : poisoned_by mid ≡ poisoned_by it) (foreign : mid.foreign ≡ it.foreign) where
-  -- the registry after the note
-  abbrev noted : Result A Fault → Registry S g
-  noted result = record mid { foreign = is_foreign (result_err result) || mid.foreign }
-
-  left : (found : Result A TableFault) (result : Result A Fault) → IsLookUp (state_of it) (state_of mid) found Is → IsUntouched it (noted result)
-  left found result looked = record {
+module _ {S : Type 0} {g : Ghosts S} {it new : Registry S g} {A : Type 0} {Is : History → A → Type 0} (sound : is_poisoned it ≡ false) (totals : new.totals ≡ it.totals) (fault : poisoned_by new ≡ poisoned_by it) where
+  left : (found : Result A TableFault) → IsLookUp (state_of it) (state_of new) found Is → IsUntouched it new
+  left found looked = record {
     stays = λ h stands. record {
       not_poisoned = ap (λ (f : Option Fault). is_some f) fault ∙ sound;
       legal_with = subst (λ t. IsLegalWith t h) (sym totals) stands.legal_with;
-      at = still_at (state_of it) (state_of mid) h stands.at looked.same looked.survives;
+      at = still_at (state_of it) (state_of new) h stands.at looked.same looked.survives;
     };
     poisons_nothing = ap (λ (f : Option Fault). is_some f) fault;
     survives = looked.survives;
   }
 
-  notes : (result : Result A Fault) → NotesForeign it (noted result) (result_err result)
-  notes result =
-      swap (is_foreign (poisoned_by mid)) (is_foreign (result_err result)) mid.foreign
-      ∙ ap (λ (b : Bool). is_foreign (result_err result) || b) (ap (λ (f : Option Fault). is_foreign f || mid.foreign) fault ∙ ap (λ (b : Bool). is_foreign (poisoned_by it) || b) foreign)
+  notes : (result : Result A Fault) → new.foreign ≡ (is_foreign (result_err result) || it.foreign) → NotesForeign it new (result_err result)
+  notes result noted =
+      ap (λ (b : Bool). is_foreign (poisoned_by new) || b) noted
+      ∙ (swap (is_foreign (poisoned_by new)) (is_foreign (result_err result)) it.foreign ∙ ap (λ (f : Option Fault). is_foreign (result_err result) || (is_foreign f || it.foreign)) fault)
 
-  found_by : (found : A) → IsLookUp (state_of it) (state_of mid) (Ok found) Is → IsQuery it (noted (Ok found)) (Ok found) Is
-  found_by found looked = record {
+  found_by : (found : A) → IsLookUp (state_of it) (state_of new) (Ok found) Is → new.foreign ≡ it.foreign → IsQuery it new (Ok found) Is
+  found_by found looked noted = record {
     when_poisoned = λ is. absurd cc;
     only_poisoned = λ never. absurd cc;
     never_taken = λ never. cc;
-    answered = λ h stands clean. listed (state_of it) (state_of mid) h stands.at stands.legal_with.legal (earlier (state_of it) (state_of mid) _ looked.survives clean) Is found (looked.answer clean);
+    answered = λ h stands clean. listed (state_of it) (state_of new) h stands.at stands.legal_with.legal (earlier (state_of it) (state_of new) _ looked.survives clean) Is found (looked.answer clean);
     kind = λ h stands clean. tt;
-    left = left (Ok found) (Ok found) looked;
-    notes = notes (Ok found);
+    left = left (Ok found) looked;
+    notes = notes (Ok found) noted;
   }
 
-  failed_by : (was : TableFault) → IsLookUp (state_of it) (state_of mid) (Err was) Is → IsQuery it (noted (Err (fault_of was))) (Err (fault_of was)) Is
-  failed_by was looked = record {
+  failed_by : (was : TableFault) → IsLookUp (state_of it) (state_of new) (Err was) Is → new.foreign ≡ (is_foreign (Some (fault_of was)) || it.foreign) → IsQuery it new (Err (fault_of was)) Is
+  failed_by was looked noted = record {
     when_poisoned = λ is. absurd cc;
     only_poisoned = λ is. absurd (never_poisoned was cc);
     never_taken = λ is. never_taken was cc;
     answered = λ h stands clean. tt;
-    kind = λ h stands clean. kind_of (state_of it) (state_of mid) h stands.at stands.legal_with.legal (earlier (state_of it) (state_of mid) _ looked.survives clean) was (Err was) refl (looked.foreign clean);
-    left = left (Err was) (Err (fault_of was)) looked;
-    notes = notes (Err (fault_of was));
+    kind = λ h stands clean. kind_of (state_of it) (state_of new) h stands.at stands.legal_with.legal (earlier (state_of it) (state_of new) _ looked.survives clean) was (Err was) refl (looked.foreign clean);
+    left = left (Err was) looked;
+    notes = notes (Err (fault_of was)) noted;
   }
 
-  told : (found : Result A TableFault) (result : Result A Fault) → IsLookUp (state_of it) (state_of mid) found Is
-      → MatchResult found (λ value. result ≡ Ok value) (λ fault. result ≡ Err (fault_of fault)) → IsQuery it (noted result) result Is
-  told (Ok found) result looked is = subst (λ (r : Result A Fault). IsQuery it (noted r) r Is) (sym is) (found_by found looked)
-  told (Err was) result looked is = subst (λ (r : Result A Fault). IsQuery it (noted r) r Is) (sym is) (failed_by was looked)
+  told : (found : Result A TableFault) (result : Result A Fault) → IsLookUp (state_of it) (state_of new) found Is
+      → MatchResult found (λ value. result ≡ Ok value) (λ fault. result ≡ Err (fault_of fault)) → new.foreign ≡ (is_foreign (result_err result) || it.foreign) → IsQuery it new result Is
+  told (Ok found) result looked is =
+      subst (λ (r : Result A Fault). new.foreign ≡ (is_foreign (result_err r) || it.foreign) → IsQuery it new r Is) (sym is) (found_by found looked)
+  told (Err was) result looked is =
+      subst (λ (r : Result A Fault). new.foreign ≡ (is_foreign (result_err r) || it.foreign) → IsQuery it new r Is) (sym is) (failed_by was looked)
 
-  -- a look-up whose fault is noted is a query
-  pub queried : {found : Result A TableFault} {result : Result A Fault} → IsLookUp (state_of it) (state_of mid) found Is → IsNoted mid new found result → IsQuery it new result Is
-  queried {found} {result} looked note = subst (λ (n : Registry S g). IsQuery it n result Is) (sym note.same) (told found result looked note.told)
+-- a look-up whose fault is noted is a query
+pub queried : {S : Type 0} {g : Ghosts S} {it mid new : Registry S g} {A : Type 0} {Is : History → A → Type 0} {found : Result A TableFault} {result : Result A Fault} → is_poisoned it ≡ false → mid.totals ≡ it.totals → poisoned_by mid ≡ poisoned_by it
+    → mid.foreign ≡ it.foreign → IsLookUp (state_of it) (state_of mid) found Is → IsNoted mid new found result → IsQuery it new result Is
+queried {S} {g} {it} {mid} {new} {A} {Is} {found} {result} sound totals fault foreign looked note =
+    told sound (note.same_totals ∙ totals) (note.same_fault ∙ fault) found result
+    (subst (λ (c : Held S). IsLookUp (state_of it) (state g c) found Is) (sym note.same_connection) looked) note.told
+    (note.foreign ∙ ap (λ (b : Bool). is_foreign (result_err result) || b) foreign)
+
+no_fault : (fault : Option Fault) → is_some fault ≡ false → is_foreign fault ≡ false
+no_fault None is = refl
+no_fault (Some fault) is = absurd cc
+
+-- what an `act` notes with its fault: the registry was not poisoned before
+pub not_met : {S : Type 0} {g : Ghosts S} (it : Registry S g) (fault : Fault) → is_poisoned it ≡ false → (is_foreign (Some fault) || has_met_foreign it) ≡ (is_foreign (Some fault) || it.foreign)
+not_met it fault sound = ap (λ (b : Bool). is_foreign (Some fault) || (b || it.foreign)) (no_fault (poisoned_by it) sound)
 
 -- what a call notes after one without a fault
 pub notes_then : {S : Type 0} {g : Ghosts S} (it mid new : Registry S g) (fault : Option Fault) → NotesForeign it mid None → NotesForeign mid new fault → NotesForeign it new fault

@@ -10,7 +10,7 @@ use Rattle.registry_store.specs.declared.fault.Fault.{Fault}
 use Rattle.registry_store.specs.declared.fault.Fault.TheVariants as of
 use Rattle.registry_store.specs.declared.registry.Registry.{Registry}
 use Rattle.registry_store.specs.Faults.{fault_of, is_foreign}
-use Rattle.registry_store.specs.Promise.{NotesForeign, Represents, is_poisoned, state_of}
+use Rattle.registry_store.specs.Promise.{NotesForeign, Represents, is_poisoned, poisoned_by, state_of}
 
 module _ {S : Type 0} {g : Ghosts S} (it new : Registry S g) where
   -- the registry still represents each history that it represented, and nothing was committed
@@ -21,7 +21,10 @@ module _ {S : Type 0} {g : Ghosts S} (it new : Registry S g) where
 
   -- The result is what the tables gave, and the registry notes whether they hold the rows of no history.
   pub record IsNoted {A : Type 0} (found : Result A TableFault) (result : Result A Fault) : Type 0 where
-    pub same : new ≡ record it { foreign = is_foreign (result_err result) || it.foreign }
+    pub same_connection : new.conn ≡ it.conn
+    pub same_totals : new.totals ≡ it.totals
+    pub same_fault : poisoned_by new ≡ poisoned_by it
+    pub foreign : new.foreign ≡ (is_foreign (result_err result) || it.foreign)
     pub told : MatchResult found (λ value. result ≡ Ok value) (λ fault. result ≡ Err (fault_of fault))
 
   -- A query: over a clean disk the result is that of each history that the registry represented, and a fault is of the store
