@@ -13,6 +13,8 @@ import sys
 sys.path.insert(0, os.path.dirname(os.path.dirname(os.path.abspath(__file__))))
 from lib.usbreg import TEXTS, blank_page, copy, done, folder, opened, program, seal, tables
 
+REPORTS = ("census", "holders", "petitions", "numbers", "organisations")
+
 
 def renewed(store, other):
     """Writes the tables of a store to a new one, and returns its path."""
@@ -30,7 +32,7 @@ def renewed(store, other):
 def shown(usbreg, store, room):
     """Returns what the program shows of a copy of a store: opening may write to it."""
     store = copy(store, f"{room}/shown.db")
-    return [done([usbreg, "export", store]), *(done([usbreg, "report", store, it]) for it in ("census", "holders", "petitions"))]
+    return [done([usbreg, "export", store]), *(done([usbreg, "report", store, it]) for it in REPORTS)]
 
 
 def main():
