@@ -6,6 +6,7 @@ import os
 import re
 
 from lib.serving import command, exchange, get, post
+from lib.usbreg import REPORTS
 
 RUNS = int(os.environ.get("TIMES", "11"))
 SCALE = int(os.environ.get("SCALE", "1"))
@@ -252,7 +253,7 @@ def queries():
 
     for path in (f"/numbers/{FULL}/0001", "/numbers/0001", "/orgs/o1", "/orgs/absent", "/petitions/1", "/petitions/999999", "/founding", "/none"):
         yield Case(f"GET {path}", "", 24 if path == "/none" else 4 if path == "/orgs/absent" else 6 if path == "/petitions/999999" else "found", asked(path))
-    whole = ("/list", *(f"/reports/{it}" for it in ("census", "holders", "petitions", "numbers", "organisations")))
+    whole = ("/list", *(f"/reports/{it}" for it in REPORTS))
     for path in whole:
         yield Case(f"GET {path}", "", "as before", lambda o, run, path=path: (o.send(get(path)), get(path))[1])
     for path in whole:

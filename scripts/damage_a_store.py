@@ -19,7 +19,7 @@ import sys
 import time
 
 from lib.refusing import each
-from lib.usbreg import EXAMPLES, apply, content, folder, form, found, found_without_sums, program, rounds, run, write_requests
+from lib.usbreg import EXAMPLES, REPORTS, apply, content, folder, form, found, found_without_sums, program, rounds, run, write_requests
 
 ROUNDS = 150
 
@@ -36,7 +36,7 @@ def shown(usbreg, store):
     exported = run([usbreg, "export", store])
     if exported[0]:
         return [exported]
-    return [exported, *(run([usbreg, "report", store, it]) for it in ("census", "holders", "petitions", "numbers", "organisations"))]
+    return [exported, *(run([usbreg, "report", store, it]) for it in REPORTS)]
 
 
 def damage(usbreg, store, changed, room, wanted):

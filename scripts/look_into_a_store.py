@@ -18,7 +18,7 @@ import difflib
 import re
 import sys
 
-from lib.usbreg import EXAMPLES, TEXTS, TOP, apply, content, copy, done, folder, found, opened, program, run, seal, tables, write
+from lib.usbreg import EXAMPLES, REPORTS, TEXTS, TOP, apply, content, copy, done, folder, found, opened, program, run, seal, tables, write
 
 TABLES = "SELECT name FROM sqlite_schema WHERE type = 'table' ORDER BY name"
 OTHERS = "SELECT type, name FROM sqlite_schema WHERE type NOT IN ('table', 'index') ORDER BY name"
@@ -96,7 +96,7 @@ def rows_of(store):
 def shown(usbreg, store, first):
     """Returns what the program shows of a store: its list, each report, its record, a part of that, and the reply to a
     request that it keeps."""
-    reports = [done([usbreg, "report", store, name]) for name in ("census", "holders", "petitions", "numbers", "organisations")]
+    reports = [done([usbreg, "report", store, name]) for name in REPORTS]
     record = [done([usbreg, "history", store, *part]) for part in ([], ["--after", "3"])]
     return [done([usbreg, "export", store]), *reports, *record, apply(usbreg, store, first)]
 

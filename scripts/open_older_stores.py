@@ -27,12 +27,11 @@ import time
 from compare_with_plain_history import Chance, Registry, Room, all_cases, request, requests_in
 from lib.plain_history import History
 from lib.usbreg import (
-    EXAMPLES, FOUNDING, TEXTS, apply, content, copy, declined, done, folder, found, found_without_sums, older, older_text,
+    EXAMPLES, FOUNDING, REPORTS, TEXTS, apply, content, copy, declined, done, folder, found, found_without_sums, older, older_text,
     opened, program, remove, rounds, run, seal, write, write_requests,
 )
 from look_into_a_store import asked, documented_texts, same
 
-REPORTS = ("census", "holders", "petitions", "numbers", "organisations")
 LINK = "https://acme.example/"
 # The tables of the newest schema that replace older ones, and the numbers of tables of the older schemas.
 NEW = {"vendors", "spans3", "entries3", "petitions3"}

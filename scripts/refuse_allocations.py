@@ -27,10 +27,9 @@ import sys
 
 from lib.refusing import asked_in, each, refusal, refusing, run_refused
 from lib.serving import command, exchange, free_port, get, post, refused, serving
-from lib.usbreg import EXAMPLES, FOUNDING, apply, content, copy, done, found, older, program, remove, run, tables, write
+from lib.usbreg import EXAMPLES, FOUNDING, REPORTS, apply, content, copy, done, found, older, program, remove, run, tables, write
 
 FAULTS = {b"fault: memory\n", b"fault: store\n"}
-REPORTS = ("census", "holders", "petitions", "numbers", "organisations")
 # One allocation of this many is refused.
 EVERY = 1
 LIST = """# a list

@@ -11,14 +11,13 @@ import time
 
 from lib.proxy import CURATOR, NO_CURATOR, by_proxy, closing, connected, parts, refusal, signed, told
 from lib.serving import command, get, post, read_to_end
-from lib.usbreg import put_rows
+from lib.usbreg import REPORTS, put_rows
 
 # The least number of the registry; the messages at once; the seconds in which another user's order must come; the bytes of
 # a list; and the seconds of a storm.
 FIRST, AT_ONCE, SOON, LONG, STORM = 0x2000, 60, 0.5, 2_800_000, 2
 # How many accepted requests the registry has, and the canonical form of each.
 ACCEPTED, AMENDED = 10_000, b"amend-org\tfull\tFull\thttps://full.example/"
-REPORTS = ("census", "holders", "petitions", "numbers", "organisations")
 
 
 def filled(store, numbers):

@@ -17,6 +17,8 @@ FOUNDING = f"{EXAMPLES}/founding.toml"
 ENDINGS = ("", "-wal", "-shm")
 # The size of a page of a new store, and the bytes at its end that hold its sum.
 PAGE_SIZE, SUM_SIZE = 1024, 8
+# The names of the reports.
+REPORTS = ("census", "holders", "petitions", "numbers", "organisations")
 # Asks SQLite for the texts that made what is in a store, in the order in which they did.
 TEXTS = "SELECT sql FROM sqlite_schema WHERE sql IS NOT NULL ORDER BY rowid"
 

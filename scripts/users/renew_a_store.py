@@ -11,9 +11,8 @@ import os
 import sys
 
 sys.path.insert(0, os.path.dirname(os.path.dirname(os.path.abspath(__file__))))
-from lib.usbreg import TEXTS, blank_page, copy, done, folder, opened, program, seal, tables
+from lib.usbreg import REPORTS, TEXTS, blank_page, copy, done, folder, opened, program, seal, tables
 
-REPORTS = ("census", "holders", "petitions", "numbers", "organisations")
 
 
 def renewed(store, other):
