@@ -4,6 +4,7 @@ use Rattle.std.specs.Prelude.{Vec}
 use Rattle.std.specs.declared.alloc.Global.{Global}
 use Rattle.std.proofs.lemmas.List.{append-nil, drop-take}
 use Rattle.sqlite.specs.Store.{Ghosts}
+use Rattle.usbnum_core.specs.declared.error.NoMemory.{NoMemory}
 use Rattle.registry_rules.specs.declared.order.Request.{Request}
 use Rattle.registry_rules.specs.declared.verdict.Reply.{Reply}
 use Rattle.registry_rules.specs.History.{History}
@@ -56,16 +57,16 @@ module _ {S : Type 0} {g : Ghosts S} (it : Registry S g) (h : History) (rs : Lis
       }
 
   -- a list with room for all replies is never full
-  pub has_room : length rs - a ≤ vec_capacity old → IsHalted TakesReply HasNoRoom it h rs a n old new stop.Cut → ⊥
-  has_room room halted =
+  pub has_room : length rs - a ≤ vec_capacity old → {cut : NoMemory} → IsHalted TakesReply HasNoRoom it h rs a n old new (stop.Cut cut) → ⊥
+  has_room room {cut} halted =
       let middle = halted.middle in
       let grown = listed old middle (replies_between h rs a n) halted.taken in
       let count : length middle.items ≡ n - a = ap (λ (xs : List Reply). length xs) (in_list middle halted.taken) ∙ between_count h rs a n halted.from halted.within in
       omega (arith, room, grown.1, count, halted.reply.2.1, middle.ok.0, halted.from, halted.within)
 
 -- a list with room for a reply to each request that is left has room for one more
-pub never_full : (old new : Vec Reply Global) (left : ℕ) → old.items ≡ [] → left ≤ vec_capacity old → HaveBeenGiven TakesReply HasNoRoom left stop.Cut old new → ⊥
-never_full old new left none room given =
+pub never_full : (old new : Vec Reply Global) (left : ℕ) → old.items ≡ [] → left ≤ vec_capacity old → {cut : NoMemory} → HaveBeenGiven TakesReply HasNoRoom left (stop.Cut cut) old new → ⊥
+never_full old new left none room {cut} given =
     let grown = listed old given.middle given.replies given.taken in
     let count : length given.middle.items ≡ length given.replies = ap (λ (xs : List Reply). length xs) (grown.0 ∙ ap (λ (xs : List Reply). xs ++ given.replies) none) in
-    omega (arith, room, grown.1, count, given.last.1.1, given.middle.ok.0, given.fewer refl)
+    omega (arith, room, grown.1, count, given.last.1.1, given.middle.ok.0, given.fewer cut refl)

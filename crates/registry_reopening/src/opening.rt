@@ -50,10 +50,7 @@ pub fn take_up<D: Disk + Drop>(
         → (HasCleanDisk (file_state conn) → IsOpened conn × FindsIn image (file_state conn) × FilesHoldEither from image h next)
         → IfSome result (λ it. HasCleanDisk (state_of it) → ∥ ((x : History) × IsEither h next x × Represents it x) ∥₁) }
 {
-    match take_up_or_return(alloc, conn) {
-        Ok(registry) => Some(registry),
-        Err(_) => None,
-    }
+    take_up_or_return(alloc, conn).ok()
 }
 
 /// Opens the registry of a connection to files, like `take_up`. After a fault it returns the
@@ -113,8 +110,5 @@ pub fn open_files<D: Disk + Drop>(
     ensures represents { (from : ℕ) (h next : History) → Legal h → Legal next → (AreClean D.Disk files.log files.db → FilesHoldEither from (image_of D.Disk files) h next)
         → IfSome result (λ it. HasCleanDisk (state_of it) → ∥ ((x : History) × IsEither h next x × Represents it x) ∥₁) }
 {
-    match open_files_or_return(alloc, files, options) {
-        Ok(registry) => Some(registry),
-        Err(_) => None,
-    }
+    open_files_or_return(alloc, files, options).ok()
 }

@@ -72,7 +72,7 @@ pub fn run_from<S: Alter>(
             fault: Some(fault),
         },
         // There is room for each reply, so this does not occur.
-        Err(RunStop::Cut) => RunEnd {
+        Err(RunStop::Cut(_)) => RunEnd {
             replies,
             fault: Some(Fault::NoMemory),
         },

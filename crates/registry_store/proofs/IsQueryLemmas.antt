@@ -33,6 +33,11 @@ never_taken tables.Store is = cc
 never_taken tables.NoMemory is = cc
 never_taken tables.Foreign is = cc
 
+pub foreign_of : (fault : TableFault) → fault_of fault ≡ of.Foreign → fault ≡ tables.Foreign
+foreign_of tables.Store is = absurd cc
+foreign_of tables.NoMemory is = absurd cc
+foreign_of tables.Foreign is = refl
+
 -- the tables hold the rows of a history, so the fault is of the store or of memory
 kind_of : {A : Type 0} (old new : State) (h : History) → IsAt newest old h → Legal h → HasCleanDisk old → (fault : TableFault) (result : Result A TableFault) → result ≡ Err fault → IsForeign old new result
     → (fault_of fault ≡ of.Store) ⊎ (fault_of fault ≡ of.NoMemory)
@@ -47,6 +52,11 @@ swap true true c = refl
 swap true false c = refl
 swap false b c = refl
 
+noted : {S : Type 0} {g : Ghosts S} (it new : Registry S g) → poisoned_by new ≡ poisoned_by it → (fault : Option Fault) → new.foreign ≡ (is_foreign fault || it.foreign) → NotesForeign it new fault
+noted it new same fault is =
+    ap (λ (b : Bool). is_foreign (poisoned_by new) || b) is
+    ∙ (swap (is_foreign (poisoned_by new)) (is_foreign fault) it.foreign ∙ ap (λ (f : Option Fault). is_foreign fault || (is_foreign f || it.foreign)) same)
+
 module _ {S : Type 0} {g : Ghosts S} {it new : Registry S g} {A : Type 0} {Is : History → A → Type 0} (sound : is_poisoned it ≡ false) (totals : new.totals ≡ it.totals) (fault : poisoned_by new ≡ poisoned_by it) where
   left : (found : Result A TableFault) → IsLookUp (state_of it) (state_of new) found Is → IsUntouched it new
   left found looked = record {
@@ -59,31 +69,26 @@ module _ {S : Type 0} {g : Ghosts S} {it new : Registry S g} {A : Type 0} {Is : 
     survives = looked.survives;
   }
 
-  notes : (result : Result A Fault) → new.foreign ≡ (is_foreign (result_err result) || it.foreign) → NotesForeign it new (result_err result)
-  notes result noted =
-      ap (λ (b : Bool). is_foreign (poisoned_by new) || b) noted
-      ∙ (swap (is_foreign (poisoned_by new)) (is_foreign (result_err result)) it.foreign ∙ ap (λ (f : Option Fault). is_foreign (result_err result) || (is_foreign f || it.foreign)) fault)
-
   found_by : (found : A) → IsLookUp (state_of it) (state_of new) (Ok found) Is → new.foreign ≡ it.foreign → IsQuery it new (Ok found) Is
-  found_by found looked noted = record {
+  found_by found looked note = record {
     when_poisoned = λ is. absurd cc;
     only_poisoned = λ never. absurd cc;
     never_taken = λ never. cc;
     answered = λ h stands clean. listed (state_of it) (state_of new) h stands.at stands.legal_with.legal (earlier (state_of it) (state_of new) _ looked.survives clean) Is found (looked.answer clean);
     kind = λ h stands clean. tt;
     left = left (Ok found) looked;
-    notes = notes (Ok found) noted;
+    notes = noted it new fault None note;
   }
 
   failed_by : (was : TableFault) → IsLookUp (state_of it) (state_of new) (Err was) Is → new.foreign ≡ (is_foreign (Some (fault_of was)) || it.foreign) → IsQuery it new (Err (fault_of was)) Is
-  failed_by was looked noted = record {
+  failed_by was looked note = record {
     when_poisoned = λ is. absurd cc;
     only_poisoned = λ is. absurd (never_poisoned was cc);
     never_taken = λ is. never_taken was cc;
     answered = λ h stands clean. tt;
     kind = λ h stands clean. kind_of (state_of it) (state_of new) h stands.at stands.legal_with.legal (earlier (state_of it) (state_of new) _ looked.survives clean) was (Err was) refl (looked.foreign clean);
     left = left (Err was) looked;
-    notes = notes (Err (fault_of was)) noted;
+    notes = noted it new fault (Some (fault_of was)) note;
   }
 
   told : (found : Result A TableFault) (result : Result A Fault) → IsLookUp (state_of it) (state_of new) found Is

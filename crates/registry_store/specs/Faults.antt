@@ -29,6 +29,6 @@ fault_text faults.Foreign = codes "not the tables of a registry"
 fault_text faults.Taken = codes "the store holds a registry already"
 fault_text faults.Poisoned = codes "the registry had a fault before and is poisoned"
 
-abbrev pub stop_text : RunStop → List ℕ
+abbrev pub stop_text : {C : Type 0} → RunStop C → List ℕ
 stop_text (stops.Fault fault) = fault_text fault
-stop_text stops.Cut = codes "a reply was not taken"
+stop_text (stops.Cut cut) = codes "a reply was not taken"

@@ -36,10 +36,10 @@ fn judged_by_facts<S: Alter>(
     ensures reads { ReadsHistoryOpen S.Store tx.old.conn tx.new.conn result (λ h found. kept ≡ kept_under h request.now.caller request.now.key → AreTotalsOf h totals.now → found ≡ verdict h request.now) }
 {
     let facts = facts_for(alloc, tx, totals, request, kept)?;
-    match judge(alloc, &facts, request) {
-        Ok(verdict) => Ok(verdict),
-        Err(NoMemory) => Err(TableFault::NoMemory),
-    }
+    let Ok(verdict) = judge(alloc, &facts, request) else {
+        return Err(TableFault::NoMemory);
+    };
+    Ok(verdict)
 }
 
 /// Returns the verdict on a request, from the row of its key, and from other rows only if that row

@@ -13,4 +13,4 @@ pub mod run;
 pub use fault::Fault;
 pub use leaving::{Closed, close_files, leave_store};
 pub use registry::Registry;
-pub use replies::{Cut, Replies, RunStop};
+pub use replies::{Replies, RunStop};

@@ -185,7 +185,7 @@ fn a_reply_that_is_refused_ends_a_run(rt: HostRuntime) -> Result<(), Fail> {
         )?;
         let lists = plain.lists.get(room.saturating_add(1)).ok_or("no lists")?;
         let (all, rows) = (plain.replies.as_str(), plain.rows.as_str());
-        let wanted = joined(alloc, ["Err(Cut)\n", lists.as_str(), all, rows])?;
+        let wanted = joined(alloc, ["Err(Cut(NoMemory))\n", lists.as_str(), all, rows])?;
         assert_eq!(rt; text.as_str(), wanted.as_str(), "at {room}");
     }
     Ok(())

@@ -5,11 +5,12 @@ use crate::images::{Image, PLAIN, Stop, files_of, left_by};
 use crate::listing::{add_answer, write_answers, write_listing, write_rows};
 use crate::older::make;
 use registry_rules::{Founding, Reply, Request};
-use registry_store::{Closed, Cut, Fault, Registry, Replies, RunStop, close_files, leave_store};
+use registry_store::{Closed, Fault, Registry, Replies, RunStop, close_files, leave_store};
 use sqlite::{Alter, Connection, FileStore, Files, Options};
 use sqlite_disk::Disk;
 use std::alloc::Global;
 use std::test::Fail;
+use usbnum_core::NoMemory;
 
 /// How a visit enters the registry.
 #[derive(Clone, Copy)]
@@ -105,7 +106,7 @@ impl Seen {
     }
 }
 
-// Takes this many replies, and refuses the next one.
+// Takes this many replies, and has no memory for the next one.
 #[derive(Drop)]
 struct Few {
     room: usize,
@@ -113,18 +114,17 @@ struct Few {
 }
 
 impl Replies for Few {
+    type Cut = NoMemory;
+
     ghost takes = { λ _ _ _. Unit {0} };
 
-    ghost cuts = { λ _ _ _. Unit {0} };
+    ghost cuts = { λ _ _ _ _. Unit {0} };
 
-    fn put(&mut self, reply: Reply) -> Result<(), Cut> {
+    fn put(&mut self, reply: Reply) -> Result<(), NoMemory> {
         if self.taken.len() >= self.room {
-            return Err(Cut);
+            return Err(NoMemory);
         }
-        match self.taken.push(reply) {
-            Ok(()) => Ok(()),
-            Err(_) => Err(Cut),
-        }
+        Ok(self.taken.push(reply)?)
     }
 }
 
@@ -139,7 +139,7 @@ fn run<S: Alter>(
         Ok(()) => {}
         Err(RunStop::Fault(fault)) => seen.fault = Some(fault),
         // There was no room for a reply.
-        Err(RunStop::Cut) => seen.tell(false),
+        Err(RunStop::Cut(_)) => seen.tell(false),
     }
 }
 
@@ -155,7 +155,7 @@ fn run_with_room<S: Alter>(
         room,
         taken: Vec::new(alloc),
     };
-    let outcome: Result<(), RunStop> = registry.run_to(requests, 0, &mut few);
+    let outcome: Result<(), RunStop<NoMemory>> = registry.run_to(requests, 0, &mut few);
     let is_told = writeln!(&mut seen.cut, "{outcome:?}").is_ok()
         && write_listing(registry, &mut seen.cut)
         && seen.replies.append(&mut few.taken).is_ok();

@@ -42,7 +42,7 @@ returns-in_default-clause-one_owner g c h legal n deed org has gives = one_organ
 -- ---- how a run ends early
 
 pub returns-in-Err-Fault-clause-ends : goal.returns-in-Err-Fault-clause-ends
-returns-in-Err-Fault-clause-ends g c = elim c.in-Err-Fault.ensures.ends [ inl cut ↦ absurd (cc (cut, c.in-Err-Fault.field-0-is)) | inr s ↦ inl s ]
+returns-in-Err-Fault-clause-ends g c = inl (rw c.in-Err-Fault.field-0-is at c.in-Err-Fault.ensures.ends)
 
 pub returns-in-Err-Cut-clause-ends : goal.returns-in-Err-Cut-clause-ends
 returns-in-Err-Cut-clause-ends g c =

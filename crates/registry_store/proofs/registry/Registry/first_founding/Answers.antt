@@ -7,16 +7,16 @@ use Rattle.registry_store.proofs.registry.Registry.first_founding.Goals as goal
 pub returns-in_err-first : goal.returns-in_err-first
 returns-in_err-first g c =
     let p = err_from_is_err_and c.from_residual-in_err-first.result c.from_residual-in_err-first.ensures.1 in
-    rw (p.1, p.2) (record { query = fails (queried c.in_ok-check_not_poisoned.ensures.sound refl refl refl c.first_licences.ensures.looked_up c.in_err-first.ensures) })
+    rw (p.1, p.2) (record { query = fails (queried c.in_ok-check_not_poisoned.ensures.sound refl refl refl c.first_licences-licences.ensures.looked_up c.in_err-first.ensures) })
 
 pub returns-in_err-with_licences : goal.returns-in_err-with_licences
 returns-in_err-with_licences g c =
     let p = err_from_is_err_and c.from_residual-in_err-with_licences.result c.from_residual-in_err-with_licences.ensures.1 in
-    rw (p.1, p.2) (record { query = lacks_memory (queried c.in_ok-check_not_poisoned.ensures.sound refl refl refl c.first_licences.ensures.looked_up c.in_ok-first.ensures) })
+    rw (p.1, p.2) (record { query = lacks_memory (queried c.in_ok-check_not_poisoned.ensures.sound refl refl refl c.first_licences-licences.ensures.looked_up c.in_ok-first.ensures) })
 
 pub returns : goal.returns
 returns g c = record {
-  query = made (queried c.in_ok-check_not_poisoned.ensures.sound refl refl refl c.first_licences.ensures.looked_up c.in_ok-first.ensures) (λ h stands is _.
+  query = made (queried c.in_ok-check_not_poisoned.ensures.sound refl refl refl c.first_licences-licences.ensures.looked_up c.in_ok-first.ensures) (λ h stands is _.
       let totals = stands.legal_with.totals_are in
       c.in_ok-with_licences.ensures ∙ founding_is h c.founding-2.result.now c.in_ok-first.first (c.founding-2.ensures h totals) (is (c.founding.ensures h totals).allowed));
 }

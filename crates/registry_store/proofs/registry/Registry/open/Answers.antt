@@ -1,4 +1,4 @@
-use Rattle.std.proofs.Common.{◌≡◌, inl, inr, Err, IsTrue, MatchResult, subst, ap, ◌∙◌, arith, rules}
+use Rattle.std.proofs.Common.{◌≡◌, inl, inr, Err, IsTrue, MatchResult, sym, subst, ap, ◌∙◌, arith, rules}
 use Rattle.sqlite.specs.State.{HasCleanDisk}
 use Rattle.sqlite.specs.Held.{state}
 use Rattle.table_laws.specs.Inside.{CommitsNothing}
@@ -6,6 +6,7 @@ use Rattle.registry_schema.specs.declared.fault.TableFault.TheVariants.{Foreign}
 use Rattle.registry_tables.specs.Raising.{CommitsLater, StaysOpen}
 use Rattle.registry_store.specs.Promise.{state_of}
 use Rattle.registry_store.proofs.MigrationLemmas.{leaves_then, quiet_after, commits_then, foreign_after, open_then, known_then}
+use Rattle.registry_store.proofs.IsQueryLemmas.{foreign_of}
 use Rattle.registry_store.proofs.OpeningLemmas.{at_rest}
 use Rattle.registry_store.proofs.registry.Registry.open.Goals as goal
 
@@ -47,7 +48,7 @@ returns-in-Ok-clause-foreign g c =
 
 pub returns-in-Err-clause-foreign : goal.returns-in-Err-clause-foreign
 returns-in-Err-clause-foreign g c clean foreign version h legal =
-    let told : c.migrate.result ≡ Err Foreign = c.in-Err.is ∙ ap Err (c.fault_of.ensures.foreign.0 foreign) in
+    let told : c.migrate.result ≡ Err Foreign = c.in-Err.is ∙ ap Err (foreign_of c.in-Err.fault (sym c.from.ensures ∙ foreign)) in
     (c.migrate.ensures.foreign clean told).1 h version
 
 pub returns-in-Ok-clause-newest : goal.returns-in-Ok-clause-newest

@@ -3,4 +3,4 @@ use Rattle.registry_store.proofs.IsQueryLemmas.{queried}
 use Rattle.registry_store.proofs.registry.Registry.vendors.Goals as goal
 
 pub returns : goal.returns
-returns g c = record { query = queried c.in_ok-check_not_poisoned.ensures.sound refl refl refl c.list_vendors.ensures.looked_up c.note.ensures }
+returns g c = record { query = queried c.in_ok-check_not_poisoned.ensures.sound refl refl refl c.list_vendors-vendors.ensures.looked_up c.note.ensures }
