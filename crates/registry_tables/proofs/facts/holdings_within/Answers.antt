@@ -10,9 +10,9 @@ pub returns-in-Ok-holdings_of-clause-reads : goal.returns-in-Ok-holdings_of-clau
 returns-in-Ok-holdings_of-clause-reads g c =
     let range = c.args.range in
     rows_pass (λ h t legal has had kept is.
-          let listed = λ (a b : ℕ). sort_by by_number (filter (is_between range.vid a b) t.entries) in
-          let all = is ∙ ap (λ a. listed a c.last.result) c.first.ensures ∙ ap (listed range.span.first) c.last.ensures.last in
-          subst (AreHoldings range h) (sym (c.in-Ok-holdings_of.ensures ∙ ap (map holding_at) all)) (holdings_are h legal t.entries had.entries range)) c.in-Ok.ensures.reads
+    let listed = λ (a b : ℕ). sort_by by_number (filter (is_between range.vid a b) t.entries) in
+    let all = is ∙ ap (λ a. listed a c.last.result) c.first.ensures ∙ ap (listed range.span.first) c.last.ensures.last in
+    subst (AreHoldings range h) (sym (c.in-Ok-holdings_of.ensures ∙ ap (map holding_at) all)) (holdings_are h legal t.entries had.entries range)) c.in-Ok.ensures.reads
 
 pub returns-in-Err-clause-reads : goal.returns-in-Err-clause-reads
 returns-in-Err-clause-reads g c =
