@@ -38,7 +38,6 @@ fn founding(rt: &(impl AllocGlobal + Abort)) -> Founding {
         rt.alloc(),
         b"vendor = \"1209\"\nname = \"Shared products\"\ncurators = [\"ann\"]\nlicences = [\"MIT\"]\n",
     )
-    .expect(rt, "memory")
     .expect(rt, "a founding")
 }
 
@@ -47,7 +46,6 @@ fn request(rt: &(impl AllocGlobal + Abort)) -> Request {
         rt.alloc(),
         br#"{"caller":"ann","key":"k1","order":"enrol","org":"acme","title":"Acme","site":"http://a.example/"}"#,
     )
-    .expect(rt, "memory")
     .expect(rt, "a request")
 }
 

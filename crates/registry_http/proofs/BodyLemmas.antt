@@ -8,15 +8,15 @@ use Rattle.byte_streams.specs.Streams.{MayGive}
 use Rattle.usbids_text.specs.declared.reader.Reader.{Reader}
 use Rattle.usbids_text.specs.Readers.{WasFed}
 use Rattle.byte_streams.proofs.StreamLemmas.{all_of, all_at_end}
-use Rattle.registry_wire.specs.declared.refusal.WireRefusal.{WireRefusal}
-use Rattle.registry_wire.specs.declared.refusal.WireRefusal.TheVariants.{ShortBody}
+use Rattle.registry_http.specs.declared.refusal.HttpRefusal.{HttpRefusal}
+use Rattle.registry_http.specs.declared.refusal.HttpRefusal.TheVariants.{ShortBody}
 use Rattle.registry_http.specs.Bodies.{body_in, IsBuffered, IsFed}
 
-if_true : (b : Bool) → (x y : Result (List ℕ) WireRefusal) → b ≡ true → (if b then x else y) ≡ x
+if_true : (b : Bool) → (x y : Result (List ℕ) HttpRefusal) → b ≡ true → (if b then x else y) ≡ x
 if_true true x y e = refl
 if_true false x y e = absurd cc
 
-if_false : (b : Bool) → (x y : Result (List ℕ) WireRefusal) → b ≡ false → (if b then x else y) ≡ y
+if_false : (b : Bool) → (x y : Result (List ℕ) HttpRefusal) → b ≡ false → (if b then x else y) ≡ y
 if_false false x y e = refl
 if_false true x y e = absurd cc
 

@@ -11,10 +11,8 @@ use Rattle.httparse.specs.Grammar.{RequestHead, HasNoRequest, MayBecomeRequest}
 use Rattle.httparse.proofs.GrammarLemmas.{request_unique}
 use Rattle.byte_streams.specs.Streams.{HasFailed}
 use Rattle.byte_streams.proofs.StreamLemmas.{consumes_then}
-use Rattle.registry_wire.specs.declared.refusal.WireRefusal.{WireRefusal}
-use Rattle.registry_wire.specs.declared.refusal.WireRefusal.TheVariants.{BadHead, ShortBody}
 use Rattle.registry_http.specs.declared.refusal.HttpRefusal.{HttpRefusal}
-use Rattle.registry_http.specs.declared.refusal.HttpRefusal.TheVariants.{Wire}
+use Rattle.registry_http.specs.declared.refusal.HttpRefusal.TheVariants.{BadHead, ShortBody}
 use Rattle.registry_http.specs.declared.reading.Head.{Head}
 use Rattle.registry_http.specs.declared.reading.Head.TheVariants as heads
 use Rattle.registry_http.specs.declared.message.Message.{Message}
@@ -71,14 +69,14 @@ fails_after_head a b c f g h buf spans r head has at took same fails =
 
 -- what the bytes of an incomplete message say
 abbrev IsRefusedEarly : Result Message HttpRefusal → Type 0
-IsRefusedEarly said = (said ≡ Err (Wire BadHead)) ⊎ (said ≡ Err (Wire ShortBody))
+IsRefusedEarly said = (said ≡ Err BadHead) ⊎ (said ≡ Err ShortBody)
 
-open_body_says : (founding : ℕ) (says : Result Head HttpRefusal) (rest : List ℕ) (said : Result Message HttpRefusal) → HasOpenBody says rest → HeadSays founding says rest said → said ≡ Err (Wire ShortBody)
+open_body_says : (founding : ℕ) (says : Result Head HttpRefusal) (rest : List ℕ) (said : Result Message HttpRefusal) → HasOpenBody says rest → HeadSays founding says rest said → said ≡ Err ShortBody
 open_body_says founding (Err refusal) rest said lacks says = absurd lacks
 open_body_says founding (Ok (heads.Query query)) rest said lacks says = absurd lacks
 open_body_says founding (Ok (heads.Order order)) rest said lacks says =
     let short = body_short order.length rest (lt-leb order.length (length rest) lacks) in
-    let refused = subst (λ (body : Result (List ℕ) WireRefusal). BodySays founding order.endpoint order.caller order.key body says.0) short says.1 in
+    let refused = subst (λ (body : Result (List ℕ) HttpRefusal). BodySays founding order.endpoint order.caller order.key body says.0) short says.1 in
     says.2 ∙ ap as_message refused
 
 pub incomplete_says : (founding : ℕ) (bytes : List ℕ) (said : Result Message HttpRefusal) → IsIncomplete bytes → Says founding bytes said → IsRefusedEarly said

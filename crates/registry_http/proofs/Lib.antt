@@ -1,5 +1,6 @@
 pub mod HeadLemmas
 pub mod FieldLemmas
+pub mod FaultLemmas
 pub mod PartLemmas
 pub mod AsciiLemmas
 pub mod BodyLemmas

@@ -1,6 +1,6 @@
 -- The bytes of a message determine its query, request or refusal.
 use Rattle.std.proofs.Common.{◌≡◌, ℕ, List, [], ◌++◌, Option, Some, None, inl, inr, refl, sym, ap, subst, ◌∙◌}
-use Rattle.std.specs.Prelude.{Result, Ok, Err, IfOk, map, take, drop}
+use Rattle.std.specs.Prelude.{Result, Ok, Err, map, take, drop}
 use Rattle.httparse.specs.declared.spans.HeaderSpan.{HeaderSpan}
 use Rattle.httparse.specs.declared.spans.RequestSpans.{RequestSpans}
 use Rattle.httparse.specs.Spans.{IsRequestAt, span_bytes, header_bytes}
@@ -16,9 +16,9 @@ use Rattle.usbids_text.proofs.InnerLemmas.{lines_inner}
 use Rattle.usbids_text.proofs.UniqueLemmas.{one_spelt, fault_is_one, not_both_at_once}
 use Rattle.registry_rules.specs.declared.order.Request.{Request}
 use Rattle.registry_wire.specs.Import.{import_of}
-use Rattle.registry_wire.specs.declared.refusal.WireRefusal.{WireRefusal}
 use Rattle.registry_wire.specs.declared.refusal.WireRefusal.TheVariants.{BadList}
 use Rattle.registry_http.specs.declared.refusal.HttpRefusal.{HttpRefusal}
+use Rattle.registry_http.specs.declared.refusal.HttpRefusal.TheVariants.{Wire}
 use Rattle.registry_http.specs.Heads.{HasHead}
 use Rattle.registry_http.specs.Bodies.{body_in}
 use Rattle.registry_http.specs.Reading.{head_in, head_reading}
@@ -41,10 +41,10 @@ may_give_after (Some xs) None x rest took may = absurd took
 may_give_after (Some xs) (Some ys) x rest took may = ap (λ (t : List ℕ). x ++ t) may ∙ sym took
 
 -- the refusal of a faulty line
-abbrev pub bad_list : ℕ → Why → Result Request WireRefusal
-bad_list n why = Err (BadList (record { line = n; why = why }))
+abbrev pub bad_list : ℕ → Why → Result Request HttpRefusal
+bad_list n why = Err (Wire (BadList (record { line = n; why = why })))
 
-list_says_one_thing : (founding : ℕ) (caller key org : List ℕ) (vendor : Option ℕ) (body : List ℕ) (a b : Result Request WireRefusal)
+list_says_one_thing : (founding : ℕ) (caller key org : List ℕ) (vendor : Option ℕ) (body : List ℕ) (a b : Result Request HttpRefusal)
     → ListSays founding caller key org vendor body a → ListSays founding caller key org vendor body b → a ≡ b
 list_says_one_thing founding caller key org vendor body a b (inl x) (inl y) =
     x.2 ∙ (ap (λ (list : List TopEntry). Ok (import_of caller key org founding vendor list)) (one_spelt (lines body) x.0 y.0 x.1 y.1) ∙ sym y.2)
@@ -54,12 +54,12 @@ list_says_one_thing founding caller key org vendor body a b (inr x) (inr y) =
     let same = fault_is_one (lines body) x.0 y.0 x.1 y.1 (lines_inner body) x.2 y.2 in
     x.3 ∙ (ap (λ (n : ℕ). bad_list n x.1) same.0 ∙ (ap (λ (why : Why). bad_list y.0 why) same.1 ∙ sym y.3))
 
-whole_body_says_one_thing : (founding : ℕ) (endpoint : Endpoint) (caller key body : List ℕ) (a b : Result Request WireRefusal)
+whole_body_says_one_thing : (founding : ℕ) (endpoint : Endpoint) (caller key body : List ℕ) (a b : Result Request HttpRefusal)
     → WholeBodySays founding endpoint caller key body a → WholeBodySays founding endpoint caller key body b → a ≡ b
 whole_body_says_one_thing founding endpoints.Commands caller key body a b x y = x ∙ sym y
 whole_body_says_one_thing founding (endpoints.Imports org vendor) caller key body a b x y = list_says_one_thing founding caller key org vendor body a b x y
 
-body_says_one_thing : (founding : ℕ) (endpoint : Endpoint) (caller key : List ℕ) (body : Result (List ℕ) WireRefusal) (a b : Result Request WireRefusal)
+body_says_one_thing : (founding : ℕ) (endpoint : Endpoint) (caller key : List ℕ) (body : Result (List ℕ) HttpRefusal) (a b : Result Request HttpRefusal)
     → BodySays founding endpoint caller key body a → BodySays founding endpoint caller key body b → a ≡ b
 body_says_one_thing founding endpoint caller key (Err refusal) a b x y = x ∙ sym y
 body_says_one_thing founding endpoint caller key (Ok body) a b x y = whole_body_says_one_thing founding endpoint caller key body a b x y
@@ -84,12 +84,11 @@ pub head_at_spans : (buf : List ℕ) (spans : List HeaderSpan) (r : RequestSpans
 head_at_spans buf spans r h at = rw (at.method, at.path, at.fields) refl
 
 -- from the head and all bytes after it to the whole message
-pub says_after_head : {E : Type 0} (a b : Option (List ℕ)) (founding : ℕ) (buf : List ℕ) (spans : List HeaderSpan) (r : RequestSpans) (h : RequestHead) (result : Result (Result Message HttpRefusal) E)
+pub says_after_head : (a b : Option (List ℕ)) (founding : ℕ) (buf : List ℕ) (spans : List HeaderSpan) (r : RequestSpans) (h : RequestHead) (said : Result Message HttpRefusal)
     → HasHead buf h (drop r.len buf) → IsRequestAt buf spans r h → Consumes a b buf
-    → IfOk result (λ said. (rest : List ℕ) × MayGive b rest × HeadSays founding (head_in (span_bytes buf r.method) (span_bytes buf r.path) (map (header_bytes buf) (take r.headers spans))) (drop r.len buf ++ rest) said)
-    → IfOk result (λ said. (bytes : List ℕ) × MayGive a bytes × Says founding bytes said)
-says_after_head a b founding buf spans r h (Err e) has at took ok = tt
-says_after_head a b founding buf spans r h (Ok said) has at took ok = (
+    → (rest : List ℕ) × MayGive b rest × HeadSays founding (head_in (span_bytes buf r.method) (span_bytes buf r.path) (map (header_bytes buf) (take r.headers spans))) (drop r.len buf ++ rest) said
+    → (bytes : List ℕ) × MayGive a bytes × Says founding bytes said
+says_after_head a b founding buf spans r h said has at took ok = (
   buf ++ ok.0,
   may_give_after a b buf ok.0 took ok.1,
   inr (

@@ -18,9 +18,9 @@ use Rattle.registry_rules.specs.declared.order.Request.{Request}
 use Rattle.registry_wire.specs.Reading.{body_reading}
 use Rattle.registry_wire.specs.Import.{import_of}
 use Rattle.registry_wire.specs.declared.refusal.WireRefusal.{WireRefusal}
-use Rattle.registry_wire.specs.declared.refusal.WireRefusal.TheVariants.{BadHead, BadList}
+use Rattle.registry_wire.specs.declared.refusal.WireRefusal.TheVariants.{BadList}
 use Rattle.registry_http.specs.declared.refusal.HttpRefusal.{HttpRefusal}
-use Rattle.registry_http.specs.declared.refusal.HttpRefusal.TheVariants.{Wire}
+use Rattle.registry_http.specs.declared.refusal.HttpRefusal.TheVariants.{BadHead, Wire}
 use Rattle.registry_http.specs.Heads.{HasHead, HasNoHead}
 use Rattle.registry_http.specs.Bodies.{body_in}
 use Rattle.registry_http.specs.Reading.{head_reading}
@@ -32,34 +32,39 @@ use Rattle.registry_http.specs.declared.message.Message.{Message}
 use Rattle.registry_http.specs.declared.message.Message.TheVariants as messages
 
 -- the request to import the list of this text, or the refusal of its first faulty line
-abbrev pub ListSays : ℕ → List ℕ → List ℕ → List ℕ → Option ℕ → List ℕ → Result Request WireRefusal → Type 0
+abbrev pub ListSays : ℕ → List ℕ → List ℕ → List ℕ → Option ℕ → List ℕ → Result Request HttpRefusal → Type 0
 ListSays founding caller key org vendor body said =
     ((list : List TopEntry) × IsTextOf body list × (said ≡ Ok (import_of caller key org founding vendor list)))
-    ⊎ ((n : ℕ) × (why : Why) × FaultAt body n why × (said ≡ Err (BadList (record { line = n; why = why }))))
+    ⊎ ((n : ℕ) × (why : Why) × FaultAt body n why × (said ≡ Err (Wire (BadList (record { line = n; why = why })))))
+
+-- a request in JSON, or its refusal as one of the message
+abbrev pub as_order : Result Request WireRefusal → Result Request HttpRefusal
+as_order (Ok request) = Ok request
+as_order (Err refusal) = Err (Wire refusal)
 
 -- the request in a complete body that was sent to this endpoint, or a refusal
-abbrev pub WholeBodySays : ℕ → Endpoint → List ℕ → List ℕ → List ℕ → Result Request WireRefusal → Type 0
-WholeBodySays founding endpoints.Commands caller key body said = said ≡ body_reading caller key body
+abbrev pub WholeBodySays : ℕ → Endpoint → List ℕ → List ℕ → List ℕ → Result Request HttpRefusal → Type 0
+WholeBodySays founding endpoints.Commands caller key body said = said ≡ as_order (body_reading caller key body)
 WholeBodySays founding (endpoints.Imports org vendor) caller key body said = ListSays founding caller key org vendor body said
 
 -- a body that ends early is refused before its bytes are read
-abbrev pub BodySays : ℕ → Endpoint → List ℕ → List ℕ → Result (List ℕ) WireRefusal → Result Request WireRefusal → Type 0
+abbrev pub BodySays : ℕ → Endpoint → List ℕ → List ℕ → Result (List ℕ) HttpRefusal → Result Request HttpRefusal → Type 0
 BodySays founding endpoint caller key (Err refusal) said = said ≡ Err refusal
 BodySays founding endpoint caller key (Ok body) said = WholeBodySays founding endpoint caller key body said
 
-abbrev pub as_message : Result Request WireRefusal → Result Message HttpRefusal
+abbrev pub as_message : Result Request HttpRefusal → Result Message HttpRefusal
 as_message (Ok request) = Ok (messages.Request request)
-as_message (Err refusal) = Err (Wire refusal)
+as_message (Err refusal) = Err refusal
 
 -- the query or request of a head and all bytes after it, or the first fault
 abbrev pub HeadSays : ℕ → Result Head HttpRefusal → List ℕ → Result Message HttpRefusal → Type 0
 HeadSays founding (Err refusal) rest said = said ≡ Err refusal
 HeadSays founding (Ok (heads.Query query)) rest said = said ≡ Ok (messages.Query query)
 HeadSays founding (Ok (heads.Order order)) rest said =
-    (request : Result Request WireRefusal) × BodySays founding order.endpoint order.caller order.key (body_in order.length rest) request × (said ≡ as_message request)
+    (request : Result Request HttpRefusal) × BodySays founding order.endpoint order.caller order.key (body_in order.length rest) request × (said ≡ as_message request)
 
 -- the query or request in all bytes that come, for a registry with this founding vendor, or the first fault
 abbrev pub Says : ℕ → List ℕ → Result Message HttpRefusal → Type 0
 Says founding bytes said =
-    (HasNoHead bytes × (said ≡ Err (Wire BadHead)))
+    (HasNoHead bytes × (said ≡ Err BadHead))
     ⊎ ((head : RequestHead) × (rest : List ℕ) × HasHead bytes head rest × HeadSays founding (head_reading head) rest said)

@@ -4,18 +4,16 @@ use Rattle.std.specs.List.{list_any}
 use Rattle.httparse.specs.Grammar.{RequestHead}
 use Rattle.httparse.specs.Spans.{name_and_value}
 use Rattle.registry_rules.specs.Checks.{◌>>=◌}
-use Rattle.registry_http.specs.Refusals.{found_or}
-use Rattle.registry_wire.specs.Names.{header_name}
+use Rattle.registry_http.specs.Refusals.{found_or, header_name}
 use Rattle.registry_wire.specs.Kinds.{slug_of, key_of}
 use Rattle.registry_http.specs.Limits.{most_command, most_list}
 use Rattle.registry_http.specs.Fields.{is_same_name, values_of, only, length_of}
 use Rattle.registry_http.specs.Routes.{route_of}
-use Rattle.registry_wire.specs.declared.refusal.WireRefusal.TheVariants.{NoRoute, BadLength, TooLarge, BadHeader}
 use Rattle.registry_http.specs.declared.refusal.HttpRefusal.{HttpRefusal}
-use Rattle.registry_http.specs.declared.refusal.HttpRefusal.TheVariants.{Wire, WrongMethod}
+use Rattle.registry_http.specs.declared.refusal.HttpRefusal.TheVariants.{NoRoute, WrongMethod, BadLength, TooLarge, BadHeader}
 use Rattle.registry_http.specs.declared.refusal.Allow.TheVariants as allowed
-use Rattle.registry_wire.specs.declared.refusal.Header.{Header}
-use Rattle.registry_wire.specs.declared.refusal.Header.TheVariants.{Caller, Key}
+use Rattle.registry_http.specs.declared.refusal.Header.{Header}
+use Rattle.registry_http.specs.declared.refusal.Header.TheVariants.{Caller, Key}
 use Rattle.registry_http.specs.declared.route.Route.{Route}
 use Rattle.registry_http.specs.declared.route.Route.TheVariants.{Get, Post}
 use Rattle.registry_http.specs.declared.route.Endpoint.{Endpoint}
@@ -44,7 +42,7 @@ body_limit endpoints.Commands = most_command
 body_limit (endpoints.Imports org vendor) = most_list
 
 abbrev pub within : ℕ → ℕ → Result ℕ HttpRefusal
-within most length = if nat_le length most then Ok length else Err (Wire TooLarge)
+within most length = if nat_le length most then Ok length else Err TooLarge
 
 -- an order: checks its length (21, 22), then its caller, then its key (26)
 unfoldable pub order_head : Endpoint → Fields → Result Head HttpRefusal

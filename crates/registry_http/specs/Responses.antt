@@ -3,18 +3,18 @@ use Rattle.std.specs.Prelude.{ℕ, ◌≡◌, ◌⊎◌, List, [], ◌∷◌, �
 use Rattle.http.specs.StatusCode.{reason_phrase}
 use Rattle.serde_json.specs.Written.{compact_text}
 use Rattle.registry_rules.specs.declared.verdict.Reply.{Reply}
-use Rattle.registry_wire.specs.Replies.{reply_data, refusal_data, refused_data}
-use Rattle.registry_wire.specs.declared.refusal.WireRefusal.TheVariants as refusals
+use Rattle.registry_wire.specs.Replies.{reply_data}
 use Rattle.registry_http.specs.declared.refusal.Allow.{Allow}
 use Rattle.registry_http.specs.declared.refusal.Allow.TheVariants.{Get, Post}
 use Rattle.registry_http.specs.declared.refusal.HttpRefusal.{HttpRefusal}
-use Rattle.registry_http.specs.declared.refusal.HttpRefusal.TheVariants.{Wire, WrongMethod}
+use Rattle.registry_http.specs.declared.refusal.HttpRefusal.TheVariants as refusals
 use Rattle.registry_http.specs.declared.response.Response.{Response}
 use Rattle.registry_http.specs.declared.response.ContentType.{ContentType}
 use Rattle.registry_http.specs.declared.response.ContentType.TheVariants.{Json, Text}
 use Rattle.registry_http.specs.declared.unavailable.Unavailable.{Unavailable}
 use Rattle.registry_http.specs.declared.unavailable.Unavailable.TheVariants.{StoreFault, NoMemory}
-use Rattle.registry_http.specs.Statuses.{wire_status, reply_status}
+use Rattle.registry_http.specs.Refusals.{http_refusal_data}
+use Rattle.registry_http.specs.Statuses.{refusal_status, reply_status}
 
 -- ---- the head
 
@@ -66,13 +66,14 @@ json_response status allow text = record { status = status; content_type = Json;
 unfoldable pub reply_response : Reply → Response
 reply_response reply = json_response (reply_status reply) None (compact_text (reply_data reply))
 
-unfoldable pub wrong_method_json : List ℕ
-wrong_method_json = compact_text (refused_data 25 (codes "WrongMethod") None)
+-- the method that the path allows, if the message has a wrong one
+abbrev pub allow_in : HttpRefusal → Option Allow
+allow_in (refusals.WrongMethod allow) = Some allow
+allow_in _ = None
 
 -- the response to a message that is refused before the registry is asked
 unfoldable pub refusal_response : HttpRefusal → Response
-refusal_response (Wire refusal) = json_response (wire_status refusal) None (compact_text (refusal_data refusal))
-refusal_response (WrongMethod allow) = json_response 405 (Some allow) wrong_method_json
+refusal_response refusal = json_response (refusal_status refusal) (allow_in refusal) (compact_text (http_refusal_data refusal))
 
 -- a list or a report
 unfoldable pub text_response : List ℕ → Response
@@ -81,8 +82,8 @@ text_response bytes = record { status = 200; content_type = Text; allow = None; 
 -- ---- if the registry cannot be asked
 
 abbrev pub unavailable_response : Unavailable → Response
-unavailable_response StoreFault = refusal_response (Wire refusals.StoreFault)
-unavailable_response NoMemory = refusal_response (Wire refusals.NoMemory)
+unavailable_response StoreFault = refusal_response refusals.StoreFault
+unavailable_response NoMemory = refusal_response refusals.NoMemory
 
 unfoldable pub store_fault_bytes : List ℕ
 store_fault_bytes = response_bytes (unavailable_response StoreFault)

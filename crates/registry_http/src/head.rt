@@ -1,6 +1,6 @@
 //! Reads the head of a message.
 
-ghost use Rattle.std.specs.Prelude.{Err, Some, ◌≡◌, ◌≤◌, ◌<◌, ℕ, List, [], ◌++◌, length, drop, IfOk, OnOk};
+ghost use Rattle.std.specs.Prelude.{Err, ◌≡◌, ◌≤◌, ◌<◌, ℕ, List, [], ◌++◌, length, drop, IfOk, OnOk};
 ghost use Rattle.std.specs.Io.KnownBytes.{Consumes, IsAtEnd, Keeps};
 ghost use Rattle.httparse.specs.Spans.{IsRequestAt, IsRequestWithin};
 ghost use Rattle.httparse.specs.Grammar.{RequestHead};
@@ -8,16 +8,14 @@ ghost use Rattle.byte_streams.specs.Streams.{MayGive, HasFailed};
 ghost use Rattle.registry_http.specs.Heads.{HasHead, HasNoHead};
 ghost use Rattle.registry_http.specs.HeadEnds.{IfWhole, OnMissing};
 ghost use Rattle.registry_http.specs.Incomplete.{FailsAfter, IsIncomplete};
-ghost use Rattle.registry_http.specs.Refusals.{message_fault_text};
 
+use crate::fault::StreamFault;
 use byte_streams::{Broken, Source};
 use httparse::Status;
 use httparse::spans::{HeaderSpan, RequestSpans, parse_request};
-use std::error::Error;
-use std::fmt;
 
 /// The limit in bytes of a head.
-const MOST_HEAD: usize = 8_192;
+pub(crate) const MOST_HEAD: usize = 8_192;
 
 /// The result of reading a head.
 #[derive(Clone, Copy, Debug)]
@@ -28,51 +26,28 @@ pub(crate) enum HeadEnd {
     Missing,
 }
 
-/// The reason why a message could not be read.
-#[derive(Clone, Copy, Debug, PartialEq, Eq)]
-pub enum MessageFault {
-    /// The source failed.
-    Broken,
-    /// Out of memory.
-    NoMemory,
-}
-
-/// The fault in a few words.
-impl fmt::Display for MessageFault {
-    ghost output = { λ fault. Some (message_fault_text fault) };
-
-    fn fmt<W: fmt::Write>(&self, f: &mut fmt::Formatter<W>) -> fmt::Result {
-        f.write_str(match self {
-            MessageFault::Broken => "the source failed",
-            MessageFault::NoMemory => "out of memory",
-        })
-    }
-}
-
-impl Error for MessageFault {}
-
 /// Appends at most `most` further bytes of the source to the buffer, and returns their number,
 /// which is 0 only at the end.
 pub(crate) fn take_at_most<R: Source>(
     source: &mut R,
     buffer: &mut Vec<u8>,
     most: usize,
-) -> Result<usize, MessageFault>
+) -> Result<usize, StreamFault>
     requires { 0 < most }
     ensures ok { IfOk result (λ n. (more : List ℕ) × (buffer.new.items ≡ buffer.old.items ++ more) × (length more ≡ n) × (n ≤ most)
         × Consumes (R.remaining source.old) (R.remaining source.new) more × (n ≡ 0 → IsAtEnd (R.remaining source.new))
         × (R.failures source.new ≡ R.failures source.old)) }
-    ensures short { result ≡ Err MessageFault.NoMemory → R.failures source.new ≡ R.failures source.old }
-    ensures broken { result ≡ Err MessageFault.Broken → HasFailed (R.failures source.old) (R.failures source.new) × Keeps (R.remaining source.old) (R.remaining source.new) }
+    ensures short { result ≡ Err StreamFault.NoMemory → R.failures source.new ≡ R.failures source.old }
+    ensures broken { result ≡ Err StreamFault.Broken → HasFailed (R.failures source.old) (R.failures source.new) × Keeps (R.remaining source.old) (R.remaining source.new) }
 {
     let mut chunk = [0u8; 2048];
     let room = most.min(chunk.len());
     match source.take(&mut chunk[..room]) {
         Ok(count) => match buffer.extend_from_slice(&chunk[..count]) {
             Ok(()) => Ok(count),
-            Err(_) => Err(MessageFault::NoMemory),
+            Err(_) => Err(StreamFault::NoMemory),
         },
-        Err(Broken) => Err(MessageFault::Broken),
+        Err(Broken) => Err(StreamFault::Broken),
     }
 }
 
@@ -82,7 +57,7 @@ pub(crate) fn read_head<R: Source>(
     source: &mut R,
     buffer: &mut Vec<u8>,
     spans: &mut [HeaderSpan],
-) -> Result<HeadEnd, MessageFault>
+) -> Result<HeadEnd, StreamFault>
     requires fresh { buffer.old.items ≡ [] }
     requires room { length spans.old ≡ 64 }
     ensures whole { IfOk result (λ end. IfWhole end (λ r. (h : RequestHead)
@@ -90,8 +65,8 @@ pub(crate) fn read_head<R: Source>(
         × Consumes (R.remaining source.old) (R.remaining source.new) buffer.new.items)) }
     ensures missing { IfOk result (λ end. OnMissing end ((bytes : List ℕ) × MayGive (R.remaining source.old) bytes × HasNoHead bytes)) }
     ensures kept { OnOk result (R.failures source.new ≡ R.failures source.old) }
-    ensures short { result ≡ Err MessageFault.NoMemory → R.failures source.new ≡ R.failures source.old }
-    ensures broken { result ≡ Err MessageFault.Broken → FailsAfter (R.remaining source.old) (R.remaining source.new) (R.failures source.old) (R.failures source.new) IsIncomplete }
+    ensures short { result ≡ Err StreamFault.NoMemory → R.failures source.new ≡ R.failures source.old }
+    ensures broken { result ≡ Err StreamFault.Broken → FailsAfter (R.remaining source.old) (R.remaining source.new) (R.failures source.old) (R.failures source.new) IsIncomplete }
 {
     while buffer.len() < MOST_HEAD {
         let count = take_at_most(source, buffer, MOST_HEAD - buffer.len())?;

@@ -2,6 +2,7 @@
 #![tactic(auto)]
 
 mod body;
+mod fault;
 mod fields;
 mod founding;
 mod head;
@@ -19,10 +20,10 @@ mod status;
 mod unavailable;
 mod write;
 
+pub use fault::MessageFault;
 pub use founding::founding_response;
-pub use head::MessageFault;
 pub use message::{Message, read_message, refuses_an_incomplete_message, says_one_thing};
-pub use refusal::{Allow, HttpRefusal};
+pub use refusal::{Allow, Header, HttpRefusal};
 pub use resources::{number_response, org_response, petition_response};
 pub use response::{Body, ContentType, Response, refusal_response, reply_response, text_response};
 pub use route::Query;

@@ -1,24 +1,23 @@
 //! Reads a message as a query or a request.
 
-ghost use Rattle.std.specs.Prelude.{Ok, Err, Result, ◌≡◌, ◌⊎◌, ◌≤◌, ◌<◌, ◌++◌, ℕ, List, length, drop, take, map, IfOk, OnOk};
+ghost use Rattle.std.specs.Prelude.{Ok, Err, Result, ◌≡◌, ◌⊎◌, ◌≤◌, ◌<◌, ◌++◌, ℕ, List, length, drop, take, map};
 ghost use Rattle.byte_streams.specs.Streams.{MayGive};
 ghost use Rattle.httparse.specs.Spans.{IsRequestWithin, span_bytes, header_bytes};
-ghost use Rattle.registry_wire.specs.Reading.{body_reading};
-ghost use Rattle.registry_wire.specs.declared.refusal.WireRefusal.{WireRefusal};
-ghost use Rattle.registry_wire.specs.declared.refusal.WireRefusal.TheVariants.{BadHead, ShortBody};
-ghost use Rattle.registry_rules.specs.declared.order.Request.{Request};
+ghost use Rattle.registry_rules.specs.Gives.{Gives};
 ghost use Rattle.registry_http.specs.Bodies.{body_in, IsFed};
 ghost use Rattle.registry_http.specs.declared.route.Endpoint.TheVariants as endpoints;
 ghost use Rattle.registry_http.specs.Reading.{head_in};
 ghost use Rattle.registry_http.specs.Incomplete.{FailsAfter, HasOpenBody, IsIncomplete};
 ghost use Rattle.registry_http.specs.Routes.{templates};
 ghost use Rattle.registry_http.specs.Messages.{BodySays, HeadSays, Says};
+ghost use Rattle.registry_http.specs.Refusals.{IfSaid};
 ghost use Rattle.registry_http.specs.declared.message.Message.{Message};
 ghost use Rattle.registry_http.specs.declared.refusal.HttpRefusal.{HttpRefusal};
-ghost use Rattle.registry_http.specs.declared.refusal.HttpRefusal.TheVariants.{Wire};
+ghost use Rattle.registry_http.specs.declared.refusal.HttpRefusal.TheVariants.{BadHead, ShortBody};
 
 use crate::body::{feed_body, read_body};
-use crate::head::{HeadEnd, MessageFault, read_head};
+use crate::fault::MessageFault;
+use crate::head::{HeadEnd, MOST_HEAD, read_head};
 use crate::reading::{Head, OrderHead, head_in};
 use crate::refusal::HttpRefusal;
 use crate::route::{Endpoint, Query};
@@ -27,10 +26,10 @@ use byte_streams::Source;
 use httparse::spans::{EMPTY_HEADER_SPAN, HeaderSpan, RequestSpans};
 use matchit::Router;
 use registry_rules::{Rejection, Request};
-use registry_wire::{WireRefusal, import_request, request_from_json};
+use registry_wire::{import_request, request_from_json};
 use std::alloc::Global;
 use usbids_text::Reader;
-use usbnum_core::{Key, NoMemory, Slug, Vid};
+use usbnum_core::{Key, Slug, Vid};
 
 /// The query or request of a message without a fault.
 #[derive(Drop)]
@@ -41,23 +40,7 @@ pub enum Message {
     Request(Request),
 }
 
-/// Reads the request in a body of JSON.
-fn command_in(
-    alloc: Global,
-    caller: Slug,
-    key: Key,
-    body: &[u8],
-) -> Result<Result<Request, WireRefusal>, MessageFault>
-    ensures ok { IfOk result (λ said. said ≡ body_reading caller key body.now) }
-    ensures kind { result ≡ Err MessageFault.Broken → ⊥ }
-{
-    match request_from_json(alloc, caller, key, body) {
-        Ok(said) => Ok(said),
-        Err(NoMemory) => Err(MessageFault::NoMemory),
-    }
-}
-
-/// Returns the request to import the list that the reader was fed, or a refusal.
+/// Returns the request to import the list that the reader was fed.
 fn import_in(
     alloc: Global,
     founding: Vid,
@@ -67,25 +50,19 @@ fn import_in(
     vendor: Option<Vid>,
     reader: Reader,
     whole: bool,
-) -> Result<Result<Request, WireRefusal>, MessageFault>
-    ensures ok { IfOk result (λ said. (count : ℕ) (rest : List ℕ) → IsFed whole reader count rest → BodySays founding (endpoints.Imports org vendor) caller key (body_in count rest) said) }
+) -> Result<Request, MessageFault>
+    ensures ok { IfSaid result (λ said. (count : ℕ) (rest : List ℕ) → IsFed whole reader count rest → BodySays founding (endpoints.Imports org vendor) caller key (body_in count rest) said) }
     ensures kind { result ≡ Err MessageFault.Broken → ⊥ }
 {
     if !whole {
-        return Ok(Err(WireRefusal::ShortBody));
+        return Err(MessageFault::Refused(HttpRefusal::ShortBody));
     }
-    match reader.finish() {
-        Ok(list) => match import_request(alloc, caller, key, org, founding, vendor, &list) {
-            Ok(request) => Ok(Ok(request)),
-            Err(NoMemory) => Err(MessageFault::NoMemory),
-        },
-        Err(usbids_text::ReadFault::Line(fault)) => Ok(Err(WireRefusal::BadList(fault))),
-        Err(usbids_text::ReadFault::NoMemory) => Err(MessageFault::NoMemory),
-    }
+    let list = reader.finish()?;
+    Ok(import_request(alloc, caller, key, org, founding, vendor, &list)?)
 }
 
 /// Reads a list of `count` bytes, which begins with those in `come`, and returns the request to
-/// import it, or a refusal.
+/// import it.
 fn read_import<R: Source>(
     alloc: Global,
     source: &mut R,
@@ -96,17 +73,15 @@ fn read_import<R: Source>(
     key: Key,
     org: Slug,
     vendor: Option<Vid>,
-) -> Result<Result<Request, WireRefusal>, MessageFault>
-    ensures ok { IfOk result (λ said. (rest : List ℕ) × MayGive (R.remaining source.old) rest × BodySays founding (endpoints.Imports org vendor) caller key (body_in count (come.now ++ rest)) said) }
-    ensures kept { OnOk result (R.failures source.new ≡ R.failures source.old) }
+) -> Result<Request, MessageFault>
+    ensures ok { IfSaid result (λ said. (rest : List ℕ) × MayGive (R.remaining source.old) rest × BodySays founding (endpoints.Imports org vendor) caller key (body_in count (come.now ++ rest)) said) }
+    ensures kept { IfSaid result (λ said. R.failures source.new ≡ R.failures source.old) }
     ensures short { result ≡ Err MessageFault.NoMemory → R.failures source.new ≡ R.failures source.old }
     ensures broken { result ≡ Err MessageFault.Broken → FailsAfter (R.remaining source.old) (R.remaining source.new) (R.failures source.old) (R.failures source.new) (λ more. length (come.now ++ more) < count) }
 {
     let mut reader = Reader::new(alloc);
-    match feed_body(source, &mut reader, come, count) {
-        Ok(whole) => import_in(alloc, founding, caller, key, org, vendor, reader, whole),
-        Err(fault) => Err(fault),
-    }
+    let whole = feed_body(source, &mut reader, come, count)?;
+    import_in(alloc, founding, caller, key, org, vendor, reader, whole)
 }
 
 /// Reads the request in a body of JSON of `count` bytes, which begins at `start` in the buffer.
@@ -118,20 +93,19 @@ fn read_command<R: Source>(
     count: usize,
     caller: Slug,
     key: Key,
-) -> Result<Result<Request, WireRefusal>, MessageFault>
+) -> Result<Request, MessageFault>
     requires within { start ≤ length buffer.old.items }
-    requires front { start ≤ 8192 }
+    requires front { start ≤ MOST_HEAD }
     requires small { count < 4294967296 }
-    ensures ok { IfOk result (λ said. (rest : List ℕ) × MayGive (R.remaining source.old) rest × ((founding : ℕ) → BodySays founding endpoints.Commands caller key (body_in count (drop start buffer.old.items ++ rest)) said)) }
-    ensures kept { OnOk result (R.failures source.new ≡ R.failures source.old) }
+    ensures ok { IfSaid result (λ said. (rest : List ℕ) × MayGive (R.remaining source.old) rest × ((founding : ℕ) → BodySays founding endpoints.Commands caller key (body_in count (drop start buffer.old.items ++ rest)) said)) }
+    ensures kept { IfSaid result (λ said. R.failures source.new ≡ R.failures source.old) }
     ensures short { result ≡ Err MessageFault.NoMemory → R.failures source.new ≡ R.failures source.old }
     ensures broken { result ≡ Err MessageFault.Broken → FailsAfter (R.remaining source.old) (R.remaining source.new) (R.failures source.old) (R.failures source.new) (λ more. length (drop start buffer.old.items ++ more) < count) }
 {
-    match read_body(source, buffer, start, count) {
-        Ok(true) => command_in(alloc, caller, key, &buffer[start..start + count]),
-        Ok(false) => Ok(Err(WireRefusal::ShortBody)),
-        Err(fault) => Err(fault),
+    if !read_body(source, buffer, start, count)? {
+        return Err(MessageFault::Refused(HttpRefusal::ShortBody));
     }
+    Ok(request_from_json(alloc, caller, key, &buffer[start..start + count])?)
 }
 
 /// Reads the request of an order with this head, whose body begins at `start` in the buffer.
@@ -142,12 +116,12 @@ fn read_order<R: Source>(
     start: usize,
     founding: Vid,
     order: OrderHead,
-) -> Result<Result<Request, WireRefusal>, MessageFault>
+) -> Result<Request, MessageFault>
     requires within { start ≤ length buffer.old.items }
-    requires front { start ≤ 8192 }
-    ensures ok { IfOk result (λ said. (rest : List ℕ) × MayGive (R.remaining source.old) rest
+    requires front { start ≤ MOST_HEAD }
+    ensures ok { IfSaid result (λ said. (rest : List ℕ) × MayGive (R.remaining source.old) rest
         × BodySays founding order.endpoint order.caller order.key (body_in order.length (drop start buffer.old.items ++ rest)) said) }
-    ensures kept { OnOk result (R.failures source.new ≡ R.failures source.old) }
+    ensures kept { IfSaid result (λ said. R.failures source.new ≡ R.failures source.old) }
     ensures short { result ≡ Err MessageFault.NoMemory → R.failures source.new ≡ R.failures source.old }
     ensures broken { result ≡ Err MessageFault.Broken → FailsAfter (R.remaining source.old) (R.remaining source.new) (R.failures source.old) (R.failures source.new) (λ more. length (drop start buffer.old.items ++ more) < order.length) }
 {
@@ -175,31 +149,26 @@ fn read_order<R: Source>(
     }
 }
 
-/// Returns the query or order that the head in the buffer asks for, or a refusal.
+/// Returns the query or order that the head in the buffer asks for.
 fn head_at(
     alloc: Global,
     router: &Router<Template>,
     buffer: &[u8],
     spans: &[HeaderSpan],
     head: RequestSpans,
-) -> Result<Result<Head, HttpRefusal>, MessageFault>
+) -> Result<Head, Rejection<HttpRefusal>>
     requires within { IsRequestWithin buffer.now spans.now head }
     requires whole { router.now ≡ templates }
-    ensures ok { IfOk result (λ call. call ≡ head_in (span_bytes buffer.now head.method) (span_bytes buffer.now head.path) (map (header_bytes buffer.now) (take head.headers spans.now))) }
-    ensures kind { result ≡ Err MessageFault.Broken → ⊥ }
+    ensures { Gives result (head_in (span_bytes buffer.now head.method) (span_bytes buffer.now head.path) (map (header_bytes buffer.now) (take head.headers spans.now))) }
 {
-    match head_in(
+    head_in(
         alloc,
         router,
         head.method.of(buffer),
         head.path.of(buffer),
         buffer,
         &spans[..head.headers],
-    ) {
-        Ok(call) => Ok(Ok(call)),
-        Err(Rejection::Refused(refusal)) => Ok(Err(refusal)),
-        Err(Rejection::NoMemory) => Err(MessageFault::NoMemory),
-    }
+    )
 }
 
 /// Reads the rest of a message with this head, whose body begins at `start` in the buffer.
@@ -210,21 +179,20 @@ fn read_rest<R: Source>(
     start: usize,
     founding: Vid,
     call: Head,
-) -> Result<Result<Message, HttpRefusal>, MessageFault>
+) -> Result<Message, MessageFault>
     requires within { start ≤ length buffer.old.items }
-    requires front { start ≤ 8192 }
-    ensures ok { IfOk result (λ said. (rest : List ℕ) × MayGive (R.remaining source.old) rest × HeadSays founding (Ok call) (drop start buffer.old.items ++ rest) said) }
-    ensures kept { OnOk result (R.failures source.new ≡ R.failures source.old) }
+    requires front { start ≤ MOST_HEAD }
+    ensures ok { IfSaid result (λ said. (rest : List ℕ) × MayGive (R.remaining source.old) rest × HeadSays founding (Ok call) (drop start buffer.old.items ++ rest) said) }
+    ensures kept { IfSaid result (λ said. R.failures source.new ≡ R.failures source.old) }
     ensures short { result ≡ Err MessageFault.NoMemory → R.failures source.new ≡ R.failures source.old }
     ensures broken { result ≡ Err MessageFault.Broken → FailsAfter (R.remaining source.old) (R.remaining source.new) (R.failures source.old) (R.failures source.new) (λ more. HasOpenBody (Ok call) (drop start buffer.old.items ++ more)) }
 {
     match call {
-        Head::Query(query) => Ok(Ok(Message::Query(query))),
-        Head::Order(order) => match read_order(alloc, source, buffer, start, founding, order) {
-            Ok(Ok(request)) => Ok(Ok(Message::Request(request))),
-            Ok(Err(refusal)) => Ok(Err(HttpRefusal::Wire(refusal))),
-            Err(fault) => Err(fault),
-        },
+        Head::Query(query) => Ok(Message::Query(query)),
+        Head::Order(order) => {
+            let request = read_order(alloc, source, buffer, start, founding, order)?;
+            Ok(Message::Request(request))
+        }
     }
 }
 
@@ -237,25 +205,23 @@ fn read_after_head<R: Source>(
     spans: &[HeaderSpan],
     head: RequestSpans,
     founding: Vid,
-) -> Result<Result<Message, HttpRefusal>, MessageFault>
+) -> Result<Message, MessageFault>
     requires within { IsRequestWithin buffer.old.items spans.now head }
-    requires front { head.len ≤ 8192 }
+    requires front { head.len ≤ MOST_HEAD }
     requires whole { router.now ≡ templates }
-    ensures ok { IfOk result (λ said. (rest : List ℕ) × MayGive (R.remaining source.old) rest
+    ensures ok { IfSaid result (λ said. (rest : List ℕ) × MayGive (R.remaining source.old) rest
         × HeadSays founding (head_in (span_bytes buffer.old.items head.method) (span_bytes buffer.old.items head.path) (map (header_bytes buffer.old.items) (take head.headers spans.now))) (drop head.len buffer.old.items ++ rest) said) }
-    ensures kept { OnOk result (R.failures source.new ≡ R.failures source.old) }
+    ensures kept { IfSaid result (λ said. R.failures source.new ≡ R.failures source.old) }
     ensures short { result ≡ Err MessageFault.NoMemory → R.failures source.new ≡ R.failures source.old }
     ensures broken { result ≡ Err MessageFault.Broken → FailsAfter (R.remaining source.old) (R.remaining source.new) (R.failures source.old) (R.failures source.new) (λ more. HasOpenBody (head_in (span_bytes buffer.old.items head.method) (span_bytes buffer.old.items head.path) (map (header_bytes buffer.old.items) (take head.headers spans.now))) (drop head.len buffer.old.items ++ more)) }
 {
-    match head_at(alloc, router, buffer, spans, head) {
-        Ok(Ok(call)) => read_rest(alloc, source, buffer, head.len, founding, call),
-        Ok(Err(refusal)) => Ok(Err(refusal)),
-        Err(fault) => Err(fault),
-    }
+    let call = head_at(alloc, router, buffer, spans, head)?;
+    read_rest(alloc, source, buffer, head.len, founding, call)
 }
 
-/// Reads one message to a registry with this founding vendor. Returns a query, a request, or the
-/// refusal of the first fault. The first message makes the table of the served paths.
+/// Reads one message to a registry with this founding vendor. Returns a query or a request, or
+/// `Refused` with the refusal of the first fault. The first message makes the table of the served
+/// paths.
 ///
 /// Reads only while the message is incomplete: bytes that follow can complete its head within 8,192
 /// bytes, or its head is that of an order whose body is not complete. So it never waits for a peer
@@ -272,30 +238,19 @@ pub fn read_message<R: Source>(
     routes: &mut Routes,
     source: &mut R,
     founding: Vid,
-) -> Result<Result<Message, HttpRefusal>, MessageFault>
-    ensures ok { IfOk result (λ said. (bytes : List ℕ) × MayGive (R.remaining source.old) bytes × Says founding bytes said) }
-    ensures kept { OnOk result (R.failures source.new ≡ R.failures source.old) }
+) -> Result<Message, MessageFault>
+    ensures ok { IfSaid result (λ said. (bytes : List ℕ) × MayGive (R.remaining source.old) bytes × Says founding bytes said) }
+    ensures kept { IfSaid result (λ said. R.failures source.new ≡ R.failures source.old) }
     ensures short { result ≡ Err MessageFault.NoMemory → R.failures source.new ≡ R.failures source.old }
     ensures broken { result ≡ Err MessageFault.Broken → FailsAfter (R.remaining source.old) (R.remaining source.new) (R.failures source.old) (R.failures source.new) IsIncomplete }
 {
     let mut buffer = Vec::new(alloc);
     let mut spans = [EMPTY_HEADER_SPAN; 64];
-    match read_head(source, &mut buffer, &mut spans) {
-        Ok(HeadEnd::Whole(head)) => match routes.router(alloc) {
-            Ok(router) => read_after_head(
-                alloc,
-                router,
-                source,
-                &mut buffer,
-                &spans,
-                head,
-                founding,
-            ),
-            Err(NoMemory) => Err(MessageFault::NoMemory),
-        },
-        Ok(HeadEnd::Missing) => Ok(Err(HttpRefusal::Wire(WireRefusal::BadHead))),
-        Err(fault) => Err(fault),
-    }
+    let HeadEnd::Whole(head) = read_head(source, &mut buffer, &mut spans)? else {
+        return Err(MessageFault::Refused(HttpRefusal::BadHead));
+    };
+    let router = routes.router(alloc)?;
+    read_after_head(alloc, router, source, &mut buffer, &spans, head, founding)
 }
 
 /// The bytes of a message have one meaning, however they are cut into pieces.
@@ -306,5 +261,5 @@ pub fn says_one_thing()
 /// The bytes of an incomplete message alone are refused: they have no head, or their body ends
 /// early. So a message that says anything else is complete.
 pub fn refuses_an_incomplete_message()
-    ensures { (founding : ℕ) (bytes : List ℕ) (said : Result Message HttpRefusal) → IsIncomplete bytes → Says founding bytes said → (said ≡ Err (Wire BadHead)) ⊎ (said ≡ Err (Wire ShortBody)) }
+    ensures { (founding : ℕ) (bytes : List ℕ) (said : Result Message HttpRefusal) → IsIncomplete bytes → Says founding bytes said → (said ≡ Err BadHead) ⊎ (said ≡ Err ShortBody) }
 {}

@@ -7,18 +7,17 @@ ghost use Rattle.registry_http.specs.Refusals.{found_or};
 ghost use Rattle.registry_wire.specs.Kinds.{slug_of, key_of};
 ghost use Rattle.registry_http.specs.Routes.{templates};
 ghost use Rattle.registry_http.specs.Reading.{length_in, header_in, body_limit, within, order_head, head_for, head_in};
-ghost use Rattle.registry_wire.specs.declared.refusal.WireRefusal.TheVariants as refusals;
-ghost use Rattle.registry_wire.specs.declared.refusal.Header.TheVariants as headers;
+ghost use Rattle.registry_http.specs.declared.refusal.HttpRefusal.TheVariants as refusals;
+ghost use Rattle.registry_http.specs.declared.refusal.Header.TheVariants as headers;
 
 use crate::fields::{has_field, length_of, only_value};
 use crate::parts::slug_of;
-use crate::refusal::{Allow, HttpRefusal};
+use crate::refusal::{Allow, Header, HttpRefusal};
 use crate::route::{Endpoint, Query, Route};
 use crate::routes::{Template, route_of};
 use httparse::spans::HeaderSpan;
 use matchit::Router;
 use registry_rules::Rejection;
-use registry_wire::{Header, WireRefusal};
 use std::alloc::Global;
 use usbnum_core::{Key, NoMemory, Slug};
 
@@ -67,7 +66,7 @@ fn within(most: u32, length: u64) -> Result<u32, Rejection<HttpRefusal>>
     if length <= u64::from(most) {
         Ok(length as u32)
     } else {
-        Err(Rejection::Refused(HttpRefusal::Wire(WireRefusal::TooLarge)))
+        Err(Rejection::Refused(HttpRefusal::TooLarge))
     }
 }
 
@@ -77,7 +76,7 @@ fn length_at(buffer: &[u8], spans: &[HeaderSpan]) -> Result<u64, Rejection<HttpR
 {
     match length_in(buffer, spans) {
         Some(length) => Ok(length),
-        None => Err(Rejection::Refused(HttpRefusal::Wire(WireRefusal::BadLength))),
+        None => Err(Rejection::Refused(HttpRefusal::BadLength)),
     }
 }
 
@@ -90,11 +89,11 @@ fn caller_at(
     ensures { Gives result (found_or (refusals.BadHeader headers.Caller) (option_and_then slug_of (header_in headers.Caller (map (header_bytes buffer.now) spans.now)))) }
 {
     let Some(text) = only_value(buffer, spans, Header::Caller.name().as_bytes()) else {
-        return Err(Rejection::Refused(HttpRefusal::Wire(WireRefusal::BadHeader(Header::Caller))));
+        return Err(Rejection::Refused(HttpRefusal::BadHeader(Header::Caller)));
     };
     match slug_of(alloc, text)? {
         Some(caller) => Ok(caller),
-        None => Err(Rejection::Refused(HttpRefusal::Wire(WireRefusal::BadHeader(Header::Caller)))),
+        None => Err(Rejection::Refused(HttpRefusal::BadHeader(Header::Caller))),
     }
 }
 
@@ -111,11 +110,11 @@ fn key_at(alloc: Global, buffer: &[u8], spans: &[HeaderSpan]) -> Result<Key, Rej
     ensures { Gives result (found_or (refusals.BadHeader headers.Key) (option_and_then key_of (header_in headers.Key (map (header_bytes buffer.now) spans.now)))) }
 {
     let Some(text) = only_value(buffer, spans, Header::Key.name().as_bytes()) else {
-        return Err(Rejection::Refused(HttpRefusal::Wire(WireRefusal::BadHeader(Header::Key))));
+        return Err(Rejection::Refused(HttpRefusal::BadHeader(Header::Key)));
     };
     match key_of(alloc, text)? {
         Some(key) => Ok(key),
-        None => Err(Rejection::Refused(HttpRefusal::Wire(WireRefusal::BadHeader(Header::Key)))),
+        None => Err(Rejection::Refused(HttpRefusal::BadHeader(Header::Key))),
     }
 }
 
@@ -192,6 +191,6 @@ pub(crate) fn head_in(
 {
     match route_of(alloc, router, target)? {
         Some(route) => head_for(alloc, route, method, buffer, spans),
-        None => Err(Rejection::Refused(HttpRefusal::Wire(WireRefusal::NoRoute))),
+        None => Err(Rejection::Refused(HttpRefusal::NoRoute)),
     }
 }

@@ -1,13 +1,13 @@
 //! Responses: a reply, a refusal, or a text.
 
 ghost use Rattle.std.specs.Prelude.{◌≡◌, IfOk, string_bytes};
-ghost use Rattle.registry_http.specs.Responses.{json_response, reply_response, wrong_method_json, refusal_response, text_response};
+ghost use Rattle.registry_http.specs.Responses.{allow_in, json_response, reply_response, refusal_response, text_response};
 
 use crate::refusal::{Allow, HttpRefusal};
-use crate::status::{reply_status, wire_status};
+use crate::status::{refusal_status, reply_status};
 use http::StatusCode;
 use registry_rules::Reply;
-use registry_wire::{refusal_json, reply_json};
+use registry_wire::{refused_json, reply_json};
 use std::alloc::Global;
 use std::marker::Model;
 use usbnum_core::NoMemory;
@@ -90,10 +90,14 @@ pub fn reply_response(alloc: Global, reply: &Reply) -> Result<Response, NoMemory
     json_response(reply_status(reply), None, text)
 }
 
-fn wrong_method_json() -> &'static str
-    ensures { result.now ≡ wrong_method_json }
+/// Returns the method that the path allows, if the message has a wrong one.
+fn allow_in(refusal: HttpRefusal) -> Option<Allow>
+    ensures { result ≡ allow_in refusal }
 {
-    "{\"name\":\"WrongMethod\",\"refused\":25}"
+    match refusal {
+        HttpRefusal::WrongMethod(allow) => Some(allow),
+        _ => None,
+    }
 }
 
 /// Makes the response to a message that is refused before the registry is asked.
@@ -101,16 +105,9 @@ fn wrong_method_json() -> &'static str
 pub fn refusal_response(alloc: Global, refusal: HttpRefusal) -> Result<Response, NoMemory>
     ensures { IfOk result (λ response. response ≡ refusal_response refusal) }
 {
-    match refusal {
-        HttpRefusal::Wire(refusal) => {
-            let text = refusal_json(alloc, refusal)?;
-            json_response(wire_status(refusal), None, text)
-        }
-        HttpRefusal::WrongMethod(allow) => {
-            let text = String::from_str(alloc, wrong_method_json())?;
-            json_response(StatusCode::METHOD_NOT_ALLOWED, Some(allow), text)
-        }
-    }
+    let detail = refusal.detail(alloc)?;
+    let text = refused_json(alloc, refusal.number(), refusal.name(), detail)?;
+    json_response(refusal_status(refusal), allow_in(refusal), text)
 }
 
 /// Makes the response with a list or a report, whose bytes are unchanged.

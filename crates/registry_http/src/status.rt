@@ -1,8 +1,9 @@
 //! The status of a response.
 
 ghost use Rattle.std.specs.Prelude.{◌≡◌};
-ghost use Rattle.registry_http.specs.Statuses.{wire_status, rule_status, reply_status};
+ghost use Rattle.registry_http.specs.Statuses.{wire_status, refusal_status, rule_status, reply_status};
 
+use crate::refusal::HttpRefusal;
 use http::StatusCode;
 use registry_rules::{Refusal, Reply};
 use registry_wire::WireRefusal;
@@ -29,22 +30,32 @@ pub(crate) fn reply_status(reply: &Reply) -> StatusCode
     }
 }
 
-/// Returns the status of a refusal before the rules.
-pub(crate) fn wire_status(refusal: WireRefusal) -> StatusCode
+/// Returns the status of a refusal of a body.
+fn wire_status(refusal: WireRefusal) -> StatusCode
     ensures { result ≡ wire_status refusal }
 {
     match refusal {
-        WireRefusal::BadHead => StatusCode::BAD_REQUEST,
-        WireRefusal::BadLength => StatusCode::LENGTH_REQUIRED,
-        WireRefusal::TooLarge => StatusCode::PAYLOAD_TOO_LARGE,
-        WireRefusal::ShortBody => StatusCode::BAD_REQUEST,
-        WireRefusal::NoRoute => StatusCode::NOT_FOUND,
-        WireRefusal::BadHeader(_) => StatusCode::BAD_REQUEST,
         WireRefusal::BadJson => StatusCode::BAD_REQUEST,
         WireRefusal::BadField(_) => StatusCode::UNPROCESSABLE_ENTITY,
         WireRefusal::BadList(_) => StatusCode::UNPROCESSABLE_ENTITY,
-        WireRefusal::StoreFault => StatusCode::SERVICE_UNAVAILABLE,
-        WireRefusal::NoMemory => StatusCode::SERVICE_UNAVAILABLE,
         WireRefusal::BadFounding(_) => StatusCode::UNPROCESSABLE_ENTITY,
+    }
+}
+
+/// Returns the status of a refusal before the rules.
+pub(crate) fn refusal_status(refusal: HttpRefusal) -> StatusCode
+    ensures { result ≡ refusal_status refusal }
+{
+    match refusal {
+        HttpRefusal::BadHead => StatusCode::BAD_REQUEST,
+        HttpRefusal::BadLength => StatusCode::LENGTH_REQUIRED,
+        HttpRefusal::TooLarge => StatusCode::PAYLOAD_TOO_LARGE,
+        HttpRefusal::ShortBody => StatusCode::BAD_REQUEST,
+        HttpRefusal::NoRoute => StatusCode::NOT_FOUND,
+        HttpRefusal::WrongMethod(_) => StatusCode::METHOD_NOT_ALLOWED,
+        HttpRefusal::BadHeader(_) => StatusCode::BAD_REQUEST,
+        HttpRefusal::StoreFault => StatusCode::SERVICE_UNAVAILABLE,
+        HttpRefusal::NoMemory => StatusCode::SERVICE_UNAVAILABLE,
+        HttpRefusal::Wire(refusal) => wire_status(refusal),
     }
 }

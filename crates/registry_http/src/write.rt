@@ -37,10 +37,8 @@ fn joined_if_short(alloc: Global, head: &[u8], body: &[u8]) -> Option<Vec<u8>>
 fn put_parts<W: Sink>(sink: &mut W, head: &[u8], body: &[u8]) -> Result<(), Broken>
     ensures { Writes (W.contents sink.old) (W.contents sink.new) (W.failures sink.old) (W.failures sink.new) result (head.now ++ body.now) }
 {
-    match put_all(sink, head) {
-        Ok(()) => put_all(sink, body),
-        Err(broken) => Err(broken),
-    }
+    put_all(sink, head)?;
+    put_all(sink, body)
 }
 
 /// Writes a head and a body, a short body in one write with its head: the peer then waits for one
@@ -65,10 +63,8 @@ fn put_response<W: Sink>(
     ensures writes { Writes (W.contents sink.old) (W.contents sink.new) (W.failures sink.old) (W.failures sink.new) result (response_bytes response.now) }
     ensures status { IfOk result (λ status. status ≡ response.now.status) }
 {
-    match put_both(alloc, sink, head.as_bytes(), response.body.as_slice()) {
-        Ok(()) => Ok(response.status.as_u16()),
-        Err(broken) => Err(broken),
-    }
+    put_both(alloc, sink, head.as_bytes(), response.body.as_slice())?;
+    Ok(response.status.as_u16())
 }
 
 /// Writes a response and returns its status. If memory runs out for its head, writes refusal 31
@@ -99,8 +95,6 @@ pub fn write_unavailable<W: Sink>(sink: &mut W, why: Unavailable) -> Result<u16,
     ensures writes { Writes (W.contents sink.old) (W.contents sink.new) (W.failures sink.old) (W.failures sink.new) result (response_bytes (unavailable_response why)) }
     ensures status { IfOk result (λ status. status ≡ 503) }
 {
-    match put_all(sink, unavailable_text(why).as_bytes()) {
-        Ok(()) => Ok(503),
-        Err(broken) => Err(broken),
-    }
+    put_all(sink, unavailable_text(why).as_bytes())?;
+    Ok(503)
 }

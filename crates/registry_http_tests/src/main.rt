@@ -43,6 +43,7 @@ impl Kinds for Rows {
             "brim" => responses::brimmed(alloc),
             "did" => responses::did(alloc, text),
             "refuses" => responses::refuses(alloc, text),
+            "turns-away" => responses::turns_away(alloc, text),
             "unavailable" => responses::unavailable(alloc, text),
             _ => of_resources(alloc, kind, text),
         }

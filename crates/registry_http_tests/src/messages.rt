@@ -1,11 +1,9 @@
 //! Messages, also from a source that fails.
 
 use crate::ends::Drip;
-use crate::responses::response_text;
+use crate::responses::refusal_text;
 use byte_streams::{Inlet, Source};
-use registry_http::{
-    HttpRefusal, Message, MessageFault, Query, Routes, read_message, refusal_response,
-};
+use registry_http::{Message, MessageFault, Query, Routes, read_message};
 use registry_reports::ReportKind;
 use row_records::canonical;
 use row_texts::{RowFault, text_of};
@@ -48,15 +46,11 @@ fn said_text(alloc: Global, message: &Message) -> Result<Vec<u8>, RowFault> {
     }
 }
 
-fn refusal_text(alloc: Global, refusal: HttpRefusal) -> Result<Vec<u8>, RowFault> {
-    response_text(alloc, &refusal_response(alloc, refusal)?)
-}
-
 // Reads a message, and returns the query, the request, or the response to the first fault.
 fn read<R: Source>(alloc: Global, source: &mut R, founding: Vid) -> Result<Vec<u8>, RowFault> {
     match read_message(alloc, &mut Routes::new(), source, founding) {
-        Ok(Ok(message)) => said_text(alloc, &message),
-        Ok(Err(refusal)) => refusal_text(alloc, refusal),
+        Ok(message) => said_text(alloc, &message),
+        Err(MessageFault::Refused(refusal)) => refusal_text(alloc, refusal),
         Err(MessageFault::Broken) => text_of(alloc, "broken"),
         Err(MessageFault::NoMemory) => Err(RowFault::OutOfMemory),
     }

@@ -3,8 +3,8 @@
 use crate::ends::Brim;
 use byte_streams::{Broken, Outlet};
 use registry_http::{
-    Response, Unavailable, org_response, reply_response, text_response, write_response,
-    write_unavailable,
+    Allow, Header, HttpRefusal, Response, Unavailable, org_response, refusal_response,
+    reply_response, text_response, write_response, write_unavailable,
 };
 use registry_rules::Reply;
 use row_texts::{RowFault, number_of};
@@ -42,6 +42,35 @@ pub(crate) fn did(alloc: Global, text: &str) -> Result<Vec<u8>, RowFault> {
 pub(crate) fn refuses(alloc: Global, text: &str) -> Result<Vec<u8>, RowFault> {
     let refusal = row_records::refusal_of(number_of(text)?)?;
     replied(alloc, &Reply::Refused(refusal))
+}
+
+/// Returns the bytes of the response to a message that is refused.
+pub(crate) fn refusal_text(alloc: Global, refusal: HttpRefusal) -> Result<Vec<u8>, RowFault> {
+    response_text(alloc, &refusal_response(alloc, refusal)?)
+}
+
+// The refusal of a message with this number, but for those of its body.
+fn refusal_of(number: u32) -> Result<HttpRefusal, RowFault> {
+    Ok(match number {
+        20 => HttpRefusal::BadHead,
+        21 => HttpRefusal::BadLength,
+        22 => HttpRefusal::TooLarge,
+        23 => HttpRefusal::ShortBody,
+        24 => HttpRefusal::NoRoute,
+        25 => HttpRefusal::WrongMethod(Allow::Get),
+        125 => HttpRefusal::WrongMethod(Allow::Post),
+        26 => HttpRefusal::BadHeader(Header::Caller),
+        126 => HttpRefusal::BadHeader(Header::Key),
+        30 => HttpRefusal::StoreFault,
+        31 => HttpRefusal::NoMemory,
+        _ => return Err(RowFault::BadRow),
+    })
+}
+
+/// Shows the response that has a refusal of a message. 125 and 126 are refusals 25 and 26 of the
+/// other method and header.
+pub(crate) fn turns_away(alloc: Global, text: &str) -> Result<Vec<u8>, RowFault> {
+    refusal_text(alloc, refusal_of(number_of(text)?)?)
 }
 
 /// Shows the response that has a text.

@@ -1,5 +1,5 @@
 -- The founding in a founding file, from the TOML of its bytes.
-use Rattle.std.specs.Prelude.{◌≡◌, ℕ, ◌&&◌, ◌==◌, nat_le, List, [], ◌∷◌, length, Option, Some, None, option_and_then, option_map, Result, Ok, Err, if◌then◌else◌}
+use Rattle.std.specs.Prelude.{◌≡◌, ℕ, ◌&&◌, ◌==◌, nat_le, List, [], ◌∷◌, length, ⊤, Option, Some, None, option_and_then, option_map, Result, Ok, Err, if◌then◌else◌}
 use Rattle.std.specs.List.{list_any}
 use Rattle.std.specs.Str.{is_utf8}
 use Rattle.toml.specs.Data.{Data, Items, no_items, item, Members, get_member, as_str, as_array}
@@ -10,6 +10,8 @@ use Rattle.usbnum_core.specs.declared.number.Span.{Span}
 use Rattle.registry_rules.specs.Limits.{most_curators, most_licences}
 use Rattle.registry_rules.specs.Texts.{AreSorted}
 use Rattle.registry_rules.specs.declared.founding.Founding.{Founding}
+use Rattle.registry_rules.specs.declared.rejection.Rejection.{Rejection}
+use Rattle.registry_rules.specs.declared.rejection.Rejection.TheVariants.{Refused, NoMemory}
 use Rattle.registry_wire.specs.declared.refusal.WireRefusal.{WireRefusal}
 use Rattle.registry_wire.specs.declared.refusal.WireRefusal.TheVariants.{BadFounding}
 use Rattle.registry_wire.specs.declared.refusal.FoundingFault.{FoundingFault}
@@ -114,7 +116,8 @@ pub record Founds (listed : Listed) (founding : Founding) : Type 0 where
   pub licences : AreSorted listed.licences founding.licences
   pub fixed : (n : ℕ) → spans_have founding.fixed n ≡ list_any (λ span. span_has span n) listed.fixed
 
--- the result is the founding with the values that the bytes list, or their first fault
-abbrev pub FoundsAs : Result Founding WireRefusal → Result Listed WireRefusal → Type 0
+-- the result is the founding with the values that the bytes list, or their first fault, unless memory runs out
+abbrev pub FoundsAs : Result Founding (Rejection WireRefusal) → Result Listed WireRefusal → Type 0
 FoundsAs (Ok founding) listed = (l : Listed) × (listed ≡ Ok l) × Founds l founding
-FoundsAs (Err refusal) listed = listed ≡ Err refusal
+FoundsAs (Err (Refused refusal)) listed = listed ≡ Err refusal
+FoundsAs (Err NoMemory) listed = ⊤

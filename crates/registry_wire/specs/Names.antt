@@ -1,9 +1,7 @@
--- The names of the keys of a founding file, and of the headers of a message.
+-- The names of the keys of a founding file.
 use Rattle.std.specs.Prelude.{ℕ, List, codes}
 use Rattle.registry_wire.specs.declared.refusal.FoundingFault.{FoundingFault}
 use Rattle.registry_wire.specs.declared.refusal.FoundingFault.TheVariants as faults
-use Rattle.registry_wire.specs.declared.refusal.Header.{Header}
-use Rattle.registry_wire.specs.declared.refusal.Header.TheVariants as headers
 
 -- the bad key of a founding file, or `toml`
 abbrev pub fault_name : FoundingFault → List ℕ
@@ -13,8 +11,3 @@ fault_name faults.Name = codes "name"
 fault_name faults.Curators = codes "curators"
 fault_name faults.Licences = codes "licences"
 fault_name faults.Fixed = codes "fixed"
-
--- the name of a header
-abbrev pub header_name : Header → List ℕ
-header_name headers.Caller = codes "registry-caller"
-header_name headers.Key = codes "registry-key"

@@ -6,47 +6,30 @@ use Rattle.registry_rules.specs.declared.verdict.Reply.TheVariants.{Done, Refuse
 use Rattle.registry_rules.specs.Reply.{refusal_number, refusal_name, refusal_detail, name_and_detail}
 use Rattle.usbids_text.specs.Faults.{line_fault_text}
 use Rattle.registry_wire.specs.declared.refusal.WireRefusal.{WireRefusal}
-use Rattle.registry_wire.specs.declared.refusal.WireRefusal.TheVariants.{BadHead, BadLength, TooLarge, ShortBody, NoRoute, BadHeader, BadJson, BadField, BadList, StoreFault, NoMemory, BadFounding}
-use Rattle.registry_wire.specs.Names.{fault_name, header_name}
+use Rattle.registry_wire.specs.declared.refusal.WireRefusal.TheVariants.{BadJson, BadField, BadList, BadFounding}
+use Rattle.registry_wire.specs.Names.{fault_name}
 use Rattle.registry_wire.specs.Reading.{field_name}
 
 -- the number of a refusal
 abbrev pub wire_refusal_number : WireRefusal → ℕ
-wire_refusal_number BadHead = 20
-wire_refusal_number BadLength = 21
-wire_refusal_number TooLarge = 22
-wire_refusal_number ShortBody = 23
-wire_refusal_number NoRoute = 24
-wire_refusal_number (BadHeader header) = 26
 wire_refusal_number BadJson = 27
 wire_refusal_number (BadField field) = 28
 wire_refusal_number (BadList fault) = 29
-wire_refusal_number StoreFault = 30
-wire_refusal_number NoMemory = 31
 wire_refusal_number (BadFounding fault) = 32
 
 -- the name of a refusal
 abbrev pub wire_refusal_name : WireRefusal → List ℕ
-wire_refusal_name BadHead = codes "BadHead"
-wire_refusal_name BadLength = codes "BadLength"
-wire_refusal_name TooLarge = codes "TooLarge"
-wire_refusal_name ShortBody = codes "ShortBody"
-wire_refusal_name NoRoute = codes "NoRoute"
-wire_refusal_name (BadHeader header) = codes "BadHeader"
 wire_refusal_name BadJson = codes "BadJson"
 wire_refusal_name (BadField field) = codes "BadField"
 wire_refusal_name (BadList fault) = codes "BadList"
-wire_refusal_name StoreFault = codes "StoreFault"
-wire_refusal_name NoMemory = codes "NoMemory"
 wire_refusal_name (BadFounding fault) = codes "BadFounding"
 
--- the name of the bad header or field, the faulty line of a list, or the bad key of a founding file
+-- the name of the bad field, the faulty line of a list, or the bad key of a founding file
 abbrev pub wire_refusal_detail : WireRefusal → Option (List ℕ)
-wire_refusal_detail (BadHeader header) = Some (header_name header)
 wire_refusal_detail (BadField field) = Some (field_name field)
 wire_refusal_detail (BadList fault) = Some (line_fault_text fault)
 wire_refusal_detail (BadFounding fault) = Some (fault_name fault)
-wire_refusal_detail _ = None
+wire_refusal_detail BadJson = None
 
 -- BadJson, or BadField: title
 abbrev pub wire_refusal_text : WireRefusal → List ℕ

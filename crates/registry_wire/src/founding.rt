@@ -177,15 +177,9 @@ fn founding_of(alloc: Global, listing: Listing) -> Result<Founding, NoMemory>
 /// `fixed`, an array of texts `NNNN` or `NNNN-NNNN`; other keys are ignored. Repeats count towards
 /// the limits and are kept once. Returns a refusal if the bytes are not TOML, or for the first of
 /// these keys that is missing or bad.
-pub fn founding_from_toml(
-    alloc: Global,
-    bytes: &[u8],
-) -> Result<Result<Founding, WireRefusal>, NoMemory>
-    ensures { IfOk result (λ read. FoundsAs read (founding_listed bytes.now)) }
+pub fn founding_from_toml(alloc: Global, bytes: &[u8]) -> Result<Founding, Rejection<WireRefusal>>
+    ensures { FoundsAs result (founding_listed bytes.now) }
 {
-    match read_listing(alloc, bytes) {
-        Ok(listing) => Ok(Ok(founding_of(alloc, listing)?)),
-        Err(Rejection::Refused(refusal)) => Ok(Err(refusal)),
-        Err(Rejection::NoMemory) => Err(NoMemory),
-    }
+    let listing = read_listing(alloc, bytes)?;
+    Ok(founding_of(alloc, listing)?)
 }

@@ -7,8 +7,8 @@ pub use founding::founding_from_toml;
 pub use founding_writer::founding_line;
 pub use import::import_request;
 pub use record::{RecordLine, record_line};
-pub use refusal::{FoundingFault, Header, WireRefusal};
-pub use reply::{refusal_json, reply_json};
+pub use refusal::{FoundingFault, WireRefusal};
+pub use reply::{refusal_json, refused_json, reply_json};
 pub use request::{line_request, request_from_json};
 pub use stamp::stamp_from_text;
 

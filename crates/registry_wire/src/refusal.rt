@@ -12,58 +12,18 @@ use std::fmt;
 use usbids_text::LineFault;
 use usbnum_core::NoMemory;
 
-/// The reason why input from outside is not acted on. The refusals of the rules are
-/// `registry_rules::Refusal`, and that of a wrong HTTP method is `registry_http::HttpRefusal`.
+/// The reason why a text from outside is not acted on. The refusals of the rules are
+/// `registry_rules::Refusal`, and those of an HTTP message are `registry_http::HttpRefusal`.
 #[derive(Clone, Copy, Debug, PartialEq, Eq)]
 pub enum WireRefusal {
-    /// An HTTP message has no valid head.
-    BadHead,
-    /// The message does not give the length of its body.
-    BadLength,
-    /// The body is longer than its route allows.
-    TooLarge,
-    /// The body ends early.
-    ShortBody,
-    /// The path is not served.
-    NoRoute,
-    /// The message does not have this header exactly once with a valid value.
-    BadHeader(Header),
     /// The bytes are not a JSON object.
     BadJson,
     /// A field is missing or not a value of its kind; the first such field.
     BadField(Field),
     /// A list of USB numbers has a faulty line; the first such line.
     BadList(LineFault),
-    /// The store failed.
-    StoreFault,
-    /// Out of memory.
-    NoMemory,
     /// A founding file is not TOML, or a key is missing or bad; the first such key.
     BadFounding(FoundingFault),
-}
-
-/// An HTTP header that names the caller of a request, or its key.
-#[derive(Clone, Copy, Debug, PartialEq, Eq)]
-pub enum Header {
-    /// `registry-caller`.
-    Caller,
-    /// `registry-key`.
-    Key,
-}
-
-impl Header {
-    ghost use Rattle.std.specs.Prelude.{◌≡◌};
-    ghost use Rattle.registry_wire.specs.Names.{header_name};
-
-    /// Returns the header's name, in lower case.
-    pub fn name(self) -> &'static str
-        ensures { result.now ≡ header_name self }
-    {
-        match self {
-            Header::Caller => "registry-caller",
-            Header::Key => "registry-key",
-        }
-    }
 }
 
 /// The fault of a founding file: the bad key, or bytes that are not TOML.
@@ -111,17 +71,9 @@ impl WireRefusal {
         ensures { result ≡ wire_refusal_number self }
     {
         match self {
-            WireRefusal::BadHead => 20,
-            WireRefusal::BadLength => 21,
-            WireRefusal::TooLarge => 22,
-            WireRefusal::ShortBody => 23,
-            WireRefusal::NoRoute => 24,
-            WireRefusal::BadHeader(_) => 26,
             WireRefusal::BadJson => 27,
             WireRefusal::BadField(_) => 28,
             WireRefusal::BadList(_) => 29,
-            WireRefusal::StoreFault => 30,
-            WireRefusal::NoMemory => 31,
             WireRefusal::BadFounding(_) => 32,
         }
     }
@@ -131,32 +83,23 @@ impl WireRefusal {
         ensures { result.now ≡ wire_refusal_name self }
     {
         match self {
-            WireRefusal::BadHead => "BadHead",
-            WireRefusal::BadLength => "BadLength",
-            WireRefusal::TooLarge => "TooLarge",
-            WireRefusal::ShortBody => "ShortBody",
-            WireRefusal::NoRoute => "NoRoute",
-            WireRefusal::BadHeader(_) => "BadHeader",
             WireRefusal::BadJson => "BadJson",
             WireRefusal::BadField(_) => "BadField",
             WireRefusal::BadList(_) => "BadList",
-            WireRefusal::StoreFault => "StoreFault",
-            WireRefusal::NoMemory => "NoMemory",
             WireRefusal::BadFounding(_) => "BadFounding",
         }
     }
 
-    /// Returns the subject of the refusal: the name of the bad header or field, the line of a list
-    /// with its fault, for example `line 2: NoParent`, or the bad key of a founding file.
+    /// Returns the subject of the refusal: the name of the bad field, the line of a list with its
+    /// fault, for example `line 2: NoParent`, or the bad key of a founding file.
     pub fn detail(self, alloc: Global) -> Result<Option<ReplyText>, NoMemory>
         ensures { IfOk result (λ detail. detail ≡ wire_refusal_detail self) }
     {
         Ok(match self {
-            WireRefusal::BadHeader(header) => Some(text_of(alloc, header.name())?),
             WireRefusal::BadField(field) => Some(text_of(alloc, field.name())?),
             WireRefusal::BadList(fault) => Some(ReplyText::new(format!(in alloc; "{fault}")?)),
             WireRefusal::BadFounding(fault) => Some(text_of(alloc, fault.name())?),
-            _ => None,
+            WireRefusal::BadJson => None,
         })
     }
 }
@@ -179,11 +122,10 @@ impl fmt::Display for WireRefusal {
     fn fmt<W: fmt::Write>(&self, f: &mut fmt::Formatter<W>) -> fmt::Result {
         let name = self.name();
         match self {
-            WireRefusal::BadHeader(header) => write!(f, "{name}: {}", header.name()),
             WireRefusal::BadField(field) => write!(f, "{name}: {}", field.name()),
             WireRefusal::BadList(fault) => write!(f, "{name}: {fault}"),
             WireRefusal::BadFounding(fault) => write!(f, "{name}: {fault}"),
-            _ => f.write_str(name),
+            WireRefusal::BadJson => f.write_str(name),
         }
     }
 }

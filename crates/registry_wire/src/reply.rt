@@ -28,6 +28,21 @@ fn refused_value(
     }
 }
 
+// A refusal with its detail, if it has one.
+fn refused_for(
+    alloc: Global,
+    number: u8,
+    name: &str,
+    detail: Option<ReplyText>,
+) -> Result<Value, NoMemory>
+    ensures { IfOk result (λ value. view value ≡ refused_data number name.now detail) }
+{
+    match detail {
+        Some(detail) => Ok(refused_value(alloc, number, name, Some(detail.as_str()))?),
+        None => Ok(refused_value(alloc, number, name, None)?),
+    }
+}
+
 fn rule_value(alloc: Global, refusal: &Refusal) -> Result<Value, NoMemory>
     ensures { IfOk result (λ value. view value ≡ refused_data (refusal_number refusal.now) (refusal_name refusal.now) (refusal_detail refusal.now)) }
 {
@@ -51,32 +66,6 @@ fn reply_value(alloc: Global, reply: &Reply) -> Result<Value, NoMemory>
     }
 }
 
-// A refusal with its detail, if it has one.
-fn refused_for(
-    alloc: Global,
-    number: u8,
-    name: &str,
-    detail: Option<ReplyText>,
-) -> Result<Value, NoMemory>
-    ensures { IfOk result (λ value. view value ≡ refused_data number name.now detail) }
-{
-    match detail {
-        Some(detail) => Ok(refused_value(alloc, number, name, Some(detail.as_str()))?),
-        None => Ok(refused_value(alloc, number, name, None)?),
-    }
-}
-
-fn refusal_value(alloc: Global, refusal: WireRefusal) -> Result<Value, NoMemory>
-    ensures { IfOk result (λ value. view value ≡ refusal_data refusal) }
-{
-    refused_for(
-        alloc,
-        refusal.number(),
-        refusal.name(),
-        refusal.detail(alloc)?,
-    )
-}
-
 /// Returns a reply as one line of JSON, without a line feed: `{"done":TEXT}`, or for a refusal
 /// `{"name":NAME,"refused":NUMBER}`, with `"detail":DETAIL` first if it has a detail.
 pub fn reply_json(alloc: Global, reply: &Reply) -> Result<String, NoMemory>
@@ -86,10 +75,27 @@ pub fn reply_json(alloc: Global, reply: &Reply) -> Result<String, NoMemory>
     Ok(value.to_string(alloc)?)
 }
 
+/// Returns a refusal with this number, name and detail as JSON, in the form of a refused reply.
+pub fn refused_json(
+    alloc: Global,
+    number: u8,
+    name: &str,
+    detail: Option<ReplyText>,
+) -> Result<String, NoMemory>
+    ensures { IfOk result (λ text. string_bytes text ≡ compact_text (refused_data number name.now detail)) }
+{
+    let value = refused_for(alloc, number, name, detail)?;
+    Ok(value.to_string(alloc)?)
+}
+
 /// Returns a refusal as JSON, in the form of a refused reply.
 pub fn refusal_json(alloc: Global, refusal: WireRefusal) -> Result<String, NoMemory>
     ensures { IfOk result (λ text. string_bytes text ≡ compact_text (refusal_data refusal)) }
 {
-    let value = refusal_value(alloc, refusal)?;
-    Ok(value.to_string(alloc)?)
+    refused_json(
+        alloc,
+        refusal.number(),
+        refusal.name(),
+        refusal.detail(alloc)?,
+    )
 }

@@ -1,6 +1,6 @@
 //! Request lines, founding files, imports and stamps, and the result of reading each.
 
-use registry_rules::{Founding, Request};
+use registry_rules::{Founding, Rejection, Request};
 use registry_wire::{
     WireRefusal, founding_from_toml, import_request, line_request, refusal_json, stamp_from_text,
 };
@@ -15,11 +15,21 @@ pub(crate) fn refusal_text(alloc: Global, refusal: WireRefusal) -> Result<Vec<u8
     Ok(refusal_json(alloc, refusal)?.into_bytes())
 }
 
+pub(crate) fn rejection_text(
+    alloc: Global,
+    rejection: Rejection<WireRefusal>,
+) -> Result<Vec<u8>, RowFault> {
+    match rejection {
+        Rejection::Refused(refusal) => refusal_text(alloc, refusal),
+        Rejection::NoMemory => Err(RowFault::OutOfMemory),
+    }
+}
+
 /// Shows the request or the refusal of a line.
 pub(crate) fn line(alloc: Global, line: &[u8]) -> Result<Vec<u8>, RowFault> {
-    match line_request(alloc, line)? {
+    match line_request(alloc, line) {
         Ok(request) => canonical(alloc, &request),
-        Err(refusal) => refusal_text(alloc, refusal),
+        Err(rejection) => rejection_text(alloc, rejection),
     }
 }
 
@@ -50,9 +60,9 @@ pub(crate) fn founding_text(alloc: Global, founding: &Founding) -> Result<Vec<u8
 
 /// Shows the values of a founding file, or its refusal.
 pub(crate) fn founding(alloc: Global, bytes: &[u8]) -> Result<Vec<u8>, RowFault> {
-    match founding_from_toml(alloc, bytes)? {
+    match founding_from_toml(alloc, bytes) {
         Ok(founding) => founding_text(alloc, &founding),
-        Err(refusal) => refusal_text(alloc, refusal),
+        Err(rejection) => rejection_text(alloc, rejection),
     }
 }
 

@@ -1,8 +1,8 @@
 //! Lines of a record, what each is read as, and the line that is written for that.
 
-use crate::files::{founding_text, refusal_text};
-use registry_rules::{Accepted, Rejection};
-use registry_wire::{RecordLine, WireRefusal, accepted_line, founding_line, record_line};
+use crate::files::{founding_text, rejection_text};
+use registry_rules::Accepted;
+use registry_wire::{RecordLine, accepted_line, founding_line, record_line};
 use row_records::canonical;
 use row_texts::RowFault;
 use std::alloc::Global;
@@ -27,13 +27,6 @@ fn written_line(alloc: Global, line: &RecordLine) -> Result<Vec<u8>, RowFault> {
         RecordLine::Accepted(accepted) => accepted_line(alloc, accepted)?,
     };
     Ok(text.into_bytes())
-}
-
-fn rejection_text(alloc: Global, rejection: Rejection<WireRefusal>) -> Result<Vec<u8>, RowFault> {
-    match rejection {
-        Rejection::Refused(refusal) => refusal_text(alloc, refusal),
-        Rejection::NoMemory => Err(RowFault::OutOfMemory),
-    }
 }
 
 /// Shows what a line of a record is read as, or its refusal.

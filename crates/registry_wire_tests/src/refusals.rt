@@ -2,7 +2,7 @@
 
 use crate::files::refusal_text;
 use registry_rules::{NumberName, Refusal, Reply};
-use registry_wire::{Field, FoundingFault, Header, WireRefusal, reply_json};
+use registry_wire::{Field, FoundingFault, WireRefusal, reply_json};
 use row_texts::{RowFault, number_of};
 use std::alloc::Global;
 use usbids_text::{LineFault, Why};
@@ -37,30 +37,21 @@ pub(crate) fn range_owned(alloc: Global, text: &str, foreign: bool) -> Result<Ve
     refused_text(alloc, Refusal::RangeOwned(NumberName { number, foreign }))
 }
 
-// A refusal outside the rules of each number, with some detail where it has one.
+// The refusal of a text with this number, with some detail where it has one.
 fn wire_refusal(number: u32) -> Result<WireRefusal, RowFault> {
     Ok(match number {
-        20 => WireRefusal::BadHead,
-        21 => WireRefusal::BadLength,
-        22 => WireRefusal::TooLarge,
-        23 => WireRefusal::ShortBody,
-        24 => WireRefusal::NoRoute,
-        26 => WireRefusal::BadHeader(Header::Caller),
-        126 => WireRefusal::BadHeader(Header::Key),
         27 => WireRefusal::BadJson,
         28 => WireRefusal::BadField(Field::Title),
         29 => WireRefusal::BadList(LineFault {
             line: 2,
             why: Why::NoParent,
         }),
-        30 => WireRefusal::StoreFault,
-        31 => WireRefusal::NoMemory,
         32 => WireRefusal::BadFounding(FoundingFault::Toml),
         _ => return Err(RowFault::BadRow),
     })
 }
 
-/// Shows the line of a refusal outside the rules. 126 is refusal 26 of the other header.
+/// Shows the line of a refusal of a text.
 pub(crate) fn by_the_wire(alloc: Global, text: &str) -> Result<Vec<u8>, RowFault> {
     refusal_text(alloc, wire_refusal(number_of(text)?)?)
 }

@@ -1,7 +1,7 @@
 //! Reads the requests and founding files of rows, and shows a request.
 
-use registry_rules::{Founding, Request, request_bytes};
-use registry_wire::{founding_from_toml, line_request};
+use registry_rules::{Founding, Rejection, Request, request_bytes};
+use registry_wire::{WireRefusal, founding_from_toml, line_request};
 use row_texts::{RowFault, bytes_of};
 use std::alloc::Global;
 
@@ -14,19 +14,20 @@ pub fn canonical(alloc: Global, request: &Request) -> Result<Vec<u8>, RowFault> 
     Ok(text)
 }
 
+fn row_fault(rejection: Rejection<WireRefusal>) -> RowFault {
+    match rejection {
+        Rejection::Refused(_) => RowFault::BadRow,
+        Rejection::NoMemory => RowFault::OutOfMemory,
+    }
+}
+
 /// Reads the request of a line.
 pub fn request_of(alloc: Global, line: &str) -> Result<Request, RowFault> {
     let line = bytes_of(alloc, line)?;
-    match line_request(alloc, &line)? {
-        Ok(request) => Ok(request),
-        Err(_) => Err(RowFault::BadRow),
-    }
+    line_request(alloc, &line).map_err(row_fault)
 }
 
 /// Reads a founding file without a fault.
 pub fn founding_of(alloc: Global, bytes: &[u8]) -> Result<Founding, RowFault> {
-    match founding_from_toml(alloc, bytes)? {
-        Ok(founding) => Ok(founding),
-        Err(_) => Err(RowFault::BadRow),
-    }
+    founding_from_toml(alloc, bytes).map_err(row_fault)
 }

@@ -3,7 +3,7 @@ use Rattle.std.specs.Prelude.{Err}
 use Rattle.std.proofs.lemmas.Bool.{lt-leb}
 use Rattle.usbids_text.specs.Readers.{WasFed}
 use Rattle.byte_streams.proofs.StreamLemmas.{consumes_then}
-use Rattle.registry_http.specs.declared.head.MessageFault.TheVariants.{Broken}
+use Rattle.registry_http.specs.declared.fault.StreamFault.TheVariants.{Broken}
 use Rattle.registry_http.proofs.IncompleteLemmas.{fails_after, same_error}
 use Rattle.registry_http.proofs.body.feed_from.Goals as goal
 

@@ -1,6 +1,6 @@
 use Rattle.std.proofs.Common.{rules, ◌≡◌, ◌<◌, ◌++◌, ℕ, List, length, ap, arith, subst}
 use Rattle.std.specs.Prelude.{Err}
-use Rattle.registry_http.specs.declared.head.MessageFault.TheVariants.{Broken}
+use Rattle.registry_http.specs.declared.fault.StreamFault.TheVariants.{Broken}
 use Rattle.registry_http.proofs.IncompleteLemmas.{fails_after, same_error}
 use Rattle.registry_http.proofs.body.read_up_to.Goals as goal
 

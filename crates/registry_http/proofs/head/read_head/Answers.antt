@@ -4,7 +4,7 @@ use Rattle.std.specs.Io.KnownBytes.{Consumes}
 use Rattle.byte_streams.proofs.StreamLemmas.{consumes_none, consumes_then, all_of}
 use Rattle.registry_http.proofs.HeadLemmas.{has_no_request_nil, no_head_overflow, no_head_full, whole_head}
 use Rattle.registry_http.specs.Incomplete.{IsIncomplete}
-use Rattle.registry_http.specs.declared.head.MessageFault.TheVariants.{Broken}
+use Rattle.registry_http.specs.declared.fault.StreamFault.TheVariants.{Broken}
 use Rattle.registry_http.proofs.IncompleteLemmas.{fails_after, open_head, same_error}
 use Rattle.registry_http.proofs.head.read_head.Goals as goal
 
