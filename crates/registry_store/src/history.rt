@@ -65,6 +65,6 @@ impl<S: Alter> Registry<S> {
         let current = &self.totals.founding().licences;
         let licences = first_licences(self.alloc, &mut self.conn, current);
         let first = self.note(licences)?;
-        Ok(with_licences(self.totals.founding(), first)?)
+        Ok(with_licences(self.founding(), first)?)
     }
 }

@@ -15,8 +15,10 @@ returns-in_err-with_licences g c =
     rw (p.1, p.2) (record { query = lacks_memory (queried c.in_ok-check_not_poisoned.ensures.sound refl refl refl c.first_licences-licences.ensures.looked_up c.in_ok-first.ensures) })
 
 pub returns : goal.returns
-returns g c = record {
-  query = made (queried c.in_ok-check_not_poisoned.ensures.sound refl refl refl c.first_licences-licences.ensures.looked_up c.in_ok-first.ensures) (λ h stands is _.
-      let totals = stands.legal_with.totals_are in
-      c.in_ok-with_licences.ensures ∙ founding_is h c.founding-2.result.now c.in_ok-first.first (c.founding-2.ensures h totals) (is (c.founding.ensures h totals).allowed));
-}
+returns g c =
+    let q = queried c.in_ok-check_not_poisoned.ensures.sound refl refl refl c.first_licences-licences.ensures.looked_up c.in_ok-first.ensures in
+    record {
+      query = made q (λ h stands is _.
+          c.in_ok-with_licences.ensures
+          ∙ founding_is h c.founding-2.result.now c.in_ok-first.first (c.founding-2.ensures h (q.left.stays h stands)) (is (c.founding.ensures h stands.legal_with.totals_are).allowed));
+    }

@@ -1,14 +1,16 @@
-use Rattle.std.proofs.Common.{refl}
+use Rattle.std.proofs.Common.{Err, refl, sym, ap}
+use Rattle.registry_schema.specs.declared.fault.TableFault.{TableFault}
+use Rattle.registry_store.specs.Faults.{fault_of}
 use Rattle.registry_store.proofs.registry.Registry.note.Goals as goal
 
 pub returns-in-Ok : goal.returns-in-Ok
 returns-in-Ok g c = record { same_connection = refl; same_totals = refl; same_fault = refl; foreign = refl; told = rw c.in-Ok.is refl }
 
-pub returns-in-Err-Store : goal.returns-in-Err-Store
-returns-in-Err-Store g c = record { same_connection = refl; same_totals = refl; same_fault = refl; foreign = refl; told = rw c.in-Err-Store.is refl }
+pub returns-in-Store : goal.returns-in-Store
+returns-in-Store g c = record { same_connection = refl; same_totals = refl; same_fault = refl; foreign = refl; told = rw c.in-Err.is (ap (λ (fault : TableFault). Err (fault_of fault)) (sym c.in-Store.is)) }
 
-pub returns-in-Err-NoMemory : goal.returns-in-Err-NoMemory
-returns-in-Err-NoMemory g c = record { same_connection = refl; same_totals = refl; same_fault = refl; foreign = refl; told = rw c.in-Err-NoMemory.is refl }
+pub returns-in-NoMemory : goal.returns-in-NoMemory
+returns-in-NoMemory g c = record { same_connection = refl; same_totals = refl; same_fault = refl; foreign = refl; told = rw c.in-Err.is (ap (λ (fault : TableFault). Err (fault_of fault)) (sym c.in-NoMemory.is)) }
 
-pub returns-in-Err-Foreign : goal.returns-in-Err-Foreign
-returns-in-Err-Foreign g c = record { same_connection = refl; same_totals = refl; same_fault = refl; foreign = refl; told = rw c.in-Err-Foreign.is refl }
+pub returns-in-Foreign : goal.returns-in-Foreign
+returns-in-Foreign g c = record { same_connection = refl; same_totals = refl; same_fault = refl; foreign = refl; told = rw c.in-Err.is (ap (λ (fault : TableFault). Err (fault_of fault)) (sym c.in-Foreign.is)) }
