@@ -31,7 +31,8 @@ returns-in_err-numbers-clause-raised g c clean inside =
     let one = c.in_ok-add_second.ensures.made c1 inside in
     let two = c.in_ok-meta.ensures.reads.told c2 one.0.mode in
     let is : c.from_residual-in_err-numbers.result ≡ Err c.in_err-numbers.field-0.0 = search rules in
-    subst (λ r. Raises 1 a new r) (sym is) (numbers_refused a s1 one.1 s2 c.in_ok-meta.meta two.1 new c.in_err-numbers.field-0.0 one.0.was_open (c.in_err-numbers.ensures.reads.told clean two.0.mode))
+    let told = c.in_err-numbers.ensures.reads.told clean two.0.mode in
+    subst (λ r. Raises 1 a new r) (sym is) (numbers_refused a s1 one.1 s2 c.in_ok-meta.meta two.1 new c.in_err-numbers.field-0.0 one.0.was_open (told.0, told.1))
 
 pub returns-clause-raised : goal.returns-clause-raised
 returns-clause-raised g c clean inside =
