@@ -76,6 +76,7 @@ module _ {S : Type 0} {g : Ghosts S} where
     λ within. record {
       statuses = inr failed;
       through = λ success. absurd (cc (failed, success));
+      sound = λ success. absurd (cc (failed, success));
       quiet = λ success. absurd (cc (failed, success));
       stopped = λ _ h at clean. stopped_before it h rs a out within at clean;
       told = λ _. inl (record { same = refl; silent = keeps_same out.contents; told = told });
@@ -96,6 +97,7 @@ module _ {S : Type 0} {g : Ghosts S} where
     run_more rs a is = record {
       statuses = is.statuses;
       through = is.through;
+      sound = is.sound;
       quiet = is.quiet;
       stopped = is.stopped;
       told = λ failed. elim (is.told failed) [

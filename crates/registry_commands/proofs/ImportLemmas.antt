@@ -43,7 +43,7 @@ module _ {S : Type 0} {g : Ghosts S} where
       → ((h : History) → MayHaveBeenActedOn did.old h r → HasCleanDisk (state_of did.new) → (reply ≡ reply_to h r) × Represents did.new (after_one h r))
       → IsReplied (λ failure. ((failure ≡ Memory) ⊎ (failure ≡ File)) × IsOfOutput did.ends.out.old.failures did.ends.out.new.failures failure) reply did.ends
       → GivesReply did r ⊎ IsFailed did r
-  replied did r reply on acted (inl done) = inl (record { reply = reply; status_is = done.0; gained = done.1; quiet = done.2; answered = acted })
+  replied did r reply on acted (inl done) = inl (record { reply = reply; status_is = done.0; gained = done.1; quiet = done.2; sound = on; answered = acted })
   replied did r reply on acted (inr failed) = inr (record {
     status_is = failed.0;
     cut = λ h may clean. cut_at did.new h r did.ends.out reply (acted h may clean) clean failed.1;

@@ -14,6 +14,7 @@ use Rattle.registry_store.specs.declared.replies.RunStop.{RunStop}
 use Rattle.registry_store.specs.declared.replies.RunStop.TheVariants as stop
 use Rattle.registry_store.specs.Promise.{Represents, is_poisoned}
 use Rattle.registry_store.specs.RunTo.{HaveTaken, IsCutBy, IsHalted, IsLeftAt}
+use Rattle.registry_commands.specs.declared.messages.Failure.{Failure}
 use Rattle.registry_commands.specs.declared.replies.ReplyLines.{ReplyLines}
 use Rattle.registry_commands.specs.Messages.{reply_line, reply_lines}
 use Rattle.registry_commands.specs.Apply.{IsStoppedAt, lines_between}
@@ -22,9 +23,9 @@ use Rattle.registry_commands.specs.Replies.{CutsLine, TakesLine}
 use Rattle.registry_commands.proofs.ApplyLemmas.{keeps_same, prefix_of_any}
 
 module _ {S : Type 0} {g : Ghosts S} (it : Registry S g) (h : History) where
-  poisoned_or_there : (why : RunStop) → IsLeftAt why it h → (is_poisoned it ≡ true) ⊎ Represents it h
+  poisoned_or_there : (why : RunStop Failure) → IsLeftAt why it h → (is_poisoned it ≡ true) ⊎ Represents it h
   poisoned_or_there (stop.Fault fault) poisoned = inl poisoned
-  poisoned_or_there stop.Cut stands = inr stands
+  poisoned_or_there (stop.Cut failure) stands = inr stands
 
 module _ {W : Type 0} (contents : W → Option (List ℕ)) (failures : W → ℕ) where
   -- the lines of all these replies are written
@@ -52,19 +53,19 @@ module _ {W : Type 0} (contents : W → Option (List ℕ)) (failures : W → ℕ
       subst (λ (k : ReplyLines W). (k.output.ghost_name ≡ old.output.ghost_name) × (failures k.output.now ≡ failures old.output.now)) (sym same) (out.same_output, out.kept)
 
   -- at most a prefix of the next line is written
-  next_begun : (why : RunStop) (middle new : ReplyLines W) (next : Reply) → IsCutBy (CutsLine contents failures) why middle new next
+  next_begun : (why : RunStop Failure) (middle new : ReplyLines W) (next : Reply) → IsCutBy (CutsLine contents failures) why middle new next
       → AppendsPrefix (contents middle.output.now) (contents new.output.now) (reply_line next)
   next_begun (stop.Fault fault) middle new next cut =
       subst (λ (k : ReplyLines W). AppendsPrefix (contents middle.output.now) (contents k.output.now) (reply_line next)) (sym cut.0)
       (prefix_of_any (contents middle.output.now) (reply_line next))
-  next_begun stop.Cut middle new next cut = cut.gained
+  next_begun (stop.Cut failure) middle new next cut = cut.gained
 
   -- nothing of it is written, or its request was acted on
-  next_acted : {S : Type 0} {g : Ghosts S} (it : Registry S g) (h : History) (why : RunStop) (middle new : ReplyLines W) (next : Reply) → IsCutBy (CutsLine contents failures) why middle new next
+  next_acted : {S : Type 0} {g : Ghosts S} (it : Registry S g) (h : History) (why : RunStop Failure) (middle new : ReplyLines W) (next : Reply) → IsCutBy (CutsLine contents failures) why middle new next
       → IsLeftAt why it h → Keeps (contents middle.output.now) (contents new.output.now) ⊎ Represents it h
   next_acted it h (stop.Fault fault) middle new next cut poisoned =
       inl (subst (λ (k : ReplyLines W). Keeps (contents middle.output.now) (contents k.output.now)) (sym cut.0) (keeps_same (contents middle.output.now)))
-  next_acted it h stop.Cut middle new next cut stands = inr stands
+  next_acted it h (stop.Cut failure) middle new next cut stands = inr stands
 
   -- what the output took between two states
   abbrev pub output_between : ReplyLines W → ReplyLines W → Output
@@ -73,7 +74,7 @@ module _ {W : Type 0} (contents : W → Option (List ℕ)) (failures : W → ℕ
     new = record { contents = contents new.output.now; failures = failures new.output.now };
   }
 
-  pub stopped_lines : {S : Type 0} {g : Ghosts S} (it : Registry S g) (h : History) (rs : List Request) (a n : ℕ) (old new : ReplyLines W) (why : RunStop)
+  pub stopped_lines : {S : Type 0} {g : Ghosts S} (it : Registry S g) (h : History) (rs : List Request) (a n : ℕ) (old new : ReplyLines W) (why : RunStop Failure)
       → IsHalted (TakesLine contents failures) (CutsLine contents failures) it h rs a n old new why → IsStoppedAt it h rs a (output_between old new)
   stopped_lines it h rs a n old new why halted =
       let middle = halted.middle in

@@ -66,11 +66,13 @@ module _ {S : Type 0} {g : Ghosts S} where
     pub silent : ReceivesNothing did.ends.out
     pub told : PrintsFailure OfInput did.ends.errors
 
-  -- The requests after the first a were acted on in turn: all of them, or up to a failure. A poisoned registry acts on none, no
+  -- The requests after the first a were acted on in turn: all of them, or up to a failure. After all of them the registry is not
+  -- poisoned, whatever its store holds. A poisoned registry acts on none, no
   -- reply is written, and the error output says that it is poisoned, or that the input failed or memory ran out.
   pub record IsRun (OfInput : Failure → Type 0) (did : Effect S g) (rs : List Request) (a : ℕ) : Type 0 where
     pub statuses : (did.ends.status ≡ Success) ⊎ (did.ends.status ≡ Failed)
     pub through : did.ends.status ≡ Success → (h : History) → HasAnswered did.old h rs a → HasCleanDisk (state_of did.new) → IsThrough did.new h rs a did.ends.out
+    pub sound : did.ends.status ≡ Success → is_poisoned did.new ≡ false
     pub quiet : did.ends.status ≡ Success → PrintsNothing did.ends.errors
     pub stopped : did.ends.status ≡ Failed → (h : History) → HasAnswered did.old h rs a → HasCleanDisk (state_of did.new) → IsStoppedAt did.new h rs a did.ends.out
     pub told : did.ends.status ≡ Failed → IsUnread OfInput did

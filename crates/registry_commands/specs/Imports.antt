@@ -1,5 +1,5 @@
 -- What is written, and what the registry represents, after a list was imported.
-use Rattle.std.specs.Prelude.{◌≡◌, ◌⊎◌, ◌≤◌, ℕ, true, List, length, Option, Some, None, Result, Ok, Err}
+use Rattle.std.specs.Prelude.{◌≡◌, ◌⊎◌, ◌≤◌, ℕ, true, false, List, length, Option, Some, None, Result, Ok, Err}
 use Rattle.sqlite.specs.Store.{Ghosts}
 use Rattle.sqlite.specs.State.{HasCleanDisk}
 use Rattle.usbnum_core.specs.Number.{number_of}
@@ -78,12 +78,14 @@ abbrev pub request_of_import : Import → ℕ → List TopEntry → Request
 request_of_import import founding_vendor doc = import_of import.caller import.key import.org founding_vendor import.vendor doc
 
 module _ {S : Type 0} {g : Ghosts S} where
-  -- The request was acted on: its reply's line is written, and the registry represents the history after it.
+  -- The request was acted on: its reply's line is written, and the registry represents the history after it. It is not poisoned,
+  -- whatever its store holds.
   pub record GivesReply (did : Effect S g) (r : Request) : Type 0 where
     pub reply : Reply
     pub status_is : did.ends.status ≡ exit_status_of reply
     pub gained : Receives did.ends.out (reply_line reply)
     pub quiet : PrintsNothing did.ends.errors
+    pub sound : is_poisoned did.new ≡ false
     pub answered : (h : History) → MayHaveBeenActedOn did.old h r → HasCleanDisk (state_of did.new) → (reply ≡ reply_to h r) × Represents did.new (after_one h r)
 
   -- A prefix of the reply's line is written. A crash leaves the history before the request or after it, and the registry is

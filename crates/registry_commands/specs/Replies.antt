@@ -1,5 +1,5 @@
 -- What an output does with the replies of a run.
-use Rattle.std.specs.Prelude.{◌≡◌, ◌⊎◌, ℕ, List, Option, Some}
+use Rattle.std.specs.Prelude.{◌≡◌, ◌⊎◌, ℕ, List, Option}
 use Rattle.std.specs.Io.KnownBytes.{Appends}
 use Rattle.byte_streams.specs.Streams.{AppendsPrefix}
 use Rattle.registry_rules.specs.declared.verdict.Reply.{Reply}
@@ -16,11 +16,9 @@ module _ {W : Type 0} (contents : W → Option (List ℕ)) (failures : W → ℕ
     pub gained : Appends (contents old.output.now) (contents new.output.now) (reply_line reply)
     pub kept : failures new.output.now ≡ failures old.output.now
 
-  -- a prefix of the reply line is written, and the failure is noted
-  pub record CutsLine : Type 0 where
+  -- a prefix of the reply line is written, and this failure says why
+  pub record CutsLine (failure : Failure) : Type 0 where
     pub same_output : new.output.ghost_name ≡ old.output.ghost_name
     pub gained : AppendsPrefix (contents old.output.now) (contents new.output.now) (reply_line reply)
-    pub failure : Failure
-    pub noted : new.failure ≡ Some failure
     pub kind : (failure ≡ Memory) ⊎ (failure ≡ File)
     pub cause : IsOfOutput (failures old.output.now) (failures new.output.now) failure

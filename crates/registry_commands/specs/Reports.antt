@@ -7,7 +7,7 @@ use Rattle.registry_store.specs.Queries.{IsUntouched}
 use Rattle.registry_views.specs.Reports.{IsReport}
 use Rattle.registry_commands.specs.Ends.{Effect}
 use Rattle.registry_commands.specs.Printed.{IsPrinted, IsUnprinted}
-use Rattle.registry_commands.specs.Shown.{HoldsOfHistory, IsOfReading, ShowsNothing}
+use Rattle.registry_commands.specs.Shown.{HidesNoForeign, HoldsOfHistory, IsOfReading, ShowsNothing}
 
 module _ {S : Type 0} {g : Ghosts S} where
   -- the report on the history is written, whole or in part; or nothing is written, after a failure
@@ -15,3 +15,4 @@ module _ {S : Type 0} {g : Ghosts S} where
     pub left : IsUntouched did.old did.new
     pub shown : ((text : List ℕ) × HoldsOfHistory did.old did.new (λ h. IsReport name h text) × IsPrinted text did.ends) ⊎ IsUnprinted (IsOfReading did.old did.new) did.ends
     pub poisoned : is_poisoned did.old ≡ true → ShowsNothing did
+    pub notes : HidesNoForeign did

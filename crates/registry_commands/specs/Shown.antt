@@ -1,5 +1,5 @@
 -- What a command shows of a registry without changing it.
-use Rattle.std.specs.Prelude.{◌≡◌, ◌⊎◌, ⊤, true, List, Option}
+use Rattle.std.specs.Prelude.{◌≡◌, ◌⊎◌, ⊤, true, List, Option, None}
 use Rattle.sqlite.specs.Store.{Ghosts}
 use Rattle.sqlite.specs.State.{HasCleanDisk}
 use Rattle.usbids_text.specs.Documents.{IsTextOf}
@@ -9,11 +9,11 @@ use Rattle.usbids_text.specs.Writing.{written}
 use Rattle.registry_rules.specs.History.{History}
 use Rattle.registry_reports.specs.History.{IsListing}
 use Rattle.registry_store.specs.declared.registry.Registry.{Registry}
-use Rattle.registry_store.specs.Promise.{Represents, is_poisoned, state_of}
+use Rattle.registry_store.specs.Promise.{NotesForeign, Represents, is_poisoned, state_of}
 use Rattle.registry_store.specs.Queries.{IsUntouched}
 use Rattle.registry_commands.specs.declared.messages.Failure.{Failure}
 use Rattle.registry_commands.specs.declared.messages.Failure.TheVariants.{Store, Memory, Foreign, Taken, Poisoned, File}
-use Rattle.registry_commands.specs.declared.status.ExitStatus.TheVariants.{Failed}
+use Rattle.registry_commands.specs.declared.status.ExitStatus.TheVariants.{Failed, Success}
 use Rattle.registry_commands.specs.Ends.{Effect}
 use Rattle.registry_commands.specs.Failures.{PrintsFailure}
 use Rattle.registry_commands.specs.Printed.{IsPrinted, IsUnprinted}
@@ -38,6 +38,10 @@ module _ {S : Type 0} {g : Ghosts S} where
   ShowsNothing did =
       (did.ends.status ≡ Failed) × (did.new ≡ did.old) × (did.ends.out.new.contents ≡ did.ends.out.old.contents) × PrintsFailure (λ failure. failure ≡ Poisoned) did.ends.errors
 
+  -- At success no call found the rows of no history.
+  abbrev pub HidesNoForeign : Effect S g → Type 0
+  HidesNoForeign did = did.ends.status ≡ Success → NotesForeign did.old did.new None
+
   -- the list of the history is written, whole or in part, and the whole is the text of its document; or nothing is written,
   -- after a failure
   pub record IsExported (did : Effect S g) (stamp : Option Moment) : Type 0 where
@@ -45,3 +49,4 @@ module _ {S : Type 0} {g : Ghosts S} where
     pub shown : ((doc : List TopEntry) × HoldsOfHistory did.old did.new (λ h. IsListing h doc) × IsTextOf (written doc stamp) doc × IsPrinted (written doc stamp) did.ends)
         ⊎ IsUnprinted (IsOfReading did.old did.new) did.ends
     pub poisoned : is_poisoned did.old ≡ true → ShowsNothing did
+    pub notes : HidesNoForeign did

@@ -1,6 +1,6 @@
 //! Acts on request lines over a registry, one after another.
 
-ghost use Rattle.std.specs.Prelude.{◌≡◌, ◌≤◌, ◌⊎◌, ℕ, List, true, length, IfErr, Ok, Err, OnOk, OnErr};
+ghost use Rattle.std.specs.Prelude.{◌≡◌, ◌≤◌, ◌⊎◌, ℕ, List, true, false, length, IfErr, Ok, Err, OnOk, OnErr};
 ghost use Rattle.sqlite.specs.State.{HasCleanDisk};
 ghost use Rattle.byte_streams.specs.Streams.{MayGive};
 ghost use Rattle.registry_rules.specs.History.{History};
@@ -40,19 +40,17 @@ fn write_replies<S: Alter, W: Sink>(
     ensures failure { IfErr result (λ failure. IsOfRun registry.old registry.new (λ h. HasAnswered registry.old h requests.now answered) failure
         × IsOfOutput (W.failures lines.old.output.now) (W.failures lines.new.output.now) failure) }
     ensures when_poisoned { is_poisoned registry.old ≡ true → (result ≡ Err Failure.Poisoned) × (registry.new ≡ registry.old) × (W.contents lines.new.output.now ≡ W.contents lines.old.output.now) }
+    ensures goes_on { OnOk result (is_poisoned registry.new ≡ false) }
     ensures endures { Endures (state_of registry.old) (state_of registry.new) }
 {
     match registry.run_to(requests, answered, lines) {
         Ok(()) => Ok(()),
         Err(RunStop::Fault(fault)) => Err(failure_of(fault)),
-        Err(RunStop::Cut) => match lines.failure {
-            Some(failure) => Err(failure),
-            None => unreachable!(),
-        },
+        Err(RunStop::Cut(failure)) => Err(failure),
     }
 }
 
-/// Does the same over an output.
+/// Acts on the requests from the first unanswered one on, and writes each reply as a line of the output.
 fn answer_from<S: Alter, W: Sink>(
     alloc: Global,
     registry: &mut Registry<S>,
@@ -68,13 +66,10 @@ fn answer_from<S: Alter, W: Sink>(
     ensures failure { IfErr result (λ failure. IsOfRun registry.old registry.new (λ h. HasAnswered registry.old h requests.now answered) failure
         × IsOfOutput (W.failures output.old) (W.failures output.new) failure) }
     ensures when_poisoned { is_poisoned registry.old ≡ true → (result ≡ Err Failure.Poisoned) × (registry.new ≡ registry.old) × (W.contents output.new ≡ W.contents output.old) }
+    ensures goes_on { OnOk result (is_poisoned registry.new ≡ false) }
     ensures endures { Endures (state_of registry.old) (state_of registry.new) }
 {
-    let mut lines = ReplyLines {
-        alloc,
-        output,
-        failure: None,
-    };
+    let mut lines = ReplyLines { alloc, output };
     write_replies(registry, requests, answered, &mut lines)
 }
 

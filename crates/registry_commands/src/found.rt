@@ -12,7 +12,7 @@ use crate::input::read_all;
 use crate::messages::{Failure, fail, failure_of, input_failure, refusal_line, tell};
 use crate::status::ExitStatus;
 use byte_streams::{Sink, Source};
-use registry_rules::Founding;
+use registry_rules::{Founding, Rejection};
 use registry_store::Registry;
 use registry_wire::{WireRefusal, founding_from_toml};
 use sqlite::{Alter, Connection};
@@ -35,9 +35,9 @@ fn founding_in<E: Sink>(alloc: Global, bytes: &[u8], errors: &mut E) -> Result<F
     ensures { ReadsFounding IsOfMemory (founding_listed bytes.now) (output_of E.Sink errors.old errors.new) result }
 {
     match founding_from_toml(alloc, bytes) {
-        Ok(Ok(founding)) => Ok(founding),
-        Ok(Err(refusal)) => Err(reject(alloc, errors, refusal)),
-        Err(_) => Err(fail(errors, Failure::Memory)),
+        Ok(founding) => Ok(founding),
+        Err(Rejection::Refused(refusal)) => Err(reject(alloc, errors, refusal)),
+        Err(Rejection::NoMemory) => Err(fail(errors, Failure::Memory)),
     }
 }
 

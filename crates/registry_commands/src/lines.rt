@@ -3,7 +3,7 @@
 ghost use Rattle.std.specs.Prelude.{◌≡◌, ◌==◌, ◌<◌, ◌∷◌, length, position, IfOk, MatchResult, Ok, Err};
 ghost use Rattle.registry_commands.specs.Lines.{is_blank, lines_of, requests_in};
 
-use registry_rules::Request;
+use registry_rules::{Rejection, Request};
 use registry_wire::{WireRefusal, line_request};
 use std::alloc::Global;
 use usbnum_core::NoMemory;
@@ -56,9 +56,10 @@ pub fn requests_in(alloc: Global, bytes: &[u8]) -> Result<Result<Vec<Request>, B
     while !rest.is_empty() {
         let (line, after) = first_line(rest);
         if !is_blank(line) {
-            match line_request(alloc, line)? {
+            match line_request(alloc, line) {
                 Ok(request) => requests.push(request)?,
-                Err(refusal) => return Ok(Err(BadLine { number, refusal })),
+                Err(Rejection::Refused(refusal)) => return Ok(Err(BadLine { number, refusal })),
+                Err(Rejection::NoMemory) => return Err(NoMemory),
             }
         }
         rest = after;

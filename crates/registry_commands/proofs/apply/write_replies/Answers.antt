@@ -6,8 +6,6 @@ use Rattle.registry_store.specs.Promise.{is_poisoned, poisoned_by, state_of}
 use Rattle.registry_store.specs.Run.{HasAnswered}
 use Rattle.registry_store.specs.declared.fault.Fault.TheVariants.{Store, NoMemory, Poisoned}
 use Rattle.registry_store.specs.declared.replies.RunStop.TheVariants as stop
-use Rattle.registry_commands.specs.declared.messages.Failure.{Failure}
-use Rattle.registry_commands.specs.Apply.{IsOfRun}
 use Rattle.registry_commands.specs.Failures.{IsOfOutput}
 use Rattle.registry_commands.proofs.FailureLemmas.{not_of_output, of_fault, of_reply}
 use Rattle.registry_commands.proofs.ReplyLemmas.{no_more, stopped_lines, taken_lines}
@@ -51,30 +49,24 @@ returns-in-Err-Fault-clause-failure g c =
       not_of_output (g.W.Sink.failures old.output.now) (g.W.Sink.failures new.output.now) kept fault,
     )
 
-pub unreachable-requires : goal.unreachable-requires
-unreachable-requires g c =
-    let given = rw c.in-Err-Cut.field-0-is at c.in-Err-Cut.ensures.cut in
-    absurd (cc (given.last.1.noted, c.in-None.is))
-
-pub returns-in-Some-clause-same_reference : goal.returns-in-Some-clause-same_reference
-returns-in-Some-clause-same_reference g c =
+pub returns-in-Err-Cut-clause-same_reference : goal.returns-in-Err-Cut-clause-same_reference
+returns-in-Err-Cut-clause-same_reference g c =
     let given = rw c.in-Err-Cut.field-0-is at c.in-Err-Cut.ensures.cut in
     given.last.1.same_output ∙ (taken_lines g.W.Sink.contents g.W.Sink.failures c.args.lines.now given.middle given.replies given.taken).same_output
 
-pub returns-in-Some-clause-stopped : goal.returns-in-Some-clause-stopped
-returns-in-Some-clause-stopped g c h at clean =
+pub returns-in-Err-Cut-clause-stopped : goal.returns-in-Err-Cut-clause-stopped
+returns-in-Err-Cut-clause-stopped g c h at clean =
     let halted = c.in-Err-Cut.ensures.stopped h at clean in
     stopped_lines g.W.Sink.contents g.W.Sink.failures c.run_to.new.self h c.args.requests.now c.args.answered halted.0 c.args.lines.now c.run_to.new.replies _ halted.1
 
-pub returns-in-Some-clause-failure : goal.returns-in-Some-clause-failure
-returns-in-Some-clause-failure g c =
+pub returns-in-Err-Cut-clause-failure : goal.returns-in-Err-Cut-clause-failure
+returns-in-Err-Cut-clause-failure g c =
     let given = rw c.in-Err-Cut.field-0-is at c.in-Err-Cut.ensures.cut in
     let cut = given.last.1 in
     let old = g.W.Sink.failures c.args.lines.now.output.now in
     let new = g.W.Sink.failures c.run_to.new.replies.output.now in
     let kept : g.W.Sink.failures given.middle.output.now ≡ old = (taken_lines g.W.Sink.contents g.W.Sink.failures c.args.lines.now given.middle given.replies given.taken).kept in
-    let same : cut.failure ≡ c.in-Some.failure = cc (cut.noted, c.in-Some.is) in (
-      subst (λ (f : Failure). IsOfRun c.args.registry.now c.run_to.new.self (λ h. HasAnswered c.args.registry.now h c.args.requests.now c.args.answered) f) same
-          (of_reply c.args.registry.now c.run_to.new.self (λ h. HasAnswered c.args.registry.now h c.args.requests.now c.args.answered) cut.failure (c.in-Err-Cut.ensures.after_cut (ap Err c.in-Err-Cut.field-0-is)) cut.kind),
-      subst (λ (f : Failure). IsOfOutput old new f) same (subst (λ (n : ℕ). IsOfOutput n new cut.failure) kept cut.cause),
+    let sound : is_poisoned c.run_to.new.self ≡ false = rw c.in-Err-Cut.field-0-is at c.in-Err-Cut.ensures.ends in (
+      of_reply c.args.registry.now c.run_to.new.self (λ h. HasAnswered c.args.registry.now h c.args.requests.now c.args.answered) c.in-Err-Cut.failure sound cut.kind,
+      subst (λ (n : ℕ). IsOfOutput n new c.in-Err-Cut.failure) kept cut.cause,
     )

@@ -4,23 +4,23 @@ use Rattle.registry_wire.specs.Reading.{line_reading}
 use Rattle.registry_commands.specs.Lines.{is_blank}
 use Rattle.registry_commands.proofs.LineLemmas.{after_blank, after_good, at_bad, ended_at, empty_bytes}
 use Rattle.registry_commands.proofs.lines.requests_in.Goals as goal
-use Rattle.registry_commands.proofs.lines.requests_in.Goals.{then-not-is_blank+in_ok-request+in-Ok+in_ok-push-in-Ok, else-not-is_blank}
+use Rattle.registry_commands.proofs.lines.requests_in.Goals.{then-not-is_blank+in-Ok+in_ok-push-in-Ok, else-not-is_blank}
 
-pub returns-in-Err : goal.returns-in-Err
-returns-in-Err c =
+pub returns-in-Err-Refused : goal.returns-in-Err-Refused
+returns-in-Err-Refused c =
     let line = c.first_line.result.0.now in
     let filled : is_blank line ≡ false = cc in
-    let read : line_reading line ≡ Err c.in-Err.refusal = sym c.in_ok-request.ensures ∙ c.in-Err.is in
-    at_bad _ c.loop-rest.requests.items c.loop-rest.number c.loop-rest.rest.now c.loop-rest.invariant.ahead line c.first_line.result.1.now c.first_line.ensures.lines c.in-Err.refusal filled read
+    let read : line_reading line ≡ Err c.in-Err-Refused.refusal = rw c.in-Err-Refused.field-0-is at c.in-Err-Refused.ensures in
+    at_bad _ c.loop-rest.requests.items c.loop-rest.number c.loop-rest.rest.now c.loop-rest.invariant.ahead line c.first_line.result.1.now c.first_line.ensures.lines c.in-Err-Refused.refusal filled read
 
 pub loop-rest-preserved : goal.loop-rest-preserved
 loop-rest-preserved c =
     let line = c.first_line.result.0.now in
     let front = c.loop-rest.requests.items in
     elim c.if-not-is_blank.branch [
-      | then-not-is_blank+in_ok-request+in-Ok+in_ok-push-in-Ok w ↦
+      | then-not-is_blank+in-Ok+in_ok-push-in-Ok w ↦
           let filled : is_blank line ≡ false = cc in
-          let read : line_reading line ≡ Ok w.in-Ok.request = sym w.in_ok-request.ensures ∙ w.in-Ok.is in
+          let read : line_reading line ≡ Ok w.in-Ok.request = w.in-Ok.ensures in
           let pushed : c.if-not-is_blank.requests.items ≡ front ++ w.in-Ok.request ∷ [] = rw w.requests-is w.in_ok-push-in-Ok.ensures.items in
           record {
             ahead = after_good _ front c.loop-rest.number c.loop-rest.rest.now c.loop-rest.invariant.ahead line c.first_line.result.1.now c.first_line.ensures.lines w.in-Ok.request _ filled read pushed;
