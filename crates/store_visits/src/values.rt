@@ -19,7 +19,7 @@ pub fn slug(alloc: Global, text: &str) -> Result<Slug, Fail> {
 
 /// Returns a founding of the vendor 1209, with the numbers up to 0010 fixed.
 pub fn founding(alloc: Global) -> Result<Founding, Fail> {
-    Ok(founding_from_toml(alloc, FOUNDING.as_bytes())??)
+    Ok(founding_from_toml(alloc, FOUNDING.as_bytes())?)
 }
 
 // Returns cora's import of a list, under the key and for the organisation in `words`.
@@ -37,7 +37,7 @@ fn import(alloc: Global, words: &str, list: &str) -> Result<Request, Fail> {
 pub fn request(alloc: Global, text: &str) -> Result<Request, Fail> {
     match text.split_once('\n') {
         Some((words, list)) => import(alloc, words, list),
-        None => Ok(line_request(alloc, text.as_bytes())??),
+        None => Ok(line_request(alloc, text.as_bytes())?),
     }
 }
 
