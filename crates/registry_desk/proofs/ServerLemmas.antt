@@ -51,6 +51,14 @@ pub turns_more : (h middle next : History) (visits : List Visit) (visit : Visit)
 turns_more h middle next [] visit same one = (next, subst (λ x. IsTurn x visit next) same one, refl)
 turns_more h middle next (first ∷ visits) visit before one = (before.0, before.1, turns_more before.0 middle next visits visit before.2 one)
 
+-- a fault is told at its connection
+told_at : (bytes : List ℕ) (response : Response) (served : Served) (fault : Option Fault) → IfOk served.status (λ sent. sent ≡ response.status) → IsToldBy fault response
+    → IsToldAt (record { bytes = bytes; text = response_bytes response; end = Ok served }) fault
+told_at bytes response served None sent told = tt
+told_at bytes response served (Some fault) sent told =
+    let unavailable = ap (λ (r : Response). r.status) told ∙ status_503 (unavailable_of (Registry fault)) in
+    (ap response_bytes told, subst (λ (n : ℕ). IfOk served.status (λ sent. sent ≡ n)) unavailable sent)
+
 module _ {S : Type 0} {g : Ghosts S} where
   -- serving a message for which memory ran out, by the history that the registry represents
   short_turn : (new : TheRegistry S g) (h : History) (bytes text : List ℕ) (served : Served) (next : History)
@@ -78,14 +86,6 @@ module _ {S : Type 0} {g : Ghosts S} where
       let unavailable = ap (λ (r : Response). r.status) it.response_is ∙ status_503 (unavailable_of it.why) in
       subst (λ (f : Option Fault). EndsVisit new h (record { bytes = bytes; text = response_bytes response; end = Ok served }) f) (sym it.fault_is)
       (given_up_visit new h bytes (response_bytes response) served it.why it.next it.kind (ap response_bytes it.response_is) (subst (λ (n : ℕ). IfOk served.status (λ sent. sent ≡ n)) unavailable sent) it.next_is it.left it.fault_of)
-
-  -- a fault is told at its connection
-  told_at : (bytes : List ℕ) (response : Response) (served : Served) (fault : Option Fault) → IfOk served.status (λ sent. sent ≡ response.status) → IsToldBy fault response
-      → IsToldAt (record { bytes = bytes; text = response_bytes response; end = Ok served }) fault
-  told_at bytes response served None sent told = tt
-  told_at bytes response served (Some fault) sent told =
-      let unavailable = ap (λ (r : Response). r.status) told ∙ status_503 (unavailable_of (Registry fault)) in
-      (ap response_bytes told, subst (λ (n : ℕ). IfOk served.status (λ sent. sent ≡ n)) unavailable sent)
 
   -- the registry represents the history after these connections, and the texts that are kept are of it
   abbrev pub RepresentsBeside : TheRegistry S g → Kept → History → List Visit → Type 0

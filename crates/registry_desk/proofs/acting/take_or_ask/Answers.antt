@@ -1,3 +1,4 @@
+use Rattle.std.proofs.Common.{refl}
 use Rattle.registry_desk.proofs.AskLemmas.{left_same}
 use Rattle.registry_desk.proofs.KeptLemmas.{never_taken, taken_of}
 use Rattle.registry_desk.proofs.acting.take_or_ask.Goals as goal
