@@ -11,7 +11,7 @@ returns-in-Err-Refused c =
     let line = c.first_line.result.0.now in
     let filled : is_blank line ≡ false = cc in
     let read : line_reading line ≡ Err c.in-Err-Refused.refusal = rw c.in-Err-Refused.field-0-is at c.in-Err-Refused.ensures in
-    at_bad _ c.loop-rest.requests.items c.loop-rest.number c.loop-rest.rest.now c.loop-rest.invariant.ahead line c.first_line.result.1.now c.first_line.ensures.lines c.in-Err-Refused.refusal filled read
+    rw c.in-Err-Refused.field-0-is (at_bad _ c.loop-rest.requests.items c.loop-rest.number c.loop-rest.rest.now c.loop-rest.invariant.ahead line c.first_line.result.1.now c.first_line.ensures.lines c.in-Err-Refused.refusal filled read)
 
 pub loop-rest-preserved : goal.loop-rest-preserved
 loop-rest-preserved c =
