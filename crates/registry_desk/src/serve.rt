@@ -106,24 +106,24 @@ pub(crate) fn serve_message<R: Source, W: Sink, S: Alter>(
     ensures endures { Endures (state_of registry.old) (state_of registry.new) }
 {
     let founding = registry.founding().vendor;
-    match read_message(alloc, routes, source, founding) {
-        Ok(said) => {
-            let done = response_to(alloc, registry, kept, &said);
-            let served = send(alloc, sink, &done);
-            kept.keep(said, done);
-            Ok(served)
-        }
-        Err(MessageFault::Broken) => Err(Broken),
+    let said = match read_message(alloc, routes, source, founding) {
+        Ok(message) => Ok(message),
+        Err(MessageFault::Refused(refusal)) => Err(refusal),
+        Err(MessageFault::Broken) => return Err(Broken),
         Err(MessageFault::NoMemory) => {
             kept.clear();
             let given = give_up(sink, DeskFault::NoMemory);
             // A poisoned registry was not asked, and yet no server goes on over it.
-            Ok(Served {
+            return Ok(Served {
                 status: given.status,
                 fault: poison_of(registry),
-            })
+            });
         }
-    }
+    };
+    let done = response_to(alloc, registry, kept, &said);
+    let served = send(alloc, sink, &done);
+    kept.keep(said, done);
+    Ok(served)
 }
 
 /// Reads one message from the source, acts on it, and writes its response to the sink.

@@ -1,4 +1,5 @@
-use Rattle.std.proofs.Common.{inr, inl, ◌||◌, Bool, ℕ, Option, refl, sym, ap, subst, ◌∙◌}
+use Rattle.std.proofs.Common.{inr, inl, ◌||◌, Bool, ℕ, List, Option, refl, sym, ap, subst, ◌∙◌}
+use Rattle.byte_streams.specs.Streams.{MayGive}
 use Rattle.registry_http.specs.Messages.{Says}
 use Rattle.registry_http.specs.Responses.{unavailable_response}
 use Rattle.registry_http.proofs.MessageLemmas.{may_give_some}
@@ -10,10 +11,14 @@ use Rattle.registry_desk.proofs.KeptLemmas.{none_after, none_are, only_done, tex
 use Rattle.registry_desk.specs.Serving.{IsToldBy}
 use Rattle.registry_desk.proofs.ServeLemmas.{not_asked, same_fault, served_early, served_then, tells_poisoned, told_by, turned_away}
 use Rattle.registry_desk.proofs.serve.serve_message.Goals as goal
+use Rattle.registry_desk.proofs.serve.serve_message.Goals.{in-Ok, in-Err-Refused}
 
-pub returns-in-Ok-clause-served : goal.returns-in-Ok-clause-served
-returns-in-Ok-clause-served g c =
-    let says = c.in-Ok.ensures.ok in
+pub returns-clause-served : goal.returns-clause-served
+returns-clause-served g c =
+    let says : (bytes : List ℕ) × MayGive (g.R.Source.remaining c.args.source.now) bytes × Says c.founding.result.now.vendor bytes c.match-read_message.said = elim c.match-read_message.branch [
+      | in-Ok w ↦ rw w.said-is w.in-Ok.ensures.ok
+      | in-Err-Refused w ↦ rw w.said-is (rw w.in-Err-Refused.field-0-is at w.in-Err-Refused.ensures.ok)
+    ] in
     let fault = c.send-served.result.fault in
     let told = c.send-served.ensures in
     let acted = c.response_to-done.ensures in (
@@ -23,35 +28,35 @@ returns-in-Ok-clause-served g c =
         told.0,
         told.2,
         λ h stands clean of.
-            let here = subst (λ (founding : ℕ). Says founding says.0 c.in-Ok.said) (c.founding.ensures h stands).vendor says.2 in
+            let here = subst (λ (founding : ℕ). Says founding says.0 c.match-read_message.said) (c.founding.ensures h stands).vendor says.2 in
             let answered = acted.answered h stands clean of in (
-              served_then c.response_to-done.new.registry h says.0 told.0 fault c.in-Ok.said c.response_to-done.result here clean answered (acted.left h stands clean) acted.asked told.1,
-              texts_after _ h says.0 c.args.kept.now c.response_to-done.new.kept c.keep.new.self c.response_to-done.result c.in-Ok.said acted.beside c.keep.ensures here of answered,
+              served_then c.response_to-done.new.registry h says.0 told.0 fault c.match-read_message.said c.response_to-done.result here clean answered (acted.left h stands clean) acted.asked told.1,
+              texts_after _ h says.0 c.args.kept.now c.response_to-done.new.kept c.keep.new.self c.response_to-done.result c.match-read_message.said acted.beside c.keep.ensures here of answered,
             ),
         λ poisoned none.
             let away = acted.when_poisoned poisoned none in
-            let turned = turned_away c.args.registry.now c.response_to-done.new.registry c.in-Ok.said c.response_to-done.result told.0 fault acted.refused away told.1 in (
-              inr (_, c.in-Ok.said, says.2, turned.0),
+            let turned = turned_away c.args.registry.now c.response_to-done.new.registry c.match-read_message.said c.response_to-done.result told.0 fault acted.refused away told.1 in (
+              inr (_, c.match-read_message.said, says.2, turned.0),
               turned.1,
-              none_after c.args.kept.now c.response_to-done.new.kept c.keep.new.self c.response_to-done.result c.in-Ok.said acted.beside c.keep.ensures none (only_done _ _ c.in-Ok.said away),
+              none_after c.args.kept.now c.response_to-done.new.kept c.keep.new.self c.response_to-done.result c.match-read_message.said acted.beside c.keep.ensures none (only_done _ _ c.match-read_message.said away),
             ),
         λ sane. told_by c.response_to-done.result told.0 fault told.1,
       ),
     )
 
-pub returns-in-Ok-clause-goes_on : goal.returns-in-Ok-clause-goes_on
-returns-in-Ok-clause-goes_on g c = λ sane none.
+pub returns-clause-goes_on : goal.returns-clause-goes_on
+returns-clause-goes_on g c = λ sane none.
     let told = c.send-served.ensures in
     c.response_to-done.ensures.goes_on sane (sym (same_fault c.response_to-done.result told.0 c.send-served.result.fault told.1) ∙ none)
 
-pub returns-in-Ok-clause-notes : goal.returns-in-Ok-clause-notes
-returns-in-Ok-clause-notes g c =
+pub returns-clause-notes : goal.returns-clause-notes
+returns-clause-notes g c =
     let told = c.send-served.ensures in
     subst (λ (fault : Option Fault). NotesForeign c.args.registry.now c.response_to-done.new.registry fault)
     (sym (same_fault c.response_to-done.result told.0 c.send-served.result.fault told.1)) c.response_to-done.ensures.notes
 
-pub returns-in-Ok-clause-poisoned : goal.returns-in-Ok-clause-poisoned
-returns-in-Ok-clause-poisoned g c = λ poisoned.
+pub returns-clause-poisoned : goal.returns-clause-poisoned
+returns-clause-poisoned g c = λ poisoned.
     let told = c.send-served.ensures in
     c.response_to-done.ensures.only_poisoned (tells_poisoned c.response_to-done.result told.0 c.send-served.result.fault told.1 poisoned)
 
