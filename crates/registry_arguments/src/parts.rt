@@ -9,6 +9,15 @@ use clap::builder::{ValueParser, ValueRange};
 use clap::{Arg, ArgAction, Command};
 use std::alloc::{AllocError, Global};
 
+/// The greatest port.
+pub(crate) const MOST_PORT: u64 = 65_535;
+
+/// The most connections that `--count` may ask for.
+pub(crate) const MOST_CONNECTIONS: u64 = 4_294_967_295;
+
+/// The most requests that `--after` may leave out.
+pub(crate) const MOST_PASSED: u64 = 4_294_967_295;
+
 /// Returns a required positional argument.
 pub(crate) fn positional<'a>(alloc: Global, name: &'a str, shown: &'a str, help: &'a str) -> Arg<'a>
     ensures rule { rule_of result ≡ positional name.entry.now }
@@ -47,7 +56,7 @@ pub(crate) fn needed_option<'a>(
     option(alloc, name, shown, help).required(true)
 }
 
-/// Returns the same argument, with a decimal number from `low` to `high` as its value.
+/// Returns the argument with a decimal number from `low` to `high` as its value.
 pub(crate) fn numeric<'a>(arg: Arg<'a>, low: u64, high: u64) -> Arg<'a>
     ensures rule { rule_of result ≡ numeric low high (rule_of arg.entry) }
     ensures others { result ≡ record arg.entry { value_parser = result.value_parser } }

@@ -6,7 +6,8 @@ ghost use Rattle.clap.specs.declared.builder.command.Command.TheViews.{out-Comma
 ghost use Rattle.registry_arguments.specs.Commands.{apply_app, export_app, found_app, history_app, import_app, lookup_app, needed_option, replay_app, report_app, serve_app, trial_app, usbreg_app, versioned};
 
 use crate::parts::{
-    needed_option, numeric, option, positional, subcommand, with_arg, with_command, with_verbose,
+    MOST_CONNECTIONS, MOST_PASSED, MOST_PORT, needed_option, numeric, option, positional,
+    subcommand, with_arg, with_command, with_verbose,
 };
 use clap::Command;
 use std::alloc::{AllocError, Global};
@@ -171,9 +172,9 @@ fn serve<'a>(alloc: Global) -> Result<Command<'a>, AllocError>
         positional(alloc, "store", "STORE", "The registry's file"),
     )?;
     let port = needed_option(alloc, "port", "P", "The port, from 1 to 65535");
-    let command = with_arg(command, numeric(port, 1, 65_535))?;
+    let command = with_arg(command, numeric(port, 1, MOST_PORT))?;
     let count = option(alloc, "count", "N", "Stop after N connections");
-    let command = with_arg(command, numeric(count, 0, 4_294_967_295))?;
+    let command = with_arg(command, numeric(count, 0, MOST_CONNECTIONS))?;
     with_verbose(alloc, command)
 }
 
@@ -246,7 +247,7 @@ fn history<'a>(alloc: Global) -> Result<Command<'a>, AllocError>
         "N",
         "Print only the requests after the first N",
     );
-    let command = with_arg(command, numeric(after, 0, 4_294_967_295))?;
+    let command = with_arg(command, numeric(after, 0, MOST_PASSED))?;
     with_verbose(alloc, command)
 }
 
