@@ -1,5 +1,5 @@
 -- What serving a store over HTTP asks of the machine.
-use Rattle.std.specs.Prelude.{◌≡◌, ◌⊎◌, ◌≤◌, ℕ, true, List, length, codes, Option, Some, None, Result, Ok, Err, OnOk}
+use Rattle.std.specs.Prelude.{◌≡◌, ◌⊎◌, ◌≤◌, ℕ, true, false, List, length, codes, Option, Some, None, IfSome, Result, Ok, Err, OnOk}
 use Rattle.sqlite_disk.specs.declared.Disk as disk
 use Rattle.sqlite.specs.State.{HasCleanDisk}
 use Rattle.sqlite.specs.Store as store
@@ -8,7 +8,7 @@ use Rattle.byte_streams.specs.declared.streams.Source as source
 use Rattle.registry_rules.specs.History.{History}
 use Rattle.registry_tables.specs.Rows.{newest}
 use Rattle.registry_store.specs.declared.registry.Registry.{Registry}
-use Rattle.registry_store.specs.Promise.{Endures, Leaves, Represents, is_poisoned, state_of}
+use Rattle.registry_store.specs.Promise.{Endures, Leaves, NotesForeign, Represents, is_poisoned, state_of}
 use Rattle.registry_commands.specs.declared.status.ExitStatus.TheVariants.{Success, Failed}
 use Rattle.registry_commands.specs.Ends.{Ends}
 use Rattle.registry_commands.specs.Failures.{Prints}
@@ -16,7 +16,7 @@ use Rattle.registry_commands.specs.Messages.{failure_of}
 use Rattle.registry_desk.specs.declared.server.Connections as connections
 use Rattle.registry_desk.specs.declared.server.ServerStop.{ServerStop}
 use Rattle.registry_desk.specs.declared.server.ServerStop.TheVariants as stops
-use Rattle.registry_desk.specs.Server.{AreTurnedAway, EndsConnections, EndsServing, HaveVisited, IsLeftAfter, Visit, fault_in}
+use Rattle.registry_desk.specs.Server.{AreTurnedAway, EndsConnections, EndsServing, HaveVisited, IsLeftAfter, IsToldAt, IsVisit, Visit, fault_in}
 use Rattle.registry_program.specs.declared.host.Host as host
 use Rattle.registry_program.specs.Outputs.{IsFailure}
 use Rattle.registry_program.specs.Stores.{Runs}
@@ -49,6 +49,13 @@ module _ {H F I R W : Type 0} (m : host.Ghosts H F I) (c : connections.Ghosts H 
         × (length visits ≤ limit) × OnOk end (length visits ≡ limit)
         × ((h : History) → Represents it h → HasCleanDisk (state_of after) → EndsServing after h visits (fault_in end) × Leaves newest (state_of after) (IsLeftAfter h visits))
         × (is_poisoned it ≡ true → AreTurnedAway visits (fault_in end) × (after ≡ it))
+    -- Whatever the store holds: a fault was told at the last connection, and after none the registry is not poisoned and no call of it
+    -- found the rows of no history.
+    pub told : is_poisoned it ≡ false → IfSome (fault_in end) (λ fault. (visits : List Visit) × (middle : H) × (last : Visit)
+        × HaveVisited c.opens c.closes r.remaining r.failures w.contents w.failures old middle visits
+        × IsVisit c.opens c.closes r.remaining r.failures w.contents w.failures middle new last × IsToldAt last (Some fault))
+    pub goes_on : is_poisoned it ≡ false → fault_in end ≡ None → is_poisoned after ≡ false
+    pub notes : NotesForeign it after (fault_in end)
     pub endures : Endures (state_of it) (state_of after)
 
   -- the machine listened on this port, and connections to it were served

@@ -10,6 +10,6 @@ returns-in-Ok g c out =
       listens = c.in-Ok.ensures.listens;
       end = serve.result;
       served = subst (λ limit. AreServed g.H.Host g.H.Connections g.H.Reader.Source g.H.Writer.Sink c.listen.new.self serve.new.connections c.args.registry.now serve.new.registry limit serve.result)
-          c.limit_of.ensures (record { served = serve.ensures.served; endures = serve.ensures.endures });
+          c.limit_of.ensures (record { served = serve.ensures.served; told = serve.ensures.told; goes_on = serve.ensures.goes_on; notes = serve.ensures.notes; endures = serve.ensures.endures });
       tells = c.end_serving.ensures out;
     })
