@@ -50,7 +50,10 @@ pub fn take_up<D: Disk + Drop>(
         → (HasCleanDisk (file_state conn) → IsOpened conn × FindsIn image (file_state conn) × FilesHoldEither from image h next)
         → IfSome result (λ it. HasCleanDisk (state_of it) → ∥ ((x : History) × IsEither h next x × Represents it x) ∥₁) }
 {
-    take_up_or_return(alloc, conn).ok()
+    match take_up_or_return(alloc, conn) {
+        Ok(registry) => Some(registry),
+        Err(_) => None,
+    }
 }
 
 /// Opens the registry of a connection to files, like `take_up`. After a fault it returns the
@@ -110,5 +113,8 @@ pub fn open_files<D: Disk + Drop>(
     ensures represents { (from : ℕ) (h next : History) → Legal h → Legal next → (AreClean D.Disk files.log files.db → FilesHoldEither from (image_of D.Disk files) h next)
         → IfSome result (λ it. HasCleanDisk (state_of it) → ∥ ((x : History) × IsEither h next x × Represents it x) ∥₁) }
 {
-    open_files_or_return(alloc, files, options).ok()
+    match open_files_or_return(alloc, files, options) {
+        Ok(registry) => Some(registry),
+        Err(_) => None,
+    }
 }
