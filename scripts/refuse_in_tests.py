@@ -39,7 +39,7 @@ OF_STORE = "memory::"
 
 # How a test or a program ends that was refused memory: by an error, also one of its own values (a sink that cannot gather its
 # bytes is broken), by an `expect` of memory, or by a comparison.
-ENDS = re.compile(r'^((error|memory): (NoMemory|AllocError|AllocFailed \{ \.\. \}|Broken|"memory")|Error: Kind\(OutOfMemory\))$', re.MULTILINE)
+ENDS = re.compile(r'^((error|memory|a founding|a request): (NoMemory|AllocError|AllocFailed \{ \.\. \}|Broken|"memory")|Error: Kind\(OutOfMemory\))$', re.MULTILINE)
 SIDES = re.compile(r"^  left: (.*)\n right: (.*)$", re.MULTILINE)
 NOTHING = {"None", '""'}
 # A disk in memory fails when memory runs out.
