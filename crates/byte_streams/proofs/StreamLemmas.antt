@@ -42,7 +42,7 @@ appends_prefix_more a b x y p = record {
 -- after a write that did not fail, the result of the next write is that of both
 pub writes_then : {A E : Type 0} (r : Result A E) (a b c : Option (List ℕ)) (f g h : ℕ) (x y : List ℕ) → Appends a b x → g ≡ f → Writes b c g h r y → Writes a c f h r (x ++ y)
 writes_then (Ok done) a b c f g h x y p same w = (appends_then a b c x y p w.0, w.1 ∙ same)
-writes_then (Err e) a b c f g h x y p same w = (appends_prefix_then a b c x y p w.0, rw (← same) w.1)
+writes_then (Err e) a b c f g h x y p same w = (appends_prefix_then a b c x y p w.0, w.1 ∙ ap one_more same)
 
 -- one more failure shows in the count
 pub has_failed_more : (f h : ℕ) → h ≡ one_more f → HasFailed f h
@@ -52,7 +52,7 @@ has_failed_more f h e = elim (cases_Bool (nat_lt f h)) [
 ]
 
 -- a write that stops after some of the bytes
-pub put_fails : (a b c : Option (List ℕ)) (f g h : ℕ) (i : ℕ) (bytes : List ℕ) → Appends a b (take i bytes) → Keeps b c → g ≡ f → h ≡ one_more g → AppendsPrefix a c bytes × HasFailed f h
+pub put_fails : (a b c : Option (List ℕ)) (f g h : ℕ) (i : ℕ) (bytes : List ℕ) → Appends a b (take i bytes) → Keeps b c → g ≡ f → h ≡ one_more g → AppendsPrefix a c bytes × (h ≡ one_more f)
 put_fails a b c f g h i bytes p keeps same more = (
   record {
     front = take i bytes ++ [];
@@ -60,7 +60,7 @@ put_fails a b c f g h i bytes p keeps same more = (
     whole = sym (ap (λ (t : List ℕ). t ++ drop i bytes) (append-nil (take i bytes)) ∙ take-append-drop i bytes);
     appended = appends_then a b c (take i bytes) [] p (appends_keeps b c keeps);
   },
-  has_failed_more f h (more ∙ ap one_more same),
+  more ∙ ap one_more same,
 )
 
 -- taking none of some bytes keeps the contents

@@ -15,6 +15,10 @@ MayGive (Some known) bytes = bytes ≡ known
 abbrev pub one_more : ℕ → ℕ
 one_more n = min (n + 1) (2 ^ 64 - 1)
 
+-- exactly one call failed between these two counts of failures
+abbrev pub FailsOnce : ℕ → ℕ → Type 0
+FailsOnce old new = new ≡ one_more old
+
 -- a call failed between these two counts of failures
 abbrev pub HasFailed : ℕ → ℕ → Type 0
 HasFailed old new = (old < new) ⊎ (new ≡ 2 ^ 64 - 1)
@@ -39,7 +43,7 @@ pub record AppendsPrefix (old new : Option (List ℕ)) (bytes : List ℕ) : Type
   pub whole : bytes ≡ front ++ rest
   pub appended : Appends old new front
 
--- on success, the sink took all of these bytes; on a failure, it took a prefix of them
+-- on success, the sink took all of these bytes; or it took a prefix of them, and then one call failed
 abbrev pub Writes : {A E : Type 0} → Option (List ℕ) → Option (List ℕ) → ℕ → ℕ → Result A E → List ℕ → Type 0
 Writes old new failures failures_new (Ok done) bytes = Appends old new bytes × (failures_new ≡ failures)
-Writes old new failures failures_new (Err e) bytes = AppendsPrefix old new bytes × HasFailed failures failures_new
+Writes old new failures failures_new (Err e) bytes = AppendsPrefix old new bytes × FailsOnce failures failures_new

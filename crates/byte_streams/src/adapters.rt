@@ -1,17 +1,17 @@
-//! A source over a `std` reader, and a sink over a `std` writer.
+//! A source over a reader, and a sink over a writer.
 ghost use Rattle.std.specs.Prelude.{◌≡◌};
 
+use crate::calls::{ByteReader, ByteWriter};
 use crate::streams::{Broken, Sink, Source};
-use std::io::{Read, Write};
 
 /// A source over a reader.
 #[derive(Drop)]
-pub struct Inlet<R: Read> {
+pub struct Inlet<R: ByteReader> {
     reader: R,
     failures: u64,
 }
 
-impl<R: Read> Inlet<R> {
+impl<R: ByteReader> Inlet<R> {
     ghost use Rattle.byte_streams.specs.Adapters.{reader_of, inlet_failures};
 
     /// Makes a source over the reader, with no failures yet.
@@ -37,10 +37,14 @@ impl<R: Read> Inlet<R> {
     }
 }
 
-impl<R: Read> Source for Inlet<R> {
+impl<R: ByteReader> Source for Inlet<R> {
     ghost remaining = { λ s. R.remaining s.reader };
 
     ghost failures = { λ s. s.failures };
+
+    ghost gives = { λ s t room bytes. R.reads s.reader t.reader room bytes };
+
+    ghost fails = { λ s t. R.fails s.reader t.reader };
 
     fn take(&mut self, room: &mut [u8]) -> Result<usize, Broken> {
         match self.reader.read(room) {
@@ -55,12 +59,12 @@ impl<R: Read> Source for Inlet<R> {
 
 /// A sink over a writer.
 #[derive(Drop)]
-pub struct Outlet<W: Write> {
+pub struct Outlet<W: ByteWriter> {
     writer: W,
     failures: u64,
 }
 
-impl<W: Write> Outlet<W> {
+impl<W: ByteWriter> Outlet<W> {
     ghost use Rattle.byte_streams.specs.Adapters.{writer_of, outlet_failures};
 
     /// Makes a sink over the writer, with no failures yet.
@@ -86,10 +90,14 @@ impl<W: Write> Outlet<W> {
     }
 }
 
-impl<W: Write> Sink for Outlet<W> {
+impl<W: ByteWriter> Sink for Outlet<W> {
     ghost contents = { λ s. W.contents s.writer };
 
     ghost failures = { λ s. s.failures };
+
+    ghost takes = { λ s t bytes n. W.writes s.writer t.writer bytes n };
+
+    ghost fails = { λ s t. W.fails s.writer t.writer };
 
     fn put(&mut self, bytes: &[u8]) -> Result<usize, Broken> {
         match self.writer.write(bytes) {

@@ -1,9 +1,12 @@
-//! Byte streams whose contents and failures a contract can name, and adapters for the readers and
-//! writers of the standard library.
+//! Byte streams whose contents and failures a contract can name, and adapters that make them of
+//! readers and writers, call by call.
 #![tactic(auto)]
 
 mod adapters;
+mod calls;
+mod memory;
 mod streams;
 
 pub use adapters::{Inlet, Outlet};
+pub use calls::{ByteReader, ByteWriter};
 pub use streams::{Broken, Sink, Source, put_all};

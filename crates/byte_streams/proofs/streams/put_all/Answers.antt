@@ -9,7 +9,7 @@ pub loop-count-preserved : goal.loop-count-preserved
 loop-count-preserved g c =
     let i = c.loop-count.count in
     let n = c.in_ok-taken.taken in
-    let h = rw (suffix i c.args.bytes.now) at c.in_ok-taken.ensures in
+    let h = rw (suffix i c.args.bytes.now) at c.in_ok-taken.ensures.moves in
     let some : n ≡ 0 → ⊥ = c.if-taken-eq0.false in
     record {
       put = rw (take-add i n c.args.bytes.now) (appends_then _ _ _ _ _ c.loop-count.invariant.put h.1);
@@ -20,7 +20,7 @@ loop-count-preserved g c =
 pub returns-in_err-taken : goal.returns-in_err-taken
 returns-in_err-taken g c =
     let p = err_from_is_err_and c.from_residual.result c.from_residual.ensures.1 in
-    let h = c.in_err-taken.ensures in
+    let h = c.in_err-taken.ensures.moves in
     rw p.1 (put_fails _ _ _ _ _ _ c.loop-count.count c.args.bytes.now c.loop-count.invariant.put h.0 c.loop-count.invariant.same_failures h.1)
 
 pub returns-then-taken-eq0 : goal.returns-then-taken-eq0
@@ -28,5 +28,5 @@ returns-then-taken-eq0 g c =
     let i = c.loop-count.count in
     let n = c.in_ok-taken.taken in
     let none : n ≡ 0 = c.if-taken-eq0.true in
-    let h = rw (suffix i c.args.bytes.now) at c.in_ok-taken.ensures in
+    let h = rw (suffix i c.args.bytes.now) at c.in_ok-taken.ensures.moves in
     put_fails _ _ _ _ _ _ i c.args.bytes.now c.loop-count.invariant.put (keeps_none _ _ n (drop i c.args.bytes.now) none h.1) c.loop-count.invariant.same_failures (h.2 none (omega (arith, length-drop i c.args.bytes.now)))
