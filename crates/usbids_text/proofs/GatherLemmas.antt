@@ -4,13 +4,13 @@ use Rattle.std.specs.Prelude.{Result, Ok, Err}
 use Rattle.std.specs.Io.KnownBytes.{Appends}
 use Rattle.std.proofs.lemmas.List.{append-nil, take-append-drop}
 use Rattle.std.proofs.Math.Seq.{take-suc, take-length}
-use Rattle.byte_streams.specs.Streams.{AppendsPrefix, HasFailed, Writes}
+use Rattle.byte_streams.specs.Streams.{AppendsPrefix, FailsOnce, Writes}
 use Rattle.usbids_text.specs.Gathering.{Gains, Gathers}
 use Rattle.byte_streams.proofs.StreamLemmas.{appends_nil, appends_then, appends_prefix_then, appends_prefix_more}
 
 -- a write that failed
 abbrev pub Fails : Option (List ℕ) → List ℕ → Option (List ℕ) → ℕ → ℕ → List ℕ → Type 0
-Fails old waited new failures failures_new bytes = AppendsPrefix old new (waited ++ bytes) × HasFailed failures failures_new
+Fails old waited new failures failures_new bytes = AppendsPrefix old new (waited ++ bytes) × FailsOnce failures failures_new
 
 pub gains_kept : (c : Option (List ℕ)) (h k bytes : List ℕ) → k ≡ h ++ bytes → Gains c h c k bytes
 gains_kept c h k bytes e = record { taken = []; appended = appends_nil c; whole = e }
@@ -21,7 +21,7 @@ gains_none c h = gains_kept c h h [] (sym (append-nil h))
 pub gains_poured : (c d : Option (List ℕ)) (h k bytes : List ℕ) → bytes ≡ h → Appends c d bytes → k ≡ [] → Gains c h d k []
 gains_poured c d h k bytes same a e = record { taken = bytes; appended = a; whole = ap (λ (t : List ℕ). bytes ++ t) e ∙ ap (λ (t : List ℕ). t ++ []) same }
 
-pub fails_poured : (c d : Option (List ℕ)) (h bytes : List ℕ) (f g : ℕ) → bytes ≡ h → AppendsPrefix c d bytes × HasFailed f g → Fails c h d f g []
+pub fails_poured : (c d : Option (List ℕ)) (h bytes : List ℕ) (f g : ℕ) → bytes ≡ h → AppendsPrefix c d bytes × FailsOnce f g → Fails c h d f g []
 fails_poured c d h bytes f g same w = (subst (λ (t : List ℕ). AppendsPrefix c d t) (same ∙ sym (append-nil h)) w.0, w.1)
 
 gains_then : (c d e : Option (List ℕ)) (h k l x y : List ℕ) → Gains c h d k x → Gains d k e l y → Gains c h e l (x ++ y)
@@ -34,7 +34,7 @@ gains_then c d e h k l x y p q = record {
 pub fails_in_turn : (c d e : Option (List ℕ)) (h k x y : List ℕ) (f g i : ℕ) → Gains c h d k x → g ≡ f → Fails d k e g i y → Fails c h e f i (x ++ y)
 fails_in_turn c d e h k x y f g i p same w =
     let whole : p.taken ++ (k ++ y) ≡ h ++ (x ++ y) = sym (append_assoc p.taken k y) ∙ (ap (λ (t : List ℕ). t ++ y) p.whole ∙ append_assoc h x y) in
-    (subst (λ (t : List ℕ). AppendsPrefix c e t) whole (appends_prefix_then c d e p.taken (k ++ y) p.appended w.0), subst (λ (n : ℕ). HasFailed n i) same w.1)
+    (subst (λ (t : List ℕ). AppendsPrefix c e t) whole (appends_prefix_then c d e p.taken (k ++ y) p.appended w.0), subst (λ (n : ℕ). FailsOnce n i) same w.1)
 
 pub fails_more : (c d : Option (List ℕ)) (h x y : List ℕ) (f g : ℕ) → Fails c h d f g x → Fails c h d f g (x ++ y)
 fails_more c d h x y f g w = (subst (λ (t : List ℕ). AppendsPrefix c d t) (append_assoc h x y) (appends_prefix_more c d (h ++ x) y w.0), w.1)
@@ -61,10 +61,10 @@ gains_all c d e h k l text none empty p q =
     sym (append-nil whole.taken) ∙ (ap (λ (t : List ℕ). whole.taken ++ t) (sym empty) ∙ (whole.whole ∙ (ap (λ (t : List ℕ). t ++ (text ++ [])) none ∙ append-nil text))) in
     subst (λ (t : List ℕ). Appends c e t) same whole.appended
 
-pub fails_all : (c d : Option (List ℕ)) (h text : List ℕ) (f g : ℕ) → h ≡ [] → Fails c h d f g text → AppendsPrefix c d text × HasFailed f g
+pub fails_all : (c d : Option (List ℕ)) (h text : List ℕ) (f g : ℕ) → h ≡ [] → Fails c h d f g text → AppendsPrefix c d text × FailsOnce f g
 fails_all c d h text f g none w = (subst (λ (t : List ℕ). AppendsPrefix c d (t ++ text)) none w.0, w.1)
 
-pub fails_last : (c d e : Option (List ℕ)) (h k text : List ℕ) (f g i : ℕ) → h ≡ [] → Gains c h d k text → g ≡ f → Fails d k e g i [] → AppendsPrefix c e text × HasFailed f i
+pub fails_last : (c d e : Option (List ℕ)) (h k text : List ℕ) (f g i : ℕ) → h ≡ [] → Gains c h d k text → g ≡ f → Fails d k e g i [] → AppendsPrefix c e text × FailsOnce f i
 fails_last c d e h k text f g i none p same w =
     let whole = fails_all c e h (text ++ []) f i none (fails_in_turn c d e h k text [] f g i p same w) in
     (subst (λ (t : List ℕ). AppendsPrefix c e t) (append-nil text) whole.0, whole.1)

@@ -1,7 +1,7 @@
 //! Feeds a text to a consumer in pieces, from a source.
 ghost use Rattle.std.specs.Prelude.{◌≡◌, ◌⊎◌, ◌<◌, ◌≤◌, ◌++◌, ℕ, List, length, IfOk, OnOk, OnErr};
 ghost use Rattle.std.specs.Io.KnownBytes.{Consumes, IsAtEnd};
-ghost use Rattle.byte_streams.specs.Streams.{HasFailed, MayGive, most_bytes};
+ghost use Rattle.byte_streams.specs.Streams.{FailsOnce, MayGive, most_bytes};
 
 use byte_streams::{Broken, Source};
 
@@ -32,15 +32,15 @@ fn feed_next<R: Source, I: Intake>(
         × Consumes (R.remaining source.old) (R.remaining source.new) more × (n ≡ 0 → IsAtEnd (R.remaining source.new)) × (R.failures source.new ≡ R.failures source.old)) }
     ensures room { length room.new ≡ length room.old }
     ensures within { IfOk result (λ n. n ≤ length room.old) }
-    ensures failed { OnErr result (HasFailed (R.failures source.old) (R.failures source.new)) }
+    ensures failed { OnErr result (FailsOnce (R.failures source.old) (R.failures source.new)) }
 {
     let count = source.take(room)?;
     intake.take_in(&room[..count]);
     Ok(count)
 }
 
-/// Feeds all bytes of the source, also those after a faulty line. Returns `Broken` only if the
-/// source failed or has more than 4,294,967,295 bytes.
+/// Feeds all bytes of the source, also those after a faulty line. Returns `Broken` only if a read
+/// failed, the last one, or if the source has more than 4,294,967,295 bytes.
 pub fn feed_all<R: Source, I: Intake>(
     source: &mut R,
     intake: &mut I,
@@ -50,7 +50,7 @@ pub fn feed_all<R: Source, I: Intake>(
     ensures ok { OnOk result ((bytes : List ℕ) × MayGive (R.remaining source.old) bytes × (length bytes ≤ most_bytes)
         × ((wanted : I.Wanted) (t : List ℕ) → I.was_fed intake.old wanted t → I.was_fed intake.new wanted (t ++ bytes))) }
     ensures kept { OnOk result (R.failures source.new ≡ R.failures source.old) }
-    ensures err { OnErr result ((bytes : List ℕ) × MayGive (R.remaining source.old) bytes × (HasFailed (R.failures source.old) (R.failures source.new) ⊎ (most_bytes < length bytes))) }
+    ensures err { OnErr result ((bytes : List ℕ) × MayGive (R.remaining source.old) bytes × (FailsOnce (R.failures source.old) (R.failures source.new) ⊎ (most_bytes < length bytes))) }
 {
     let mut total = 0usize;
     while total <= MOST {
