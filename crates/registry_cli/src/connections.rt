@@ -1,11 +1,11 @@
 //! The connections that come to a port of this machine, one after another.
 
-ghost use Rattle.std.specs.Prelude.{◌≡◌, ◌⊎◌, ◌↔◌, ⊤, IsTrue};
+ghost use Rattle.std.specs.Prelude.{◌≡◌, ◌⊎◌, ◌↔◌, ⊤, IsTrue, None};
 ghost use Rattle.std.specs.IoError.{error_kind};
 
 use crate::machine::Machine;
 use crate::notes::Trouble;
-use byte_streams::{Broken, Inlet, Outlet};
+use byte_streams::{Broken, ByteReader, ByteWriter, Inlet, Outlet};
 use peer_streams::{Arrival, Peer, limited};
 use registry_desk::Connections;
 use registry_program::About;
@@ -21,21 +21,37 @@ use std::time::{Duration, Instant};
 #[derive(Drop)]
 pub struct End(Rc<TcpStream>);
 
-impl Read for End {
-    fn read(&mut self, buf: &mut [u8]) -> io::Result<usize> {
+// What a system call does is not known, so these relations hold of every call.
+impl ByteReader for End {
+    ghost remaining = { λ _. None };
+
+    ghost reads = { λ _ _ _ _. ⊤ };
+
+    ghost fails = { λ _ _. ⊤ };
+
+    fn read(&mut self, room: &mut [u8]) -> Result<usize, Broken> {
         let mut stream = self.0.as_ref();
-        stream.read(buf)
+        match stream.read(room) {
+            Ok(count) => Ok(count),
+            Err(_) => Err(Broken),
+        }
     }
 }
 
-impl Write for End {
-    fn write(&mut self, buf: &[u8]) -> io::Result<usize> {
-        let mut stream = self.0.as_ref();
-        stream.write(buf)
-    }
+// What a system call does is not known, so these relations hold of every call.
+impl ByteWriter for End {
+    ghost contents = { λ _. None };
 
-    fn flush(&mut self) -> io::Result<()> {
-        Ok(())
+    ghost writes = { λ _ _ _ _. ⊤ };
+
+    ghost fails = { λ _ _. ⊤ };
+
+    fn write(&mut self, bytes: &[u8]) -> Result<usize, Broken> {
+        let mut stream = self.0.as_ref();
+        match stream.write(bytes) {
+            Ok(count) => Ok(count),
+            Err(_) => Err(Broken),
+        }
     }
 }
 

@@ -12,7 +12,7 @@ mod notes;
 
 use byte_streams::{Inlet, Outlet};
 use machine::Machine;
-use notes::{Noted, Notes};
+use notes::{Errors, Noted, Notes};
 use registry_commands::ExitStatus;
 use registry_program::{About, Heard, Terminals, run_over};
 use sqlite::Wary;
@@ -42,7 +42,7 @@ fn run(rt: &HostRuntime) -> ExitStatus {
         terminals,
         &mut Inlet::new(Noted::new(rt.stdin(), About::Input, &notes)),
         &mut Outlet::new(Noted::new(rt.stdout(), About::Output, &notes)),
-        &mut Heard::new(Outlet::new(rt.stderr())),
+        &mut Heard::new(Outlet::new(Errors(rt.stderr()))),
     )
 }
 

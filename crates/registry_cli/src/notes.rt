@@ -1,11 +1,14 @@
 //! Notes why the last call of this machine failed that did, and keeps the bytes of its input, so that
 //! the cause of a failure can be said.
 
+ghost use Rattle.std.specs.Prelude.{⊤, None};
+
+use byte_streams::{Broken, ByteReader, ByteWriter};
 use registry_program::{About, Cause};
 use std::alloc::{AllocError, Global};
 use std::cell::Cell;
 use std::io;
-use std::io::{ErrorKind, Read, Write};
+use std::io::{ErrorKind, Read, Stderr, Write};
 
 /// Why a call failed.
 #[derive(Clone, Copy, Drop)]
@@ -121,27 +124,63 @@ impl<'a, T: Drop> Noted<'a, T> {
     }
 }
 
-impl<T: Read + Drop> Read for Noted<'_, T> {
-    fn read(&mut self, buf: &mut [u8]) -> io::Result<usize> {
-        let answer = self.stream.read(buf);
-        match answer {
-            Ok(count) => self.notes.keep(&buf[..count.min(buf.len())]),
-            Err(error) => self.notes.note(self.about, Trouble::System(error)),
+// What a system call does is not known, so these relations hold of every call.
+impl<T: Read + Drop> ByteReader for Noted<'_, T> {
+    ghost remaining = { λ _. None };
+
+    ghost reads = { λ _ _ _ _. ⊤ };
+
+    ghost fails = { λ _ _. ⊤ };
+
+    fn read(&mut self, room: &mut [u8]) -> Result<usize, Broken> {
+        match self.stream.read(room) {
+            Ok(count) => {
+                self.notes.keep(&room[..count.min(room.len())]);
+                Ok(count)
+            }
+            Err(error) => {
+                self.notes.note(self.about, Trouble::System(error));
+                Err(Broken)
+            }
         }
-        answer
     }
 }
 
-impl<T: Write + Drop> Write for Noted<'_, T> {
-    fn write(&mut self, buf: &[u8]) -> io::Result<usize> {
-        let answer = self.stream.write(buf);
-        if let Err(error) = answer {
-            self.notes.note(self.about, Trouble::System(error));
-        }
-        answer
-    }
+// What a system call does is not known, so these relations hold of every call.
+impl<T: Write + Drop> ByteWriter for Noted<'_, T> {
+    ghost contents = { λ _. None };
 
-    fn flush(&mut self) -> io::Result<()> {
-        self.stream.flush()
+    ghost writes = { λ _ _ _ _. ⊤ };
+
+    ghost fails = { λ _ _. ⊤ };
+
+    fn write(&mut self, bytes: &[u8]) -> Result<usize, Broken> {
+        match self.stream.write(bytes) {
+            Ok(count) => Ok(count),
+            Err(error) => {
+                self.notes.note(self.about, Trouble::System(error));
+                Err(Broken)
+            }
+        }
+    }
+}
+
+/// The error output. Its failures are not noted.
+#[derive(Drop)]
+pub struct Errors(pub Stderr);
+
+// What a system call does is not known, so these relations hold of every call.
+impl ByteWriter for Errors {
+    ghost contents = { λ _. None };
+
+    ghost writes = { λ _ _ _ _. ⊤ };
+
+    ghost fails = { λ _ _. ⊤ };
+
+    fn write(&mut self, bytes: &[u8]) -> Result<usize, Broken> {
+        match self.0.write(bytes) {
+            Ok(count) => Ok(count),
+            Err(_) => Err(Broken),
+        }
     }
 }

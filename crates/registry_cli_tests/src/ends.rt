@@ -1,13 +1,12 @@
 //! Readers and writers that fail, and what one message or one input gives between them.
 
 use crate::texts::add_bytes;
-use byte_streams::{Inlet, Outlet, Source};
+use byte_streams::{Broken, ByteReader, ByteWriter, Inlet, Outlet, Source};
 use registry_commands::apply_lines;
 use registry_desk::serve_one;
 use registry_store::Registry;
 use sqlite::Alter;
 use std::alloc::Global;
-use std::io;
 
 /// A reader that gives one byte per read, and fails after `good` reads.
 #[derive(Drop)]
@@ -16,15 +15,23 @@ pub struct Stumbling<'a> {
     pub good: u32,
 }
 
-impl io::Read for Stumbling<'_> {
-    fn read(&mut self, buf: &mut [u8]) -> io::Result<usize> {
+impl ByteReader for Stumbling<'_> {
+    ghost use Rattle.std.specs.Prelude.{⊤, None};
+
+    ghost remaining = { λ _. None };
+
+    ghost reads = { λ _ _ _ _. ⊤ };
+
+    ghost fails = { λ _ _. ⊤ };
+
+    fn read(&mut self, room: &mut [u8]) -> Result<usize, Broken> {
         if self.good == 0 {
-            return Err(io::Error::from(io::ErrorKind::Other));
+            return Err(Broken);
         }
         self.good -= 1;
-        match (self.rest.split_first(), buf.first_mut()) {
-            (Some((first, rest)), Some(room)) => {
-                *room = *first;
+        match (self.rest.split_first(), room.first_mut()) {
+            (Some((first, rest)), Some(place)) => {
+                *place = *first;
                 self.rest = rest;
                 Ok(1)
             }
@@ -40,20 +47,24 @@ pub struct Narrow {
     pub most: usize,
 }
 
-impl io::Write for Narrow {
-    fn write(&mut self, buf: &[u8]) -> io::Result<usize> {
-        match buf.first() {
-            Some(_) if self.bytes.len() >= self.most => Err(io::Error::from(io::ErrorKind::Other)),
-            Some(byte) => {
-                self.bytes.push(*byte)?;
-                Ok(1)
-            }
+impl ByteWriter for Narrow {
+    ghost use Rattle.std.specs.Prelude.{⊤, None};
+
+    ghost contents = { λ _. None };
+
+    ghost writes = { λ _ _ _ _. ⊤ };
+
+    ghost fails = { λ _ _. ⊤ };
+
+    fn write(&mut self, bytes: &[u8]) -> Result<usize, Broken> {
+        match bytes.first() {
+            Some(_) if self.bytes.len() >= self.most => Err(Broken),
+            Some(byte) => match self.bytes.push(*byte) {
+                Ok(()) => Ok(1),
+                Err(_) => Err(Broken),
+            },
             None => Ok(0),
         }
-    }
-
-    fn flush(&mut self) -> io::Result<()> {
-        Ok(())
     }
 }
 

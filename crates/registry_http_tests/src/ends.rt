@@ -11,11 +11,15 @@ pub(crate) struct Drip<'a> {
 }
 
 impl<'a> Source for Drip<'a> {
-    ghost use Rattle.std.specs.Prelude.{None};
+    ghost use Rattle.std.specs.Prelude.{⊤, None};
 
     ghost remaining = { λ s. None };
 
     ghost failures = { λ s. s.failures };
+
+    ghost gives = { λ _ _ _ _. ⊤ };
+
+    ghost fails = { λ _ _. ⊤ };
 
     fn take(&mut self, room: &mut [u8]) -> Result<usize, Broken> {
         if self.given < self.bytes.len() && room.len() > 0 {
@@ -37,11 +41,15 @@ pub(crate) struct Brim {
 }
 
 impl Sink for Brim {
-    ghost use Rattle.std.specs.Prelude.{None};
+    ghost use Rattle.std.specs.Prelude.{⊤, None};
 
     ghost contents = { λ s. None };
 
     ghost failures = { λ s. s.failures };
+
+    ghost takes = { λ _ _ _ _. ⊤ };
+
+    ghost fails = { λ _ _. ⊤ };
 
     fn put(&mut self, bytes: &[u8]) -> Result<usize, Broken> {
         let count = bytes.len().min(self.room);

@@ -79,6 +79,10 @@ impl<E: Sink> Sink for Heard<E> {
 
     ghost failures = { λ heard. E.failures heard.sink };
 
+    ghost takes = { λ old new bytes n. E.takes old.sink new.sink bytes n };
+
+    ghost fails = { λ old new. E.fails old.sink new.sink };
+
     fn put(&mut self, bytes: &[u8]) -> Result<usize, Broken> {
         let count = self.sink.put(bytes)?;
         self.line.go_on(&bytes[..count]);

@@ -5,12 +5,14 @@
 //! writes. With 0 it reads the file once, in pieces, and keeps no text.
 #![tactic(auto)]
 
-ghost use Rattle.std.specs.Prelude.{◌≡◌, length, IfOk, None};
+ghost use Rattle.std.specs.Prelude.{◌≡◌, ⊤, length, IfOk, None};
 ghost use Rattle.usbids_text.specs.Writing.{written};
 ghost use Rattle.usbids_bench.specs.Counts.{counted, leaves_below, mids_in, leaves_in};
 
-use byte_streams::{Broken, Inlet, Outlet, Source};
+use byte_streams::{Broken, ByteReader, Inlet, Outlet, Source};
 use std::alloc::{AllocError, Global};
+use std::fs::File;
+use std::io::Read;
 use std::time::Instant;
 use std::{fs, io};
 use usbids_text::{Document, Mid, ReadFault, Reader, WriteFault, read_all, write};
@@ -118,6 +120,26 @@ fn time(rt: &HostRuntime, bytes: &[u8], times: u32) -> io::Result<()> {
     Ok(())
 }
 
+// A list in a file.
+#[derive(Drop)]
+struct Listed(File);
+
+// What a file gives is not known, so these relations hold of every call.
+impl ByteReader for Listed {
+    ghost remaining = { λ _. None };
+
+    ghost reads = { λ _ _ _ _. ⊤ };
+
+    ghost fails = { λ _ _. ⊤ };
+
+    fn read(&mut self, room: &mut [u8]) -> Result<usize, Broken> {
+        match self.0.read(room) {
+            Ok(count) => Ok(count),
+            Err(_) => Err(Broken),
+        }
+    }
+}
+
 // Feeds the next piece of a list, and returns whether there was one. Faults are reported at the
 // end.
 fn feed_next<R: Source>(source: &mut R, reader: &mut Reader) -> Result<bool, Broken> {
@@ -133,7 +155,7 @@ fn feed_next<R: Source>(source: &mut R, reader: &mut Reader) -> Result<bool, Bro
 
 // Reads a list in pieces.
 fn read_in_pieces(rt: &HostRuntime, path: &str) -> io::Result<()> {
-    let mut source = Inlet::new(fs::open(rt, path)?);
+    let mut source = Inlet::new(Listed(fs::open(rt, path)?));
     let mut reader = Reader::new(rt.alloc());
     for _ in 0..u64::MAX {
         match feed_next(&mut source, &mut reader) {

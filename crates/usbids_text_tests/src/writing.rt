@@ -1,10 +1,8 @@
 //! Writes documents, also to writers that fail.
 
-use byte_streams::Outlet;
+use byte_streams::{Broken, ByteWriter, Outlet};
 use row_texts::{RowFault, bytes_of, cut, number_of, text_of};
 use std::alloc::Global;
-use std::io;
-use std::io::Write;
 use usbids_text::{Document, ReadFault, Stamp, WriteFault, read_all, write};
 
 /// A writer that takes `room` bytes and then none.
@@ -14,16 +12,24 @@ struct Few {
     room: usize,
 }
 
-impl Write for Few {
-    fn write(&mut self, buf: &[u8]) -> io::Result<usize> {
-        let count = buf.len().min(self.room);
-        self.bytes.extend_from_slice(&buf[..count])?;
-        self.room -= count;
-        Ok(count)
-    }
+impl ByteWriter for Few {
+    ghost use Rattle.std.specs.Prelude.{⊤, None};
 
-    fn flush(&mut self) -> io::Result<()> {
-        Ok(())
+    ghost contents = { λ _. None };
+
+    ghost writes = { λ _ _ _ _. ⊤ };
+
+    ghost fails = { λ _ _. ⊤ };
+
+    fn write(&mut self, bytes: &[u8]) -> Result<usize, Broken> {
+        let count = bytes.len().min(self.room);
+        match self.bytes.extend_from_slice(&bytes[..count]) {
+            Ok(()) => {
+                self.room -= count;
+                Ok(count)
+            }
+            Err(_) => Err(Broken),
+        }
     }
 }
 
