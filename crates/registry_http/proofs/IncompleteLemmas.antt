@@ -9,7 +9,7 @@ use Rattle.httparse.specs.declared.spans.RequestSpans.{RequestSpans}
 use Rattle.httparse.specs.Spans.{IsRequestAt, span_bytes, header_bytes}
 use Rattle.httparse.specs.Grammar.{RequestHead, HasNoRequest, MayBecomeRequest}
 use Rattle.httparse.proofs.GrammarLemmas.{request_unique}
-use Rattle.byte_streams.specs.Streams.{HasFailed}
+use Rattle.byte_streams.specs.Streams.{FailsOnce}
 use Rattle.byte_streams.proofs.StreamLemmas.{consumes_then}
 use Rattle.registry_http.specs.declared.refusal.HttpRefusal.{HttpRefusal}
 use Rattle.registry_http.specs.declared.refusal.HttpRefusal.TheVariants.{BadHead, ShortBody}
@@ -36,8 +36,8 @@ consumes_keeps (Some xs) (Some ys) None x p q = absurd q
 consumes_keeps (Some xs) (Some ys) (Some zs) x p q = p ∙ ap (λ (t : List ℕ). x ++ t) (sym q)
 
 -- a read failed after these bytes
-pub fails_after : (a b c : Option (List ℕ)) (f g h : ℕ) (x : List ℕ) (Holds : List ℕ → Type 0) → Consumes a b x → g ≡ f → HasFailed g h → Keeps b c → Holds x → FailsAfter a c f h Holds
-fails_after a b c f g h x Holds took same failed keeps holds = (subst (λ (n : ℕ). HasFailed n h) same failed, (x, consumes_keeps a b c x took keeps, holds))
+pub fails_after : (a b c : Option (List ℕ)) (f g h : ℕ) (x : List ℕ) (Holds : List ℕ → Type 0) → Consumes a b x → g ≡ f → FailsOnce g h → Keeps b c → Holds x → FailsAfter a c f h Holds
+fails_after a b c f g h x Holds took same failed keeps holds = (subst (λ (n : ℕ). FailsOnce n h) same failed, (x, consumes_keeps a b c x took keeps, holds))
 
 -- what holds of the bytes then may be said in other words
 pub fails_so : (a b : Option (List ℕ)) (f g : ℕ) (Before After : List ℕ → Type 0) → ((x : List ℕ) → Before x → After x) → FailsAfter a b f g Before → FailsAfter a b f g After
@@ -63,7 +63,7 @@ pub fails_after_head : (a b c : Option (List ℕ)) (f g h : ℕ) (buf : List ℕ
 fails_after_head a b c f g h buf spans r head has at took same fails =
     let more = fails.1.0 in
     let lacks = subst (λ (says : Result Head HttpRefusal). HasOpenBody says (drop r.len buf ++ more)) (head_at_spans buf spans r head at) fails.1.2 in (
-      subst (λ (n : ℕ). HasFailed n h) same fails.0,
+      subst (λ (n : ℕ). FailsOnce n h) same fails.0,
       (buf ++ more, consumes_then a b c buf more took fails.1.1, inr (inr (head, drop r.len buf ++ more, has_head_append buf head (drop r.len buf) more has, lacks))),
     )
 

@@ -2,7 +2,7 @@
 use Rattle.std.specs.Prelude.{◌≡◌, ◌<◌, ◌⊎◌, ℕ, List, [], length, Option, Result, Ok, Err}
 use Rattle.std.specs.Io.KnownBytes.{Consumes}
 use Rattle.httparse.specs.Grammar.{RequestHead, HasNoRequest, MayBecomeRequest}
-use Rattle.byte_streams.specs.Streams.{HasFailed}
+use Rattle.byte_streams.specs.Streams.{FailsOnce}
 use Rattle.registry_http.specs.Heads.{HasHead}
 use Rattle.registry_http.specs.Limits.{most_head}
 use Rattle.registry_http.specs.Reading.{head_reading}
@@ -24,7 +24,7 @@ HasOpenBody (Ok (heads.Order order)) rest = length rest < order.length
 abbrev pub IsIncomplete : List ℕ → Type 0
 IsIncomplete bytes = (bytes ≡ []) ⊎ HasOpenHead bytes ⊎ ((head : RequestHead) × (rest : List ℕ) × HasHead bytes head rest × HasOpenBody (head_reading head) rest)
 
--- A read failed, and this holds of the bytes that the source gave before. If that is IsIncomplete, no read is made once a
--- message is complete: any read may fail.
+-- One read failed, and this holds of the bytes that the source gave before. Any read may fail, so that one was the last. If
+-- what holds is IsIncomplete, no read is made once a message is complete.
 abbrev pub FailsAfter : Option (List ℕ) → Option (List ℕ) → ℕ → ℕ → (List ℕ → Type 0) → Type 0
-FailsAfter old new failures failures_new Holds = HasFailed failures failures_new × ((bytes : List ℕ) × Consumes old new bytes × Holds bytes)
+FailsAfter old new failures failures_new Holds = FailsOnce failures failures_new × ((bytes : List ℕ) × Consumes old new bytes × Holds bytes)

@@ -2,7 +2,7 @@
 
 ghost use Rattle.std.specs.Prelude.{Err, ◌≡◌, ◌≤◌, ◌<◌, ◌+◌, ◌++◌, [], true, false, ℕ, List, length, drop, nat_le, IfOk, OnOk};
 ghost use Rattle.std.specs.Io.KnownBytes.{Consumes, IsAtEnd, Keeps};
-ghost use Rattle.byte_streams.specs.Streams.{HasFailed, MayGive};
+ghost use Rattle.byte_streams.specs.Streams.{FailsOnce, MayGive};
 ghost use Rattle.usbids_text.specs.Readers.{WasFed};
 ghost use Rattle.registry_http.specs.Bodies.{IsBuffered, IsFed};
 ghost use Rattle.registry_http.specs.Incomplete.{FailsAfter};
@@ -68,7 +68,7 @@ fn feed_more<R: Source>(
         × ((t : List ℕ) → WasFed reader.old t → WasFed reader.new (t ++ more))) }
     ensures kept { OnOk result (R.failures source.new ≡ R.failures source.old) }
     ensures short { result ≡ Err StreamFault.NoMemory → R.failures source.new ≡ R.failures source.old }
-    ensures broken { result ≡ Err StreamFault.Broken → HasFailed (R.failures source.old) (R.failures source.new) × Keeps (R.remaining source.old) (R.remaining source.new) }
+    ensures broken { result ≡ Err StreamFault.Broken → FailsOnce (R.failures source.old) (R.failures source.new) × Keeps (R.remaining source.old) (R.remaining source.new) }
 {
     let mut chunk = [0u8; 4096];
     let room = most.min(chunk.len());

@@ -4,7 +4,7 @@ ghost use Rattle.std.specs.Prelude.{Err, ◌≡◌, ◌≤◌, ◌<◌, ℕ, Lis
 ghost use Rattle.std.specs.Io.KnownBytes.{Consumes, IsAtEnd, Keeps};
 ghost use Rattle.httparse.specs.Spans.{IsRequestAt, IsRequestWithin};
 ghost use Rattle.httparse.specs.Grammar.{RequestHead};
-ghost use Rattle.byte_streams.specs.Streams.{MayGive, HasFailed};
+ghost use Rattle.byte_streams.specs.Streams.{MayGive, FailsOnce};
 ghost use Rattle.registry_http.specs.Heads.{HasHead, HasNoHead};
 ghost use Rattle.registry_http.specs.HeadEnds.{IfWhole, OnMissing};
 ghost use Rattle.registry_http.specs.Incomplete.{FailsAfter, IsIncomplete};
@@ -38,7 +38,7 @@ pub(crate) fn take_at_most<R: Source>(
         × Consumes (R.remaining source.old) (R.remaining source.new) more × (n ≡ 0 → IsAtEnd (R.remaining source.new))
         × (R.failures source.new ≡ R.failures source.old)) }
     ensures short { result ≡ Err StreamFault.NoMemory → R.failures source.new ≡ R.failures source.old }
-    ensures broken { result ≡ Err StreamFault.Broken → HasFailed (R.failures source.old) (R.failures source.new) × Keeps (R.remaining source.old) (R.remaining source.new) }
+    ensures broken { result ≡ Err StreamFault.Broken → FailsOnce (R.failures source.old) (R.failures source.new) × Keeps (R.remaining source.old) (R.remaining source.new) }
 {
     let mut chunk = [0u8; 2048];
     let room = most.min(chunk.len());
