@@ -12,13 +12,14 @@ use Rattle.byte_streams.specs.declared.streams.Sink as sink
 use Rattle.byte_streams.specs.declared.streams.Source as source
 use Rattle.byte_streams.specs.Streams.{MayGive}
 use Rattle.usbids_text.specs.Moments.{Moment}
-use Rattle.usbnum_core.specs.declared.error.NoMemory.{NoMemory}
 use Rattle.registry_rules.specs.Accepted.{AreValid}
 use Rattle.registry_rules.specs.History.{History, founded}
 use Rattle.registry_rules.specs.Run.{after}
 use Rattle.registry_tables.specs.Rows.{newest}
 use Rattle.registry_wire.specs.Founding.{FoundsAs, founding_listed}
 use Rattle.registry_rules.specs.declared.founding.Founding.{Founding}
+use Rattle.registry_rules.specs.declared.rejection.Rejection.{Rejection}
+use Rattle.registry_rules.specs.declared.rejection.Rejection.TheVariants.{Refused, NoMemory}
 use Rattle.registry_store.specs.Promise.{Leaves, Represents, connection_of, state_of}
 use Rattle.registry_store.specs.Queries.{IsUntouched}
 use Rattle.registry_store.specs.Files.{FilesHoldEither, IsEither}
@@ -172,10 +173,10 @@ module _ {H F I : Type 0} (m : host.Ghosts H F I) (d : disk.Ghosts F) where
       | inr not ↦ inr (unread old new path ends (ImportsFile m s list import) over same not.2.0 not.2.1.1 not.2.1.0)
     ])
 
-    pub imports_whole : (old new : H) (path list : List ℕ) (asked : Result (Result Import BadArgument) NoMemory) (ends : Ends) → ImportsAs m d s old new path list asked ends → ImportsWhollyAs m d s old new path list asked ends
-    imports_whole old new path list (Ok (Ok import)) ends is = import_whole old new path list import ends is
-    imports_whole old new path list (Ok (Err argument)) ends is = is
-    imports_whole old new path list (Err none) ends is = is
+    pub imports_whole : (old new : H) (path list : List ℕ) (asked : Result Import (Rejection BadArgument)) (ends : Ends) → ImportsAs m d s old new path list asked ends → ImportsWhollyAs m d s old new path list asked ends
+    imports_whole old new path list (Ok import) ends is = import_whole old new path list import ends is
+    imports_whole old new path list (Err (Refused argument)) ends is = is
+    imports_whole old new path list (Err NoMemory) ends is = is
 
     pub exports_whole : (old new : H) (path : List ℕ) (read : Result (Option Moment) BadArgument) (ends : Ends) → ExportsAs m d s old new path read ends → ExportsWhollyAs m d old new path read ends
     exports_whole old new path (Ok stamp) ends is = list_whole old new path stamp ends is

@@ -1,6 +1,6 @@
 -- What the files of a store hold after a command, and what the outputs have gained, by the history that the files held before
 -- it.
-use Rattle.std.specs.Prelude.{◌≡◌, ◌≢◌, ◌⊎◌, ◌<◌, ◌≤◌, ◌+◌, ⊤, Bool, false, true, ℕ, List, [], ◌++◌, codes, length, take, Option, Some, None, Result, Ok, Err, IfOk, MatchResult}
+use Rattle.std.specs.Prelude.{◌≡◌, ◌≢◌, ◌⊎◌, ◌<◌, ◌≤◌, ◌+◌, ⊤, Bool, false, true, ℕ, List, [], ◌++◌, codes, length, take, Option, Some, None, Result, Ok, Err}
 use Rattle.std.specs.Io.KnownBytes.{Appends, Keeps}
 use Rattle.std.specs.Str.{bytes_eq}
 use Rattle.sqlite_disk.specs.declared.Disk as disk
@@ -16,8 +16,9 @@ use Rattle.usbids_text.specs.Entries.{TopEntry}
 use Rattle.usbids_text.specs.Moments.{Moment}
 use Rattle.usbids_text.specs.Reading.{ReadsAs}
 use Rattle.usbids_text.specs.Writing.{written}
-use Rattle.usbnum_core.specs.declared.error.NoMemory.{NoMemory}
 use Rattle.registry_rules.specs.declared.founding.Founding.{Founding}
+use Rattle.registry_rules.specs.declared.rejection.Rejection.{Rejection}
+use Rattle.registry_rules.specs.declared.rejection.Rejection.TheVariants.{Refused, NoMemory}
 use Rattle.registry_rules.specs.declared.order.Request.{Request}
 use Rattle.registry_rules.specs.Accepted.{AreValid}
 use Rattle.registry_rules.specs.declared.accepted.Accepted.{Accepted}
@@ -40,7 +41,7 @@ use Rattle.registry_commands.specs.declared.status.ExitStatus.{ExitStatus}
 use Rattle.registry_commands.specs.declared.status.ExitStatus.TheVariants.{Success, Failed}
 use Rattle.registry_commands.specs.Ends.{Ends, Receives, Output, Sunk}
 use Rattle.registry_commands.specs.Failures.{IsOfOpening}
-use Rattle.registry_commands.specs.Imports.{AreOfImport, IsFirstBad, request_of_import, exit_status_of}
+use Rattle.registry_commands.specs.Imports.{AsksFor, request_of_import, exit_status_of}
 use Rattle.registry_commands.specs.Lines.{requests_in}
 use Rattle.registry_commands.specs.declared.entries.Entry.TheVariants as says
 use Rattle.registry_commands.specs.Entries.{FirstSays}
@@ -189,16 +190,14 @@ module _ {H F I : Type 0} (m : host.Ghosts H F I) (d : disk.Ghosts F) where
       pub read : IsReadFrom file bytes
       pub carried : IsCarriedOn old new path (λ h x y. Stays h x y ⊎ IsAfterImport bytes import ends.out ends.status h x y)
 
-    abbrev pub ImportsWhollyAs : H → H → List ℕ → List ℕ → Result (Result Import BadArgument) NoMemory → Ends → Type 0
-    ImportsWhollyAs old new path list (Ok (Ok import)) ends = UnlessStopped old new path ends (ImportsFile m s list import) (IsImportedTo old new path list import ends ⊎ IsUnbegun old new path ends)
-    ImportsWhollyAs old new path list (Ok (Err argument)) ends = (new ≡ old) × IsRejection argument ends
-    ImportsWhollyAs old new path list (Err none) ends = (new ≡ old) × IsFailure Memory ends
+    abbrev pub ImportsWhollyAs : H → H → List ℕ → List ℕ → Result Import (Rejection BadArgument) → Ends → Type 0
+    ImportsWhollyAs old new path list (Ok import) ends = UnlessStopped old new path ends (ImportsFile m s list import) (IsImportedTo old new path list import ends ⊎ IsUnbegun old new path ends)
+    ImportsWhollyAs old new path list (Err (Refused argument)) ends = (new ≡ old) × IsRejection argument ends
+    ImportsWhollyAs old new path list (Err NoMemory) ends = (new ≡ old) × IsFailure Memory ends
 
     abbrev pub ImportsWholly : H → H → List ℕ → List ℕ → List ℕ → List ℕ → List ℕ → Option (List ℕ) → Ends → Type 0
     ImportsWholly old new path list caller key org vendor ends =
-        (asked : Result (Result Import BadArgument) NoMemory)
-        × IfOk asked (λ read. MatchResult read (AreOfImport caller key org vendor) (IsFirstBad caller key org vendor))
-        × ImportsWhollyAs old new path list asked ends
+        (asked : Result Import (Rejection BadArgument)) × AsksFor caller key org vendor asked × ImportsWhollyAs old new path list asked ends
 
     -- the founding file came from the second path, before the store was opened, and the closed files hold the new registry
     pub record IsFoundedWholly (old new : H) (path founding : List ℕ) : Type 0 where
