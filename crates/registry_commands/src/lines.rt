@@ -58,10 +58,9 @@ pub fn requests_in(alloc: Global, bytes: &[u8]) -> Result<Vec<Request>, Rejectio
         if !is_blank(line) {
             match line_request(alloc, line) {
                 Ok(request) => requests.push(request)?,
-                Err(Rejection::Refused(refusal)) => return Err(Rejection::Refused(BadLine {
-                    number,
-                    refusal,
-                })),
+                Err(Rejection::Refused(refusal)) => {
+                    return Err(Rejection::Refused(BadLine { number, refusal }));
+                }
                 Err(Rejection::NoMemory) => return Err(Rejection::NoMemory),
             }
         }
