@@ -58,7 +58,7 @@ use Rattle.registry_program.specs.Commands.{ActsOnFile, ImportsFile, IsStampOf, 
 use Rattle.registry_program.specs.Opening.{HoldsNoHistory}
 use Rattle.registry_program.specs.Outputs.{IsFailure, IsRejection}
 use Rattle.registry_program.specs.Serving.{ServesOn, limit_of}
-use Rattle.registry_program.specs.Stores.{IsClosed, IsMissed, IsOver, IsUnconnected, Opens, TheRegistry}
+use Rattle.registry_program.specs.Stores.{ClosesStore, IsMissed, IsRunOver, IsUnconnected, Opens, TheRegistry}
 
 -- ---- what a command makes of the history
 
@@ -154,7 +154,7 @@ module _ {H F I : Type 0} (m : host.Ghosts H F I) (d : disk.Ghosts F) where
 
   -- what was done with the store ended with the status Success, and closing it then failed
   abbrev pub EndsUnclosed : H → H → List ℕ → Ends → (H → H → TheRegistry m d → TheRegistry m d → Ends → Type 0) → Type 0
-  EndsUnclosed old new path ends Does = (over : IsOver m d old new path ends Does) × (over.before ≡ Success) × (ends.status ≡ Failed)
+  EndsUnclosed old new path ends Does = (over : IsRunOver m d old new path ends Does) × (over.before ≡ Success) × (ends.status ≡ Failed)
 
   -- the store could not be opened, or not be closed after this was done with it, or P holds
   abbrev pub UnlessStopped : H → H → List ℕ → Ends → (H → H → TheRegistry m d → TheRegistry m d → Ends → Type 0) → Type 0 → Type 0
@@ -258,7 +258,7 @@ module _ {H F I : Type 0} (m : host.Ghosts H F I) (d : disk.Ghosts F) where
     ReplaysWhollyFrom source old new path ends =
         (new ≡ old)
         ⊎ ((failure : Failure) × (IsMissed m d old new path failure ⊎ IsUnconnected m d old new path failure) × IsFailure failure ends)
-        ⊎ ((conn : Held (FileStore F d)) × (files : Files F) × (errors : Sunk) × IsClosed m d conn files errors ends.errors.new Success ends.status × (ends.status ≡ Failed))
+        ⊎ ((conn : Held (FileStore F d)) × (files : Files F) × (errors : Sunk) × ClosesStore m d conn files errors ends.errors.new Success ends.status × (ends.status ≡ Failed))
         ⊎ IsUnreplayed old new path ends
         ⊎ ((may_make : Bool) × IsReplayedTo source old new path may_make ends)
 
