@@ -10,7 +10,7 @@ ghost use Rattle.registry_commands.specs.Lines.{requests_in};
 ghost use Rattle.registry_commands.specs.Messages.{bad_line_text};
 ghost use Rattle.registry_commands.specs.Apply.{IsApplied, IsOfRun, IsStoppedAt, IsThrough, IsUnread};
 ghost use Rattle.registry_commands.specs.Ends.{effect, ends_of, output_of};
-ghost use Rattle.registry_commands.specs.Failures.{IsOfInput, IsOfMemory, IsOfOutput, IsTooLong, Prints, PrintsFailure};
+ghost use Rattle.registry_commands.specs.Failures.{IsOfInput, IsOfMemory, IsOfOutput, IsTooLong, Prints, PrintsFailure, TellsFailedReads};
 
 use crate::input::read_all;
 use crate::lines::{BadLine, requests_in};
@@ -155,7 +155,8 @@ pub fn apply_lines<R: Source, S: Alter, W: Sink, E: Sink>(
         × IsApplied (IsOfInput (R.failures source.old) (R.failures source.new) bytes)
         (effect registry.old registry.new (ends_of W.Sink E.Sink output.old output.new errors.old errors.new result)) (requests_in bytes) answered
         × (IsTooLong bytes → (result ≡ ExitStatus.Failed) × IsUnread (IsOfInput (R.failures source.old) (R.failures source.new) bytes)
-        (effect registry.old registry.new (ends_of W.Sink E.Sink output.old output.new errors.old errors.new result))) }
+        (effect registry.old registry.new (ends_of W.Sink E.Sink output.old output.new errors.old errors.new result)))
+        × TellsFailedReads result (R.failures source.old) (R.failures source.new) }
 {
     match read_all(alloc, source) {
         Ok(bytes) => apply_bytes(alloc, bytes.as_slice(), answered, registry, output, errors),

@@ -25,7 +25,7 @@ use Rattle.registry_commands.specs.declared.status.ExitStatus.{ExitStatus}
 use Rattle.registry_commands.specs.declared.status.ExitStatus.TheVariants.{Failed}
 use Rattle.registry_commands.specs.Apply.{IsApplied, IsUnread}
 use Rattle.registry_commands.specs.Ends.{Ends, Output, ReceivesNothing, Sunk, effect}
-use Rattle.registry_commands.specs.Failures.{IsOfInput, IsTooLong, Prints, PrintsFailure}
+use Rattle.registry_commands.specs.Failures.{IsOfInput, IsTooLong, Prints, PrintsFailure, TellsFailedReads}
 use Rattle.registry_commands.specs.Found.{IsTriedOn, ReadsFounding, attempt}
 use Rattle.registry_commands.specs.Imports.{AsksFor, IsImported}
 use Rattle.registry_commands.specs.Lines.{requests_in}
@@ -55,6 +55,7 @@ Tries s input input_new ends =
     (bytes : List ℕ) × MayGive (s.remaining input) bytes
     × IsTrialOf (IsOfInput (s.failures input) (s.failures input_new) bytes) (requests_in bytes) ends
     × (IsTooLong bytes → (ends.status ≡ Failed) × ReceivesNothing ends.out × PrintsFailure (IsOfStart (IsOfInput (s.failures input) (s.failures input_new) bytes)) ends.errors)
+    × TellsFailedReads ends.status (s.failures input) (s.failures input_new)
 
 -- ---- apply
 
@@ -64,6 +65,7 @@ ActsOnLines s old new answered it after ends =
     (bytes : List ℕ) × MayGive (s.remaining old) bytes
     × IsApplied (IsOfInput (s.failures old) (s.failures new) bytes) (effect it after ends) (requests_in bytes) answered
     × (IsTooLong bytes → (ends.status ≡ Failed) × IsUnread (IsOfInput (s.failures old) (s.failures new) bytes) (effect it after ends))
+    × TellsFailedReads ends.status (s.failures old) (s.failures new)
 
 module _ {H F I : Type 0} (m : host.Ghosts H F I) (s : source.Ghosts I) where
   -- those of the file at this path are; or it could not be opened
@@ -79,7 +81,8 @@ module _ {H F I : Type 0} (m : host.Ghosts H F I) (s : source.Ghosts I) where
   ImportsFile path import old new it after ends =
       ReadsFrom m old new path
       (λ input input_new. (bytes : List ℕ) × MayGive (s.remaining input) bytes
-      × IsImported (IsOfInput (s.failures input) (s.failures input_new) bytes) (effect it after ends) import bytes)
+      × IsImported (IsOfInput (s.failures input) (s.failures input_new) bytes) (effect it after ends) import bytes
+      × TellsFailedReads ends.status (s.failures input) (s.failures input_new))
       (λ failure. (after ≡ it) × IsFailure failure ends)
 
 -- ---- lists and reports
@@ -110,7 +113,8 @@ module _ {H F I : Type 0} (m : host.Ghosts H F I) (s : source.Ghosts I) where
   LooksUpIn old new path wanted ends =
       ReadsFrom m old new path
       (λ input input_new. (bytes : List ℕ) × MayGive (s.remaining input) bytes
-      × IsLookedUp (IsOfInput (s.failures input) (s.failures input_new) bytes) wanted bytes ends)
+      × IsLookedUp (IsOfInput (s.failures input) (s.failures input_new) bytes) wanted bytes ends
+      × TellsFailedReads ends.status (s.failures input) (s.failures input_new))
       (λ failure. IsFailure failure ends)
 
 -- ---- found
@@ -122,7 +126,8 @@ module _ {H F I : Type 0} (m : host.Ghosts H F I) (s : source.Ghosts I) where
       ReadsFrom m old new path
       (λ input input_new. (bytes : List ℕ) × MayGive (s.remaining input) bytes
       × ReadsFounding (IsOfInput (s.failures input) (s.failures input_new) bytes) (founding_listed bytes) errors read
-      × (IsTooLong bytes → (read ≡ Err Failed) × PrintsFailure (IsOfInput (s.failures input) (s.failures input_new) bytes) errors))
+      × (IsTooLong bytes → (read ≡ Err Failed) × PrintsFailure (IsOfInput (s.failures input) (s.failures input_new) bytes) errors)
+      × (read ≢ Err Failed → s.failures input_new ≡ s.failures input))
       (λ failure. (read ≡ Err Failed) × Prints errors (failure_line failure))
 
 -- ---- commands
