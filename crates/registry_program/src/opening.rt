@@ -50,8 +50,7 @@ fn take_over<D: Disk + Drop>(
 /// # Errors
 ///
 /// The failure of opening the store or the registry, with what is left of the files: `Foreign` only
-/// if they hold no registry. The log is not copied into the database file, so a store of another
-/// program keeps both as they are.
+/// if they hold no registry. `leave_store` lets them go, which does not copy the log.
 pub fn resume<D: Disk + Drop>(
     alloc: Global,
     files: Files<D>,
