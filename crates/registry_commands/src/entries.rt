@@ -79,10 +79,14 @@ pub(crate) fn peek<R: Source>(
         → HasReadTo (ahead (R.remaining source.old) unread.old) (ahead (R.remaining source.new) unread.new) [] unread.new }
     ensures memory { result ≡ Err ReadAllFault.NoMemory → R.failures source.new ≡ R.failures source.old }
 {
-    match find_line(alloc, source, unread)? {
-        Found::End => Ok((Entry::End, 0)),
-        Found::TooLong => Ok((Entry::Bad(LineRefusal::TooLong), 0)),
-        Found::Line(size) => Ok((entry_of(alloc, &unread.rest()[..size])?, size)),
+    match find_line(alloc, source, unread) {
+        Ok(Found::End) => Ok((Entry::End, 0)),
+        Ok(Found::TooLong) => Ok((Entry::Bad(LineRefusal::TooLong), 0)),
+        Ok(Found::Line(size)) => match entry_of(alloc, &unread.rest()[..size]) {
+            Ok(entry) => Ok((entry, size)),
+            Err(NoMemory) => Err(ReadAllFault::NoMemory),
+        },
+        Err(fault) => Err(fault),
     }
 }
 
@@ -113,9 +117,13 @@ pub(crate) fn next_entry<R: Source>(
         → HasReadTo (ahead (R.remaining source.old) unread.old) (ahead (R.remaining source.new) unread.new) [] unread.new }
     ensures memory { result ≡ Err ReadAllFault.NoMemory → R.failures source.new ≡ R.failures source.old }
 {
-    let (entry, size) = peek(alloc, source, unread)?;
-    if is_followed(&entry) {
-        unread.pass(size);
+    match peek(alloc, source, unread) {
+        Ok((entry, size)) => {
+            if is_followed(&entry) {
+                unread.pass(size);
+            }
+            Ok(entry)
+        }
+        Err(fault) => Err(fault),
     }
-    Ok(entry)
 }

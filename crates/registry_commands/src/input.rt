@@ -10,7 +10,6 @@ use byte_streams::{Broken, Source};
 use std::alloc::Global;
 use std::error::Error;
 use std::fmt;
-use usbnum_core::NoMemory;
 
 /// The greatest number of bytes that an input may have.
 const MOST: usize = 4_294_967_295;
@@ -37,17 +36,6 @@ impl fmt::Display for ReadAllFault {
 }
 
 impl Error for ReadAllFault {}
-
-impl From<NoMemory> for ReadAllFault {
-    ghost use Rattle.std.specs.Prelude.{◌≡◌};
-    ghost use Rattle.registry_commands.specs.declared.input.ReadAllFault.TheVariants.{NoMemory};
-
-    ghost from_gives = { λ _ fault. fault ≡ NoMemory };
-
-    fn from(_error: NoMemory) -> ReadAllFault {
-        ReadAllFault::NoMemory
-    }
-}
 
 /// Appends the next bytes of the source, and returns their number, which is 0 only at the end.
 pub(crate) fn take_more<R: Source>(
@@ -81,8 +69,13 @@ pub fn read_all<R: Source>(alloc: Global, source: &mut R) -> Result<Vec<u8>, Rea
 {
     let mut bytes = Vec::new(alloc);
     while bytes.len() <= MOST {
-        if take_more(source, &mut bytes)? == 0 {
-            return Ok(bytes);
+        match take_more(source, &mut bytes) {
+            Ok(count) => {
+                if count == 0 {
+                    return Ok(bytes);
+                }
+            }
+            Err(fault) => return Err(fault),
         }
     }
     Err(ReadAllFault::File)

@@ -57,7 +57,11 @@ pub fn requests_in(alloc: Global, bytes: &[u8]) -> Result<Vec<Request>, Rejectio
         let (line, after) = first_line(rest);
         if !is_blank(line) {
             match line_request(alloc, line) {
-                Ok(request) => requests.push(request)?,
+                Ok(request) => {
+                    if requests.push(request).is_err() {
+                        return Err(Rejection::NoMemory);
+                    }
+                }
                 Err(Rejection::Refused(refusal)) => {
                     return Err(Rejection::Refused(BadLine { number, refusal }));
                 }
