@@ -70,16 +70,16 @@ module _ {S : Type 0} {g : Ghosts S} where
   -- a failure before the first request
   pub fails_before : (OfInput : Failure → Type 0) (it : Registry S g) (read : Result (List Request) BadLine) (a : ℕ) (out : Sunk) (errors : Output) (status : ExitStatus)
       → status ≡ Failed → PrintsFailure OfInput errors → IsApplied OfInput (idle it out errors status) read a
-  fails_before OfInput it (Err bad) a out errors status failed told = record { same = refl; silent = keeps_same out.contents; told = inr (failed, told) }
+  fails_before OfInput it (Err bad) a out errors status failed told = record { same = refl; silent = (keeps_same out.contents, refl); told = inr (failed, told) }
   fails_before OfInput it (Ok rs) a out errors status failed told = (
-    λ more. record { same = refl; silent = keeps_same out.contents; told = inr (failed, told) },
+    λ more. record { same = refl; silent = (keeps_same out.contents, refl); told = inr (failed, told) },
     λ within. record {
       statuses = inr failed;
       through = λ success. absurd (cc (failed, success));
       sound = λ success. absurd (cc (failed, success));
       quiet = λ success. absurd (cc (failed, success));
       stopped = λ _ h at clean. stopped_before it h rs a out within at clean;
-      told = λ _. inl (record { same = refl; silent = keeps_same out.contents; told = told });
+      told = λ _. inl (record { same = refl; silent = (keeps_same out.contents, refl); told = told });
       poisoned = λ _. (failed, refl, refl, tells_more OfInput (λ failure. (failure ≡ Poisoned) ⊎ OfInput failure) errors (λ failure is. inr is) told);
       endures = endures_itself (state_of it);
     },

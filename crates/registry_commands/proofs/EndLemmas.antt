@@ -63,8 +63,8 @@ of_closing Left error failure (inr store) why = subst (λ (f : Failure). IsOfClo
 -- a failure before any line is acted on
 pub trial_fails : (OfInput : Failure → Type 0) (read : Result (List Request) BadLine) (out : Sunk) (errors : Output) (status : ExitStatus)
     → status ≡ Failed → PrintsFailure (IsOfStart OfInput) errors → IsTrialOf OfInput read (record { out = silent out; errors = errors; status = status })
-trial_fails OfInput (Err bad) out errors status failed told = (keeps_same out.contents, inr (failed, told))
-trial_fails OfInput (Ok rs) out errors status failed told = inr (inl (failed, keeps_same out.contents, told))
+trial_fails OfInput (Err bad) out errors status failed told = ((keeps_same out.contents, refl), inr (failed, told))
+trial_fails OfInput (Ok rs) out errors status failed told = inr (inl (failed, (keeps_same out.contents, refl), told))
 
 -- a founding that fails before the input is read
 pub of_start : (n : ℕ) (bytes : List ℕ) (failure : Failure) → (failure ≡ Store) ⊎ (failure ≡ Memory) → IsOfStart (IsOfInput n n bytes) failure

@@ -1,5 +1,5 @@
 -- How a command ends: what its outputs have taken, its exit status, and what became of its registry.
-use Rattle.std.specs.Prelude.{ℕ, List, Option}
+use Rattle.std.specs.Prelude.{◌≡◌, ℕ, List, Option}
 use Rattle.std.specs.Io.KnownBytes.{Appends, Keeps}
 use Rattle.sqlite.specs.Store.{Ghosts}
 use Rattle.byte_streams.specs.declared.streams.Sink as sink
@@ -30,17 +30,17 @@ pub record Output : Type 0 where
 abbrev pub output_of : {W : Type 0} → sink.Ghosts W → W → W → Output
 output_of g old new = record { old = sunk g old; new = sunk g new }
 
--- the output took this text
+-- the output took this text, and did not fail
 abbrev pub Receives : Output → List ℕ → Type 0
-Receives output text = Appends output.old.contents output.new.contents text
+Receives output text = Appends output.old.contents output.new.contents text × (output.new.failures ≡ output.old.failures)
 
 -- it took a prefix of this text, perhaps an empty one
 abbrev pub ReceivesPrefix : Output → List ℕ → Type 0
 ReceivesPrefix output text = AppendsPrefix output.old.contents output.new.contents text
 
--- it took nothing
+-- it took nothing, and did not fail
 abbrev pub ReceivesNothing : Output → Type 0
-ReceivesNothing output = Keeps output.old.contents output.new.contents
+ReceivesNothing output = Keeps output.old.contents output.new.contents × (output.new.failures ≡ output.old.failures)
 
 -- the output and the error output of a command, and its exit status
 pub record Ends : Type 0 where

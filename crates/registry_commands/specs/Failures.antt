@@ -6,6 +6,8 @@ use Rattle.sqlite.specs.declared.error.ErrorCode.TheVariants.{OutOfMemory}
 use Rattle.byte_streams.specs.Streams.{HasFailed, most_bytes}
 use Rattle.registry_commands.specs.declared.messages.Failure.{Failure}
 use Rattle.registry_commands.specs.declared.messages.Failure.TheVariants.{File, Memory, Poisoned, Store, Taken}
+use Rattle.registry_commands.specs.declared.status.ExitStatus.{ExitStatus}
+use Rattle.registry_commands.specs.declared.status.ExitStatus.TheVariants.{Failed}
 use Rattle.registry_commands.specs.Ends.{Receives, ReceivesNothing, ReceivesPrefix, Output}
 use Rattle.registry_commands.specs.Messages.{failure_line}
 
@@ -15,7 +17,7 @@ Prints errors text = ReceivesPrefix errors text × (HasFailed errors.old.failure
 
 -- nothing was written, and the error output did not fail
 abbrev pub PrintsNothing : Output → Type 0
-PrintsNothing errors = ReceivesNothing errors × (errors.new.failures ≡ errors.old.failures)
+PrintsNothing errors = ReceivesNothing errors
 
 -- the message of one of these failures was written: all of it, or a prefix if the error output failed
 abbrev pub PrintsFailure : (Failure → Type 0) → Output → Type 0
@@ -57,6 +59,10 @@ IsOfInput old new bytes _ = ⊥
 abbrev pub IsOfOutput : ℕ → ℕ → Failure → Type 0
 IsOfOutput old new File = HasFailed old new
 IsOfOutput old new _ = new ≡ old
+
+-- a read that failed between these two counts of failures is told by the exit status
+abbrev pub TellsFailedReads : ExitStatus → ℕ → ℕ → Type 0
+TellsFailedReads status old new = status ≢ Failed → new ≡ old
 
 -- a failure over a sound registry and a clean disk: neither Foreign nor Taken nor Poisoned
 abbrev pub IsOfSoundRun : Failure → Type 0

@@ -1,5 +1,5 @@
 -- What is written, and what the registry represents, after a list was imported.
-use Rattle.std.specs.Prelude.{◌≡◌, ◌⊎◌, ◌≤◌, ℕ, true, false, List, length, Option, Some, None, Result, Ok, Err}
+use Rattle.std.specs.Prelude.{◌≡◌, ◌⊎◌, ◌≤◌, ℕ, true, false, ⊤, List, length, Option, Some, None, Result, Ok, Err}
 use Rattle.sqlite.specs.Store.{Ghosts}
 use Rattle.sqlite.specs.State.{HasCleanDisk}
 use Rattle.usbnum_core.specs.Number.{number_of}
@@ -9,6 +9,8 @@ use Rattle.byte_streams.specs.Streams.{most_bytes}
 use Rattle.usbids_text.specs.Entries.{TopEntry}
 use Rattle.usbids_text.specs.Reading.{ReadsAs}
 use Rattle.registry_rules.specs.declared.order.Request.{Request}
+use Rattle.registry_rules.specs.declared.rejection.Rejection.{Rejection}
+use Rattle.registry_rules.specs.declared.rejection.Rejection.TheVariants.{Refused as WasRefused, NoMemory as OutOfMemory}
 use Rattle.registry_rules.specs.declared.verdict.Reply.{Reply}
 use Rattle.registry_rules.specs.declared.verdict.Reply.TheVariants.{Done, Refused}
 use Rattle.registry_rules.specs.History.{History}
@@ -57,6 +59,12 @@ IsFirstBad caller key org vendor Key = IsSlug caller × ¬ IsKey key
 IsFirstBad caller key org vendor Org = IsSlug caller × IsKey key × ¬ IsSlug org
 IsFirstBad caller key org vendor Vendor = IsSlug caller × IsKey key × IsSlug org × (vendor_argument vendor ≡ Err Vendor)
 IsFirstBad caller key org vendor _ = ⊥
+
+-- this is the import that the arguments ask for, or the first invalid one, unless out of memory
+abbrev pub AsksFor : List ℕ → List ℕ → List ℕ → Option (List ℕ) → Result Import (Rejection BadArgument) → Type 0
+AsksFor caller key org vendor (Ok import) = AreOfImport caller key org vendor import
+AsksFor caller key org vendor (Err (WasRefused argument)) = IsFirstBad caller key org vendor argument
+AsksFor caller key org vendor (Err OutOfMemory) = ⊤
 
 -- ---- the reply
 

@@ -10,7 +10,7 @@ ghost use Rattle.registry_commands.specs.Lines.{requests_in};
 ghost use Rattle.registry_commands.specs.Messages.{bad_line_text};
 ghost use Rattle.registry_commands.specs.Apply.{IsApplied, IsOfRun, IsStoppedAt, IsThrough, IsUnread};
 ghost use Rattle.registry_commands.specs.Ends.{effect, ends_of, output_of};
-ghost use Rattle.registry_commands.specs.Failures.{IsOfInput, IsOfMemory, IsOfOutput, IsTooLong, Prints, PrintsFailure};
+ghost use Rattle.registry_commands.specs.Failures.{IsOfInput, IsOfMemory, IsOfOutput, IsTooLong, Prints, PrintsFailure, TellsFailedReads};
 
 use crate::input::read_all;
 use crate::lines::{BadLine, requests_in};
@@ -18,7 +18,7 @@ use crate::messages::{Failure, bad_line_text, fail, failure_of, input_failure, t
 use crate::replies::ReplyLines;
 use crate::status::ExitStatus;
 use byte_streams::{Sink, Source};
-use registry_rules::Request;
+use registry_rules::{Rejection, Request};
 use registry_store::{Registry, RunStop};
 use sqlite::Alter;
 use std::alloc::Global;
@@ -120,7 +120,7 @@ fn apply_bytes<S: Alter, W: Sink, E: Sink>(
         (effect registry.old registry.new (ends_of W.Sink E.Sink output.old output.new errors.old errors.new result)) (requests_in bytes.now) answered }
 {
     match requests_in(alloc, bytes) {
-        Ok(Ok(requests)) => apply_requests(
+        Ok(requests) => apply_requests(
             alloc,
             requests.as_slice(),
             answered,
@@ -128,8 +128,8 @@ fn apply_bytes<S: Alter, W: Sink, E: Sink>(
             output,
             errors,
         ),
-        Ok(Err(bad)) => reject_line(alloc, errors, bad),
-        Err(_) => fail(errors, Failure::Memory),
+        Err(Rejection::Refused(bad)) => reject_line(alloc, errors, bad),
+        Err(Rejection::NoMemory) => fail(errors, Failure::Memory),
     }
 }
 
@@ -155,7 +155,8 @@ pub fn apply_lines<R: Source, S: Alter, W: Sink, E: Sink>(
         × IsApplied (IsOfInput (R.failures source.old) (R.failures source.new) bytes)
         (effect registry.old registry.new (ends_of W.Sink E.Sink output.old output.new errors.old errors.new result)) (requests_in bytes) answered
         × (IsTooLong bytes → (result ≡ ExitStatus.Failed) × IsUnread (IsOfInput (R.failures source.old) (R.failures source.new) bytes)
-        (effect registry.old registry.new (ends_of W.Sink E.Sink output.old output.new errors.old errors.new result))) }
+        (effect registry.old registry.new (ends_of W.Sink E.Sink output.old output.new errors.old errors.new result)))
+        × TellsFailedReads result (R.failures source.old) (R.failures source.new) }
 {
     match read_all(alloc, source) {
         Ok(bytes) => apply_bytes(alloc, bytes.as_slice(), answered, registry, output, errors),

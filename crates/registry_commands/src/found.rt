@@ -1,6 +1,6 @@
 //! Reads a founding file, and founds a registry on a connection.
 
-ghost use Rattle.std.specs.Prelude.{◌≡◌, ◌⊎◌, ℕ, List, Err};
+ghost use Rattle.std.specs.Prelude.{◌≡◌, ◌≢◌, ◌⊎◌, ℕ, List, Err};
 ghost use Rattle.byte_streams.specs.Streams.{MayGive};
 ghost use Rattle.registry_wire.specs.Founding.{founding_listed};
 ghost use Rattle.registry_commands.specs.Ends.{output_of};
@@ -55,7 +55,8 @@ pub fn read_founding<R: Source, E: Sink>(
 ) -> Result<Founding, ExitStatus>
     ensures { (bytes : List ℕ) × MayGive (R.remaining source.old) bytes
         × ReadsFounding (IsOfInput (R.failures source.old) (R.failures source.new) bytes) (founding_listed bytes) (output_of E.Sink errors.old errors.new) result
-        × (IsTooLong bytes → (result ≡ Err ExitStatus.Failed) × PrintsFailure (IsOfInput (R.failures source.old) (R.failures source.new) bytes) (output_of E.Sink errors.old errors.new)) }
+        × (IsTooLong bytes → (result ≡ Err ExitStatus.Failed) × PrintsFailure (IsOfInput (R.failures source.old) (R.failures source.new) bytes) (output_of E.Sink errors.old errors.new))
+        × (result ≢ Err ExitStatus.Failed → R.failures source.new ≡ R.failures source.old) }
 {
     match read_all(alloc, source) {
         Ok(bytes) => founding_in(alloc, bytes.as_slice(), errors),

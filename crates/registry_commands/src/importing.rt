@@ -1,23 +1,22 @@
 //! Imports a list.
 
-ghost use Rattle.std.specs.Prelude.{◌≡◌, ◌⊎◌, ℕ, List, IfOk, MatchResult, Ok, option_copied};
+ghost use Rattle.std.specs.Prelude.{◌≡◌, ◌⊎◌, ℕ, List, Ok, option_copied};
 ghost use Rattle.byte_streams.specs.Streams.{MayGive};
 ghost use Rattle.registry_commands.specs.Ends.{effect, ends_of};
-ghost use Rattle.registry_commands.specs.Failures.{IsOfInput, IsOfOutput};
-ghost use Rattle.registry_commands.specs.Imports.{AreOfImport, IsActedOn, IsFirstBad, IsImportOf, IsImported, IsReplied, exit_status_of};
+ghost use Rattle.registry_commands.specs.Failures.{IsOfInput, IsOfOutput, TellsFailedReads};
+ghost use Rattle.registry_commands.specs.Imports.{AsksFor, IsActedOn, IsImportOf, IsImported, IsReplied, exit_status_of};
 
 use crate::arguments::BadArgument;
-use crate::list_input::read_list;
 use crate::looking::put_fault;
 use crate::messages::{Failure, fail, failure_of, put_reply};
 use crate::status::ExitStatus;
 use byte_streams::{Broken, Sink, Source};
-use registry_rules::{Reply, Request};
+use registry_rules::{Rejection, Reply, Request};
 use registry_store::Registry;
 use registry_wire::import_request;
 use sqlite::Alter;
 use std::alloc::Global;
-use usbids_text::{Document, ReadFault};
+use usbids_text::{Document, ReadFault, Reader, feed_all};
 use usbnum_core::{Key, NoMemory, Slug, Vid, parse_vid};
 
 /// What an import asks for, apart from its list.
@@ -41,31 +40,31 @@ pub fn import_of_arguments(
     key: &str,
     org: &str,
     vendor: Option<&str>,
-) -> Result<Result<Import, BadArgument>, NoMemory>
-    ensures { IfOk result (λ read. MatchResult read (AreOfImport caller.now key.now org.now (option_copied vendor.entry)) (IsFirstBad caller.now key.now org.now (option_copied vendor.entry))) }
+) -> Result<Import, Rejection<BadArgument>>
+    ensures { AsksFor caller.now key.now org.now (option_copied vendor.entry) result }
 {
     let Some(caller) = Slug::new(alloc, caller.as_bytes())? else {
-        return Ok(Err(BadArgument::Caller));
+        return Err(Rejection::Refused(BadArgument::Caller));
     };
     let Some(key) = Key::new(alloc, key.as_bytes())? else {
-        return Ok(Err(BadArgument::Key));
+        return Err(Rejection::Refused(BadArgument::Key));
     };
     let Some(org) = Slug::new(alloc, org.as_bytes())? else {
-        return Ok(Err(BadArgument::Org));
+        return Err(Rejection::Refused(BadArgument::Org));
     };
     let vendor = match vendor {
         None => None,
         Some(text) => match parse_vid(text.as_bytes()) {
             Some(vid) => Some(vid),
-            None => return Ok(Err(BadArgument::Vendor)),
+            None => return Err(Rejection::Refused(BadArgument::Vendor)),
         },
     };
-    Ok(Ok(Import {
+    Ok(Import {
         caller,
         key,
         org,
         vendor,
-    }))
+    })
 }
 
 /// Returns the exit status for a reply.
@@ -171,10 +170,13 @@ pub fn import_list<R: Source, S: Alter, W: Sink, E: Sink>(
 ) -> ExitStatus
     ensures { (bytes : List ℕ) × MayGive (R.remaining source.old) bytes
         × IsImported (IsOfInput (R.failures source.old) (R.failures source.new) bytes)
-        (effect registry.old registry.new (ends_of W.Sink E.Sink output.old output.new errors.old errors.new result)) import bytes }
+        (effect registry.old registry.new (ends_of W.Sink E.Sink output.old output.new errors.old errors.new result)) import bytes
+        × TellsFailedReads result (R.failures source.old) (R.failures source.new) }
 {
-    match read_list(alloc, source) {
-        Ok(read) => import_read(alloc, import, read, registry, output, errors),
+    let mut reader = Reader::new(alloc);
+    let mut room = [0u8; 32768];
+    match feed_all(source, &mut reader, &mut room) {
+        Ok(()) => import_read(alloc, import, reader.finish(), registry, output, errors),
         Err(Broken) => fail(errors, Failure::File),
     }
 }

@@ -12,7 +12,6 @@ mod found;
 mod importing;
 mod input;
 mod lines;
-mod list_input;
 mod looking;
 mod messages;
 mod printing;

@@ -1,12 +1,12 @@
 //! Splits bytes into lines, and reads each line as a request.
 
-ghost use Rattle.std.specs.Prelude.{◌≡◌, ◌==◌, ◌<◌, ◌∷◌, length, position, IfOk, MatchResult, Ok, Err};
+ghost use Rattle.std.specs.Prelude.{◌≡◌, ◌==◌, ◌<◌, ◌∷◌, length, position};
+ghost use Rattle.registry_wire.specs.Refusals.{GivesSeen};
 ghost use Rattle.registry_commands.specs.Lines.{is_blank, lines_of, requests_in};
 
 use registry_rules::{Rejection, Request};
 use registry_wire::{WireRefusal, line_request};
 use std::alloc::Global;
-use usbnum_core::NoMemory;
 
 /// A line that is not a request.
 #[derive(Clone, Copy, Debug, PartialEq, Eq)]
@@ -47,8 +47,8 @@ pub(crate) fn is_blank(line: &[u8]) -> bool
 
 /// Returns the requests of the lines that are not blank, in order, or the first line that is not a
 /// request.
-pub fn requests_in(alloc: Global, bytes: &[u8]) -> Result<Result<Vec<Request>, BadLine>, NoMemory>
-    ensures { IfOk result (λ read. MatchResult read (λ v. requests_in bytes.now ≡ Ok v.items) (λ bad. requests_in bytes.now ≡ Err bad)) }
+pub fn requests_in(alloc: Global, bytes: &[u8]) -> Result<Vec<Request>, Rejection<BadLine>>
+    ensures { GivesSeen (λ requests. requests.items) result (requests_in bytes.now) }
 {
     let mut requests = Vec::new(alloc);
     let mut rest = bytes;
@@ -57,13 +57,19 @@ pub fn requests_in(alloc: Global, bytes: &[u8]) -> Result<Result<Vec<Request>, B
         let (line, after) = first_line(rest);
         if !is_blank(line) {
             match line_request(alloc, line) {
-                Ok(request) => requests.push(request)?,
-                Err(Rejection::Refused(refusal)) => return Ok(Err(BadLine { number, refusal })),
-                Err(Rejection::NoMemory) => return Err(NoMemory),
+                Ok(request) => {
+                    if requests.push(request).is_err() {
+                        return Err(Rejection::NoMemory);
+                    }
+                }
+                Err(Rejection::Refused(refusal)) => {
+                    return Err(Rejection::Refused(BadLine { number, refusal }));
+                }
+                Err(Rejection::NoMemory) => return Err(Rejection::NoMemory),
             }
         }
         rest = after;
         number += 1;
     }
-    Ok(Ok(requests))
+    Ok(requests)
 }

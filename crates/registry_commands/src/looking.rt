@@ -3,7 +3,7 @@
 ghost use Rattle.std.specs.Prelude.{◌≡◌, ◌++◌, ◌∷◌, [], ℕ, List, IfOk};
 ghost use Rattle.byte_streams.specs.Streams.{MayGive};
 ghost use Rattle.registry_commands.specs.Ends.{ends_of, output_of};
-ghost use Rattle.registry_commands.specs.Failures.{IsOfInput};
+ghost use Rattle.registry_commands.specs.Failures.{IsOfInput, TellsFailedReads};
 ghost use Rattle.registry_commands.specs.LookUp.{TellsFound, IsLookedUp, IsMatched, IsNameWritten, IsListRefused};
 
 use crate::found::reject;
@@ -99,7 +99,8 @@ pub fn look_up<R: Source, W: Sink, E: Sink>(
 ) -> ExitStatus
     ensures { (bytes : List ℕ) × MayGive (R.remaining source.old) bytes
         × IsLookedUp (IsOfInput (R.failures source.old) (R.failures source.new) bytes) (record { vendor = vendor; code = code }) bytes
-        (ends_of W.Sink E.Sink output.old output.new errors.old errors.new result) }
+        (ends_of W.Sink E.Sink output.old output.new errors.old errors.new result)
+        × TellsFailedReads result (R.failures source.old) (R.failures source.new) }
 {
     let mut scan = Scan::new(alloc, vendor, code);
     let mut room = [0u8; 32768];

@@ -8,7 +8,7 @@ ghost use Rattle.registry_rules.specs.declared.founding.Founding.{Founding};
 ghost use Rattle.registry_rules.specs.History.{founded};
 ghost use Rattle.registry_store.specs.Promise.{Represents};
 ghost use Rattle.registry_commands.specs.Ends.{ReceivesNothing, ends_of, output_of};
-ghost use Rattle.registry_commands.specs.Failures.{IsOfInput, IsTooLong, PrintsFailure};
+ghost use Rattle.registry_commands.specs.Failures.{IsOfInput, IsTooLong, PrintsFailure, TellsFailedReads};
 ghost use Rattle.registry_commands.specs.Lines.{requests_in};
 ghost use Rattle.registry_commands.specs.Trial.{IsOfStart, IsTrial, IsTrialOf};
 
@@ -112,7 +112,8 @@ pub fn trial<R: Source, W: Sink, E: Sink>(
 ) -> ExitStatus
     ensures { (bytes : List ℕ) × MayGive (R.remaining source.old) bytes
         × IsTrialOf (IsOfInput (R.failures source.old) (R.failures source.new) bytes) (requests_in bytes) (ends_of W.Sink E.Sink output.old output.new errors.old errors.new result)
-        × (IsTooLong bytes → (result ≡ ExitStatus.Failed) × ReceivesNothing (output_of W.Sink output.old output.new) × PrintsFailure (IsOfStart (IsOfInput (R.failures source.old) (R.failures source.new) bytes)) (output_of E.Sink errors.old errors.new)) }
+        × (IsTooLong bytes → (result ≡ ExitStatus.Failed) × ReceivesNothing (output_of W.Sink output.old output.new) × PrintsFailure (IsOfStart (IsOfInput (R.failures source.old) (R.failures source.new) bytes)) (output_of E.Sink errors.old errors.new))
+        × TellsFailedReads result (R.failures source.old) (R.failures source.new) }
 {
     let mut registry = match found_trial(alloc) {
         Ok(registry) => registry,

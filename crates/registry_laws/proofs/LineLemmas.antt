@@ -42,7 +42,7 @@ use Rattle.registry_wire.specs.declared.refusal.FoundingFault.{FoundingFault}
 use Rattle.registry_wire.specs.declared.refusal.FoundingFault.TheVariants as faults
 use Rattle.registry_wire.specs.declared.refusal.WireRefusal.{WireRefusal}
 use Rattle.registry_wire.proofs.TreeLemmas.{object_of_read}
-use Rattle.registry_laws.specs.Records.{IsAccepted, IsFounding}
+use Rattle.registry_laws.specs.Records.{IsAccepted, IsValidFounding}
 use Rattle.registry_laws.proofs.AcceptedLemmas.{accepted_back}
 use Rattle.registry_laws.proofs.KindLemmas.{slug_back, title_back, all_back, texts_back, spans_back}
 use Rattle.registry_laws.proofs.TextLemmas.{IsPlain, ArePlain, MembersArePlain, is_first, ascend, turned_back, ascii_utf8, object_utf8, object_read}
@@ -261,7 +261,7 @@ pub accepted_read : (accepted : Accepted) → IsAccepted accepted → record_rea
 unfolding record_reading
 accepted_read accepted valid = ap (λ (found : Result Data WireRefusal). found >>= line_in) (accepted_object accepted valid) ∙ accepted_in_line accepted valid
 
-founding_back : (founding : Founding) → IsFounding founding → founding_in (founding_data founding) ≡ Ok founding
+founding_back : (founding : Founding) → IsValidFounding founding → founding_in (founding_data founding) ≡ Ok founding
 unfolding founding_in founding_data key_value
 founding_back founding valid =
     let slugs = all_back slug_from string IsSlug (λ text h. slug_back text h) founding.curators valid.slugs in
@@ -278,11 +278,11 @@ founding_has_none : (founding : Founding) → is_some (get (field_name fields.Or
 unfolding founding_data
 founding_has_none founding = refl
 
-founding_in_line : (founding : Founding) → IsFounding founding → line_in (founding_data founding) ≡ Ok (lines.Founding founding)
+founding_in_line : (founding : Founding) → IsValidFounding founding → line_in (founding_data founding) ≡ Ok (lines.Founding founding)
 unfolding line_in
 founding_in_line founding valid = rw (founding_has_none founding, founding_back founding valid) refl
 
-founding_object : (founding : Founding) → IsFounding founding → object_of (founding_line founding) ≡ Ok (founding_data founding)
+founding_object : (founding : Founding) → IsValidFounding founding → object_of (founding_line founding) ≡ Ok (founding_data founding)
 unfolding founding_data
 founding_object founding valid =
     let slugs = all_plain 1 string IsSlug (λ text h. slug_is_utf8 text h) founding.curators valid.slugs in
@@ -290,7 +290,7 @@ founding_object founding valid =
     let values : ValuesArePlain 2 (founding_keys founding) = (digits_utf8 founding.vendor valid.vendor.within, (valid.name.utf8, (slugs, (titles, (spans_plain 1 founding.fixed valid.fixed, tt))))) in
     object_is (with_keys (founding_keys founding) no_members) (keys_plain 2 (founding_keys founding) no_members values tt) (keys_ascend (founding_keys founding) no_members refl)
 
-pub founding_read : (founding : Founding) → IsFounding founding → record_reading (founding_line founding) ≡ Ok (lines.Founding founding)
+pub founding_read : (founding : Founding) → IsValidFounding founding → record_reading (founding_line founding) ≡ Ok (lines.Founding founding)
 unfolding record_reading
 founding_read founding valid = ap (λ (found : Result Data WireRefusal). found >>= line_in) (founding_object founding valid) ∙ founding_in_line founding valid
 
@@ -311,7 +311,7 @@ founding_of_line (Ok (lines.Founding founding)) otherwise = founding
 founding_of_line (Ok (lines.Accepted accepted)) otherwise = otherwise
 founding_of_line (Err refusal) otherwise = otherwise
 
-pub own_founding_line : (a b : Founding) → IsFounding a → IsFounding b → founding_line a ≡ founding_line b → a ≡ b
+pub own_founding_line : (a b : Founding) → IsValidFounding a → IsValidFounding b → founding_line a ≡ founding_line b → a ≡ b
 unfolding founding_of_line
 own_founding_line a b of_a of_b same =
     ap (λ (read : Result RecordLine WireRefusal). founding_of_line read a) (sym (founding_read a of_a) ∙ (ap record_reading same ∙ founding_read b of_b))

@@ -23,31 +23,31 @@ use Rattle.registry_rules.specs.declared.record.Vendor.{Vendor}
 use Rattle.registry_reports.specs.History.{held_title, name_in, vendor_name, IsListing}
 use Rattle.registry_reports.specs.Listing.{devices_of, is_held_of, list_of, top_of}
 use Rattle.registry_wire.specs.Import.{is_of_vendor, import_of}
-use Rattle.registry_laws.specs.Exports.{IsEntry}
-use Rattle.registry_laws.specs.Imports.{AreTitled, IsTakenOver, emptied, without, IsInOrder, CompletesList, GivesSameList}
+use Rattle.registry_laws.specs.Exports.{IsListedEntry}
+use Rattle.registry_laws.specs.Imports.{AreTitled, IsTakenOver, without_devices, without, IsInOrder, CompletesList, GivesSameList}
 use Rattle.registry_laws.proofs.TakingLemmas.{takes}
 
 -- ---- the codes and names of a list of numbers are product IDs and titles
 
-device_titled : (vid pid : ℕ) (name : List ℕ) (pairs : List (Number × Entry)) → All IsEntry pairs → first_mid pid (devices_of vid pairs) ≡ Some name → IsId pid × IsTitle name
+device_titled : (vid pid : ℕ) (name : List ℕ) (pairs : List (Number × Entry)) → All IsListedEntry pairs → first_mid pid (devices_of vid pairs) ≡ Some name → IsId pid × IsTitle name
 device_titled vid pid name [] all e = absurd cc
 device_titled vid pid name (pair ∷ pairs) all e = elim (cases_Bool (is_held_of vid pair)) [
   | inr l ↦
       let past : first_mid pid (devices_of vid (pair ∷ pairs)) ≡ first_mid pid (devices_of vid pairs) = rw l refl in
-      device_titled vid pid name pairs (All-tail IsEntry pair pairs all) (sym past ∙ e)
+      device_titled vid pid name pairs (All-tail IsListedEntry pair pairs all) (sym past ∙ e)
   | inl l ↦ elim (cases_Bool (nat_eq pair.0.pid pid)) [
     | inr p ↦
         let past : first_mid pid (devices_of vid (pair ∷ pairs)) ≡ first_mid pid (devices_of vid pairs) = rw (l, p) refl in
-        device_titled vid pid name pairs (All-tail IsEntry pair pairs all) (sym past ∙ e)
+        device_titled vid pid name pairs (All-tail IsListedEntry pair pairs all) (sym past ∙ e)
     | inl p ↦
         let here : first_mid pid (devices_of vid (pair ∷ pairs)) ≡ Some pair.1.card.title = rw (l, p) refl in
-        let is = All-head IsEntry pair pairs all in
+        let is = All-head IsListedEntry pair pairs all in
         let same : pair.1.card.title ≡ name = let both = sym here ∙ e in cc in
         (subst IsId (eqb-true pair.0.pid pid p) is.pid, subst IsTitle same is.title)
   ]
 ]
 
-titled_in : (vid pid : ℕ) (name other : List ℕ) (v : Vendor) (numbers : List (Number × Entry)) → All IsEntry numbers → find_in vid pid (top_of numbers v) ≡ Some other → other ≡ name → IsId pid × IsTitle name
+titled_in : (vid pid : ℕ) (name other : List ℕ) (v : Vendor) (numbers : List (Number × Entry)) → All IsListedEntry numbers → find_in vid pid (top_of numbers v) ≡ Some other → other ≡ name → IsId pid × IsTitle name
 titled_in vid pid name other v numbers all is same = elim (cases_Bool (nat_eq v.vid vid)) [
   | inr l ↦ let none : find_in vid pid (top_of numbers v) ≡ None = rw l refl in let clash = sym none ∙ is in absurd cc
   | inl l ↦
@@ -55,12 +55,12 @@ titled_in vid pid name other v numbers all is same = elim (cases_Bool (nat_eq v.
       device_titled v.vid pid name numbers all (sym some ∙ (is ∙ ap (λ (x : List ℕ). Some x) same))
 ]
 
-first_or : (vid pid : ℕ) (name : List ℕ) (v : Vendor) (numbers : List (Number × Entry)) (found rest : Option (List ℕ)) → All IsEntry numbers → find_in vid pid (top_of numbers v) ≡ found →
+first_or : (vid pid : ℕ) (name : List ℕ) (v : Vendor) (numbers : List (Number × Entry)) (found rest : Option (List ℕ)) → All IsListedEntry numbers → find_in vid pid (top_of numbers v) ≡ found →
     (rest ≡ Some name → IsId pid × IsTitle name) → option_or found rest ≡ Some name → IsId pid × IsTitle name
 first_or vid pid name v numbers None rest all is later e = later e
 first_or vid pid name v numbers (Some other) rest all is later e = titled_in vid pid name other v numbers all is cc
 
-list_titled : (vid : ℕ) (vendors : List Vendor) (numbers : List (Number × Entry)) → All IsEntry numbers → AreTitled vid (list_of vendors numbers)
+list_titled : (vid : ℕ) (vendors : List Vendor) (numbers : List (Number × Entry)) → All IsListedEntry numbers → AreTitled vid (list_of vendors numbers)
 list_titled vid [] numbers all pid name e = absurd cc
 list_titled vid (v ∷ vendors) numbers all pid name e =
     first_or vid pid name v numbers (find_in vid pid (top_of numbers v)) (find_mid vid pid (list_of vendors numbers)) all refl (list_titled vid vendors numbers all pid name) e
@@ -75,7 +75,7 @@ other_way : (a b : ℕ) → nat_eq a b ≡ false → nat_eq b a ≡ false
 other_way a b e = ne_eqb b a (λ s. eqb-false a b e (sym s))
 
 emptied_by : (vid v pid : ℕ) (kind : Kind) (code digits : ℕ) (name : List ℕ) (mids : List MidEntry) →
-    find_in v pid (emptied vid (record { kind = kind; code = code; digits = digits; name = name; mids = mids }))
+    find_in v pid (without_devices vid (record { kind = kind; code = code; digits = digits; name = name; mids = mids }))
     ≡ (if nat_eq vid v then None else find_in v pid (record { kind = kind; code = code; digits = digits; name = name; mids = mids }))
 emptied_by vid v pid (Tagged tag) code digits name mids = sym (either (nat_eq vid v) None)
 emptied_by vid v pid OfVendor code digits name mids = elim (cases_Bool (nat_eq code vid)) [

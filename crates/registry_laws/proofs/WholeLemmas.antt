@@ -11,7 +11,7 @@ use Rattle.registry_wire.specs.Record.{accepted_line, record_reading}
 use Rattle.registry_wire.specs.declared.record.RecordLine.{RecordLine}
 use Rattle.registry_wire.specs.declared.record.RecordLine.TheVariants as lines
 use Rattle.registry_wire.specs.declared.refusal.WireRefusal.{WireRefusal}
-use Rattle.registry_laws.specs.Records.{IsAccepted, IsFounding, IsKeptWhole}
+use Rattle.registry_laws.specs.Records.{IsAccepted, IsValidFounding, IsKeptWhole}
 use Rattle.registry_laws.proofs.LineLemmas.{accepted_read, founding_read}
 
 abbrev Reading : Type 0
@@ -25,7 +25,7 @@ unfolding put_first
 all_read [] all = refl
 all_read (first ∷ others) all = ap₂ put_first (accepted_read first (All-head IsAccepted first others all)) (all_read others (All-tail IsAccepted first others all))
 
-pub kept_whole : (h : History) → Legal h → IsFounding h.founding → All IsAccepted (accepted_of h.deeds) → IsKeptWhole h
+pub kept_whole : (h : History) → Legal h → IsValidFounding h.founding → All IsAccepted (accepted_of h.deeds) → IsKeptWhole h
 unfolding put_first
 kept_whole h legal founding all = record {
   read = ap₂ put_first (founding_read h.founding founding) (all_read (accepted_of h.deeds) all);

@@ -15,21 +15,21 @@ use Rattle.registry_rules.specs.declared.record.Vendor.{Vendor}
 use Rattle.registry_reports.specs.Listing.{list_of}
 
 -- the invariants of a vendor
-pub record IsVendor (vendor : Vendor) : Type 0 where
+pub record IsListedVendor (vendor : Vendor) : Type 0 where
   pub vid : IsId vendor.vid
   pub name : IsTitle vendor.name
 
 -- the invariants of a number with its entry
-pub record IsEntry (pair : Number × Entry) : Type 0 where
+pub record IsListedEntry (pair : Number × Entry) : Type 0 where
   pub pid : IsId pair.0.pid
   pub title : IsTitle pair.1.card.title
 
 -- the text written for the list is the text of the list
 abbrev pub ReadsAsItself : Type 0
-ReadsAsItself = (vendors : List Vendor) (numbers : List (Number × Entry)) (stamp : Option Moment) → All IsVendor vendors → All IsEntry numbers
+ReadsAsItself = (vendors : List Vendor) (numbers : List (Number × Entry)) (stamp : Option Moment) → All IsListedVendor vendors → All IsListedEntry numbers
     → IsTextOf (written (list_of vendors numbers) stamp) (list_of vendors numbers)
 
 -- a reader of the text returns the list, or runs out of memory
 abbrev pub IsReadBack : Type 0
-IsReadBack = (vendors : List Vendor) (numbers : List (Number × Entry)) (stamp : Option Moment) (read : Result (List TopEntry) ReadFault) → All IsVendor vendors → All IsEntry numbers
+IsReadBack = (vendors : List Vendor) (numbers : List (Number × Entry)) (stamp : Option Moment) (read : Result (List TopEntry) ReadFault) → All IsListedVendor vendors → All IsListedEntry numbers
     → ReadsAs (written (list_of vendors numbers) stamp) read → (read ≡ Ok (list_of vendors numbers)) ⊎ (read ≡ Err NoMemory)

@@ -25,7 +25,7 @@ use Rattle.registry_rules.specs.declared.verdict.Verdict.TheVariants.{New}
 use Rattle.registry_reports.specs.History.{IsVendorOfDevices, IsListing}
 use Rattle.registry_reports.specs.Listing.{list_of}
 use Rattle.registry_wire.specs.Import.{is_of_vendor, items_of, import_of}
-use Rattle.registry_laws.specs.Exports.{IsEntry}
+use Rattle.registry_laws.specs.Exports.{IsListedEntry}
 
 -- the caller may import this number of items for the organisation under the vendor, and has not used the key
 pub record MayImport (h : History) (caller key org : List ℕ) (vid : ℕ) (items : ℕ) : Type 0 where
@@ -61,12 +61,12 @@ TakesOver = (h : History) (caller key org : List ℕ) (named : Option ℕ) (doc 
     → IsTakenOver h (import_of caller key org h.founding.vendor named doc) org (vendor_meant h named) doc
 
 -- the top without its devices, if it is the vendor with this ID
-abbrev pub emptied : ℕ → TopEntry → TopEntry
-emptied vid top = if is_of_vendor vid top then record top { mids = [] } else top
+abbrev pub without_devices : ℕ → TopEntry → TopEntry
+without_devices vid top = if is_of_vendor vid top then record top { mids = [] } else top
 
 -- the list without the devices of the vendor
 abbrev pub without : ℕ → List TopEntry → List TopEntry
-without vid doc = map (emptied vid) doc
+without vid doc = map (without_devices vid) doc
 
 -- only vendors, which ascend, with devices that ascend, as in an export
 pub record IsInOrder (doc : List TopEntry) : Type 0 where
@@ -84,7 +84,7 @@ CompletesList = (there : History) (caller key org : List ℕ) (named : Option �
 -- the same for a list that was exported from another history
 abbrev pub GivesSameList : Type 0
 GivesSameList = (h there : History) (vendors : List Vendor) (numbers : List (Number × Entry)) (caller key org : List ℕ) (named : Option ℕ)
-    → All IsEntry numbers → IsListing h (list_of vendors numbers) → IsListing there (without (vendor_meant there named) (list_of vendors numbers))
+    → All IsListedEntry numbers → IsListing h (list_of vendors numbers) → IsListing there (without (vendor_meant there named) (list_of vendors numbers))
     → MayImport there caller key org (vendor_meant there named) (length (items_of (vendor_meant there named) (list_of vendors numbers)))
     → AreFree there (vendor_meant there named) (list_of vendors numbers)
     → IsListing (after_one there (import_of caller key org there.founding.vendor named (list_of vendors numbers))) (list_of vendors numbers)

@@ -25,7 +25,7 @@ pub record IsAccepted (accepted : Accepted) : Type 0 where
   pub reply : IsUtf8 accepted.reply
 
 -- the invariants of a founding
-pub record IsFounding (founding : Founding) : Type 0 where
+pub record IsValidFounding (founding : Founding) : Type 0 where
   pub vendor : IsId founding.vendor
   pub name : IsTitle founding.name
   pub curators : IsCurators founding.curators
@@ -39,8 +39,8 @@ abbrev pub ReadsAccepted : Type 0
 ReadsAccepted = (accepted : Accepted) → IsAccepted accepted → record_reading (accepted_line accepted) ≡ Ok (lines.Accepted accepted)
 
 -- the line of a founding is read as that founding
-abbrev pub ReadsFounding : Type 0
-ReadsFounding = (founding : Founding) → IsFounding founding → record_reading (founding_line founding) ≡ Ok (lines.Founding founding)
+abbrev pub ReadsFoundingLine : Type 0
+ReadsFoundingLine = (founding : Founding) → IsValidFounding founding → record_reading (founding_line founding) ≡ Ok (lines.Founding founding)
 
 -- different accepted requests have different lines
 abbrev pub HasOwnLine : Type 0
@@ -48,7 +48,7 @@ HasOwnLine = (a b : Accepted) → IsAccepted a → IsAccepted b → accepted_lin
 
 -- different foundings have different lines
 abbrev pub HasOwnFoundingLine : Type 0
-HasOwnFoundingLine = (a b : Founding) → IsFounding a → IsFounding b → founding_line a ≡ founding_line b → a ≡ b
+HasOwnFoundingLine = (a b : Founding) → IsValidFounding a → IsValidFounding b → founding_line a ≡ founding_line b → a ≡ b
 
 -- the lines of the record of a history, oldest first
 abbrev pub record_of : History → List (List ℕ)
@@ -67,4 +67,4 @@ pub record IsKeptWhole (h : History) : Type 0 where
 
 -- the record of a legal history keeps the whole history
 abbrev pub KeepsWholeHistory : Type 0
-KeepsWholeHistory = (h : History) → Legal h → IsFounding h.founding → All IsAccepted (accepted_of h.deeds) → IsKeptWhole h
+KeepsWholeHistory = (h : History) → Legal h → IsValidFounding h.founding → All IsAccepted (accepted_of h.deeds) → IsKeptWhole h

@@ -3,7 +3,7 @@
 
 ghost use Rattle.registry_laws.specs.Exports.{ReadsAsItself, IsReadBack};
 ghost use Rattle.registry_laws.specs.Imports.{TakesOver, CompletesList, GivesSameList};
-ghost use Rattle.registry_laws.specs.Records.{ReadsAccepted, ReadsFounding, HasOwnLine, HasOwnFoundingLine, KeepsWholeHistory};
+ghost use Rattle.registry_laws.specs.Records.{ReadsAccepted, ReadsFoundingLine, HasOwnLine, HasOwnFoundingLine, KeepsWholeHistory};
 
 /// The text of an exported list is the text of that list.
 pub fn reads_as_itself()
@@ -40,7 +40,7 @@ pub fn reads_accepted()
 
 /// The line of a founding is read as that founding.
 pub fn reads_founding()
-    ensures { ReadsFounding }
+    ensures { ReadsFoundingLine }
 {}
 
 /// Different accepted requests have different lines.

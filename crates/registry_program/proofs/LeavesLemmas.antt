@@ -2,7 +2,7 @@
 use Rattle.std.proofs.Common.{◌≡◌, ◌⊎◌, inl, inr, ℕ, ◌+◌, ◌≤◌, ◌<◌, List, length, take, Option, Some, None, refl, sym, ap, subst, ◌∙◌, arith}
 use Rattle.std.specs.Prelude.{◌≢◌, Result, Ok, Err}
 use Rattle.std.proofs.lemmas.List.{take_all}
-use Rattle.std.specs.Io.KnownBytes.{Keeps}
+use Rattle.std.specs.Io.KnownBytes.{Appends, Keeps}
 use Rattle.sqlite.specs.State.{HasCleanDisk}
 use Rattle.sqlite.specs.Store.{Ghosts}
 use Rattle.usbids_text.specs.Entries.{TopEntry}
@@ -73,7 +73,7 @@ module _ {S : Type 0} {g : Ghosts S} where
             within = omega arith;
             whole = λ _. refl;
             middle = out.new.contents;
-            gained = subst (λ (text : List ℕ). Receives out text) (sym (ap reply_lines (between_all h rs a n refl))) through.gained;
+            gained = subst (λ (text : List ℕ). Appends out.old.contents out.new.contents text) (sym (ap reply_lines (between_all h rs a n refl))) through.gained.0;
             begun = prefix_of_any out.new.contents (lines_between h rs n (n + 1));
             next = refl;
             last = inl (refl, keeps_same out.new.contents);

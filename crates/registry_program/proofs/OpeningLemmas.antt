@@ -26,7 +26,7 @@ use Rattle.registry_commands.specs.Failures.{IsOfClosing, IsOfOpening, IsOfStore
 use Rattle.registry_commands.specs.Messages.{failure_of}
 use Rattle.registry_program.specs.declared.host.Host as host
 use Rattle.registry_program.specs.Opening.{IsConnectedTo}
-use Rattle.registry_program.specs.Stores.{IsClosed}
+use Rattle.registry_program.specs.Stores.{ClosesStore}
 
 -- the fault of opening a registry is one of its failures
 pub of_opening : (fault : Fault) → (fault ≢ faults.Poisoned) × (fault ≢ faults.Taken) → IsOfOpening (failure_of fault)
@@ -67,7 +67,7 @@ pub closes_store : {H F I E : Type 0} (m : host.Ghosts H F I) (d : disk.Ghosts F
     → AreClosed conn files
     → (before ≡ Success → status ≡ Success → AreClean d files.log files.db → IsCopied conn files)
     → (status ≡ before → (from : ℕ) (h next : History) → (HasCleanDisk (file_state conn) → LeavesFrom from (file_state conn) (IsEither h next)) → AreClean d files.log files.db → HoldEither d from files h next)
-    → IsClosed m d conn files (sunk s e) (sunk s e_new) before status
+    → ClosesStore m d conn files (sunk s e) (sunk s e_new) before status
 closes_store m d s conn files e e_new before status kept well closed copied holds = record {
   kept = λ bad. ((kept bad).0, ap (sunk s) (kept bad).1);
   well = λ good. elim (well good) [ inl same ↦ inl (same.0, ap (sunk s) same.1) | inr failed ↦ inr failed ];

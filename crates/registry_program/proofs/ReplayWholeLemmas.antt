@@ -37,7 +37,7 @@ use Rattle.registry_commands.proofs.RecordLineLemmas.{may_have}
 use Rattle.registry_program.specs.declared.host.Host as host
 use Rattle.registry_program.specs.Outputs.{earlier}
 use Rattle.registry_program.specs.Replaying.{BeginsReplay, IsReplayedIn, ReplaysFrom, ReplaysLines, ReplaysOver, ReplaysRecord}
-use Rattle.registry_program.specs.Stores.{IsClosed}
+use Rattle.registry_program.specs.Stores.{ClosesStore}
 use Rattle.registry_program.specs.Whole.{IsAfterRecord, IsNear, IsReplayedTo, IsUnreplayed, IsUsed, ReplaysWholly, ReplaysWhollyFrom}
 use Rattle.registry_program.proofs.LeavesLemmas.{LeavesSome, leaves_itself, same_of_either}
 use Rattle.registry_program.proofs.OpeningLemmas.{shows_held}
@@ -199,7 +199,7 @@ module _ {H F I : Type 0} (m : host.Ghosts H F I) (d : disk.Ghosts F) where
           | inr more ↦ elim more [
             | inl failed ↦
                 let over = failed.0 in
-                inr (inr (inl (connection_of over.after, over.closes.files, over.errors, subst (λ (b : ExitStatus). IsClosed m d (connection_of over.after) over.closes.files over.errors ends.errors.new b ends.status) failed.1 over.closes.closed, failed.2)))
+                inr (inr (inl (connection_of over.after, over.closes.files, over.errors, subst (λ (b : ExitStatus). ClosesStore m d (connection_of over.after) over.closes.files over.errors ends.errors.new b ends.status) failed.1 over.closes.closed, failed.2)))
             | inr done ↦ inr (inr (inr (inr (false, done))))
           ]
         ]
@@ -277,7 +277,7 @@ module _ {H F I : Type 0} (m : host.Ghosts H F I) (d : disk.Ghosts F) where
 
       in_whole : ReplaysWhollyFrom m d r source old new path ends
       in_whole = elim (kept_unless_failed m d on.last on.closes.files on.errors ends.errors.new on.before ends.status on.closes.closed) [
-        | inl failed ↦ inr (inr (inl (on.last, on.closes.files, on.errors, subst (λ (b : ExitStatus). IsClosed m d on.last on.closes.files on.errors ends.errors.new b ends.status) failed.0 on.closes.closed, failed.1)))
+        | inl failed ↦ inr (inr (inl (on.last, on.closes.files, on.errors, subst (λ (b : ExitStatus). ClosesStore m d on.last on.closes.files on.errors ends.errors.new b ends.status) failed.0 on.closes.closed, failed.1)))
         | inr same ↦ elim on.replays [
           | inl did ↦ inr (inr (inr (inr (true, replayed same did.0 did.1 did.2 did.3 did.4))))
           | inr not ↦ inr (inr (inr (inl (unreplayed same not.2 not.0 not.1 not.3))))

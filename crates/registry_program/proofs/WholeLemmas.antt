@@ -12,13 +12,14 @@ use Rattle.byte_streams.specs.declared.streams.Sink as sink
 use Rattle.byte_streams.specs.declared.streams.Source as source
 use Rattle.byte_streams.specs.Streams.{MayGive}
 use Rattle.usbids_text.specs.Moments.{Moment}
-use Rattle.usbnum_core.specs.declared.error.NoMemory.{NoMemory}
 use Rattle.registry_rules.specs.Accepted.{AreValid}
 use Rattle.registry_rules.specs.History.{History, founded}
 use Rattle.registry_rules.specs.Run.{after}
 use Rattle.registry_tables.specs.Rows.{newest}
 use Rattle.registry_wire.specs.Founding.{FoundsAs, founding_listed}
 use Rattle.registry_rules.specs.declared.founding.Founding.{Founding}
+use Rattle.registry_rules.specs.declared.rejection.Rejection.{Rejection}
+use Rattle.registry_rules.specs.declared.rejection.Rejection.TheVariants.{Refused, NoMemory}
 use Rattle.registry_store.specs.Promise.{Leaves, Represents, connection_of, state_of}
 use Rattle.registry_store.specs.Queries.{IsUntouched}
 use Rattle.registry_store.specs.Files.{FilesHoldEither, IsEither}
@@ -39,13 +40,13 @@ use Rattle.registry_program.specs.declared.host.Host as host
 use Rattle.registry_program.specs.Commands.{ActsOnFile, Applies, ExportsAs, FoundsBy, FoundsIn, ImportsAs, ImportsFile, IsFoundedOn, ReadsFoundingAt, ReportsAs, WritesList, WritesRecord, WritesReport}
 use Rattle.registry_program.specs.Outputs.{earlier, later}
 use Rattle.registry_program.specs.Serving.{Serves, ServesOn}
-use Rattle.registry_program.specs.Stores.{IsClosed, IsOver, Runs, TheRegistry}
+use Rattle.registry_program.specs.Stores.{ClosesStore, IsRunOver, Runs, TheRegistry}
 use Rattle.registry_program.specs.Whole.{AppliesWholly, AreLeftAfter, ExportsWhollyAs, FoundsWholly, ImportsWhollyAs, IsAfterImport, IsAfterLines, IsAppliedTo, IsCarriedOn, IsFoundedWholly, IsImportedTo, IsListed, IsRecordedOn, IsReportedOn, IsServedTo, IsUnbegun, IsUsed, LeadsFilesTo, ReportsWholly, ServesWholly, Stays, UnlessStopped}
 use Rattle.registry_program.proofs.LeavesLemmas.{success_or, same_of_either, LeavesSome, leaves_itself, stayed, applied, unacted, LeavesImport, imported, import_endures, served}
 
 module _ {H F I : Type 0} (m : host.Ghosts H F I) (d : disk.Ghosts F) where
   -- unless closing failed after the status Success, the status is the one before
-  pub kept_unless_failed : (conn : Held (FileStore F d)) (files : Files F) (errors errors_new : Sunk) (before status : ExitStatus) → IsClosed m d conn files errors errors_new before status
+  pub kept_unless_failed : (conn : Held (FileStore F d)) (files : Files F) (errors errors_new : Sunk) (before status : ExitStatus) → ClosesStore m d conn files errors errors_new before status
       → ((before ≡ Success) × (status ≡ Failed)) ⊎ (status ≡ before)
   kept_unless_failed conn files errors errors_new before status is = elim (success_or before) [
     | inl success ↦ elim (is.well success) [ inl same ↦ inr (same.0 ∙ sym success) | inr failed ↦ inl (success, failed.0) ]
@@ -53,7 +54,7 @@ module _ {H F I : Type 0} (m : host.Ghosts H F I) (d : disk.Ghosts F) where
   ]
 
   pub runs_whole : (old new : H) (path : List ℕ) (ends : Ends) (Does : H → H → TheRegistry m d → TheRegistry m d → Ends → Type 0) (P : Type 0)
-      → ((over : IsOver m d old new path ends Does) → ends.status ≡ over.before → P) → Runs m d old new path ends Does → UnlessStopped m d old new path ends Does P
+      → ((over : IsRunOver m d old new path ends Does) → ends.status ≡ over.before → P) → Runs m d old new path ends Does → UnlessStopped m d old new path ends Does P
   runs_whole old new path ends Does P follows run = elim run [
     | inl not ↦ inl not
     | inr over ↦ elim (kept_unless_failed (connection_of over.after) over.closes.files over.errors ends.errors.new over.before ends.status over.closes.closed) [
@@ -63,7 +64,7 @@ module _ {H F I : Type 0} (m : host.Ghosts H F I) (d : disk.Ghosts F) where
   ]
 
   -- the store was opened and closed
-  used : (old new : H) (path : List ℕ) (ends : Ends) (Does : H → H → TheRegistry m d → TheRegistry m d → Ends → Type 0) (over : IsOver m d old new path ends Does)
+  used : (old new : H) (path : List ℕ) (ends : Ends) (Does : H → H → TheRegistry m d → TheRegistry m d → Ends → Type 0) (over : IsRunOver m d old new path ends Does)
       → IsUsed m d old new path false over.closes.files
   used old new path ends Does over = record {
     opened = over.opened;
@@ -74,7 +75,7 @@ module _ {H F I : Type 0} (m : host.Ghosts H F I) (d : disk.Ghosts F) where
   }
 
   module _ (old new : H) (path : List ℕ) (ends : Ends) (Does : H → H → TheRegistry m d → TheRegistry m d → Ends → Type 0)
-      (over : IsOver m d old new path ends Does) (same : ends.status ≡ over.before) (endures : HasCleanDisk (state_of over.after) → HasCleanDisk (state_of over.it)) where
+      (over : IsRunOver m d old new path ends Does) (same : ends.status ≡ over.before) (endures : HasCleanDisk (state_of over.after) → HasCleanDisk (state_of over.it)) where
     -- the closed files hold what the registry left
     files_lead_to : (h next : History) (After : History → History → Type 0)
         → ((x : History) → IsEither h next x → Represents over.it x → HasCleanDisk (state_of over.after) → LeavesSome over.after After)
@@ -95,7 +96,7 @@ module _ {H F I : Type 0} (m : host.Ghosts H F I) (d : disk.Ghosts F) where
     }
 
   unread : (old new : H) (path : List ℕ) (ends : Ends) (Does : H → H → TheRegistry m d → TheRegistry m d → Ends → Type 0)
-      (over : IsOver m d old new path ends Does) → ends.status ≡ over.before → over.after ≡ over.it → over.before ≡ Failed → ends.out.new ≡ ends.out.old → IsUnbegun m d old new path ends
+      (over : IsRunOver m d old new path ends Does) → ends.status ≡ over.before → over.after ≡ over.it → over.before ≡ Failed → ends.out.new ≡ ends.out.old → IsUnbegun m d old new path ends
   unread old new path ends Does over same kept one silent = (
     same ∙ one,
     silent,
@@ -104,7 +105,7 @@ module _ {H F I : Type 0} (m : host.Ghosts H F I) (d : disk.Ghosts F) where
 
   -- a command that only shows something of the history, and only at the status Success
   show_whole : (old new : H) (path : List ℕ) (ends : Ends) (Does : H → H → TheRegistry m d → TheRegistry m d → Ends → Type 0) (Shown : History → Type 0)
-      → ((over : IsOver m d old new path ends Does) → IsUntouched over.it over.after × ((h : History) → Represents over.it h → HasCleanDisk (state_of over.after) → over.before ≡ Success → Shown h))
+      → ((over : IsRunOver m d old new path ends Does) → IsUntouched over.it over.after × ((h : History) → Represents over.it h → HasCleanDisk (state_of over.after) → over.before ≡ Success → Shown h))
       → Runs m d old new path ends Does → UnlessStopped m d old new path ends Does (IsCarriedOn m d old new path (λ h x y. Stays h x y × (ends.status ≡ Success → Shown h)))
   show_whole old new path ends Does Shown shows = runs_whole old new path ends Does (IsCarriedOn m d old new path (λ h x y. Stays h x y × (ends.status ≡ Success → Shown h))) (λ over same.
       let left = (shows over).0 in
@@ -172,10 +173,10 @@ module _ {H F I : Type 0} (m : host.Ghosts H F I) (d : disk.Ghosts F) where
       | inr not ↦ inr (unread old new path ends (ImportsFile m s list import) over same not.2.0 not.2.1.1 not.2.1.0)
     ])
 
-    pub imports_whole : (old new : H) (path list : List ℕ) (asked : Result (Result Import BadArgument) NoMemory) (ends : Ends) → ImportsAs m d s old new path list asked ends → ImportsWhollyAs m d s old new path list asked ends
-    imports_whole old new path list (Ok (Ok import)) ends is = import_whole old new path list import ends is
-    imports_whole old new path list (Ok (Err argument)) ends is = is
-    imports_whole old new path list (Err none) ends is = is
+    pub imports_whole : (old new : H) (path list : List ℕ) (asked : Result Import (Rejection BadArgument)) (ends : Ends) → ImportsAs m d s old new path list asked ends → ImportsWhollyAs m d s old new path list asked ends
+    imports_whole old new path list (Ok import) ends is = import_whole old new path list import ends is
+    imports_whole old new path list (Err (Refused argument)) ends is = is
+    imports_whole old new path list (Err NoMemory) ends is = is
 
     pub exports_whole : (old new : H) (path : List ℕ) (read : Result (Option Moment) BadArgument) (ends : Ends) → ExportsAs m d s old new path read ends → ExportsWhollyAs m d old new path read ends
     exports_whole old new path (Ok stamp) ends is = list_whole old new path stamp ends is

@@ -1,5 +1,5 @@
 -- What each command asks of the machine, in which order, what it writes, and its exit status.
-use Rattle.std.specs.Prelude.{◌≡◌, ◌≢◌, ◌⊎◌, true, ℕ, List, Option, Some, None, Result, Ok, Err, IfOk, MatchResult}
+use Rattle.std.specs.Prelude.{◌≡◌, ◌≢◌, ◌⊎◌, true, ℕ, List, Option, Some, None, Result, Ok, Err}
 use Rattle.sqlite_disk.specs.declared.Disk as disk
 use Rattle.sqlite_store.specs.declared.store.FileStore.{FileStore}
 use Rattle.sqlite.specs.Files.{over_files}
@@ -9,8 +9,9 @@ use Rattle.byte_streams.specs.declared.streams.Source as source
 use Rattle.byte_streams.specs.Streams.{MayGive}
 use Rattle.usbids_text.specs.declared.seen.Wanted.{Wanted}
 use Rattle.usbids_text.specs.Moments.{Moment, is_moment}
-use Rattle.usbnum_core.specs.declared.error.NoMemory.{NoMemory}
 use Rattle.registry_rules.specs.declared.founding.Founding.{Founding}
+use Rattle.registry_rules.specs.declared.rejection.Rejection.{Rejection}
+use Rattle.registry_rules.specs.declared.rejection.Rejection.TheVariants.{Refused, NoMemory}
 use Rattle.registry_wire.specs.Founding.{founding_listed}
 use Rattle.registry_wire.specs.Stamps.{moment_text}
 use Rattle.registry_store.specs.declared.registry.Registry.{Registry}
@@ -24,9 +25,9 @@ use Rattle.registry_commands.specs.declared.status.ExitStatus.{ExitStatus}
 use Rattle.registry_commands.specs.declared.status.ExitStatus.TheVariants.{Failed}
 use Rattle.registry_commands.specs.Apply.{IsApplied, IsUnread}
 use Rattle.registry_commands.specs.Ends.{Ends, Output, ReceivesNothing, Sunk, effect}
-use Rattle.registry_commands.specs.Failures.{IsOfInput, IsTooLong, Prints, PrintsFailure}
+use Rattle.registry_commands.specs.Failures.{IsOfInput, IsTooLong, Prints, PrintsFailure, TellsFailedReads}
 use Rattle.registry_commands.specs.Found.{IsTriedOn, ReadsFounding, attempt}
-use Rattle.registry_commands.specs.Imports.{AreOfImport, IsFirstBad, IsImported}
+use Rattle.registry_commands.specs.Imports.{AsksFor, IsImported}
 use Rattle.registry_commands.specs.Lines.{requests_in}
 use Rattle.registry_commands.specs.LookUp.{IsLookedUp}
 use Rattle.registry_commands.specs.Messages.{failure_line}
@@ -54,6 +55,7 @@ Tries s input input_new ends =
     (bytes : List ℕ) × MayGive (s.remaining input) bytes
     × IsTrialOf (IsOfInput (s.failures input) (s.failures input_new) bytes) (requests_in bytes) ends
     × (IsTooLong bytes → (ends.status ≡ Failed) × ReceivesNothing ends.out × PrintsFailure (IsOfStart (IsOfInput (s.failures input) (s.failures input_new) bytes)) ends.errors)
+    × TellsFailedReads ends.status (s.failures input) (s.failures input_new)
 
 -- ---- apply
 
@@ -63,6 +65,7 @@ ActsOnLines s old new answered it after ends =
     (bytes : List ℕ) × MayGive (s.remaining old) bytes
     × IsApplied (IsOfInput (s.failures old) (s.failures new) bytes) (effect it after ends) (requests_in bytes) answered
     × (IsTooLong bytes → (ends.status ≡ Failed) × IsUnread (IsOfInput (s.failures old) (s.failures new) bytes) (effect it after ends))
+    × TellsFailedReads ends.status (s.failures old) (s.failures new)
 
 module _ {H F I : Type 0} (m : host.Ghosts H F I) (s : source.Ghosts I) where
   -- those of the file at this path are; or it could not be opened
@@ -78,7 +81,8 @@ module _ {H F I : Type 0} (m : host.Ghosts H F I) (s : source.Ghosts I) where
   ImportsFile path import old new it after ends =
       ReadsFrom m old new path
       (λ input input_new. (bytes : List ℕ) × MayGive (s.remaining input) bytes
-      × IsImported (IsOfInput (s.failures input) (s.failures input_new) bytes) (effect it after ends) import bytes)
+      × IsImported (IsOfInput (s.failures input) (s.failures input_new) bytes) (effect it after ends) import bytes
+      × TellsFailedReads ends.status (s.failures input) (s.failures input_new))
       (λ failure. (after ≡ it) × IsFailure failure ends)
 
 -- ---- lists and reports
@@ -109,7 +113,8 @@ module _ {H F I : Type 0} (m : host.Ghosts H F I) (s : source.Ghosts I) where
   LooksUpIn old new path wanted ends =
       ReadsFrom m old new path
       (λ input input_new. (bytes : List ℕ) × MayGive (s.remaining input) bytes
-      × IsLookedUp (IsOfInput (s.failures input) (s.failures input_new) bytes) wanted bytes ends)
+      × IsLookedUp (IsOfInput (s.failures input) (s.failures input_new) bytes) wanted bytes ends
+      × TellsFailedReads ends.status (s.failures input) (s.failures input_new))
       (λ failure. IsFailure failure ends)
 
 -- ---- found
@@ -121,7 +126,8 @@ module _ {H F I : Type 0} (m : host.Ghosts H F I) (s : source.Ghosts I) where
       ReadsFrom m old new path
       (λ input input_new. (bytes : List ℕ) × MayGive (s.remaining input) bytes
       × ReadsFounding (IsOfInput (s.failures input) (s.failures input_new) bytes) (founding_listed bytes) errors read
-      × (IsTooLong bytes → (read ≡ Err Failed) × PrintsFailure (IsOfInput (s.failures input) (s.failures input_new) bytes) errors))
+      × (IsTooLong bytes → (read ≡ Err Failed) × PrintsFailure (IsOfInput (s.failures input) (s.failures input_new) bytes) errors)
+      × (read ≢ Err Failed → s.failures input_new ≡ s.failures input))
       (λ failure. (read ≡ Err Failed) × Prints errors (failure_line failure))
 
 -- ---- commands
@@ -168,16 +174,14 @@ module _ {H F I : Type 0} (m : host.Ghosts H F I) (d : disk.Ghosts F) (s : sourc
   Applies old new path file answered ends = Runs m d old new path ends (ActsOnFile m s file answered)
 
   -- import STORE LIST, with what is asked for
-  abbrev pub ImportsAs : H → H → List ℕ → List ℕ → Result (Result Import BadArgument) NoMemory → Ends → Type 0
-  ImportsAs old new path list (Ok (Ok import)) ends = Runs m d old new path ends (ImportsFile m s list import)
-  ImportsAs old new path list (Ok (Err argument)) ends = (new ≡ old) × IsRejection argument ends
-  ImportsAs old new path list (Err none) ends = (new ≡ old) × IsFailure Memory ends
+  abbrev pub ImportsAs : H → H → List ℕ → List ℕ → Result Import (Rejection BadArgument) → Ends → Type 0
+  ImportsAs old new path list (Ok import) ends = Runs m d old new path ends (ImportsFile m s list import)
+  ImportsAs old new path list (Err (Refused argument)) ends = (new ≡ old) × IsRejection argument ends
+  ImportsAs old new path list (Err NoMemory) ends = (new ≡ old) × IsFailure Memory ends
 
   abbrev pub Imports : H → H → List ℕ → List ℕ → List ℕ → List ℕ → List ℕ → Option (List ℕ) → Ends → Type 0
   Imports old new path list caller key org vendor ends =
-      (asked : Result (Result Import BadArgument) NoMemory)
-      × IfOk asked (λ read. MatchResult read (AreOfImport caller key org vendor) (IsFirstBad caller key org vendor))
-      × ImportsAs old new path list asked ends
+      (asked : Result Import (Rejection BadArgument)) × AsksFor caller key org vendor asked × ImportsAs old new path list asked ends
 
   -- export STORE
   abbrev pub ExportsAs : H → H → List ℕ → Result (Option Moment) BadArgument → Ends → Type 0

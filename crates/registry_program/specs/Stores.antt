@@ -63,7 +63,7 @@ module _ {H F I : Type 0} (m : host.Ghosts H F I) (d : disk.Ghosts F) where
 
   -- How a store was closed after a command that ended with the first status: at Success its log was copied, and otherwise not.
   -- Unless that failed, its files hold what the store held.
-  pub record IsClosed (conn : Held (FileStore F d)) (files : Files F) (errors errors_new : Sunk) (before status : ExitStatus) : Type 0 where
+  pub record ClosesStore (conn : Held (FileStore F d)) (files : Files F) (errors errors_new : Sunk) (before status : ExitStatus) : Type 0 where
     pub kept : before ≢ Success → (status ≡ before) × (errors_new ≡ errors)
     pub well : before ≡ Success → ((status ≡ Success) × (errors_new ≡ errors)) ⊎ ((status ≡ Failed) × PrintsFailure (IsOfClosing (IsUncopied conn files)) (record { old = errors; new = errors_new }))
     pub closed : AreClosed conn files
@@ -74,11 +74,11 @@ module _ {H F I : Type 0} (m : host.Ghosts H F I) (d : disk.Ghosts F) where
   -- its files were then closed
   pub record Closes (old new : H) (conn : Held (FileStore F d)) (errors errors_new : Sunk) (before status : ExitStatus) : Type 0 where
     pub files : Files F
-    pub closed : IsClosed conn files errors errors_new before status
+    pub closed : ClosesStore conn files errors errors_new before status
     pub lets_go : m.lets_go old new files
 
   -- The registry of the store at a path was opened, this was done with it, and the store was closed.
-  pub record IsOver (old new : H) (path : List ℕ) (ends : Ends) (Does : H → H → TheRegistry → TheRegistry → Ends → Type 0) : Type 0 where
+  pub record IsRunOver (old new : H) (path : List ℕ) (ends : Ends) (Does : H → H → TheRegistry → TheRegistry → Ends → Type 0) : Type 0 where
     pub opened : H
     pub it : TheRegistry
     pub takes : OpensRegistry old opened path it
@@ -91,4 +91,4 @@ module _ {H F I : Type 0} (m : host.Ghosts H F I) (d : disk.Ghosts F) where
 
   -- that, or the registry could not be opened, and nothing was done
   abbrev pub Runs : H → H → List ℕ → Ends → (H → H → TheRegistry → TheRegistry → Ends → Type 0) → Type 0
-  Runs old new path ends Does = ((failure : Failure) × IsMissed old new path failure × IsFailure failure ends) ⊎ IsOver old new path ends Does
+  Runs old new path ends Does = ((failure : Failure) × IsMissed old new path failure × IsFailure failure ends) ⊎ IsRunOver old new path ends Does

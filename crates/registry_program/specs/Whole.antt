@@ -1,6 +1,6 @@
 -- What the files of a store hold after a command, and what the outputs have gained, by the history that the files held before
 -- it.
-use Rattle.std.specs.Prelude.{◌≡◌, ◌≢◌, ◌⊎◌, ◌<◌, ◌≤◌, ◌+◌, ⊤, Bool, false, true, ℕ, List, [], ◌++◌, codes, length, take, Option, Some, None, Result, Ok, Err, IfOk, MatchResult}
+use Rattle.std.specs.Prelude.{◌≡◌, ◌≢◌, ◌⊎◌, ◌<◌, ◌≤◌, ◌+◌, ⊤, Bool, false, true, ℕ, List, [], ◌++◌, codes, length, take, Option, Some, None, Result, Ok, Err}
 use Rattle.std.specs.Io.KnownBytes.{Appends, Keeps}
 use Rattle.std.specs.Str.{bytes_eq}
 use Rattle.sqlite_disk.specs.declared.Disk as disk
@@ -16,8 +16,9 @@ use Rattle.usbids_text.specs.Entries.{TopEntry}
 use Rattle.usbids_text.specs.Moments.{Moment}
 use Rattle.usbids_text.specs.Reading.{ReadsAs}
 use Rattle.usbids_text.specs.Writing.{written}
-use Rattle.usbnum_core.specs.declared.error.NoMemory.{NoMemory}
 use Rattle.registry_rules.specs.declared.founding.Founding.{Founding}
+use Rattle.registry_rules.specs.declared.rejection.Rejection.{Rejection}
+use Rattle.registry_rules.specs.declared.rejection.Rejection.TheVariants.{Refused, NoMemory}
 use Rattle.registry_rules.specs.declared.order.Request.{Request}
 use Rattle.registry_rules.specs.Accepted.{AreValid}
 use Rattle.registry_rules.specs.declared.accepted.Accepted.{Accepted}
@@ -40,7 +41,7 @@ use Rattle.registry_commands.specs.declared.status.ExitStatus.{ExitStatus}
 use Rattle.registry_commands.specs.declared.status.ExitStatus.TheVariants.{Success, Failed}
 use Rattle.registry_commands.specs.Ends.{Ends, Receives, Output, Sunk}
 use Rattle.registry_commands.specs.Failures.{IsOfOpening}
-use Rattle.registry_commands.specs.Imports.{AreOfImport, IsFirstBad, request_of_import, exit_status_of}
+use Rattle.registry_commands.specs.Imports.{AsksFor, request_of_import, exit_status_of}
 use Rattle.registry_commands.specs.Lines.{requests_in}
 use Rattle.registry_commands.specs.declared.entries.Entry.TheVariants as says
 use Rattle.registry_commands.specs.Entries.{FirstSays}
@@ -57,7 +58,7 @@ use Rattle.registry_program.specs.Commands.{ActsOnFile, ImportsFile, IsStampOf, 
 use Rattle.registry_program.specs.Opening.{HoldsNoHistory}
 use Rattle.registry_program.specs.Outputs.{IsFailure, IsRejection}
 use Rattle.registry_program.specs.Serving.{ServesOn, limit_of}
-use Rattle.registry_program.specs.Stores.{IsClosed, IsMissed, IsOver, IsUnconnected, Opens, TheRegistry}
+use Rattle.registry_program.specs.Stores.{ClosesStore, IsMissed, IsRunOver, IsUnconnected, Opens, TheRegistry}
 
 -- ---- what a command makes of the history
 
@@ -153,7 +154,7 @@ module _ {H F I : Type 0} (m : host.Ghosts H F I) (d : disk.Ghosts F) where
 
   -- what was done with the store ended with the status Success, and closing it then failed
   abbrev pub EndsUnclosed : H → H → List ℕ → Ends → (H → H → TheRegistry m d → TheRegistry m d → Ends → Type 0) → Type 0
-  EndsUnclosed old new path ends Does = (over : IsOver m d old new path ends Does) × (over.before ≡ Success) × (ends.status ≡ Failed)
+  EndsUnclosed old new path ends Does = (over : IsRunOver m d old new path ends Does) × (over.before ≡ Success) × (ends.status ≡ Failed)
 
   -- the store could not be opened, or not be closed after this was done with it, or P holds
   abbrev pub UnlessStopped : H → H → List ℕ → Ends → (H → H → TheRegistry m d → TheRegistry m d → Ends → Type 0) → Type 0 → Type 0
@@ -189,16 +190,14 @@ module _ {H F I : Type 0} (m : host.Ghosts H F I) (d : disk.Ghosts F) where
       pub read : IsReadFrom file bytes
       pub carried : IsCarriedOn old new path (λ h x y. Stays h x y ⊎ IsAfterImport bytes import ends.out ends.status h x y)
 
-    abbrev pub ImportsWhollyAs : H → H → List ℕ → List ℕ → Result (Result Import BadArgument) NoMemory → Ends → Type 0
-    ImportsWhollyAs old new path list (Ok (Ok import)) ends = UnlessStopped old new path ends (ImportsFile m s list import) (IsImportedTo old new path list import ends ⊎ IsUnbegun old new path ends)
-    ImportsWhollyAs old new path list (Ok (Err argument)) ends = (new ≡ old) × IsRejection argument ends
-    ImportsWhollyAs old new path list (Err none) ends = (new ≡ old) × IsFailure Memory ends
+    abbrev pub ImportsWhollyAs : H → H → List ℕ → List ℕ → Result Import (Rejection BadArgument) → Ends → Type 0
+    ImportsWhollyAs old new path list (Ok import) ends = UnlessStopped old new path ends (ImportsFile m s list import) (IsImportedTo old new path list import ends ⊎ IsUnbegun old new path ends)
+    ImportsWhollyAs old new path list (Err (Refused argument)) ends = (new ≡ old) × IsRejection argument ends
+    ImportsWhollyAs old new path list (Err NoMemory) ends = (new ≡ old) × IsFailure Memory ends
 
     abbrev pub ImportsWholly : H → H → List ℕ → List ℕ → List ℕ → List ℕ → List ℕ → Option (List ℕ) → Ends → Type 0
     ImportsWholly old new path list caller key org vendor ends =
-        (asked : Result (Result Import BadArgument) NoMemory)
-        × IfOk asked (λ read. MatchResult read (AreOfImport caller key org vendor) (IsFirstBad caller key org vendor))
-        × ImportsWhollyAs old new path list asked ends
+        (asked : Result Import (Rejection BadArgument)) × AsksFor caller key org vendor asked × ImportsWhollyAs old new path list asked ends
 
     -- the founding file came from the second path, before the store was opened, and the closed files hold the new registry
     pub record IsFoundedWholly (old new : H) (path founding : List ℕ) : Type 0 where
@@ -259,7 +258,7 @@ module _ {H F I : Type 0} (m : host.Ghosts H F I) (d : disk.Ghosts F) where
     ReplaysWhollyFrom source old new path ends =
         (new ≡ old)
         ⊎ ((failure : Failure) × (IsMissed m d old new path failure ⊎ IsUnconnected m d old new path failure) × IsFailure failure ends)
-        ⊎ ((conn : Held (FileStore F d)) × (files : Files F) × (errors : Sunk) × IsClosed m d conn files errors ends.errors.new Success ends.status × (ends.status ≡ Failed))
+        ⊎ ((conn : Held (FileStore F d)) × (files : Files F) × (errors : Sunk) × ClosesStore m d conn files errors ends.errors.new Success ends.status × (ends.status ≡ Failed))
         ⊎ IsUnreplayed old new path ends
         ⊎ ((may_make : Bool) × IsReplayedTo source old new path may_make ends)
 

@@ -9,10 +9,10 @@ use byte_streams::Sink;
 use registry_commands::{
     BadArgument, ExitStatus, Failure, Import, fail, import_list, reject_argument,
 };
+use registry_rules::Rejection;
 use registry_store::Registry;
 use sqlite::Alter;
 use std::alloc::Global;
-use usbnum_core::NoMemory;
 
 /// Imports the list in a file, and returns the exit status.
 fn import_file<H: Host, S: Alter, W: Sink, E: Sink>(
@@ -40,7 +40,7 @@ pub fn run_import<H: Host, W: Sink, E: Sink>(
     host: &mut H,
     store: &str,
     list: &str,
-    asked: Result<Result<Import, BadArgument>, NoMemory>,
+    asked: Result<Import, Rejection<BadArgument>>,
     output: &mut W,
     errors: &mut E,
 ) -> ExitStatus
@@ -48,9 +48,9 @@ pub fn run_import<H: Host, W: Sink, E: Sink>(
         (ends_of W.Sink E.Sink output.old output.new errors.old errors.new result) }
 {
     let import = match asked {
-        Ok(Ok(import)) => import,
-        Ok(Err(argument)) => return reject_argument(errors, argument),
-        Err(NoMemory) => return fail(errors, Failure::Memory),
+        Ok(import) => import,
+        Err(Rejection::Refused(argument)) => return reject_argument(errors, argument),
+        Err(Rejection::NoMemory) => return fail(errors, Failure::Memory),
     };
     let mut registry = match open_registry(alloc, host, store) {
         Ok(registry) => registry,

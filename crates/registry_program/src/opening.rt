@@ -50,8 +50,7 @@ fn take_over<D: Disk + Drop>(
 /// # Errors
 ///
 /// The failure of opening the store or the registry, with what is left of the files: `Foreign` only
-/// if they hold no registry. The log is not copied into the database file, so a store of another
-/// program keeps both as they are.
+/// if they hold no registry. `leave_store` lets them go, which does not copy the log.
 pub fn resume<D: Disk + Drop>(
     alloc: Global,
     files: Files<D>,
@@ -62,8 +61,6 @@ pub fn resume<D: Disk + Drop>(
     ensures err { IfErr result (λ e. IsOfOpening e.0 × AreLeft D.Disk files e.1) }
     ensures foreign { IfErr result (λ e. HeldNoneIfForeign D.Disk e.0 files e.1) }
 {
-    match connect_to(alloc, files, options) {
-        Ok(conn) => take_over(alloc, conn),
-        Err(left) => Err(left),
-    }
+    let conn = connect_to(alloc, files, options)?;
+    take_over(alloc, conn)
 }

@@ -3,6 +3,7 @@ use Rattle.std.proofs.Common.{◌≡◌, inl, inr, ℕ, ◌+◌, ◌≤◌, List
 use Rattle.std.specs.Prelude.{Result, Ok, Err, IfSome}
 use Rattle.std.proofs.Math.Logic.{∥∥₁_map}
 use Rattle.std.proofs.lemmas.List.{take_all}
+use Rattle.std.specs.Io.KnownBytes.{Appends}
 use Rattle.sqlite.specs.Store.{Ghosts}
 use Rattle.sqlite.specs.State.{HasCleanDisk}
 use Rattle.registry_rules.specs.declared.order.Request.{Request}
@@ -18,7 +19,7 @@ use Rattle.registry_store.proofs.RunLemmas.{leaves_weaker}
 use Rattle.registry_store.proofs.RunToLemmas.{at_place, between_all}
 use Rattle.registry_commands.specs.declared.lines.BadLine.{BadLine}
 use Rattle.registry_commands.specs.declared.messages.Failure.{Failure}
-use Rattle.registry_commands.specs.Ends.{Ends, Receives, Output, effect}
+use Rattle.registry_commands.specs.Ends.{Ends, Output, effect}
 use Rattle.registry_commands.specs.Messages.{reply_lines}
 use Rattle.registry_commands.specs.Apply.{IsApplied, IsRun, lines_between}
 use Rattle.registry_reopening.specs.Applied.{IsReopenedAfter, IsReopenedAfterLines}
@@ -65,7 +66,7 @@ module _ {S : Type 0} {g : Ghosts S} where
               whole = λ _. refl;
               gained = (
                 ends.out.new.contents,
-                subst (λ (text : List ℕ). Receives ends.out text) (sym (ap reply_lines (between_all h rs a n refl))) through.gained,
+                subst (λ (text : List ℕ). Appends ends.out.old.contents ends.out.new.contents text) (sym (ap reply_lines (between_all h rs a n refl))) through.gained.0,
                 prefix_of_any ends.out.new.contents (lines_between h rs n (n + 1)),
                 inl (keeps_same ends.out.new.contents),
               );

@@ -77,9 +77,9 @@ pub fn take_up_or_return<D: Disk + Drop>(
     }
 }
 
-/// Opens the registry in the files of an earlier run, like `open_files`. After a fault of the
-/// registry it returns the files, which can be opened again: they hold the rows of one of the two
-/// histories, also after a crash. After a fault of the connection it returns no files.
+/// Opens the registry in the files of an earlier run, like `open_files`. The files that it returns
+/// after a fault hold the rows of one of the two histories, also after a crash. After a fault of the
+/// connection it returns none.
 pub fn open_files_or_return<D: Disk + Drop>(
     alloc: Global,
     files: Files<D>,

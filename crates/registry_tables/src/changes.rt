@@ -62,10 +62,7 @@ pub fn store<S: Alter>(
     ensures survives { CommitsNothing (state S.Store tx.old.conn.now) (state S.Store tx.new.conn.now) }
 {
     for change in changes {
-        match make(alloc, tx, change) {
-            Ok(()) => {}
-            Err(fault) => return Err(fault),
-        }
+        make(alloc, tx, change)?;
     }
     Ok(())
 }

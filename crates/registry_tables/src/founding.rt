@@ -16,10 +16,7 @@ fn add_curators<S: Alter>(tx: &mut Transaction<'_, S>, names: &[Slug]) -> Result
     ensures writes { WritesTablesOpen S.Store tx.old.conn tx.new.conn result (Changes (λ t. record t { curators = names_put names.now t.curators })) }
 {
     for name in names {
-        match put_curator(tx, name) {
-            Ok(()) => {}
-            Err(fault) => return Err(fault),
-        }
+        put_curator(tx, name)?;
     }
     Ok(())
 }
@@ -28,10 +25,7 @@ fn add_licences<S: Alter>(tx: &mut Transaction<'_, S>, names: &[Title]) -> Resul
     ensures writes { WritesTablesOpen S.Store tx.old.conn tx.new.conn result (Changes (λ t. record t { licences = names_put names.now t.licences })) }
 {
     for name in names {
-        match put_licence(tx, name) {
-            Ok(()) => {}
-            Err(fault) => return Err(fault),
-        }
+        put_licence(tx, name)?;
     }
     Ok(())
 }
@@ -40,10 +34,7 @@ fn add_fixed<S: Alter>(tx: &mut Transaction<'_, S>, spans: &[Span]) -> Result<()
     ensures writes { WritesTablesOpen S.Store tx.old.conn tx.new.conn result (Changes (λ t. record t { fixed = spans_put spans.now t.fixed })) }
 {
     for span in spans {
-        match put_fixed(tx, *span) {
-            Ok(()) => {}
-            Err(fault) => return Err(fault),
-        }
+        put_fixed(tx, *span)?;
     }
     Ok(())
 }

@@ -46,10 +46,7 @@ fn put_spans<S: Alter>(tx: &mut Transaction<'_, S>, parts: &[Span]) -> Result<()
     ensures writes { WritesTablesOpen S.Store tx.old.conn tx.new.conn result (λ old new. (vid : ℕ) → IsId vid → Rewrites vid (λ t. record t { spans = fold (insert_by old_span_key) t.spans (map (λ part. (vid, part)) parts.now) }) (λ numbers. numbers) old new) }
 {
     for part in parts {
-        match put_old_span(tx, *part) {
-            Ok(()) => {}
-            Err(fault) => return Err(fault),
-        }
+        put_old_span(tx, *part)?;
     }
     Ok(())
 }

@@ -18,6 +18,7 @@ returns-in-Ok g c =
           (effect c.args.registry.now c.apply_bytes.new.registry (ends_of g.W.Sink g.E.Sink c.args.output.now c.apply_bytes.new.output c.args.errors.now c.apply_bytes.new.errors c.apply_bytes.result))
           (requests_in bytes) c.args.answered c.apply_bytes.ensures,
       λ long. absurd (not_too_long bytes (rw c.as_slice.ensures.value c.in-Ok.ensures.ok.1) long),
+      λ _. c.in-Ok.ensures.kept,
     )
 
 pub returns-in-Err : goal.returns-in-Err
@@ -29,5 +30,6 @@ returns-in-Err g c =
       bytes,
       c.in-Err.ensures.err.1,
       fails_before OfInput c.args.registry.now (requests_in bytes) c.args.answered _ _ c.fail.result c.fail.ensures.status told,
-      λ long. (c.fail.ensures.status, record { same = refl; silent = keeps_same _; told = told }),
+      λ long. (c.fail.ensures.status, record { same = refl; silent = (keeps_same _, refl); told = told }),
+      λ other. absurd (other c.fail.ensures.status),
     )

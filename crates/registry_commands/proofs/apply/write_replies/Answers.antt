@@ -19,7 +19,8 @@ returns-in-Ok-clause-same_reference g c =
 pub returns-in-Ok-clause-through : goal.returns-in-Ok-clause-through
 returns-in-Ok-clause-through g c h at clean =
     let done = c.in-Ok.ensures.through h at clean in
-    record { gained = (taken_lines g.W.Sink.contents g.W.Sink.failures c.args.lines.now c.run_to.new.replies _ done.0).gained; represents = done.1 }
+    let out = taken_lines g.W.Sink.contents g.W.Sink.failures c.args.lines.now c.run_to.new.replies _ done.0 in
+    record { gained = (out.gained, out.kept); represents = done.1 }
 
 pub returns-in-Err-Fault-clause-same_reference : goal.returns-in-Err-Fault-clause-same_reference
 returns-in-Err-Fault-clause-same_reference g c =

@@ -16,7 +16,7 @@ returns-in-Ok g c = record {
 pub returns-in-Err : goal.returns-in-Err
 returns-in-Err g c = record {
   left = c.in-Err.ensures.left;
-  shown = inr (c.fail.ensures.status, keeps_same _, (c.failure_of.result, rw c.failure_of.ensures (of_query c.in-Err.fault c.in-Err.ensures), c.fail.ensures.told));
+  shown = inr (c.fail.ensures.status, (keeps_same _, refl), (c.failure_of.result, rw c.failure_of.ensures (of_query c.in-Err.fault c.in-Err.ensures), c.fail.ensures.told));
   poisoned = λ e.
       let failed = c.in-Err.ensures.when_poisoned e in
       let spent : c.in-Err.fault ≡ Poisoned = cc failed.0 in

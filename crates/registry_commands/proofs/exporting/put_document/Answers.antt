@@ -4,7 +4,7 @@ use Rattle.registry_commands.proofs.ApplyLemmas.{keeps_same}
 use Rattle.registry_commands.proofs.exporting.put_document.Goals as goal
 
 pub returns-in-Ok-clause-printed : goal.returns-in-Ok-clause-printed
-returns-in-Ok-clause-printed g c = inl (refl, c.in-Ok.ensures.writes.0, (keeps_same _, refl))
+returns-in-Ok-clause-printed g c = inl (refl, c.in-Ok.ensures.writes, (keeps_same _, refl))
 
 pub returns-in-Err-clause-printed : goal.returns-in-Err-clause-printed
 returns-in-Err-clause-printed g c = inr (c.fail.ensures.status, c.in-Err.ensures.writes.0, (File, (refl, c.in-Err.ensures.writes.1), c.fail.ensures.told))

@@ -18,6 +18,7 @@ returns-in-Ok g c =
       reads_more IsOfMemory (IsOfInput before after bytes) (memory_of_input before after bytes c.in-Ok.ensures.kept)
           (founding_listed bytes) (output_of g.E.Sink c.args.errors.now c.founding_in.new.errors) c.founding_in.result c.founding_in.ensures,
       λ long. absurd (not_too_long bytes (rw c.as_slice.ensures.value c.in-Ok.ensures.ok.1) long),
+      λ _. c.in-Ok.ensures.kept,
     )
 
 pub returns-in-Err : goal.returns-in-Err
@@ -30,4 +31,5 @@ returns-in-Err g c =
       c.in-Err.ensures.err.1,
       inr (c.fail.ensures.status, told),
       λ long. (ap Err c.fail.ensures.status, told),
+      λ other. absurd (other (ap Err c.fail.ensures.status)),
     )

@@ -12,4 +12,4 @@ returns-in-Ok g c = inl (
 )
 
 pub returns-in-Err : goal.returns-in-Err
-returns-in-Err g c = inr (refl, (c.fail.ensures.status, keeps_same _, (Memory, refl, c.fail.ensures.told)))
+returns-in-Err g c = inr (refl, (c.fail.ensures.status, (keeps_same _, refl), (Memory, refl, c.fail.ensures.told)))

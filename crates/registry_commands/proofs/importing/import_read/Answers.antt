@@ -6,4 +6,4 @@ pub returns-in-Ok : goal.returns-in-Ok
 returns-in-Ok g c = rw c.in-Ok.is c.import_document.ensures
 
 pub returns-in-Err : goal.returns-in-Err
-returns-in-Err g c = rw c.in-Err.is (refl, keeps_same _, c.put_fault.ensures)
+returns-in-Err g c = rw c.in-Err.is (refl, (keeps_same _, refl), c.put_fault.ensures)

@@ -4,7 +4,7 @@ use Rattle.registry_commands.proofs.ApplyLemmas.{keeps_same}
 use Rattle.registry_commands.proofs.importing.put_status.Goals as goal
 
 pub returns-in-Ok : goal.returns-in-Ok
-returns-in-Ok g c = inl (c.exit_status_of.ensures, c.in-Ok.ensures.ok, (keeps_same _, refl))
+returns-in-Ok g c = inl (c.exit_status_of.ensures, (c.in-Ok.ensures.ok, c.in-Ok.ensures.kept), (keeps_same _, refl))
 
 pub returns-in-Err : goal.returns-in-Err
 returns-in-Err g c =

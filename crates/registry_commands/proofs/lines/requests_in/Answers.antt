@@ -1,10 +1,10 @@
-use Rattle.std.proofs.Common.{◌≡◌, true, false, [], ◌∷◌, ◌++◌, Ok, Err, length, sym, arith, ◌∙◌}
+use Rattle.std.proofs.Common.{◌≡◌, true, false, [], ◌∷◌, ◌++◌, Ok, Err, is_ok, length, sym, arith, rules, ◌∙◌}
 use Rattle.std.proofs.lemmas.Bool.Decides.{nat_tests}
 use Rattle.registry_wire.specs.Reading.{line_reading}
 use Rattle.registry_commands.specs.Lines.{is_blank}
 use Rattle.registry_commands.proofs.LineLemmas.{after_blank, after_good, at_bad, ended_at, empty_bytes}
 use Rattle.registry_commands.proofs.lines.requests_in.Goals as goal
-use Rattle.registry_commands.proofs.lines.requests_in.Goals.{then-not-is_blank+in-Ok+in_ok-push-in-Ok, else-not-is_blank}
+use Rattle.registry_commands.proofs.lines.requests_in.Goals.{then-not-is_blank+in-Ok+else-is_err, else-not-is_blank}
 
 pub returns-in-Err-Refused : goal.returns-in-Err-Refused
 returns-in-Err-Refused c =
@@ -18,10 +18,12 @@ loop-rest-preserved c =
     let line = c.first_line.result.0.now in
     let front = c.loop-rest.requests.items in
     elim c.if-not-is_blank.branch [
-      | then-not-is_blank+in-Ok+in_ok-push-in-Ok w ↦
+      | then-not-is_blank+in-Ok+else-is_err w ↦
           let filled : is_blank line ≡ false = cc in
           let read : line_reading line ≡ Ok w.in-Ok.request = w.in-Ok.ensures in
-          let pushed : c.if-not-is_blank.requests.items ≡ front ++ w.in-Ok.request ∷ [] = rw w.requests-is w.in_ok-push-in-Ok.ensures.items in
+          let kept : is_ok w.push.result ≡ true = search rules in
+          let longer = rw kept at w.push.ensures.items in
+          let pushed : c.if-not-is_blank.requests.items ≡ front ++ w.in-Ok.request ∷ [] = rw w.requests-is longer in
           record {
             ahead = after_good _ front c.loop-rest.number c.loop-rest.rest.now c.loop-rest.invariant.ahead line c.first_line.result.1.now c.first_line.ensures.lines w.in-Ok.request _ filled read pushed;
             counted = omega arith;

@@ -7,4 +7,4 @@ pub returns-in-Ok : goal.returns-in-Ok
 returns-in-Ok g c = inl (rw (← (c.as_slice.ensures.value ∙ c.in-Ok.ensures)) c.print.ensures)
 
 pub returns-in-Err : goal.returns-in-Err
-returns-in-Err g c = inr (c.fail.ensures.status, keeps_same _, (Memory, refl, c.fail.ensures.told))
+returns-in-Err g c = inr (c.fail.ensures.status, (keeps_same _, refl), (Memory, refl, c.fail.ensures.told))

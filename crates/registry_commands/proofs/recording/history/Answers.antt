@@ -7,7 +7,7 @@ pub returns-in-Ok : goal.returns-in-Ok
 returns-in-Ok g c = record {
   left = c.in-Ok.ensures.left;
   ends = inl (refl, (keeps_same _, refl));
-  whole = λ _. c.in-Ok.ensures.ok;
+  whole = λ _ h stands clean valid. (c.in-Ok.ensures.ok h stands clean valid, c.in-Ok.ensures.kept);
   part = λ failed. absurd cc;
   poisoned = λ is. let failed = c.in-Ok.ensures.when_poisoned is in absurd (cc failed.0);
 }

@@ -1,4 +1,4 @@
-use Rattle.std.proofs.Common.{inr}
+use Rattle.std.proofs.Common.{inr, refl}
 use Rattle.registry_commands.specs.Ends.{effect, ends_of}
 use Rattle.registry_commands.specs.Failures.{IsOfInput, PrintsFailure}
 use Rattle.registry_commands.specs.Lines.{requests_in}
@@ -16,7 +16,8 @@ returns-in-Err g c =
       bytes.0,
       bytes.1,
       trial_fails (IsOfInput before before bytes.0) (requests_in bytes.0) _ _ c.fail.result c.fail.ensures.status told,
-      λ long. (c.fail.ensures.status, keeps_same _, told),
+      λ long. (c.fail.ensures.status, (keeps_same _, refl), told),
+      λ _. refl,
     )
 
 pub returns : goal.returns
@@ -29,4 +30,5 @@ returns g c =
       done.1,
       tried _ did it.0 it.1 it.2 (requests_in done.0) done.2,
       λ long. let unread = done.3 long in (unread.0, unread.1.silent, tells_more _ (IsOfStart _) _ (λ failure is. inr is) unread.1.told),
+      done.4,
     )

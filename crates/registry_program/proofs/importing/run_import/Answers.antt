@@ -3,7 +3,7 @@ use Rattle.registry_commands.specs.Ends.{sunk}
 use Rattle.registry_program.proofs.importing.run_import.Goals as goal
 
 pub returns : goal.returns
-returns g c = rw c.in-Ok-Ok.is (rw c.in-Ok-Ok.field-0-is (inr (record {
+returns g c = rw c.in-Ok.is (inr (record {
   opened = c.open_registry.new.host;
   it = c.in-Ok.registry;
   takes = c.in-Ok.ensures.ok;
@@ -13,4 +13,4 @@ returns g c = rw c.in-Ok-Ok.is (rw c.in-Ok-Ok.field-0-is (inr (record {
   before = c.import_file-status.result;
   does = c.import_file-status.ensures;
   closes = c.close_registry.ensures;
-})))
+}))

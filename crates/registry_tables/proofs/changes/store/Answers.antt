@@ -23,7 +23,7 @@ loop-change-preserved g c =
     let i = c.loop-change.change-index in
     let one = c.change-item.result in
     let more : take (i + 1) cs ≡ take i cs ++ one ∷ [] = take_more cs i one c.loop-change-test.true ∙ ap (λ (x : Change). take i cs ++ x ∷ []) (sym c.change-item.is) in
-    one_more c.loop-change.invariant c.in-Ok.ensures.writes (λ done. done.0)
+    one_more c.loop-change.invariant c.in_ok-make.ensures.writes (λ done. done.0)
     (λ first later. (goes_then _ _ _ first.0 later.0, λ t had up. subst (λ l. AreMade l t d.now) (sym more) (made_more (take i cs) one b d t (first.1 t had up) later)))
 
 pub returns-clause-rows : goal.returns-clause-rows

@@ -6,21 +6,21 @@ use Rattle.registry_tables.proofs.HoldingLemmas.{holdings_are}
 use Rattle.registry_tables.proofs.ReadLemmas.{rows_pass, rows_fail, rows_short, fault_store}
 use Rattle.registry_tables.proofs.facts.holdings_within.Goals as goal
 
-pub returns-in-Ok-holdings_of-clause-reads : goal.returns-in-Ok-holdings_of-clause-reads
-returns-in-Ok-holdings_of-clause-reads g c =
+pub returns-in-Ok-clause-reads : goal.returns-in-Ok-clause-reads
+returns-in-Ok-clause-reads g c =
     let range = c.args.range in
     rows_pass (λ h t legal has had kept is.
     let listed = λ (a b : ℕ). sort_by by_number (filter (is_between range.vid a b) t.entries) in
     let all = is ∙ ap (λ a. listed a c.last.result) c.first.ensures ∙ ap (listed range.span.first) c.last.ensures.last in
-    subst (AreHoldings range h) (sym (c.in-Ok-holdings_of.ensures ∙ ap (map holding_at) all)) (holdings_are h legal t.entries had.entries range)) c.in-Ok.ensures.reads
+    subst (AreHoldings range h) (sym (c.in-Ok.ensures ∙ ap (map holding_at) all)) (holdings_are h legal t.entries had.entries range)) c.in_ok-entries.ensures.reads
+
+pub returns-in_err-entries-clause-reads : goal.returns-in_err-entries-clause-reads
+returns-in_err-entries-clause-reads g c =
+    rows_fail refl c.in_err-entries.ensures.reads
 
 pub returns-in-Err-clause-reads : goal.returns-in-Err-clause-reads
 returns-in-Err-clause-reads g c =
-    rows_fail refl c.in-Err.ensures.reads
+    rows_short (λ never. absurd cc) c.in_ok-entries.ensures.reads
 
-pub returns-in-Err-holdings_of-clause-reads : goal.returns-in-Err-holdings_of-clause-reads
-returns-in-Err-holdings_of-clause-reads g c =
-    rows_short (λ never. absurd cc) c.in-Ok.ensures.reads
-
-pub returns-in-Err-clause-store : goal.returns-in-Err-clause-store
-returns-in-Err-clause-store g c = fault_store refl c.in-Err.ensures.reads
+pub returns-in_err-entries-clause-store : goal.returns-in_err-entries-clause-store
+returns-in_err-entries-clause-store g c = fault_store refl c.in_err-entries.ensures.reads

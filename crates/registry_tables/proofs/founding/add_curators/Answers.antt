@@ -14,7 +14,7 @@ loop-name-preserved g c =
     let i = c.loop-name.name-index in
     let one : List ℕ = c.name-item.result in
     let more : take (i + 1) all ≡ take i all ++ one ∷ [] = take_more all i one c.loop-name-test.true ∙ ap (λ (x : List ℕ). take i all ++ x ∷ []) (sym c.name-item.is) in
-    one_more c.loop-name.invariant (as_tables c.in-Ok.ensures.writes) (λ done. done.0)
+    one_more c.loop-name.invariant (as_tables c.in_ok-put_curator.ensures.writes) (λ done. done.0)
     (λ first later. (goes_then _ _ _ first.0 later.0, λ t had. subst (λ l. Holds (state g.S.Store c.put_curator.new.tx.conn.now).now (record t { curators = l })) (sym (ap (λ l. names_put l t.curators) more ∙ names_more (take i all) one t.curators)) (later.1 _ (first.1 t had))))
 
 pub returns : goal.returns

@@ -15,7 +15,7 @@ loop-span-preserved g c =
     let i = c.loop-span.span-index in
     let one : Span = c.span-item.result in
     let more : take (i + 1) all ≡ take i all ++ one ∷ [] = take_more all i one c.loop-span-test.true ∙ ap (λ (x : Span). take i all ++ x ∷ []) (sym c.span-item.is) in
-    one_more c.loop-span.invariant (as_tables c.in-Ok.ensures.writes) (λ done. done.0)
+    one_more c.loop-span.invariant (as_tables c.in_ok-put_fixed.ensures.writes) (λ done. done.0)
     (λ first later. (goes_then _ _ _ first.0 later.0, λ t had. subst (λ l. Holds (state g.S.Store c.put_fixed.new.tx.conn.now).now (record t { fixed = l })) (sym (ap (λ l. spans_put l t.fixed) more ∙ spans_more (take i all) one t.fixed)) (later.1 _ (first.1 t had))))
 
 pub returns : goal.returns

@@ -16,7 +16,7 @@ loop-part-preserved g c =
     let i = c.loop-part.part-index in
     let one : Span = c.part-item.result in
     let more : take (i + 1) all ≡ take i all ++ one ∷ [] = take_more all i one c.loop-part-test.true ∙ ap (λ (x : Span). take i all ++ x ∷ []) (sym c.part-item.is) in
-    one_more c.loop-part.invariant (as_tables c.in-Ok.ensures.writes) (λ done. (done 1 one_id).0)
+    one_more c.loop-part.invariant (as_tables c.in_ok-put_old_span.ensures.writes) (λ done. (done 1 one_id).0)
     (λ first later vid own. (
     let before = first vid own in
     let after = later vid own in (
