@@ -1,7 +1,7 @@
 //! Reads a list in pieces.
 
 ghost use Rattle.std.specs.Prelude.{◌≡◌, ◌⊎◌, ◌<◌, ◌≤◌, ℕ, List, length, IfOk, OnOk, OnErr};
-ghost use Rattle.byte_streams.specs.Streams.{HasFailed, MayGive, most_bytes};
+ghost use Rattle.byte_streams.specs.Streams.{FailsOnce, MayGive, most_bytes};
 ghost use Rattle.usbids_text.specs.Reading.{ReadsAs};
 
 use byte_streams::{Broken, Source};
@@ -16,7 +16,7 @@ pub(crate) fn read_list<R: Source>(
 ) -> Result<Result<Document, ReadFault>, Broken>
     ensures ok { IfOk result (λ read. (bytes : List ℕ) × MayGive (R.remaining source.old) bytes × (length bytes ≤ most_bytes) × ReadsAs bytes read) }
     ensures kept { OnOk result (R.failures source.new ≡ R.failures source.old) }
-    ensures err { OnErr result ((bytes : List ℕ) × MayGive (R.remaining source.old) bytes × (HasFailed (R.failures source.old) (R.failures source.new) ⊎ (most_bytes < length bytes))) }
+    ensures err { OnErr result ((bytes : List ℕ) × MayGive (R.remaining source.old) bytes × (FailsOnce (R.failures source.old) (R.failures source.new) ⊎ (most_bytes < length bytes))) }
 {
     let mut reader = Reader::new(alloc);
     let mut room = [0u8; 32768];
