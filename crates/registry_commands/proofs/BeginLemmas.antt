@@ -3,7 +3,7 @@ use Rattle.std.proofs.Common.{◌≡◌, ◌⊎◌, ◌∙◌, ℕ, ◌+◌, ◌
 use Rattle.std.specs.Prelude.{◌≢◌}
 use Rattle.std.specs.Io.KnownBytes.{Consumes}
 use Rattle.std.proofs.lemmas.List.Elements.{All-nil, All-push}
-use Rattle.byte_streams.specs.Streams.{HasFailed}
+use Rattle.byte_streams.specs.Streams.{FailsOnce}
 use Rattle.registry_rules.specs.declared.founding.Founding.{Founding}
 use Rattle.registry_commands.specs.declared.entries.Entry.{Entry}
 use Rattle.registry_commands.specs.declared.entries.Entry.TheVariants as says
@@ -68,7 +68,7 @@ kept_unless_file inputs.File old mid new other memory kept = absurd (other refl)
 kept_unless_file inputs.NoMemory old mid new other memory kept = memory refl ∙ kept
 
 -- the beginning could not be read
-pub of_record_input : (lines failures failures_new : ℕ) (fault : ReadAllFault) → (fault ≡ inputs.File → HasFailed failures failures_new ⊎ (lines ≡ 2 ^ 64 - 1)) → (fault ≡ inputs.NoMemory → failures_new ≡ failures)
+pub of_record_input : (lines failures failures_new : ℕ) (fault : ReadAllFault) → (fault ≡ inputs.File → FailsOnce failures failures_new ⊎ (lines ≡ 2 ^ 64 - 1)) → (fault ≡ inputs.NoMemory → failures_new ≡ failures)
     → IsOfRecordInput lines failures failures_new (input_failure fault)
 of_record_input lines failures failures_new inputs.File failed kept = failed refl
 of_record_input lines failures failures_new inputs.NoMemory failed kept = kept refl

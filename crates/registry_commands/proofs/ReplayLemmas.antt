@@ -21,7 +21,7 @@ use Rattle.registry_commands.specs.declared.input.ReadAllFault.{ReadAllFault}
 use Rattle.registry_commands.specs.declared.input.ReadAllFault.TheVariants as inputs
 use Rattle.registry_commands.specs.declared.messages.Failure.{Failure}
 use Rattle.registry_commands.specs.declared.messages.Failure.TheVariants as of
-use Rattle.byte_streams.specs.Streams.{HasFailed}
+use Rattle.byte_streams.specs.Streams.{FailsOnce}
 use Rattle.registry_commands.specs.Messages.{input_failure}
 use Rattle.registry_commands.specs.Entries.{FirstSays, PassesOne, entry_in, is_followed}
 use Rattle.registry_commands.specs.RecordLines.{MayHaveLines, Passes}
@@ -126,7 +126,7 @@ module _ {S : Type 0} {g : Ghosts S} where
 
   -- a fault of the record
   pub of_record : (lines failures failures_new : ℕ) (it new : Registry S g) (fault : ReadAllFault) → is_poisoned new ≡ is_poisoned it
-      → (fault ≡ inputs.File → HasFailed failures failures_new ⊎ (lines ≡ 2 ^ 64 - 1)) → IsOfReplay lines failures failures_new it new (input_failure fault)
+      → (fault ≡ inputs.File → FailsOnce failures failures_new ⊎ (lines ≡ 2 ^ 64 - 1)) → IsOfReplay lines failures failures_new it new (input_failure fault)
   of_record lines failures failures_new it new inputs.File sound failed = failed refl
   of_record lines failures failures_new it new inputs.NoMemory sound failed = inr sound
 

@@ -3,7 +3,7 @@ use Rattle.std.specs.Prelude.{◌≡◌, ◌≢◌, ◌⊎◌, ◌<◌, ℕ, Lis
 use Rattle.sqlite.specs.declared.error.Error.{Error}
 use Rattle.sqlite.specs.declared.error.Error.TheVariants.{SqliteFailure}
 use Rattle.sqlite.specs.declared.error.ErrorCode.TheVariants.{OutOfMemory}
-use Rattle.byte_streams.specs.Streams.{HasFailed, most_bytes}
+use Rattle.byte_streams.specs.Streams.{FailsOnce, most_bytes}
 use Rattle.registry_commands.specs.declared.messages.Failure.{Failure}
 use Rattle.registry_commands.specs.declared.messages.Failure.TheVariants.{File, Memory, Poisoned, Store, Taken}
 use Rattle.registry_commands.specs.declared.status.ExitStatus.{ExitStatus}
@@ -11,9 +11,9 @@ use Rattle.registry_commands.specs.declared.status.ExitStatus.TheVariants.{Faile
 use Rattle.registry_commands.specs.Ends.{Receives, ReceivesNothing, ReceivesPrefix, Output}
 use Rattle.registry_commands.specs.Messages.{failure_line}
 
--- the text was written: all of it, or a prefix if the error output failed
+-- the text was written: all of it, or a prefix before one write failed
 abbrev pub Prints : Output → List ℕ → Type 0
-Prints errors text = ReceivesPrefix errors text × (HasFailed errors.old.failures errors.new.failures ⊎ Receives errors text)
+Prints errors text = ReceivesPrefix errors text × (FailsOnce errors.old.failures errors.new.failures ⊎ Receives errors text)
 
 -- nothing was written, and the error output did not fail
 abbrev pub PrintsNothing : Output → Type 0
@@ -48,16 +48,16 @@ IsOfClosing May _ = ⊥
 abbrev pub IsOfMemory : Failure → Type 0
 IsOfMemory failure = failure ≡ Memory
 
--- File: the input failed between these two counts of failures, or it gives more than 4,294,967,295 bytes.
+-- File: one read of the input failed between these two counts of failures, or it gives more than 4,294,967,295 bytes.
 -- Memory: out of memory, and the input did not fail.
 abbrev pub IsOfInput : ℕ → ℕ → List ℕ → Failure → Type 0
-IsOfInput old new bytes File = HasFailed old new ⊎ IsTooLong bytes
+IsOfInput old new bytes File = FailsOnce old new ⊎ IsTooLong bytes
 IsOfInput old new bytes Memory = new ≡ old
 IsOfInput old new bytes _ = ⊥
 
--- File: the output failed between these two counts of failures. Any other failure: the output did not fail.
+-- File: one write to the output failed between these two counts of failures. Any other failure: none did.
 abbrev pub IsOfOutput : ℕ → ℕ → Failure → Type 0
-IsOfOutput old new File = HasFailed old new
+IsOfOutput old new File = FailsOnce old new
 IsOfOutput old new _ = new ≡ old
 
 -- a read that failed between these two counts of failures is told by the exit status

@@ -1,7 +1,7 @@
 -- The lines of a record as they are read, one after another.
 use Rattle.std.specs.Prelude.{◌≡◌, ◌⊎◌, ◌<◌, ◌≤◌, ◌+◌, ◌-◌, ◌^◌, ℕ, nat_le, List, [], ◌∷◌, ◌++◌, length, take, drop, position, Option, Some, None, ⊤, if◌then◌else◌, ◌==◌}
 use Rattle.std.specs.Io.KnownBytes.{prepend_known}
-use Rattle.byte_streams.specs.Streams.{HasFailed}
+use Rattle.byte_streams.specs.Streams.{FailsOnce}
 use Rattle.registry_commands.specs.declared.record_lines.Found.{Found}
 use Rattle.registry_commands.specs.declared.record_lines.Found.TheVariants.{End, Line, TooLong}
 use Rattle.registry_commands.specs.declared.unread.Unread.{Unread}
@@ -55,6 +55,6 @@ pub record HasReadTo (to_come now : Option (List ℕ)) (passed : List (List ℕ)
   pub passes : Passes to_come now passed
   pub part : IsPartOfLine (unread_of it)
 
--- the source failed between these counts of failures, or as many lines were passed as are counted
+-- one read failed between these counts of failures, or as many lines were passed as are counted
 abbrev pub HasFailedOrIsFull : ℕ → ℕ → Unread → Type 0
-HasFailedOrIsFull old new it = HasFailed old new ⊎ (it.lines ≡ 2 ^ 64 - 1)
+HasFailedOrIsFull old new it = FailsOnce old new ⊎ (it.lines ≡ 2 ^ 64 - 1)

@@ -5,7 +5,7 @@ use Rattle.sqlite.specs.Held.{Held, state}
 use Rattle.sqlite.specs.State.{State, HasCleanDisk, IsLive, Survives}
 use Rattle.sqlite.specs.Tree.{Trees}
 use Rattle.table_laws.specs.Making.{no_schema}
-use Rattle.byte_streams.specs.Streams.{HasFailed}
+use Rattle.byte_streams.specs.Streams.{FailsOnce}
 use Rattle.registry_rules.specs.declared.accepted.Accepted.{Accepted}
 use Rattle.registry_rules.specs.declared.order.Request.{Request}
 use Rattle.registry_rules.specs.declared.verdict.Reply.{Reply}
@@ -95,9 +95,9 @@ StopsBefore (Err (stop.Failure failure)) n rest = ⊤
 abbrev pub AreBlank : List (List ℕ) → Type 0
 AreBlank lines = All (λ line. entry_in line ≡ says.Blank) lines
 
--- a failure of reading a record, after so many lines: the source failed, or gives more lines than are counted; or memory ran out
+-- a failure of reading a record, after so many lines: one read failed, or there are more lines than are counted; or memory ran out
 abbrev pub IsOfRecordInput : ℕ → ℕ → ℕ → Failure → Type 0
-IsOfRecordInput lines failures failures_new File = HasFailed failures failures_new ⊎ (lines ≡ 2 ^ 64 - 1)
+IsOfRecordInput lines failures failures_new File = FailsOnce failures failures_new ⊎ (lines ≡ 2 ^ 64 - 1)
 IsOfRecordInput lines failures failures_new Memory = failures_new ≡ failures
 IsOfRecordInput lines failures failures_new failure = ⊥
 
@@ -135,10 +135,10 @@ module _ {S : Type 0} {g : Ghosts S} where
   IsOfActing it new Taken = ⊥
   IsOfActing it new File = ⊥
 
-  -- A failure of a replay: of acting on a request, or of the record. File: the source failed between these counts of failures,
-  -- or gives more lines than are counted. Memory also: memory ran out for the record.
+  -- A failure of a replay: of acting on a request, or of the record. File: one read failed between these counts of failures,
+  -- or there are more lines than are counted. Memory also: memory ran out for the record.
   abbrev pub IsOfReplay : ℕ → ℕ → ℕ → Registry S g → Registry S g → Failure → Type 0
-  IsOfReplay lines old_failures new_failures it new File = HasFailed old_failures new_failures ⊎ (lines ≡ 2 ^ 64 - 1)
+  IsOfReplay lines old_failures new_failures it new File = FailsOnce old_failures new_failures ⊎ (lines ≡ 2 ^ 64 - 1)
   IsOfReplay lines old_failures new_failures it new Memory = (poisoned_by new ≡ Some faults.NoMemory) ⊎ (is_poisoned new ≡ is_poisoned it)
   IsOfReplay lines old_failures new_failures it new failure = IsOfActing it new failure
 

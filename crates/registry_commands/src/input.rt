@@ -2,7 +2,7 @@
 
 ghost use Rattle.std.specs.Prelude.{Err, Some, ◌≡◌, ◌≤◌, ◌++◌, ℕ, List, length, IfOk, IfErr, OnOk};
 ghost use Rattle.std.specs.Io.KnownBytes.{Consumes, IsAtEnd, Keeps};
-ghost use Rattle.byte_streams.specs.Streams.{HasFailed, MayGive, most_bytes};
+ghost use Rattle.byte_streams.specs.Streams.{FailsOnce, MayGive, most_bytes};
 ghost use Rattle.registry_commands.specs.Failures.{IsOfInput};
 ghost use Rattle.registry_commands.specs.Messages.{input_failure, read_all_fault_text};
 
@@ -45,7 +45,7 @@ pub(crate) fn take_more<R: Source>(
     ensures ok { IfOk result (λ n. (more : List ℕ) × (bytes.new.items ≡ bytes.old.items ++ more) × (length more ≡ n)
         × Consumes (R.remaining source.old) (R.remaining source.new) more × (n ≡ 0 → IsAtEnd (R.remaining source.new))
         × (R.failures source.new ≡ R.failures source.old)) }
-    ensures file { result ≡ Err ReadAllFault.File → HasFailed (R.failures source.old) (R.failures source.new) }
+    ensures file { result ≡ Err ReadAllFault.File → FailsOnce (R.failures source.old) (R.failures source.new) }
     ensures same { result ≡ Err ReadAllFault.File → (bytes.new.items ≡ bytes.old.items) × Keeps (R.remaining source.old) (R.remaining source.new) }
     ensures memory { result ≡ Err ReadAllFault.NoMemory → R.failures source.new ≡ R.failures source.old }
 {

@@ -2,7 +2,7 @@
 
 ghost use Rattle.std.specs.Prelude.{◌≡◌, ◌==◌, ◌<◌, ◌≤◌, ◌^◌, ◌-◌, ◌++◌, ℕ, List, [], length, position, take, IfOk, OnOk, Err, None};
 ghost use Rattle.std.specs.Io.KnownBytes.{Consumes, IsAtEnd, Keeps};
-ghost use Rattle.byte_streams.specs.Streams.{HasFailed};
+ghost use Rattle.byte_streams.specs.Streams.{FailsOnce};
 ghost use Rattle.registry_commands.specs.RecordLines.{FindsLine, HasFailedOrIsFull, HasReadTo, ahead, last_line, of_length, unread_of};
 
 use crate::input::{ReadAllFault, take_more};
@@ -34,7 +34,7 @@ fn fill<R: Source>(
     ensures ok { IfOk result (λ n. (more : List ℕ) × (unread_of unread.new ≡ unread_of unread.old ++ more) × (length more ≡ n)
         × Consumes (R.remaining source.old) (R.remaining source.new) more × (n ≡ 0 → IsAtEnd (R.remaining source.new))
         × (R.failures source.new ≡ R.failures source.old)) }
-    ensures file { result ≡ Err ReadAllFault.File → HasFailed (R.failures source.old) (R.failures source.new) }
+    ensures file { result ≡ Err ReadAllFault.File → FailsOnce (R.failures source.old) (R.failures source.new) }
     ensures same { result ≡ Err ReadAllFault.File → (unread_of unread.new ≡ unread_of unread.old) × Keeps (R.remaining source.old) (R.remaining source.new) }
     ensures memory { result ≡ Err ReadAllFault.NoMemory → R.failures source.new ≡ R.failures source.old }
     ensures lines { unread.new.lines ≡ unread.old.lines }

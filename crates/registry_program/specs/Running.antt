@@ -6,7 +6,7 @@ use Rattle.clap.specs.declared.error.kind.ErrorKind.TheVariants.{DisplayHelp, Di
 use Rattle.sqlite_disk.specs.declared.Disk as disk
 use Rattle.byte_streams.specs.declared.streams.Sink as sink
 use Rattle.byte_streams.specs.declared.streams.Source as source
-use Rattle.byte_streams.specs.Streams.{HasFailed}
+use Rattle.byte_streams.specs.Streams.{FailsOnce}
 use Rattle.registry_arguments.specs.declared.command.Command.{Command}
 use Rattle.registry_arguments.specs.declared.command.Command.TheVariants as command
 use Rattle.registry_arguments.specs.declared.command.Usage.{Usage}
@@ -53,12 +53,12 @@ module _ {H F I R W IN : Type 0} (m : host.Ghosts H F I) (d : disk.Ghosts F) (s 
 abbrev pub AsksToShow : Error → Type 0
 AsksToShow error = (kind_of error ≡ DisplayHelp) ⊎ (kind_of error ≡ DisplayVersion)
 
--- A text was written to the output, at the status Success. Or the output failed after a prefix of it, which the error output
+-- A text was written to the output, at the status Success. Or one write failed after a prefix of it, which the error output
 -- says.
 abbrev pub IsShown : Ends → Type 0
 IsShown ends =
     ((text : List ℕ) × Receives ends.out text × (ends.errors.new ≡ ends.errors.old) × (ends.status ≡ Success))
-    ⊎ ((text : List ℕ) × ReceivesPrefix ends.out text × HasFailed ends.out.old.failures ends.out.new.failures
+    ⊎ ((text : List ℕ) × ReceivesPrefix ends.out text × FailsOnce ends.out.old.failures ends.out.new.failures
     × Prints ends.errors (failure_line File) × (ends.status ≡ Failed))
 
 -- a text was written to the error output alone, at the status Rejected

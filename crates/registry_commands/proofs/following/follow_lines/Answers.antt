@@ -1,6 +1,6 @@
 use Rattle.std.proofs.Common.{◌≡◌, ◌⊎◌, ◌∙◌, ◌+◌, ◌-◌, ◌^◌, ℕ, refl, sym, ap, subst, inl, inr, length, arith}
 use Rattle.std.specs.Prelude.{Err}
-use Rattle.byte_streams.specs.Streams.{HasFailed}
+use Rattle.byte_streams.specs.Streams.{FailsOnce}
 use Rattle.registry_commands.specs.declared.following.ReplayStop.TheVariants as stop
 use Rattle.registry_commands.specs.declared.input.ReadAllFault.TheVariants as inputs
 use Rattle.registry_commands.specs.RecordLines.{ahead}
@@ -37,9 +37,9 @@ returns-in-Err-clause-replays g c =
     let so_far = c.loop-accepted.invariant.so_far in
     let before = g.R.Source.failures c.args.source.now in
     let after = g.R.Source.failures c.next_entry.new.source in
-    let failed : c.in-Err.fault ≡ inputs.File → HasFailed before after ⊎ (c.args.unread.now.lines + length so_far.front ≡ 2 ^ 64 - 1) = λ is.
+    let failed : c.in-Err.fault ≡ inputs.File → FailsOnce before after ⊎ (c.args.unread.now.lines + length so_far.front ≡ 2 ^ 64 - 1) = λ is.
     elim (c.in-Err.ensures.file (ap Err is)) [
-      | inl source ↦ inl (subst (λ (n : ℕ). HasFailed n after) c.loop-accepted.invariant.kept source)
+      | inl source ↦ inl (subst (λ (n : ℕ). FailsOnce n after) c.loop-accepted.invariant.kept source)
       | inr full ↦ inr (sym so_far.counted ∙ full)
     ] in
     rw c.input_failure.ensures (at_unread _ _ _ _ _ _ so_far before after _ (of_record (c.args.unread.now.lines + length so_far.front) before after c.args.registry.now c.loop-accepted.registry c.in-Err.fault so_far.sound failed))

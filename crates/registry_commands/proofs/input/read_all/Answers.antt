@@ -1,5 +1,5 @@
 use Rattle.std.proofs.Common.{◌≡◌, ◌<◌, ◌++◌, List, ℕ, length, ◌∙◌, inl, inr, ap, refl, Err, arith, length-append}
-use Rattle.byte_streams.specs.Streams.{HasFailed, most_bytes}
+use Rattle.byte_streams.specs.Streams.{FailsOnce, most_bytes}
 use Rattle.byte_streams.proofs.StreamLemmas.{all_of}
 use Rattle.registry_commands.specs.declared.input.ReadAllFault.{ReadAllFault}
 use Rattle.registry_commands.specs.declared.input.ReadAllFault.TheVariants as inputs
@@ -8,7 +8,7 @@ use Rattle.registry_commands.specs.Messages.{input_failure}
 use Rattle.registry_commands.proofs.input.read_all.Goals as goal
 
 -- the fault of an input
-told : (before after : ℕ) (bytes : List ℕ) (fault : ReadAllFault) → (fault ≡ inputs.File → HasFailed before after) → (fault ≡ inputs.NoMemory → after ≡ before)
+told : (before after : ℕ) (bytes : List ℕ) (fault : ReadAllFault) → (fault ≡ inputs.File → FailsOnce before after) → (fault ≡ inputs.NoMemory → after ≡ before)
     → IsOfInput before after bytes (input_failure fault)
 told before after bytes inputs.File failed kept = inl (failed refl)
 told before after bytes inputs.NoMemory failed kept = kept refl
@@ -27,6 +27,6 @@ returns-in-Err-clause-err g c =
     let all = all_of _ _ bytes c.loop-source.invariant.read in
     let before = g.R.Source.failures c.args.source.now in
     let after = g.R.Source.failures c.take_more.new.source in
-    let failed : (fault ≡ inputs.File) → HasFailed before after = λ e. rw (← c.loop-source.invariant.same_failures) (c.in-Err.ensures.file (ap Err e)) in
+    let failed : (fault ≡ inputs.File) → FailsOnce before after = λ e. rw (← c.loop-source.invariant.same_failures) (c.in-Err.ensures.file (ap Err e)) in
     let kept : (fault ≡ inputs.NoMemory) → after ≡ before = λ e. c.in-Err.ensures.memory (ap Err e) ∙ c.loop-source.invariant.same_failures in
     (bytes ++ all.0, all.1, told before after (bytes ++ all.0) fault failed kept)

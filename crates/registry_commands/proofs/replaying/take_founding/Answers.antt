@@ -1,6 +1,6 @@
 use Rattle.std.proofs.Common.{◌≡◌, ◌⊎◌, ◌∙◌, ◌+◌, ◌-◌, ◌^◌, ℕ, refl, sym, ap, subst, inl, inr, arith}
 use Rattle.std.specs.Prelude.{Err}
-use Rattle.byte_streams.specs.Streams.{HasFailed}
+use Rattle.byte_streams.specs.Streams.{FailsOnce}
 use Rattle.registry_commands.specs.declared.entries.Entry.TheVariants as says
 use Rattle.registry_commands.specs.declared.following.ReplayStop.TheVariants as stop
 use Rattle.registry_commands.specs.declared.input.ReadAllFault.TheVariants as inputs
@@ -44,9 +44,9 @@ pub returns-in-Err-clause-begins : goal.returns-in-Err-clause-begins
 returns-in-Err-clause-begins g c =
     let before = g.R.Source.failures c.args.source.now in
     let after = g.R.Source.failures c.peek.new.source in
-    let failed : c.in-Err.fault ≡ inputs.File → HasFailed before after ⊎ (c.peek.new.unread.lines ≡ 2 ^ 64 - 1) = λ is.
+    let failed : c.in-Err.fault ≡ inputs.File → FailsOnce before after ⊎ (c.peek.new.unread.lines ≡ 2 ^ 64 - 1) = λ is.
     elim (c.in-Err.ensures.file (ap Err is)) [
-      | inl source ↦ inl (subst (λ (n : ℕ). HasFailed n after) c.loop-entry.invariant.kept source)
+      | inl source ↦ inl (subst (λ (n : ℕ). FailsOnce n after) c.loop-entry.invariant.kept source)
       | inr full ↦ inr (c.in-Err.ensures.lines ∙ full)
     ] in
     rw c.input_failure.ensures (of_record_input c.peek.new.unread.lines before after c.in-Err.fault failed (λ is. c.in-Err.ensures.memory (ap Err is) ∙ c.loop-entry.invariant.kept))
