@@ -61,6 +61,8 @@ pub fn resume<D: Disk + Drop>(
     ensures err { IfErr result (λ e. IsOfOpening e.0 × AreLeft D.Disk files e.1) }
     ensures foreign { IfErr result (λ e. HeldNoneIfForeign D.Disk e.0 files e.1) }
 {
-    let conn = connect_to(alloc, files, options)?;
-    take_over(alloc, conn)
+    match connect_to(alloc, files, options) {
+        Ok(conn) => take_over(alloc, conn),
+        Err(left) => Err(left),
+    }
 }

@@ -26,7 +26,10 @@ pub fn open_registry<H: Host>(
     ensures ok { IfOk result (OpensRegistry H.Host H.File.Disk host.old host.new path.now) }
     ensures err { IfErr result (IsMissed H.Host H.File.Disk host.old host.new path.now) }
 {
-    let (files, options) = host.open_store(path, false)?;
+    let (files, options) = match host.open_store(path, false) {
+        Ok(store) => store,
+        Err(failure) => return Err(failure),
+    };
     match resume(alloc, files, options) {
         Ok(registry) => Ok(registry),
         Err((failure, files)) => {
@@ -49,7 +52,10 @@ pub fn connect<H: Host>(
     ensures ok { IfOk result (IsConnected H.Host H.File.Disk host.old host.new path.now) }
     ensures err { IfErr result (IsUnconnected H.Host H.File.Disk host.old host.new path.now) }
 {
-    let (files, options) = host.open_store(path, true)?;
+    let (files, options) = match host.open_store(path, true) {
+        Ok(store) => store,
+        Err(failure) => return Err(failure),
+    };
     match connect_to(alloc, files, options) {
         Ok(conn) => Ok(conn),
         Err((failure, files)) => {
