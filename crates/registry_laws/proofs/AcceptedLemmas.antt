@@ -14,8 +14,8 @@ use Rattle.registry_rules.specs.declared.item.Item.{Item}
 use Rattle.registry_rules.specs.declared.order.Order.{Order}
 use Rattle.registry_rules.specs.declared.order.Order.TheVariants as orders
 use Rattle.registry_rules.specs.declared.record.Terms.{Terms}
-use Rattle.registry_wire.specs.Reading.{text_in, slug_in, key_in, title_in, link_in, number_in, optional_number_in, petition_in, span_in, terms_in, enrol_in, amend_org_in, ask_in, grant_in, decline_in, withdraw_in, amend_in, return_in, reserve_in, release_in, add_vendor_in, add_licence_in, kind_in, order_in}
-use Rattle.registry_wire.specs.Record.{accepted_fields, with_fields, accepted_data, items_in, import_in, kept_order_in, reply_in, accepted_in}
+use Rattle.registry_wire.specs.Reading.{field_in, optional_in, link_in, petition_in, span_in, terms_in, enrol_in, amend_org_in, ask_in, grant_in, decline_in, withdraw_in, amend_in, return_in, reserve_in, release_in, add_vendor_in, add_licence_in, order_in}
+use Rattle.registry_wire.specs.Record.{accepted_fields, with_fields, accepted_data, kept_import_in, kept_order_in, kept_request_in}
 use Rattle.registry_laws.specs.Records.{IsAccepted}
 use Rattle.registry_laws.proofs.KindLemmas.{slug_back, key_back, title_back, link_back, span_back, items_back}
 
@@ -24,7 +24,7 @@ made caller key reply order = record { request = record { caller = caller; key =
 
 -- the object that is written for the order is read as that order, with its caller, key and reply
 abbrev IsReadBack : Order → Type 0
-IsReadBack order = (caller key reply : List ℕ) → IsSlug caller → IsKey key → accepted_in (object (with_fields (accepted_fields (made caller key reply order)) no_members)) ≡ Ok (made caller key reply order)
+IsReadBack order = (caller key reply : List ℕ) → IsSlug caller → IsKey key → kept_request_in (object (with_fields (accepted_fields (made caller key reply order)) no_members)) ≡ Ok (made caller key reply order)
 
 small : (petition : ℕ) → petition < 2 ^ 32 → nat_le petition greatest_count ≡ true
 small petition h = le-leb petition greatest_count (omega arith)
@@ -33,16 +33,16 @@ from_none : (petition : ℕ) → nat_le 0 petition ≡ true
 from_none petition = le-leb 0 petition (omega arith)
 
 enrol_back : (org title site : List ℕ) → IsSlug org → IsTitle title → IsLink site → IsReadBack (orders.Enrol (record { org = org; title = title; site = site }))
-unfolding accepted_in kept_order_in reply_in order_in kind_in slug_in key_in enrol_in title_in link_in
+unfolding kept_request_in kept_order_in order_in field_in enrol_in link_in
 enrol_back org title site o t s caller key reply c k = rw (slug_back caller c, key_back key k, slug_back org o, title_back title t, link_back site s) refl
 
 amend_org_back : (org title site : List ℕ) → IsSlug org → IsTitle title → IsLink site → IsReadBack (orders.AmendOrg (record { org = org; title = title; site = site }))
-unfolding accepted_in kept_order_in reply_in order_in kind_in slug_in key_in amend_org_in title_in link_in
+unfolding kept_request_in kept_order_in order_in field_in amend_org_in link_in
 amend_org_back org title site o t s caller key reply c k = rw (slug_back caller c, key_back key k, slug_back org o, title_back title t, link_back site s) refl
 
 ask_back : (org title licence site source : List ℕ) (want vendor : Option ℕ) → IsSlug org → IsTitle title → IsTitle licence → IsLink site → IsLink source → IsIdIfAny want → IsIdIfAny vendor
     → IsReadBack (orders.Ask (record { org = org; want = want; title = title; terms = record { licence = licence; site = site; source = source }; vendor = vendor }))
-unfolding accepted_in kept_order_in reply_in order_in kind_in slug_in key_in ask_in terms_in title_in link_in optional_number_in
+unfolding kept_request_in kept_order_in order_in field_in ask_in terms_in link_in optional_in
 ask_back org title licence site source None None o t l s u w v caller key reply c k =
     rw (slug_back caller c, key_back key k, slug_back org o, title_back title t, title_back licence l, link_back site s, link_back source u) refl
 ask_back org title licence site source (Some pid) None o t l s u w v caller key reply c k =
@@ -53,52 +53,52 @@ ask_back org title licence site source (Some pid) (Some vid) o t l s u w v calle
     rw (slug_back caller c, key_back key k, slug_back org o, digits_read pid w, title_back title t, title_back licence l, link_back site s, link_back source u, digits_read vid v) refl
 
 grant_back : (petition : ℕ) (number : Option ℕ) → petition < 2 ^ 32 → IsIdIfAny number → IsReadBack (orders.Grant (record { petition = petition; number = number }))
-unfolding accepted_in kept_order_in reply_in order_in kind_in slug_in key_in grant_in petition_in optional_number_in
+unfolding kept_request_in kept_order_in order_in field_in grant_in petition_in optional_in
 grant_back petition None p n caller key reply c k = rw (slug_back caller c, key_back key k, from_none petition, small petition p) refl
 grant_back petition (Some pid) p n caller key reply c k = rw (slug_back caller c, key_back key k, from_none petition, small petition p, digits_read pid n) refl
 
 decline_back : (petition : ℕ) → petition < 2 ^ 32 → IsReadBack (orders.Decline (record { petition = petition }))
-unfolding accepted_in kept_order_in reply_in order_in kind_in slug_in key_in decline_in petition_in
+unfolding kept_request_in kept_order_in order_in field_in decline_in petition_in
 decline_back petition p caller key reply c k = rw (slug_back caller c, key_back key k, from_none petition, small petition p) refl
 
 withdraw_back : (petition : ℕ) → petition < 2 ^ 32 → IsReadBack (orders.Withdraw (record { petition = petition }))
-unfolding accepted_in kept_order_in reply_in order_in kind_in slug_in key_in withdraw_in petition_in
+unfolding kept_request_in kept_order_in order_in field_in withdraw_in petition_in
 withdraw_back petition p caller key reply c k = rw (slug_back caller c, key_back key k, from_none petition, small petition p) refl
 
 amend_back : (number : ℕ) (title licence site source : List ℕ) (vendor : Option ℕ) → IsId number → IsTitle title → IsTitle licence → IsLink site → IsLink source → IsIdIfAny vendor
     → IsReadBack (orders.Amend (record { number = number; title = title; terms = record { licence = licence; site = site; source = source }; vendor = vendor }))
-unfolding accepted_in kept_order_in reply_in order_in kind_in slug_in key_in amend_in number_in terms_in title_in link_in optional_number_in
+unfolding kept_request_in kept_order_in order_in field_in amend_in terms_in link_in optional_in
 amend_back number title licence site source None n t l s u v caller key reply c k =
     rw (slug_back caller c, key_back key k, digits_read number n, title_back title t, title_back licence l, link_back site s, link_back source u) refl
 amend_back number title licence site source (Some vid) n t l s u v caller key reply c k =
     rw (slug_back caller c, key_back key k, digits_read number n, title_back title t, title_back licence l, link_back site s, link_back source u, digits_read vid v) refl
 
 return_back : (number : ℕ) (vendor : Option ℕ) → IsId number → IsIdIfAny vendor → IsReadBack (orders.Return (record { number = number; vendor = vendor }))
-unfolding accepted_in kept_order_in reply_in order_in kind_in slug_in key_in return_in number_in optional_number_in
+unfolding kept_request_in kept_order_in order_in field_in return_in optional_in
 return_back number None n v caller key reply c k = rw (slug_back caller c, key_back key k, digits_read number n) refl
 return_back number (Some vid) n v caller key reply c k = rw (slug_back caller c, key_back key k, digits_read number n, digits_read vid v) refl
 
 reserve_back : (span : Span) (vendor : Option ℕ) → IsId span.first → IsId span.last → IsIdIfAny vendor → IsReadBack (orders.Reserve (record { span = span; vendor = vendor }))
-unfolding accepted_in kept_order_in reply_in order_in kind_in slug_in key_in reserve_in span_in number_in optional_number_in
+unfolding kept_request_in kept_order_in order_in field_in reserve_in span_in optional_in
 reserve_back span None f l v caller key reply c k = rw (slug_back caller c, key_back key k, digits_read span.first f, digits_read span.last l, span_back span) refl
 reserve_back span (Some vid) f l v caller key reply c k = rw (slug_back caller c, key_back key k, digits_read span.first f, digits_read span.last l, span_back span, digits_read vid v) refl
 
 release_back : (span : Span) (vendor : Option ℕ) → IsId span.first → IsId span.last → IsIdIfAny vendor → IsReadBack (orders.Release (record { span = span; vendor = vendor }))
-unfolding accepted_in kept_order_in reply_in order_in kind_in slug_in key_in release_in span_in number_in optional_number_in
+unfolding kept_request_in kept_order_in order_in field_in release_in span_in optional_in
 release_back span None f l v caller key reply c k = rw (slug_back caller c, key_back key k, digits_read span.first f, digits_read span.last l, span_back span) refl
 release_back span (Some vid) f l v caller key reply c k = rw (slug_back caller c, key_back key k, digits_read span.first f, digits_read span.last l, span_back span, digits_read vid v) refl
 
 import_back : (org : List ℕ) (items : List Item) (vendor : Option ℕ) → IsSlug org → All IsItem items → IsIdIfAny vendor → IsReadBack (orders.Import (record { org = org; items = items; vendor = vendor }))
-unfolding accepted_in kept_order_in reply_in slug_in key_in import_in items_in optional_number_in
+unfolding kept_request_in kept_order_in field_in kept_import_in optional_in
 import_back org items None o i v caller key reply c k = rw (slug_back caller c, key_back key k, slug_back org o, items_back items i) refl
 import_back org items (Some vid) o i v caller key reply c k = rw (slug_back caller c, key_back key k, slug_back org o, items_back items i, digits_read vid v) refl
 
 add_vendor_back : (vendor : ℕ) (name : List ℕ) → IsId vendor → IsTitle name → IsReadBack (orders.AddVendor (record { vendor = vendor; name = name }))
-unfolding accepted_in kept_order_in reply_in order_in kind_in slug_in key_in add_vendor_in number_in title_in
+unfolding kept_request_in kept_order_in order_in field_in add_vendor_in
 add_vendor_back vendor name v n caller key reply c k = rw (slug_back caller c, key_back key k, digits_read vendor v, title_back name n) refl
 
 add_licence_back : (licence : List ℕ) → IsTitle licence → IsReadBack (orders.AddLicence (record { licence = licence }))
-unfolding accepted_in kept_order_in reply_in order_in kind_in slug_in key_in add_licence_in title_in
+unfolding kept_request_in kept_order_in order_in field_in add_licence_in
 add_licence_back licence l caller key reply c k = rw (slug_back caller c, key_back key k, title_back licence l) refl
 
 order_back : (order : Order) → IsOrder order → IsReadBack order
@@ -116,6 +116,6 @@ order_back (orders.Import it) v = import_back it.org it.items it.vendor v.0 v.1 
 order_back (orders.AddVendor it) v = add_vendor_back it.vendor it.name v.0 v.1
 order_back (orders.AddLicence it) v = add_licence_back it.licence v
 
-pub accepted_back : (accepted : Accepted) → IsAccepted accepted → accepted_in (accepted_data accepted) ≡ Ok accepted
+pub accepted_back : (accepted : Accepted) → IsAccepted accepted → kept_request_in (accepted_data accepted) ≡ Ok accepted
 unfolding accepted_data
 accepted_back accepted valid = order_back accepted.request.order valid.order accepted.request.caller accepted.request.key accepted.reply valid.caller valid.key

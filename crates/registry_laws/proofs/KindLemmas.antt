@@ -18,7 +18,7 @@ use Rattle.registry_rules.specs.declared.item.Item.{Item}
 use Rattle.registry_wire.specs.Decisions.{slug_or_not, key_or_not, title_or_not, link_or_not}
 use Rattle.registry_wire.specs.Founding.{span_written, span_after}
 use Rattle.registry_wire.specs.Kinds.{where_it_holds, slug_of, key_of, title_of, kept_link}
-use Rattle.registry_wire.specs.Record.{title_data, item_data, span_data, all_of, item_from, title_or_null, span_from, texts_from, spans_from}
+use Rattle.registry_wire.specs.Record.{title_data, item_data, span_data, all_from, item_from, title_or_null, span_from, texts_from, spans_from}
 use Rattle.registry_wire.specs.Spans.{span_of}
 use Rattle.registry_wire.proofs.SpanLemmas.{same_span}
 use Rattle.registry_wire.proofs.OrderedLemmas.{is_ascending_from, is_spread_from}
@@ -65,8 +65,8 @@ span_text_back span first last =
     ap (option_and_then (λ n. span_after n (45 ∷ digits_of span.last))) (digits_read span.first first)
     ∙ (ap (option_and_then (span_of span.first)) (digits_read span.last last) ∙ span_back span)
 
-pub all_back : {A : Type 0} (kind : Data → Option A) (form : A → Data) (Valid : A → Type 0) → ((x : A) → Valid x → kind (form x) ≡ Some x) → (xs : List A) → All Valid xs → all_of kind (items_of (map form xs)) ≡ Some xs
-unfolding all_of
+pub all_back : {A : Type 0} (kind : Data → Option A) (form : A → Data) (Valid : A → Type 0) → ((x : A) → Valid x → kind (form x) ≡ Some x) → (xs : List A) → All Valid xs → all_from kind (items_of (map form xs)) ≡ Some xs
+unfolding all_from
 all_back kind form Valid each [] all = refl
 all_back kind form Valid each (x ∷ xs) all = rw (each x (All-head Valid x xs all), all_back kind form Valid each xs (All-tail Valid x xs all)) refl
 
@@ -77,15 +77,15 @@ title_item_back (Some title) valid = rw (title_back title valid) refl
 item_back : (it : Item) → IsItem it → item_from (item_data it) ≡ Some it
 item_back it valid = rw (code_back it.code valid.code, title_item_back it.title valid.title) refl
 
-pub items_back : (items : List Item) → All IsItem items → all_of item_from (items_of (map item_data items)) ≡ Some items
+pub items_back : (items : List Item) → All IsItem items → all_from item_from (items_of (map item_data items)) ≡ Some items
 items_back items all = all_back item_from item_data IsItem item_back items all
 
-pub texts_back : (kind : Data → Option (List ℕ)) (most : ℕ) (texts : List (List ℕ)) → all_of kind (items_of (map string texts)) ≡ Some texts
+pub texts_back : (kind : Data → Option (List ℕ)) (most : ℕ) (texts : List (List ℕ)) → all_from kind (items_of (map string texts)) ≡ Some texts
     → 1 ≤ length texts → length texts ≤ most → IsAscending texts → texts_from kind most (array (items_of (map string texts))) ≡ Some texts
 texts_back kind most texts read some few rise = rw (read, le-leb 1 (length texts) some, le-leb (length texts) most few, is_ascending_from texts rise) refl
 
-all_spans_back : (start : ℕ) (spans : List Span) → 1 ≤ start → IsSpread start spans → all_of span_from (items_of (map span_data spans)) ≡ Some spans
-unfolding all_of
+all_spans_back : (start : ℕ) (spans : List Span) → 1 ≤ start → IsSpread start spans → all_from span_from (items_of (map span_data spans)) ≡ Some spans
+unfolding all_from
 all_spans_back start [] from spread = refl
 all_spans_back start (span ∷ spans) from spread =
     let low : start ≤ span.first = spread.0 in

@@ -32,8 +32,8 @@ use Rattle.registry_rules.specs.declared.order.Order.{Order}
 use Rattle.registry_rules.specs.declared.order.Order.TheVariants as orders
 use Rattle.registry_rules.specs.declared.record.Terms.{Terms}
 use Rattle.registry_wire.specs.Names.{fault_name}
-use Rattle.registry_wire.specs.Reading.{field_name, object_of}
-use Rattle.registry_wire.specs.Record.{digits_if_named, title_data, item_data, span_data, slug_from, title_from, terms_fields, order_fields, accepted_fields, with_fields, accepted_data, accepted_line, founding_keys, with_keys, founding_data, founding_line, key_value, founding_in, line_in, record_reading}
+use Rattle.registry_wire.specs.Reading.{field_name, slug_from, title_from, object_of}
+use Rattle.registry_wire.specs.Record.{digits_if_named, title_data, item_data, span_data, fields_of_terms, order_fields, accepted_fields, with_fields, accepted_data, accepted_line, founding_keys, with_keys, founding_data, founding_line, key_value, founding_in, line_in, record_reading}
 use Rattle.registry_wire.specs.declared.field.Field.{Field}
 use Rattle.registry_wire.specs.declared.field.Field.TheVariants as fields
 use Rattle.registry_wire.specs.declared.record.RecordLine.{RecordLine}
@@ -159,7 +159,7 @@ append_plain : (n : ℕ) (a b : List (Field × Data)) → ValuesArePlain n a →
 append_plain n [] b x y = y
 append_plain n (first ∷ a) b x y = (x.0, append_plain n a b x.1 y)
 
-terms_plain : (terms : Terms) → IsTerms terms → ValuesArePlain 2 (terms_fields terms)
+terms_plain : (terms : Terms) → IsTerms terms → ValuesArePlain 2 (fields_of_terms terms)
 terms_plain terms valid = (valid.licence.utf8, (link_is_utf8 terms.site valid.site, (link_is_utf8 terms.source valid.source, tt)))
 
 order_plain : (order : Order) → IsOrder order → ValuesArePlain 2 (order_fields order)
@@ -168,7 +168,7 @@ order_plain (orders.AmendOrg it) v = (IsUtf8-are_ascii (codes "amend-org") refl,
 order_plain (orders.Ask it) v =
     let vendor = named_plain fields.Vendor it.vendor v.4 in
     let want = append_plain 2 (digits_if_named fields.Number it.want) (digits_if_named fields.Vendor it.vendor) (named_plain fields.Number it.want v.1) vendor in
-    let terms = append_plain 2 (terms_fields it.terms) (digits_if_named fields.Number it.want ++ digits_if_named fields.Vendor it.vendor) (terms_plain it.terms v.3) want in
+    let terms = append_plain 2 (fields_of_terms it.terms) (digits_if_named fields.Number it.want ++ digits_if_named fields.Vendor it.vendor) (terms_plain it.terms v.3) want in
     (IsUtf8-are_ascii (codes "ask") refl, (slug_is_utf8 it.org v.0, (v.2.utf8, terms)))
 order_plain (orders.Grant it) v =
     let petition : it.petition < 2 ^ 64 = omega (arith, v.0) in
@@ -177,7 +177,7 @@ order_plain (orders.Decline it) v = let petition : it.petition < 2 ^ 64 = omega 
 order_plain (orders.Withdraw it) v = let petition : it.petition < 2 ^ 64 = omega (arith, v) in (IsUtf8-are_ascii (codes "withdraw") refl, (petition, tt))
 order_plain (orders.Amend it) v =
     let vendor = named_plain fields.Vendor it.vendor v.3 in
-    let terms = append_plain 2 (terms_fields it.terms) (digits_if_named fields.Vendor it.vendor) (terms_plain it.terms v.2) vendor in
+    let terms = append_plain 2 (fields_of_terms it.terms) (digits_if_named fields.Vendor it.vendor) (terms_plain it.terms v.2) vendor in
     (IsUtf8-are_ascii (codes "amend") refl, (digits_utf8 it.number v.0.within, (v.1.utf8, terms)))
 order_plain (orders.Return it) v = (IsUtf8-are_ascii (codes "return") refl, (digits_utf8 it.number v.0.within, named_plain fields.Vendor it.vendor v.1))
 order_plain (orders.Reserve it) v =

@@ -18,7 +18,7 @@ use Rattle.registry_rules.specs.Checks.{import_checks}
 use Rattle.registry_rules.specs.History.{History, with_deed}
 use Rattle.registry_rules.specs.Import.{classes_from, fresh_of, tally_of}
 use Rattle.registry_rules.specs.Number.{number}
-use Rattle.registry_rules.specs.Query.{item_of as item_at, owner_of, card_of, org_of, has_vendor, vendor_meant, is_reserved, deed_under, holds}
+use Rattle.registry_rules.specs.Query.{item_of, owner_of, card_of, org_of, has_vendor, vendor_meant, is_reserved, deed_under, holds}
 use Rattle.registry_rules.specs.History.{last_of}
 use Rattle.registry_rules.specs.Records.{entry_of}
 use Rattle.registry_rules.specs.Verdict.{standing_at, outcome, verdict, verdict_by, kept_of, deed_for}
@@ -37,7 +37,7 @@ use Rattle.registry_rules.specs.declared.verdict.Verdict.TheVariants.{New}
 use Rattle.registry_rules.proofs.EntryLemmas.{put_item, imported_entry, unowned_is}
 use Rattle.registry_rules.proofs.ImportLemmas.{IsFreshItem}
 use Rattle.registry_wire.specs.Decisions.{title_or_not}
-use Rattle.registry_wire.specs.Import.{item_of, items_of, import_of}
+use Rattle.registry_wire.specs.Import.{device_item, items_of, import_of}
 use Rattle.registry_wire.specs.Kinds.{title_of, where_it_holds}
 use Rattle.registry_laws.specs.Imports.{MayImport, AreTitled, AreFree, entry_listed, TakesOver}
 use Rattle.registry_laws.proofs.FreshLemmas.{coded, fresh_coded}
@@ -64,7 +64,7 @@ mapped_or : {A B : Type 0} (f : A → B) (a b : Option A) → option_map f (opti
 mapped_or f None b = refl
 mapped_or f (Some x) b = refl
 
-of_mids : (code : ℕ) (mids : List MidEntry) → coded code (map item_of mids) ≡ option_map (named code) (first_mid code mids)
+of_mids : (code : ℕ) (mids : List MidEntry) → coded code (map device_item mids) ≡ option_map (named code) (first_mid code mids)
 of_mids code [] = refl
 of_mids code (m ∷ mids) = elim (cases_Bool (nat_eq m.code code)) [
   | inl e ↦ rw e (ap (λ (c : ℕ). Some (named c m.name)) (eqb-true m.code code e))
@@ -75,7 +75,7 @@ top_items : (vid : ℕ) (kind : Kind) (t : TopEntry) (tops : List TopEntry) → 
 top_items vid (Tagged tag) t tops is pid = rw is refl
 top_items vid OfVendor t tops is pid = elim (cases_Bool (nat_eq t.code vid)) [
   | inr e ↦ rw (is, e) refl
-  | inl e ↦ rw (is, e) (coded_append pid (map item_of t.mids) (items_of vid tops) ∙ ap (λ (o : Option Item). option_or o (coded pid (items_of vid tops))) (of_mids pid t.mids))
+  | inl e ↦ rw (is, e) (coded_append pid (map device_item t.mids) (items_of vid tops) ∙ ap (λ (o : Option Item). option_or o (coded pid (items_of vid tops))) (of_mids pid t.mids))
 ]
 
 pub of_list : (vid pid : ℕ) (doc : List TopEntry) → coded pid (items_of vid doc) ≡ option_map (named pid) (find_mid vid pid doc)
@@ -119,7 +119,7 @@ taken h vid doc = fresh_of (classes_from (standing_at h vid) [] (items_of vid do
 abbrev listed_item : ℕ → List TopEntry → Number → Option Item
 listed_item vid doc n = if nat_eq vid n.vid then option_map (named n.pid) (find_mid vid n.pid doc) else None
 
-taken_is : (h : History) (vid : ℕ) (doc : List TopEntry) → AreTitled vid doc → AreFree h vid doc → (n : Number) → item_at vid (taken h vid doc) n ≡ listed_item vid doc n
+taken_is : (h : History) (vid : ℕ) (doc : List TopEntry) → AreTitled vid doc → AreFree h vid doc → (n : Number) → item_of vid (taken h vid doc) n ≡ listed_item vid doc n
 taken_is h vid doc titles free n = ap (λ (o : Option Item). if nat_eq vid n.vid then o else None)
     (fresh_coded (standing_at h vid) [] (items_of vid doc) n.pid refl (λ item e. good h vid doc titles free n.pid (find_mid vid n.pid doc) refl item (sym (of_list vid n.pid doc) ∙ e))
     ∙ of_list vid n.pid doc)
@@ -149,7 +149,7 @@ entries_by : (h : History) (vid : ℕ) (org : List ℕ) (doc : List TopEntry) (d
     (n : Number) → entry_of (with_deed h deed) n ≡ option_or (entry_listed org vid doc n) (entry_of h n)
 entries_by h vid org doc deed tally titles free act n =
     ap (λ (a : Act). entry_of (with_deed h (record deed { act = a })) n) act
-    ∙ (sym (imported_entry org (owner_of h n) (card_of h n) (held_by h n) (item_at vid (taken h vid doc) n) (λ item e. fits_by h vid doc titles free n (nat_eq vid n.vid) (find_mid vid n.pid doc) refl refl item (sym (taken_is h vid doc titles free n) ∙ e)))
+    ∙ (sym (imported_entry org (owner_of h n) (card_of h n) (held_by h n) (item_of vid (taken h vid doc) n) (λ item e. fits_by h vid doc titles free n (nat_eq vid n.vid) (find_mid vid n.pid doc) refl refl item (sym (taken_is h vid doc titles free n) ∙ e)))
     ∙ (ap (put_item org (entry_of h n)) (taken_is h vid doc titles free n)
     ∙ put_by org (entry_of h n) n.pid (nat_eq vid n.vid) (find_mid vid n.pid doc) (λ name e. (titles n.pid name e).1)))
 

@@ -19,7 +19,7 @@ use Rattle.usbnum_core.specs.declared.number.Span.{Span}
 use Rattle.usbnum_core.proofs.SameSpansLemmas.{same_spans}
 use Rattle.registry_rules.specs.Texts.{IsAscending, AreSorted}
 use Rattle.registry_wire.specs.Founding.{one_to}
-use Rattle.registry_wire.specs.Record.{is_before_all, is_ascending, if_ascending, is_spread, if_spread, all_of, texts_from, span_from, spans_from}
+use Rattle.registry_wire.specs.Record.{is_before_all, is_ascending, if_ascending, is_spread, if_spread, all_from, texts_from, span_from, spans_from}
 use Rattle.registry_wire.proofs.AscendLemmas.{all_weaker, one_order}
 
 -- ---- texts
@@ -106,11 +106,11 @@ ordered_list : (most : ℕ) (given : List (List ℕ)) (found : Option (List (Lis
 ordered_list most given found rises some sorted = if_counted _ most given found rises refl some sorted
 
 -- an ascending array of texts is read as it stands
-pub texts_read : (kind : Data → Option (List ℕ)) (most : ℕ) (found : Data) (items : Items) (given : List (List ℕ)) (made : Option (List (List ℕ))) → Some items ≡ as_array found → Some given ≡ all_of kind items
+pub texts_read : (kind : Data → Option (List ℕ)) (most : ℕ) (found : Data) (items : Items) (given : List (List ℕ)) (made : Option (List (List ℕ))) → Some items ≡ as_array found → Some given ≡ all_from kind items
     → is_ascending given ≡ true → (IsSome made ↔ ((1 ≤ length given) × (length given ≤ most))) → IfSome made (AreSorted given) → made ≡ texts_from kind most found
 texts_read kind most found items given made array all rises some sorted =
     ordered_list most given made rises some sorted
-    ∙ ap (λ read. option_and_then if_ascending (option_and_then (one_to most) read)) (all ∙ ap (option_and_then (all_of kind)) array)
+    ∙ ap (λ read. option_and_then if_ascending (option_and_then (one_to most) read)) (all ∙ ap (option_and_then (all_from kind)) array)
 
 -- ---- spans
 
@@ -157,6 +157,6 @@ ordered_spans : (given made : List Span) → is_spread 1 given ≡ true → IsSp
 ordered_spans given made spreads spread same = rw spreads (ap (λ (x : List Span). Some x) (same_spans 1 1 made given spread (spread_is 1 given spreads) same))
 
 -- an array of maximal spans is read as it stands
-pub spans_read : (found : Data) (items : Items) (given made : List Span) → Some items ≡ as_array found → Some given ≡ all_of span_from items → is_spread 1 given ≡ true
+pub spans_read : (found : Data) (items : Items) (given made : List Span) → Some items ≡ as_array found → Some given ≡ all_from span_from items → is_spread 1 given ≡ true
     → IsSpread 1 made → ((n : ℕ) → spans_have made n ≡ list_any (λ span. span_has span n) given) → Some made ≡ spans_from found
-spans_read found items given made array all spreads spread same = ordered_spans given made spreads spread same ∙ ap (option_and_then if_spread) (all ∙ ap (option_and_then (all_of span_from)) array)
+spans_read found items given made array all spreads spread same = ordered_spans given made spreads spread same ∙ ap (option_and_then if_spread) (all ∙ ap (option_and_then (all_from span_from)) array)

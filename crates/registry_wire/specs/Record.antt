@@ -6,7 +6,7 @@ use Rattle.serde_json.specs.Data.{Data, null, number, unsigned, string, array, o
 use Rattle.serde_json.specs.Find.{get, as_null, as_str, as_array}
 use Rattle.serde_json.specs.View.{items_of}
 use Rattle.serde_json.specs.Written.{compact_text}
-use Rattle.usbnum_core.specs.Number.{code_of, number_of, digits_of, range_text}
+use Rattle.usbnum_core.specs.Number.{code_of, digits_of, range_text}
 use Rattle.usbnum_core.specs.declared.number.Span.{Span}
 use Rattle.registry_rules.specs.Checks.{◌>>=◌}
 use Rattle.registry_rules.specs.Limits.{most_curators, most_licences}
@@ -26,9 +26,8 @@ use Rattle.registry_wire.specs.declared.refusal.FoundingFault.TheVariants as fau
 use Rattle.registry_wire.specs.declared.refusal.WireRefusal.{WireRefusal}
 use Rattle.registry_wire.specs.declared.refusal.WireRefusal.TheVariants.{BadFounding}
 use Rattle.registry_wire.specs.Founding.{span_written, one_to}
-use Rattle.registry_wire.specs.Kinds.{slug_of, title_of}
 use Rattle.registry_wire.specs.Names.{fault_name}
-use Rattle.registry_wire.specs.Reading.{field_name, wanted, text_in, slug_in, key_in, optional_number_in, order_in, object_of}
+use Rattle.registry_wire.specs.Reading.{slug_from, title_from, id_from, field_name, field_in, text_in, slug_in, key_in, optional_id_in, order_in, object_of}
 use Rattle.registry_wire.specs.Refusals.{present}
 
 -- ---- the line of an accepted request
@@ -46,8 +45,8 @@ title_data (Some title) = string title
 abbrev pub item_data : Item → Data
 item_data it = array (item (string (digits_of it.code)) (item (title_data it.title) no_items))
 
-abbrev pub terms_fields : Terms → List (Field × Data)
-terms_fields terms = (fields.Licence, string terms.licence) ∷ (fields.Site, string terms.site) ∷ (fields.Source, string terms.source) ∷ []
+abbrev pub fields_of_terms : Terms → List (Field × Data)
+fields_of_terms terms = (fields.Licence, string terms.licence) ∷ (fields.Site, string terms.site) ∷ (fields.Source, string terms.source) ∷ []
 
 abbrev pub petition_field : ℕ → Field × Data
 petition_field petition = (fields.Petition, number (unsigned petition))
@@ -56,11 +55,11 @@ petition_field petition = (fields.Petition, number (unsigned petition))
 abbrev pub order_fields : Order → List (Field × Data)
 order_fields (orders.Enrol it) = (fields.Order, string (codes "enrol")) ∷ (fields.Org, string it.org) ∷ (fields.Title, string it.title) ∷ (fields.Site, string it.site) ∷ []
 order_fields (orders.AmendOrg it) = (fields.Order, string (codes "amend-org")) ∷ (fields.Org, string it.org) ∷ (fields.Title, string it.title) ∷ (fields.Site, string it.site) ∷ []
-order_fields (orders.Ask it) = (fields.Order, string (codes "ask")) ∷ (fields.Org, string it.org) ∷ (fields.Title, string it.title) ∷ terms_fields it.terms ++ digits_if_named fields.Number it.want ++ digits_if_named fields.Vendor it.vendor
+order_fields (orders.Ask it) = (fields.Order, string (codes "ask")) ∷ (fields.Org, string it.org) ∷ (fields.Title, string it.title) ∷ fields_of_terms it.terms ++ digits_if_named fields.Number it.want ++ digits_if_named fields.Vendor it.vendor
 order_fields (orders.Grant it) = (fields.Order, string (codes "grant")) ∷ petition_field it.petition ∷ digits_if_named fields.Number it.number
 order_fields (orders.Decline it) = (fields.Order, string (codes "decline")) ∷ petition_field it.petition ∷ []
 order_fields (orders.Withdraw it) = (fields.Order, string (codes "withdraw")) ∷ petition_field it.petition ∷ []
-order_fields (orders.Amend it) = (fields.Order, string (codes "amend")) ∷ (fields.Number, string (digits_of it.number)) ∷ (fields.Title, string it.title) ∷ terms_fields it.terms ++ digits_if_named fields.Vendor it.vendor
+order_fields (orders.Amend it) = (fields.Order, string (codes "amend")) ∷ (fields.Number, string (digits_of it.number)) ∷ (fields.Title, string it.title) ∷ fields_of_terms it.terms ++ digits_if_named fields.Vendor it.vendor
 order_fields (orders.Return it) = (fields.Order, string (codes "return")) ∷ (fields.Number, string (digits_of it.number)) ∷ digits_if_named fields.Vendor it.vendor
 order_fields (orders.Reserve it) = (fields.Order, string (codes "reserve")) ∷ (fields.First, string (digits_of it.span.first)) ∷ (fields.Last, string (digits_of it.span.last)) ∷ digits_if_named fields.Vendor it.vendor
 order_fields (orders.Release it) = (fields.Order, string (codes "release")) ∷ (fields.First, string (digits_of it.span.first)) ∷ (fields.Last, string (digits_of it.span.last)) ∷ digits_if_named fields.Vendor it.vendor
@@ -110,7 +109,7 @@ founding_line founding = compact_text (founding_data founding)
 
 -- the title of an item, or null
 abbrev pub title_or_null : Data → Option (Option (List ℕ))
-title_or_null found = if is_some (as_null found) then Some None else option_map (λ title. Some title) (option_and_then title_of (as_str found))
+title_or_null found = if is_some (as_null found) then Some None else option_map (λ title. Some title) (title_from found)
 
 -- the item with the four digits of its code, which may be 0000, and its title or null
 abbrev pub pair_item : Data → Data → Option Item
@@ -127,18 +126,22 @@ abbrev pub item_from : Data → Option Item
 item_from found = option_and_then item_of_pair (as_array found)
 
 -- the values of an array, if all are of the kind
-unfoldable pub all_of : {A : Type 0} → (Data → Option A) → Items → Option (List A)
-all_of kind no_items = Some []
-all_of kind (item first others) = option_and_then (λ x. option_map (λ xs. x ∷ xs) (all_of kind others)) (kind first)
+unfoldable pub all_from : {A : Type 0} → (Data → Option A) → Items → Option (List A)
+all_from kind no_items = Some []
+all_from kind (item first others) = option_and_then (λ x. option_map (λ xs. x ∷ xs) (all_from kind others)) (kind first)
 
-unfoldable pub items_in : Data → Result (List Item) WireRefusal
-items_in tree = wanted fields.Items (option_and_then (all_of item_from) (option_and_then as_array (get (field_name fields.Items) tree)))
+-- an array of items
+abbrev pub items_from : Data → Option (List Item)
+items_from found = option_and_then (all_from item_from) (as_array found)
 
-unfoldable pub import_in : Data → Result Order WireRefusal
-import_in tree = do
+abbrev pub items_in : Data → Result (List Item) WireRefusal
+items_in tree = field_in items_from fields.Items tree
+
+unfoldable pub kept_import_in : Data → Result Order WireRefusal
+kept_import_in tree = do
   org ← slug_in fields.Org tree
   items ← items_in tree
-  vendor ← optional_number_in fields.Vendor tree
+  vendor ← optional_id_in fields.Vendor tree
   Ok (orders.Import (record { org = org; items = items; vendor = vendor }))
 
 -- whether the order is an import, which only a record has
@@ -147,40 +150,25 @@ names_import None = false
 names_import (Some name) = bytes_eq name (codes "import")
 
 unfoldable pub kept_order_in : Data → Result Order WireRefusal
-kept_order_in tree = if names_import (text_in fields.Order tree) then import_in tree else order_in origins.Record tree
+kept_order_in tree = if names_import (text_in fields.Order tree) then kept_import_in tree else order_in origins.Record tree
 
-unfoldable pub reply_in : Data → Result (List ℕ) WireRefusal
-reply_in tree = wanted fields.Done (text_in fields.Done tree)
+abbrev pub reply_in : Data → Result (List ℕ) WireRefusal
+reply_in tree = field_in as_str fields.Done tree
 
 -- the fields in the order in which they are checked
-unfoldable pub accepted_in : Data → Result Accepted WireRefusal
-accepted_in tree = do
+unfoldable pub kept_request_in : Data → Result Accepted WireRefusal
+kept_request_in tree = do
   caller ← slug_in fields.Caller tree
   key ← key_in fields.Key tree
   order ← kept_order_in tree
   reply ← reply_in tree
   Ok (record { request = record { caller = caller; key = key; order = order }; reply = reply })
 
--- the accepted request of a line, or the first fault
-unfoldable pub accepted_reading : List ℕ → Result Accepted WireRefusal
-accepted_reading bytes = do
-  tree ← object_of bytes
-  accepted_in tree
-
 -- ---- the founding in a line
 
 -- the value of a key, or the refusal that the key is bad
 unfoldable pub key_value : {A : Type 0} → (Data → Option A) → FoundingFault → Data → Result A WireRefusal
 key_value kind key tree = present (BadFounding key) (option_and_then kind (get (fault_name key) tree))
-
-abbrev pub id_from : Data → Option ℕ
-id_from found = option_and_then number_of (as_str found)
-
-abbrev pub slug_from : Data → Option (List ℕ)
-slug_from found = option_and_then slug_of (as_str found)
-
-abbrev pub title_from : Data → Option (List ℕ)
-title_from found = option_and_then title_of (as_str found)
 
 abbrev pub span_from : Data → Option Span
 span_from found = option_and_then span_written (as_str found)
@@ -200,7 +188,7 @@ if_ascending texts = if is_ascending texts then Some texts else None
 
 -- an ascending array of one to `most` texts of the kind
 abbrev pub texts_from : (Data → Option (List ℕ)) → ℕ → Data → Option (List (List ℕ))
-texts_from kind most found = option_and_then if_ascending (option_and_then (one_to most) (option_and_then (all_of kind) (as_array found)))
+texts_from kind most found = option_and_then if_ascending (option_and_then (one_to most) (option_and_then (all_from kind) (as_array found)))
 
 -- whether the spans are maximal, the first from `start` on, all up to 65,535
 unfoldable pub is_spread : ℕ → List Span → Bool
@@ -212,7 +200,7 @@ if_spread spans = if is_spread 1 spans then Some spans else None
 
 -- an array of maximal spans
 abbrev pub spans_from : Data → Option (List Span)
-spans_from found = option_and_then if_spread (option_and_then (all_of span_from) (as_array found))
+spans_from found = option_and_then if_spread (option_and_then (all_from span_from) (as_array found))
 
 -- the keys in the order in which they are checked
 unfoldable pub founding_in : Data → Result Founding WireRefusal
@@ -224,12 +212,6 @@ founding_in tree = do
   fixed ← key_value spans_from faults.Fixed tree
   Ok (record { vendor = vendor; name = name; curators = curators; licences = licences; fixed = fixed })
 
--- the founding of a line, or the first fault
-unfoldable pub founding_reading : List ℕ → Result Founding WireRefusal
-founding_reading bytes = do
-  tree ← object_of bytes
-  founding_in tree
-
 -- ---- any line of a record
 
 -- an accepted request if there is a field `order`, otherwise a founding
@@ -237,7 +219,7 @@ unfoldable pub line_in : Data → Result RecordLine WireRefusal
 line_in tree =
     if is_some (get (field_name fields.Order) tree)
     then (do
-      accepted ← accepted_in tree
+      accepted ← kept_request_in tree
       Ok (lines.Accepted accepted))
     else (do
       founding ← founding_in tree

@@ -8,7 +8,7 @@ ghost use Rattle.usbnum_core.specs.Number.{digits_of};
 ghost use Rattle.registry_rules.specs.declared.order.Order.TheVariants as orders;
 ghost use Rattle.registry_wire.specs.declared.field.Field.TheVariants as fields;
 ghost use Rattle.registry_wire.specs.Reading.{field_name};
-ghost use Rattle.registry_wire.specs.Record.{title_data, item_data, digits_if_named, terms_fields, petition_field, order_fields, accepted_fields, with_fields, accepted_line};
+ghost use Rattle.registry_wire.specs.Record.{title_data, item_data, digits_if_named, fields_of_terms, petition_field, order_fields, accepted_fields, with_fields, accepted_line};
 
 use crate::Field;
 use crate::json_object::{Members, object_text, put, text_value};
@@ -77,7 +77,7 @@ fn put_vendor_if_named(
 }
 
 fn put_terms(alloc: Global, members: &mut Members, terms: &Terms) -> Result<(), NoMemory>
-    ensures { OnOk result (members_view members.new.entries ≡ with_fields (terms_fields terms.now) (members_view members.old.entries)) }
+    ensures { OnOk result (members_view members.new.entries ≡ with_fields (fields_of_terms terms.now) (members_view members.old.entries)) }
 {
     put_text(alloc, members, Field::Licence, terms.licence.as_str())?;
     put_text(alloc, members, Field::Site, terms.site.as_str())?;

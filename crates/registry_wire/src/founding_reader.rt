@@ -4,10 +4,11 @@ ghost use Rattle.std.specs.Prelude.{◌≡◌};
 ghost use Rattle.serde_json.specs.View.{view};
 ghost use Rattle.registry_rules.specs.Gives.{Gives};
 ghost use Rattle.registry_rules.specs.Limits.{most_curators, most_licences};
-ghost use Rattle.registry_wire.specs.Record.{slug_from, title_from, is_before_all, is_ascending, texts_from, is_spread, spans_from, key_value, founding_in};
+ghost use Rattle.registry_wire.specs.Reading.{slug_from, title_from};
+ghost use Rattle.registry_wire.specs.Record.{is_before_all, is_ascending, texts_from, is_spread, spans_from, key_value, founding_in};
 
 use crate::founding::spans_of;
-use crate::json_value::{FromJson, all_of};
+use crate::json_value::{FromJson, all_from};
 use crate::present::present;
 use crate::{FoundingFault, WireRefusal};
 use registry_rules::{Curators, Founding, Licences, Rejection};
@@ -44,7 +45,7 @@ impl FromJson for Curators {
         let Some(array) = value.as_array() else {
             return Ok(None);
         };
-        let Some(slugs) = all_of::<Slug>(alloc, array)? else {
+        let Some(slugs) = all_from::<Slug>(alloc, array)? else {
             return Ok(None);
         };
         if is_ascending(&slugs) {
@@ -62,7 +63,7 @@ impl FromJson for Licences {
         let Some(array) = value.as_array() else {
             return Ok(None);
         };
-        let Some(titles) = all_of::<Title>(alloc, array)? else {
+        let Some(titles) = all_from::<Title>(alloc, array)? else {
             return Ok(None);
         };
         if is_ascending(&titles) {
@@ -94,7 +95,7 @@ impl FromJson for Spans {
         let Some(array) = value.as_array() else {
             return Ok(None);
         };
-        let Some(spans) = all_of::<Span>(alloc, array)? else {
+        let Some(spans) = all_from::<Span>(alloc, array)? else {
             return Ok(None);
         };
         if is_spread(&spans) {

@@ -1,16 +1,17 @@
-//! Reads the values of a record's line.
+//! Reads values of JSON, in a request or in a record's line.
 
 ghost use Rattle.std.specs.Prelude.{◌≡◌, IfOk, option_map, option_and_then};
 ghost use Rattle.serde_json.specs.View.{view, items_view};
 ghost use Rattle.serde_json.specs.Find.{as_str};
 ghost use Rattle.usbnum_core.specs.Number.{code_of};
-ghost use Rattle.registry_wire.specs.Record.{id_from, slug_from, title_from, span_from, item_from, item_of_pair, title_or_null, all_of};
+ghost use Rattle.registry_wire.specs.Reading.{slug_from, key_from, title_from, id_from, whole_from};
+ghost use Rattle.registry_wire.specs.Record.{span_from, item_from, item_of_pair, title_or_null, items_from, all_from};
 
 use crate::toml_value::span_written;
-use registry_rules::Item;
+use registry_rules::{Item, Items, ReplyText};
 use serde_json::Value;
 use std::alloc::Global;
-use usbnum_core::{NoMemory, Slug, Span, Title, Vid, parse_code, parse_vid};
+use usbnum_core::{Key, NoMemory, Pid, Slug, Span, Title, Vid, parse_code, parse_pid, parse_vid};
 
 // A type that is read from one JSON value.
 pub(crate) trait FromJson: Drop {
@@ -34,6 +35,37 @@ impl FromJson for Vid {
     }
 }
 
+impl FromJson for Pid {
+    ghost kind = { id_from };
+
+    fn read(_alloc: Global, value: &Value) -> Result<Option<Pid>, NoMemory> {
+        match value.as_str() {
+            Some(text) => Ok(parse_pid(text.as_bytes())),
+            None => Ok(None),
+        }
+    }
+}
+
+// A whole number, without a decimal point or exponent.
+impl FromJson for u64 {
+    ghost kind = { whole_from };
+
+    fn read(_alloc: Global, value: &Value) -> Result<Option<u64>, NoMemory> {
+        Ok(value.as_u64())
+    }
+}
+
+impl FromJson for ReplyText {
+    ghost kind = { as_str };
+
+    fn read(alloc: Global, value: &Value) -> Result<Option<ReplyText>, NoMemory> {
+        match value.as_str() {
+            Some(text) => Ok(Some(ReplyText::new(String::from_str(alloc, text)?))),
+            None => Ok(None),
+        }
+    }
+}
+
 impl FromJson for Slug {
     ghost kind = { slug_from };
 
@@ -41,6 +73,18 @@ impl FromJson for Slug {
     fn read(alloc: Global, value: &Value) -> Result<Option<Slug>, NoMemory> {
         match value.as_str() {
             Some(text) => Slug::new(alloc, text.as_bytes()),
+            None => Ok(None),
+        }
+    }
+}
+
+impl FromJson for Key {
+    ghost kind = { key_from };
+
+    #[tactic(auto, unfolding(crate::specs::Kinds::key_of))]
+    fn read(alloc: Global, value: &Value) -> Result<Option<Key>, NoMemory> {
+        match value.as_str() {
+            Some(text) => Key::new(alloc, text.as_bytes()),
             None => Ok(None),
         }
     }
@@ -115,11 +159,11 @@ impl FromJson for Item {
 }
 
 // The values of an array, if all are of the kind.
-pub(crate) fn all_of<T: FromJson>(
+pub(crate) fn all_from<T: FromJson>(
     alloc: Global,
     values: &[Value],
 ) -> Result<Option<Vec<T>>, NoMemory>
-    ensures { IfOk result (λ found. option_map (λ list. list.items) found ≡ all_of T.kind (items_view values.now)) }
+    ensures { IfOk result (λ found. option_map (λ list. list.items) found ≡ all_from T.kind (items_view values.now)) }
 {
     let mut list = Vec::new(alloc);
     for value in values {
@@ -129,4 +173,18 @@ pub(crate) fn all_of<T: FromJson>(
         }
     }
     Ok(Some(list))
+}
+
+impl FromJson for Items {
+    ghost kind = { items_from };
+
+    fn read(alloc: Global, value: &Value) -> Result<Option<Items>, NoMemory> {
+        let Some(array) = value.as_array() else {
+            return Ok(None);
+        };
+        match all_from(alloc, array)? {
+            Some(list) => Ok(Some(Items::new(list))),
+            None => Ok(None),
+        }
+    }
 }

@@ -7,6 +7,9 @@ use std::alloc::Global;
 use url::{ParseError, Url};
 use usbnum_core::{Link, NoMemory};
 
+// The most bytes of a text that is read as a URL.
+const MOST_URL_BYTES: usize = 4096;
+
 fn is_web(scheme: &str) -> bool
     ensures { result ≡ (bytes_eq scheme.now (codes "http") || bytes_eq scheme.now (codes "https")) }
 {
@@ -24,12 +27,12 @@ fn web_address(alloc: Global, url: &Url) -> Result<Option<Link>, NoMemory>
     Link::new(alloc, url.as_str().as_bytes())
 }
 
-// Reads a link, in its canonical form, from a URL of at most 4,096 bytes.
+// Reads a link, in its canonical form, from a URL of at most `MOST_URL_BYTES`.
 #[tactic(auto, unfolding(crate::specs::Kinds::link_of))]
 pub(crate) fn link_of(alloc: Global, text: &str) -> Result<Option<Link>, NoMemory>
     ensures { IfOk result (λ found. found ≡ link_of text.now) }
 {
-    if text.len() > 4096 {
+    if text.len() > MOST_URL_BYTES {
         return Ok(None);
     }
     match Url::parse(alloc, text) {

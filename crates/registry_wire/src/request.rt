@@ -5,7 +5,7 @@ ghost use Rattle.registry_rules.specs.Gives.{Gives};
 ghost use Rattle.registry_wire.specs.Refusals.{GivesSeen};
 ghost use Rattle.registry_wire.specs.Reading.{object_of, body_reading, line_reading};
 
-use crate::fields::{Origin, key_at, slug_at};
+use crate::fields::{Origin, field_at};
 use crate::orders::order_at;
 use crate::{Field, WireRefusal};
 use registry_rules::{Rejection, Request};
@@ -45,8 +45,8 @@ pub fn line_request(alloc: Global, line: &[u8]) -> Result<Request, Rejection<Wir
     ensures { Gives result (line_reading line.now) }
 {
     let value = object_of(alloc, line)?;
-    let caller = slug_at(alloc, &value, Field::Caller)?;
-    let key = key_at(alloc, &value, Field::Key)?;
+    let caller = field_at(alloc, &value, Field::Caller)?;
+    let key = field_at(alloc, &value, Field::Key)?;
     let order = order_at(alloc, Origin::Caller, &value)?;
     Ok(Request { caller, key, order })
 }

@@ -1,9 +1,9 @@
 use Rattle.std.proofs.Common.{◌≡◌, ◌+◌, Some, None, sym, ◌∙◌, arith, drop, ap}
 use Rattle.serde_json.specs.View.{view, items_view}
-use Rattle.registry_wire.specs.Record.{all_of}
+use Rattle.registry_wire.specs.Record.{all_from}
 use Rattle.registry_wire.proofs.ItemLemmas.{with_front}
-use Rattle.registry_wire.proofs.ValueLemmas.{value_step, all_of_more, all_of_none, all_of_end}
-use Rattle.registry_wire.proofs.json_value.all_of.Goals as goal
+use Rattle.registry_wire.proofs.ValueLemmas.{value_step, all_from_more, all_from_none, all_from_end}
+use Rattle.registry_wire.proofs.json_value.all_from.Goals as goal
 
 pub returns-in-None : goal.returns-in-None
 returns-in-None g c =
@@ -13,8 +13,8 @@ returns-in-None g c =
     let front = c.loop-value.list.items in
     let value = c.value-item.result in
     let read : None ≡ kind (view value) = sym c.in-None.is ∙ c.in_ok-read.ensures in
-    sym (all_of_none kind front (view value) (items_view (drop (i + 1) values)) read)
-    ∙ (sym (ap (λ items. with_front front (all_of kind items)) (value_step values i value c.loop-value-test.true c.value-item.is)) ∙ c.loop-value.invariant)
+    sym (all_from_none kind front (view value) (items_view (drop (i + 1) values)) read)
+    ∙ (sym (ap (λ items. with_front front (all_from kind items)) (value_step values i value c.loop-value-test.true c.value-item.is)) ∙ c.loop-value.invariant)
 
 pub loop-value-preserved : goal.loop-value-preserved
 loop-value-preserved g c =
@@ -25,8 +25,8 @@ loop-value-preserved g c =
     let value = c.value-item.result in
     let read : Some c.in-Some.read ≡ kind (view value) = sym c.in-Some.is ∙ c.in_ok-read.ensures in
     rw c.in_ok-push-in-Some.ensures.items
-    (sym (all_of_more kind front c.in-Some.read (view value) (items_view (drop (i + 1) values)) read)
-    ∙ (sym (ap (λ items. with_front front (all_of kind items)) (value_step values i value c.loop-value-test.true c.value-item.is)) ∙ c.loop-value.invariant))
+    (sym (all_from_more kind front c.in-Some.read (view value) (items_view (drop (i + 1) values)) read)
+    ∙ (sym (ap (λ items. with_front front (all_from kind items)) (value_step values i value c.loop-value-test.true c.value-item.is)) ∙ c.loop-value.invariant))
 
 pub returns : goal.returns
-returns g c = sym (all_of_end g.T.FromJson.kind c.loop-value.list.items c.args.values.now c.loop-value.value-index (omega arith)) ∙ c.loop-value.invariant
+returns g c = sym (all_from_end g.T.FromJson.kind c.loop-value.list.items c.args.values.now c.loop-value.value-index (omega arith)) ∙ c.loop-value.invariant
