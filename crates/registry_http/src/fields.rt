@@ -7,6 +7,9 @@ ghost use Rattle.std.specs.List.{list_all, list_any};
 
 use httparse::spans::HeaderSpan;
 
+/// The most digits of a number in a head.
+const MOST_DIGITS: usize = 10;
+
 fn is_same_name(name: &[u8], other: &[u8]) -> bool
     ensures { result ≡ is_same_name name.now other.now }
 {
@@ -60,9 +63,9 @@ fn are_digits(bytes: &[u8]) -> bool
     bytes.iter().all(|b| is_digit(*b))
 }
 
-/// Returns the value of at most ten digits.
+/// Returns the value of at most `MOST_DIGITS` digits.
 fn number_of(digits: &[u8]) -> u64
-    requires few { length digits.now ≤ 10 }
+    requires few { length digits.now ≤ MOST_DIGITS }
     requires digits { list_all is_digit digits.now ≡ true }
     ensures { result ≡ decimal_from 0 digits.now }
 {
@@ -73,11 +76,11 @@ fn number_of(digits: &[u8]) -> u64
     number
 }
 
-/// Returns the value of one to ten digits, or None for any other text.
+/// Returns the value of one to `MOST_DIGITS` digits, or None for any other text.
 pub(crate) fn length_of(text: &[u8]) -> Option<u64>
     ensures { result ≡ length_of text.now }
 {
-    if text.is_empty() || text.len() > 10 || !are_digits(text) {
+    if text.is_empty() || text.len() > MOST_DIGITS || !are_digits(text) {
         return None;
     }
     Some(number_of(text))

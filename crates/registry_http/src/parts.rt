@@ -10,6 +10,9 @@ use registry_reports::report_named;
 use std::alloc::Global;
 use usbnum_core::{NoMemory, Slug, parse_pid, parse_vid};
 
+/// One more than the greatest petition, and than the greatest count of requests.
+const COUNTS_END: u64 = 4_294_967_296;
+
 /// Reads a part as a slug.
 #[tactic(auto, unfolding(registry_wire::specs::Kinds::slug_of))]
 pub(crate) fn slug_of(alloc: Global, text: &[u8]) -> Result<Option<Slug>, NoMemory>
@@ -33,7 +36,7 @@ fn petition_written(text: &[u8]) -> Option<u32>
     }
     match length_of(text) {
         Some(number) => {
-            if number < 4_294_967_296 {
+            if number < COUNTS_END {
                 Some(number as u32)
             } else {
                 None

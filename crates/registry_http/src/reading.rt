@@ -21,6 +21,12 @@ use registry_rules::Rejection;
 use std::alloc::Global;
 use usbnum_core::{Key, NoMemory, Slug};
 
+/// The most bytes of an order in JSON.
+const MOST_COMMAND: u32 = 16_384;
+
+/// The most bytes of a list that is imported.
+const MOST_LIST: u32 = 4_194_304;
+
 /// The head of an order.
 #[derive(Drop)]
 pub(crate) struct OrderHead {
@@ -55,8 +61,8 @@ fn body_limit(endpoint: &Endpoint) -> u32
     ensures { result ≡ body_limit endpoint.now }
 {
     match endpoint {
-        Endpoint::Commands => 16_384,
-        Endpoint::Imports { .. } => 4_194_304,
+        Endpoint::Commands => MOST_COMMAND,
+        Endpoint::Imports { .. } => MOST_LIST,
     }
 }
 
