@@ -1,10 +1,9 @@
 -- Several reads from a source, and several writes to a sink.
-use Rattle.std.proofs.Common.{◌≡◌, ℕ, ◌-◌, List, [], ◌++◌, length, take, drop, arith, Option, Some, None, inl, inr, refl, sym, ap, ◌∙◌, append_assoc}
-use Rattle.std.specs.Prelude.{nat_lt, Result, Ok, Err}
-use Rattle.std.proofs.lemmas.Bool.{cases_Bool, ltb-false, ltb-true}
+use Rattle.std.proofs.Common.{◌≡◌, ℕ, ◌-◌, List, [], ◌++◌, length, take, drop, arith, Option, Some, None, refl, sym, ap, ◌∙◌, append_assoc}
+use Rattle.std.specs.Prelude.{Result, Ok, Err}
 use Rattle.std.specs.Io.KnownBytes.{Appends, Consumes, IsAtEnd, Keeps}
 use Rattle.std.proofs.lemmas.List.{append-nil, take_all, take-append-drop, length-drop}
-use Rattle.byte_streams.specs.Streams.{AppendsPrefix, HasFailed, MayGive, Writes, one_more}
+use Rattle.byte_streams.specs.Streams.{AppendsPrefix, MayGive, Writes, one_more}
 
 pub appends_nil : (o : Option (List ℕ)) → Appends o o []
 appends_nil None = tt
@@ -43,13 +42,6 @@ appends_prefix_more a b x y p = record {
 pub writes_then : {A E : Type 0} (r : Result A E) (a b c : Option (List ℕ)) (f g h : ℕ) (x y : List ℕ) → Appends a b x → g ≡ f → Writes b c g h r y → Writes a c f h r (x ++ y)
 writes_then (Ok done) a b c f g h x y p same w = (appends_then a b c x y p w.0, w.1 ∙ same)
 writes_then (Err e) a b c f g h x y p same w = (appends_prefix_then a b c x y p w.0, w.1 ∙ ap one_more same)
-
--- one more failure shows in the count
-pub has_failed_more : (f h : ℕ) → h ≡ one_more f → HasFailed f h
-has_failed_more f h e = elim (cases_Bool (nat_lt f h)) [
-  | inl less ↦ inl (ltb-true f h less)
-  | inr more ↦ let below = ltb-false f h more in inr (omega arith)
-]
 
 -- a write that stops after some of the bytes
 pub put_fails : (a b c : Option (List ℕ)) (f g h : ℕ) (i : ℕ) (bytes : List ℕ) → Appends a b (take i bytes) → Keeps b c → g ≡ f → h ≡ one_more g → AppendsPrefix a c bytes × (h ≡ one_more f)

@@ -1,5 +1,5 @@
 -- What a source gives, what a sink takes, and how failures are counted.
-use Rattle.std.specs.Prelude.{◌≡◌, ◌⊎◌, ℕ, ◌+◌, ◌-◌, ◌^◌, ◌<◌, ◌≤◌, min, List, ◌++◌, length, take, Option, Some, None, Result, Ok, Err, ⊤}
+use Rattle.std.specs.Prelude.{◌≡◌, ℕ, ◌+◌, ◌-◌, ◌^◌, ◌<◌, ◌≤◌, min, List, ◌++◌, length, take, Option, Some, None, Result, Ok, Err, ⊤}
 use Rattle.std.specs.Io.KnownBytes.{Consumes, Appends, Keeps, IsAtEnd}
 
 -- the most bytes that are read of one input
@@ -18,10 +18,6 @@ one_more n = min (n + 1) (2 ^ 64 - 1)
 -- exactly one call failed between these two counts of failures
 abbrev pub FailsOnce : ℕ → ℕ → Type 0
 FailsOnce old new = new ≡ one_more old
-
--- a call failed between these two counts of failures
-abbrev pub HasFailed : ℕ → ℕ → Type 0
-HasFailed old new = (old < new) ⊎ (new ≡ 2 ^ 64 - 1)
 
 -- the source gave these n bytes, 0 only at its end or if there was no room; or it failed and gave none
 abbrev pub Takes : {E : Type 0} → Option (List ℕ) → Option (List ℕ) → ℕ → ℕ → Result ℕ E → List ℕ → Type 0
