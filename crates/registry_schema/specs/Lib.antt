@@ -3,3 +3,4 @@ pub mod Schema
 pub mod Meta
 pub mod Version
 pub mod Faults
+pub mod Steps
