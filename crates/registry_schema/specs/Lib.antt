@@ -1,4 +1,5 @@
 pub mod Texts
+pub mod Trees
 pub mod Schema
 pub mod Meta
 pub mod Version
