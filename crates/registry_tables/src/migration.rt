@@ -12,6 +12,7 @@ ghost use Rattle.registry_tables.specs.Known.{SaysFirst, IsNamed, IsKnownOlder};
 ghost use Rattle.registry_tables.specs.Rows.{newest, Rows};
 ghost use Rattle.registry_tables.specs.Raising.{IsMadeBy, CommitsTwo, EndsTwo, CommitsLater, IsAtRest, IsNamedOlder, StaysOpen};
 
+use crate::beginning::begin;
 use crate::second::first_to_second;
 use crate::third::second_to_third;
 use registry_schema::{TableFault, version_of};
@@ -46,7 +47,7 @@ fn unknown<S: Alter>(conn: &mut Connection<S>) -> TableFault
     ensures open { HasCleanDisk (state S.Store conn.new) → result ≡ TableFault.Foreign → IsTrue (state S.Store conn.old).is_open }
     ensures survives { CommitsNothing (state S.Store conn.old) (state S.Store conn.new) }
 {
-    let mut tx = conn.transaction();
+    let mut tx = begin(conn);
     let ran = try_store(&mut tx);
     tx.rollback();
     match ran {
