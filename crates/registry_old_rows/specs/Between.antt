@@ -5,6 +5,7 @@ use Rattle.sqlite_trees.specs.Tree.{Trees}
 use Rattle.sqlite_catalog.specs.Listing.{IsSound}
 use Rattle.table_laws.specs.Stored.{Stores, StoresUnnumbered}
 use Rattle.registry_schema.specs.Schema.{schema_1, schema_2, schema_3}
+use Rattle.registry_schema.specs.Trees.{vendors_tree, spans3_tree, entries3_tree, petitions3_tree}
 use Rattle.registry_rows.specs.Rows.{vendor_key, vendor_row, IsVendor, span_row, IsVendorSpan, entry_row, IsEntry, petition_key, petition_row, IsPetition}
 use Rattle.registry_rows.specs.Tables.{Tables}
 use Rattle.registry_old_rows.specs.Old.{AreFirst, AreSecond}
@@ -24,10 +25,10 @@ pub record HoldsSecond (vid : ℕ) (db : Database) (t : Tables) (numbers : List 
 -- the tables of the second schema store the values of `o`, and those that the third adds store the values of `t`
 pub record AreBoth (vid : ℕ) (db : Trees) (o t : Tables) : Type 0 where
   pub second : AreSecond vid db o []
-  pub vendors : Stores IsVendor vendor_key vendor_row (db 14) t.vendors
-  pub spans : StoresUnnumbered IsVendorSpan span_row (db 15) t.spans
-  pub entries : StoresUnnumbered IsEntry entry_row (db 17) t.entries
-  pub petitions : Stores IsPetition petition_key petition_row (db 19) t.petitions
+  pub vendors : Stores IsVendor vendor_key vendor_row (db vendors_tree) t.vendors
+  pub spans : StoresUnnumbered IsVendorSpan span_row (db spans3_tree) t.spans
+  pub entries : StoresUnnumbered IsEntry entry_row (db entries3_tree) t.entries
+  pub petitions : Stores IsPetition petition_key petition_row (db petitions3_tree) t.petitions
 
 pub record HoldsBoth (vid : ℕ) (db : Database) (o t : Tables) : Type 0 where
   pub schema : db.schema ≡ schema_3

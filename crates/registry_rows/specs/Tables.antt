@@ -14,6 +14,7 @@ use Rattle.table_laws.specs.Making.{HasTables}
 use Rattle.table_laws.specs.Stored.{Stores, StoresWithRowids, StoresUnnumbered}
 use Rattle.registry_schema.specs.Texts.{texts_3}
 use Rattle.registry_schema.specs.Schema.{schema_3}
+use Rattle.registry_schema.specs.Trees.{meta_tree, curators_tree, licences_tree, fixed_tree, orgs_tree, petitions_tree, entries_tree, reserved_tree, kept_tree, spans_tree, vendors_tree, spans3_tree, entries3_tree, petitions3_tree}
 use Rattle.registry_rows.specs.declared.kept.KeptRow.{KeptRow}
 use Rattle.registry_rows.specs.declared.meta.Meta.{Meta}
 use Rattle.registry_rows.specs.Rows.{meta_key, meta_row, IsMeta, name_row, fixed_key, fixed_row, IsSpan, org_row, IsOrg, kept_row, IsKept, is_after, vendor_key, vendor_row, IsVendor, span_row, IsVendorSpan, entry_row, IsEntry, petition_key, petition_row, IsPetition}
@@ -42,20 +43,20 @@ replies_after n t = map (λ k. k.1) (filter (is_after n) t.kept)
 
 -- the rows of each table store these values, and the tables of older schemas that were replaced are empty
 pub record AreRows (db : Trees) (t : Tables) : Type 0 where
-  pub metas : Stores IsMeta meta_key meta_row (db 0) t.metas
-  pub curators : StoresUnnumbered IsSlug name_row (db 1) t.curators
-  pub licences : StoresUnnumbered IsTitle name_row (db 3) t.licences
-  pub fixed : Stores IsSpan fixed_key fixed_row (db 5) t.fixed
-  pub orgs : StoresUnnumbered IsOrg org_row (db 6) t.orgs
-  pub no_petitions : db 8 ≡ []
-  pub no_entries : db 9 ≡ []
-  pub no_reserved : db 10 ≡ []
-  pub kept : StoresWithRowids IsKept kept_row (db 11) t.kept
-  pub no_spans : db 13 ≡ []
-  pub vendors : Stores IsVendor vendor_key vendor_row (db 14) t.vendors
-  pub spans : StoresUnnumbered IsVendorSpan span_row (db 15) t.spans
-  pub entries : StoresUnnumbered IsEntry entry_row (db 17) t.entries
-  pub petitions : Stores IsPetition petition_key petition_row (db 19) t.petitions
+  pub metas : Stores IsMeta meta_key meta_row (db meta_tree) t.metas
+  pub curators : StoresUnnumbered IsSlug name_row (db curators_tree) t.curators
+  pub licences : StoresUnnumbered IsTitle name_row (db licences_tree) t.licences
+  pub fixed : Stores IsSpan fixed_key fixed_row (db fixed_tree) t.fixed
+  pub orgs : StoresUnnumbered IsOrg org_row (db orgs_tree) t.orgs
+  pub no_petitions : db petitions_tree ≡ []
+  pub no_entries : db entries_tree ≡ []
+  pub no_reserved : db reserved_tree ≡ []
+  pub kept : StoresWithRowids IsKept kept_row (db kept_tree) t.kept
+  pub no_spans : db spans_tree ≡ []
+  pub vendors : Stores IsVendor vendor_key vendor_row (db vendors_tree) t.vendors
+  pub spans : StoresUnnumbered IsVendorSpan span_row (db spans3_tree) t.spans
+  pub entries : StoresUnnumbered IsEntry entry_row (db entries3_tree) t.entries
+  pub petitions : Stores IsPetition petition_key petition_row (db petitions3_tree) t.petitions
 
 -- the trees have exactly the tables of the third schema, with these rows
 pub record HasRows (db : Trees) (t : Tables) : Type 0 where

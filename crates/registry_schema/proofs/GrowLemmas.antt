@@ -1,36 +1,35 @@
--- The four tables of the third schema, one after another.
-use Rattle.std.proofs.Common.{[], ◌∷◌, ◌∙◌}
-use Rattle.sqlite_catalog.specs.Change.{KeepsRows}
+-- Tables added to a schema, and then more.
+use Rattle.std.proofs.Common.{◌≡◌, ◌++◌, fold, List, [], ◌∷◌, sym, subst, ◌∙◌}
+use Rattle.std.proofs.lemmas.List.Sums.{fold-append}
+use Rattle.sqlite_schema.specs.declared.schema.Table.{Table}
+use Rattle.sqlite_schema.specs.declared.schema.Schema.{Schema}
+use Rattle.sqlite_catalog.specs.Change.{created, KeepsRows}
+use Rattle.sqlite_catalog.specs.Listing.{IsSound}
+use Rattle.sqlite_trees.specs.Tree.{Trees}
+use Rattle.sqlite_trees.proofs.ListLemmas.{all_both, all-append}
 use Rattle.sqlite.specs.Effect.{Database}
-use Rattle.table_laws.specs.Making.{HasMore}
+use Rattle.sqlite.specs.State.{State}
+use Rattle.table_laws.specs.Making.{HasMore, AddsTo}
+use Rattle.table_laws.proofs.InsideLemmas.{goes_then}
 use Rattle.table_laws.proofs.MakeLemmas.{front_kept, kept_then}
-use Rattle.registry_schema.specs.Schema.{schema_2, vendors, spans3, entries3, petitions3, past_vendors, past_spans3, past_entries3}
 
-module _ (a b c d e : Database) (first : HasMore schema_2 (vendors ∷ []) a b) (second : HasMore past_vendors (spans3 ∷ []) b c) (third : HasMore past_spans3 (entries3 ∷ []) c d)
-    (fourth : HasMore past_entries3 (petitions3 ∷ []) d e) where
-  kept_2 : KeepsRows past_vendors.tables a.trees b.trees → KeepsRows past_vendors.tables a.trees c.trees
-  kept_2 h = kept_then past_vendors.tables a.trees b.trees c.trees h second.kept
+back_kept : (xs ys : List Table) (a b : Trees) → KeepsRows (xs ++ ys) a b → KeepsRows ys a b
+back_kept [] ys a b h = h
+back_kept (x ∷ xs) ys a b h = back_kept xs ys a b h.1
 
-  -- the four tables of the third schema
-  pub has_four : HasMore schema_2 (vendors ∷ spans3 ∷ entries3 ∷ petitions3 ∷ []) a e
-  has_four =
-      let c_kept = front_kept schema_2.tables (vendors ∷ []) b.trees c.trees second.kept in
-      let d_kept = front_kept schema_2.tables (vendors ∷ spans3 ∷ []) c.trees d.trees third.kept in
-      let e_kept = front_kept schema_2.tables (vendors ∷ spans3 ∷ entries3 ∷ []) d.trees e.trees fourth.kept in
-      let up_to_c = kept_then schema_2.tables a.trees b.trees c.trees first.kept c_kept in
-      let up_to_d = kept_then schema_2.tables a.trees c.trees d.trees up_to_c d_kept in
+module _ (schema : Schema) (xs ys : List Table) (tables : (fold created schema xs).tables ≡ schema.tables ++ xs) where
+  has_both : (a b c : Database) → HasMore schema xs a b → HasMore (fold created schema xs) ys b c → HasMore schema (xs ++ ys) a c
+  has_both a b c one two =
+      let same : fold created schema (xs ++ ys) ≡ fold created (fold created schema xs) ys = fold-append created schema xs ys in
+      let kept : KeepsRows (schema.tables ++ xs) b.trees c.trees = subst (λ ts. KeepsRows ts b.trees c.trees) tables two.kept in
       record {
-        is = fourth.is;
-        sound = fourth.sound;
-        kept = kept_then schema_2.tables a.trees d.trees e.trees up_to_d e_kept;
-        empty = (
-          fourth.kept.1.1.1.1.1.1.1.1.1.1.0 ∙ (third.kept.1.1.1.1.1.1.1.1.1.1.0 ∙ (second.kept.1.1.1.1.1.1.1.1.1.1.0 ∙ first.empty.0)),
-          (
-            fourth.kept.1.1.1.1.1.1.1.1.1.1.1.0 ∙ (third.kept.1.1.1.1.1.1.1.1.1.1.1.0 ∙ second.empty.0),
-            (
-              fourth.kept.1.1.1.1.1.1.1.1.1.1.1.1.0 ∙ third.empty.0,
-              (fourth.empty.0, tt),
-            ),
-          ),
-        );
+        is = two.is ∙ sym same;
+        sound = subst (λ s. IsSound s c.trees) (sym same) two.sound;
+        kept = kept_then schema.tables a.trees b.trees c.trees one.kept (front_kept schema.tables xs b.trees c.trees kept);
+        empty = all-append (λ (t : Table). c.trees t.tree ≡ []) xs ys
+            (all_both (λ (t : Table). c.trees t.tree ≡ b.trees t.tree) (λ (t : Table). b.trees t.tree ≡ []) (λ (t : Table). c.trees t.tree ≡ []) (λ t p q. p ∙ q) xs (back_kept schema.tables xs b.trees c.trees kept) one.empty) two.empty;
       }
+
+  -- the tables of both steps
+  pub adds_both : (a b c : State) → AddsTo schema xs a b → AddsTo (fold created schema xs) ys b c → AddsTo schema (xs ++ ys) a c
+  adds_both a b c one two = (goes_then a b c one.0 two.0, λ has. (let first = one.1 has in has_both a.now b.now c.now first (two.1 first.is)))

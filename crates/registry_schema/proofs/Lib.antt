@@ -2,3 +2,4 @@ pub mod TextLemmas
 pub mod GrowLemmas
 pub mod VersionLemmas
 pub mod NameLemmas
+pub mod StepLemmas

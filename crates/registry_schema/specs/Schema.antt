@@ -1,53 +1,53 @@
--- The tables that the texts define, and the schemas that they make. Each CREATE TABLE takes the next tree, and the
--- index of its key the one after it.
+-- The tables that the texts define, and the schemas that they make.
 use Rattle.std.specs.Prelude.{[], ◌∷◌, codes}
 use Rattle.sqlite_schema.specs.declared.schema.Table.{Table}
 use Rattle.sqlite_schema.specs.declared.schema.Schema.{Schema}
 use Rattle.sqlite_catalog.specs.Change.{created}
 use Rattle.table_laws.specs.Shape.{numbered_table, keyed_table, number, number_or_null, text, text_or_null, blob}
 use Rattle.table_laws.specs.Making.{no_schema}
+use Rattle.registry_schema.specs.Trees.{meta_tree, curators_tree, licences_tree, fixed_tree, orgs_tree, petitions_tree, entries_tree, reserved_tree, kept_tree, spans_tree, vendors_tree, spans3_tree, entries3_tree, petitions3_tree}
 
 abbrev pub meta : Table
-meta = numbered_table 0 (codes "meta") (number_or_null (codes "id") ∷ number (codes "version") ∷ number (codes "vendor") ∷ text (codes "name") ∷ [])
+meta = numbered_table meta_tree (codes "meta") (number_or_null (codes "id") ∷ number (codes "version") ∷ number (codes "vendor") ∷ text (codes "name") ∷ [])
 
 abbrev pub curators : Table
-curators = keyed_table 1 (codes "curators") (1 ∷ []) (text (codes "name") ∷ [])
+curators = keyed_table curators_tree (codes "curators") (1 ∷ []) (text (codes "name") ∷ [])
 
 abbrev pub licences : Table
-licences = keyed_table 3 (codes "licences") (1 ∷ []) (text (codes "name") ∷ [])
+licences = keyed_table licences_tree (codes "licences") (1 ∷ []) (text (codes "name") ∷ [])
 
 abbrev pub fixed : Table
-fixed = numbered_table 5 (codes "fixed") (number_or_null (codes "lo") ∷ number (codes "hi") ∷ [])
+fixed = numbered_table fixed_tree (codes "fixed") (number_or_null (codes "lo") ∷ number (codes "hi") ∷ [])
 
 abbrev pub orgs : Table
-orgs = keyed_table 6 (codes "orgs") (1 ∷ []) (text (codes "slug") ∷ text (codes "title") ∷ text (codes "site") ∷ text (codes "keeper") ∷ [])
+orgs = keyed_table orgs_tree (codes "orgs") (1 ∷ []) (text (codes "slug") ∷ text (codes "title") ∷ text (codes "site") ∷ text (codes "keeper") ∷ [])
 
 abbrev pub petitions : Table
-petitions = numbered_table 8 (codes "petitions") (number_or_null (codes "id") ∷ text (codes "org") ∷ number_or_null (codes "want") ∷ text (codes "title") ∷ text (codes "licence") ∷ text (codes "site") ∷ text (codes "source") ∷ number (codes "state") ∷ number_or_null (codes "pid") ∷ [])
+petitions = numbered_table petitions_tree (codes "petitions") (number_or_null (codes "id") ∷ text (codes "org") ∷ number_or_null (codes "want") ∷ text (codes "title") ∷ text (codes "licence") ∷ text (codes "site") ∷ text (codes "source") ∷ number (codes "state") ∷ number_or_null (codes "pid") ∷ [])
 
 abbrev pub entries : Table
-entries = numbered_table 9 (codes "entries") (number_or_null (codes "pid") ∷ text (codes "org") ∷ number (codes "held") ∷ text (codes "title") ∷ text_or_null (codes "licence") ∷ text_or_null (codes "site") ∷ text_or_null (codes "source") ∷ [])
+entries = numbered_table entries_tree (codes "entries") (number_or_null (codes "pid") ∷ text (codes "org") ∷ number (codes "held") ∷ text (codes "title") ∷ text_or_null (codes "licence") ∷ text_or_null (codes "site") ∷ text_or_null (codes "source") ∷ [])
 
 abbrev pub reserved : Table
-reserved = numbered_table 10 (codes "reserved") (number_or_null (codes "pid") ∷ [])
+reserved = numbered_table reserved_tree (codes "reserved") (number_or_null (codes "pid") ∷ [])
 
 abbrev pub kept : Table
-kept = keyed_table 11 (codes "kept") (1 ∷ 2 ∷ []) (text (codes "caller") ∷ text (codes "request_key") ∷ blob (codes "request") ∷ text (codes "reply") ∷ [])
+kept = keyed_table kept_tree (codes "kept") (1 ∷ 2 ∷ []) (text (codes "caller") ∷ text (codes "request_key") ∷ blob (codes "request") ∷ text (codes "reply") ∷ [])
 
 abbrev pub spans : Table
-spans = numbered_table 13 (codes "spans") (number_or_null (codes "lo") ∷ number (codes "hi") ∷ [])
+spans = numbered_table spans_tree (codes "spans") (number_or_null (codes "lo") ∷ number (codes "hi") ∷ [])
 
 abbrev pub vendors : Table
-vendors = numbered_table 14 (codes "vendors") (number_or_null (codes "vid") ∷ text (codes "name") ∷ [])
+vendors = numbered_table vendors_tree (codes "vendors") (number_or_null (codes "vid") ∷ text (codes "name") ∷ [])
 
 abbrev pub spans3 : Table
-spans3 = keyed_table 15 (codes "spans3") (1 ∷ 2 ∷ []) (number (codes "vid") ∷ number (codes "lo") ∷ number (codes "hi") ∷ [])
+spans3 = keyed_table spans3_tree (codes "spans3") (1 ∷ 2 ∷ []) (number (codes "vid") ∷ number (codes "lo") ∷ number (codes "hi") ∷ [])
 
 abbrev pub entries3 : Table
-entries3 = keyed_table 17 (codes "entries3") (1 ∷ 2 ∷ []) (number (codes "vid") ∷ number (codes "pid") ∷ text (codes "org") ∷ number (codes "held") ∷ text (codes "title") ∷ text_or_null (codes "licence") ∷ text_or_null (codes "site") ∷ text_or_null (codes "source") ∷ [])
+entries3 = keyed_table entries3_tree (codes "entries3") (1 ∷ 2 ∷ []) (number (codes "vid") ∷ number (codes "pid") ∷ text (codes "org") ∷ number (codes "held") ∷ text (codes "title") ∷ text_or_null (codes "licence") ∷ text_or_null (codes "site") ∷ text_or_null (codes "source") ∷ [])
 
 abbrev pub petitions3 : Table
-petitions3 = numbered_table 19 (codes "petitions3") (number_or_null (codes "id") ∷ number (codes "vid") ∷ text (codes "org") ∷ number_or_null (codes "want") ∷ text (codes "title") ∷ text (codes "licence") ∷ text (codes "site") ∷ text (codes "source") ∷ number (codes "state") ∷ number_or_null (codes "pid") ∷ [])
+petitions3 = numbered_table petitions3_tree (codes "petitions3") (number_or_null (codes "id") ∷ number (codes "vid") ∷ text (codes "org") ∷ number_or_null (codes "want") ∷ text (codes "title") ∷ text (codes "licence") ∷ text (codes "site") ∷ text (codes "source") ∷ number (codes "state") ∷ number_or_null (codes "pid") ∷ [])
 
 -- the schema up to this table
 abbrev pub past_meta : Schema

@@ -1,21 +1,14 @@
 //! The tables of the first schema.
 
-ghost use Rattle.std.specs.Prelude.{◌≡◌, ◌≢◌, IsTrue, OnOk};
-ghost use Rattle.sqlite.specs.State.{HasCleanDisk};
-ghost use Rattle.sqlite.specs.Held.{state};
-ghost use Rattle.table_laws.specs.Inside.{CommitsNothing};
 ghost use Rattle.table_laws.specs.Making.{no_schema, Adds};
 ghost use Rattle.registry_schema.specs.Schema.{past_meta, past_curators, past_licences, past_fixed, past_orgs, past_petitions, past_entries, past_reserved, schema_1};
+ghost use Rattle.registry_schema.specs.Steps.{WritesTables};
 
 use crate::TableFault;
 use sqlite::{Alter, Transaction};
 
 fn create_meta<S: Alter>(tx: &mut Transaction<'_, S>) -> Result<(), TableFault>
-    ensures same_reference { tx.new.conn.ghost_name ≡ tx.old.conn.ghost_name }
-    ensures made { HasCleanDisk (state S.Store tx.new.conn.now) → IsTrue (state S.Store tx.old.conn.now).in_transaction
-        → OnOk result (Adds no_schema past_meta (state S.Store tx.old.conn.now) (state S.Store tx.new.conn.now)) }
-    ensures fault { result ≢ Err TableFault.Foreign }
-    ensures survives { CommitsNothing (state S.Store tx.old.conn.now) (state S.Store tx.new.conn.now) }
+    ensures writes { WritesTables S.Store tx.old.conn tx.new.conn result (Adds no_schema past_meta) }
 {
     tx.execute(
         "CREATE TABLE meta (id INTEGER PRIMARY KEY, version INTEGER NOT NULL, vendor INTEGER NOT NULL, name TEXT NOT NULL) STRICT",
@@ -25,11 +18,7 @@ fn create_meta<S: Alter>(tx: &mut Transaction<'_, S>) -> Result<(), TableFault>
 }
 
 fn create_curators<S: Alter>(tx: &mut Transaction<'_, S>) -> Result<(), TableFault>
-    ensures same_reference { tx.new.conn.ghost_name ≡ tx.old.conn.ghost_name }
-    ensures made { HasCleanDisk (state S.Store tx.new.conn.now) → IsTrue (state S.Store tx.old.conn.now).in_transaction
-        → OnOk result (Adds past_meta past_curators (state S.Store tx.old.conn.now) (state S.Store tx.new.conn.now)) }
-    ensures fault { result ≢ Err TableFault.Foreign }
-    ensures survives { CommitsNothing (state S.Store tx.old.conn.now) (state S.Store tx.new.conn.now) }
+    ensures writes { WritesTables S.Store tx.old.conn tx.new.conn result (Adds past_meta past_curators) }
 {
     tx.execute(
         "CREATE TABLE curators (name TEXT PRIMARY KEY NOT NULL) STRICT",
@@ -39,11 +28,7 @@ fn create_curators<S: Alter>(tx: &mut Transaction<'_, S>) -> Result<(), TableFau
 }
 
 fn create_licences<S: Alter>(tx: &mut Transaction<'_, S>) -> Result<(), TableFault>
-    ensures same_reference { tx.new.conn.ghost_name ≡ tx.old.conn.ghost_name }
-    ensures made { HasCleanDisk (state S.Store tx.new.conn.now) → IsTrue (state S.Store tx.old.conn.now).in_transaction
-        → OnOk result (Adds past_curators past_licences (state S.Store tx.old.conn.now) (state S.Store tx.new.conn.now)) }
-    ensures fault { result ≢ Err TableFault.Foreign }
-    ensures survives { CommitsNothing (state S.Store tx.old.conn.now) (state S.Store tx.new.conn.now) }
+    ensures writes { WritesTables S.Store tx.old.conn tx.new.conn result (Adds past_curators past_licences) }
 {
     tx.execute(
         "CREATE TABLE licences (name TEXT PRIMARY KEY NOT NULL) STRICT",
@@ -53,11 +38,7 @@ fn create_licences<S: Alter>(tx: &mut Transaction<'_, S>) -> Result<(), TableFau
 }
 
 fn create_fixed<S: Alter>(tx: &mut Transaction<'_, S>) -> Result<(), TableFault>
-    ensures same_reference { tx.new.conn.ghost_name ≡ tx.old.conn.ghost_name }
-    ensures made { HasCleanDisk (state S.Store tx.new.conn.now) → IsTrue (state S.Store tx.old.conn.now).in_transaction
-        → OnOk result (Adds past_licences past_fixed (state S.Store tx.old.conn.now) (state S.Store tx.new.conn.now)) }
-    ensures fault { result ≢ Err TableFault.Foreign }
-    ensures survives { CommitsNothing (state S.Store tx.old.conn.now) (state S.Store tx.new.conn.now) }
+    ensures writes { WritesTables S.Store tx.old.conn tx.new.conn result (Adds past_licences past_fixed) }
 {
     tx.execute(
         "CREATE TABLE fixed (lo INTEGER PRIMARY KEY, hi INTEGER NOT NULL) STRICT",
@@ -67,11 +48,7 @@ fn create_fixed<S: Alter>(tx: &mut Transaction<'_, S>) -> Result<(), TableFault>
 }
 
 fn create_orgs<S: Alter>(tx: &mut Transaction<'_, S>) -> Result<(), TableFault>
-    ensures same_reference { tx.new.conn.ghost_name ≡ tx.old.conn.ghost_name }
-    ensures made { HasCleanDisk (state S.Store tx.new.conn.now) → IsTrue (state S.Store tx.old.conn.now).in_transaction
-        → OnOk result (Adds past_fixed past_orgs (state S.Store tx.old.conn.now) (state S.Store tx.new.conn.now)) }
-    ensures fault { result ≢ Err TableFault.Foreign }
-    ensures survives { CommitsNothing (state S.Store tx.old.conn.now) (state S.Store tx.new.conn.now) }
+    ensures writes { WritesTables S.Store tx.old.conn tx.new.conn result (Adds past_fixed past_orgs) }
 {
     tx.execute(
         "CREATE TABLE orgs (slug TEXT PRIMARY KEY NOT NULL, title TEXT NOT NULL, site TEXT NOT NULL, keeper TEXT NOT NULL) STRICT",
@@ -81,11 +58,7 @@ fn create_orgs<S: Alter>(tx: &mut Transaction<'_, S>) -> Result<(), TableFault>
 }
 
 fn create_petitions<S: Alter>(tx: &mut Transaction<'_, S>) -> Result<(), TableFault>
-    ensures same_reference { tx.new.conn.ghost_name ≡ tx.old.conn.ghost_name }
-    ensures made { HasCleanDisk (state S.Store tx.new.conn.now) → IsTrue (state S.Store tx.old.conn.now).in_transaction
-        → OnOk result (Adds past_orgs past_petitions (state S.Store tx.old.conn.now) (state S.Store tx.new.conn.now)) }
-    ensures fault { result ≢ Err TableFault.Foreign }
-    ensures survives { CommitsNothing (state S.Store tx.old.conn.now) (state S.Store tx.new.conn.now) }
+    ensures writes { WritesTables S.Store tx.old.conn tx.new.conn result (Adds past_orgs past_petitions) }
 {
     tx.execute(
         "CREATE TABLE petitions (id INTEGER PRIMARY KEY, org TEXT NOT NULL, want INTEGER, title TEXT NOT NULL, licence TEXT NOT NULL, site TEXT NOT NULL, source TEXT NOT NULL, state INTEGER NOT NULL, pid INTEGER) STRICT",
@@ -95,11 +68,7 @@ fn create_petitions<S: Alter>(tx: &mut Transaction<'_, S>) -> Result<(), TableFa
 }
 
 fn create_entries<S: Alter>(tx: &mut Transaction<'_, S>) -> Result<(), TableFault>
-    ensures same_reference { tx.new.conn.ghost_name ≡ tx.old.conn.ghost_name }
-    ensures made { HasCleanDisk (state S.Store tx.new.conn.now) → IsTrue (state S.Store tx.old.conn.now).in_transaction
-        → OnOk result (Adds past_petitions past_entries (state S.Store tx.old.conn.now) (state S.Store tx.new.conn.now)) }
-    ensures fault { result ≢ Err TableFault.Foreign }
-    ensures survives { CommitsNothing (state S.Store tx.old.conn.now) (state S.Store tx.new.conn.now) }
+    ensures writes { WritesTables S.Store tx.old.conn tx.new.conn result (Adds past_petitions past_entries) }
 {
     tx.execute(
         "CREATE TABLE entries (pid INTEGER PRIMARY KEY, org TEXT NOT NULL, held INTEGER NOT NULL, title TEXT NOT NULL, licence TEXT, site TEXT, source TEXT) STRICT",
@@ -109,11 +78,7 @@ fn create_entries<S: Alter>(tx: &mut Transaction<'_, S>) -> Result<(), TableFaul
 }
 
 fn create_reserved<S: Alter>(tx: &mut Transaction<'_, S>) -> Result<(), TableFault>
-    ensures same_reference { tx.new.conn.ghost_name ≡ tx.old.conn.ghost_name }
-    ensures made { HasCleanDisk (state S.Store tx.new.conn.now) → IsTrue (state S.Store tx.old.conn.now).in_transaction
-        → OnOk result (Adds past_entries past_reserved (state S.Store tx.old.conn.now) (state S.Store tx.new.conn.now)) }
-    ensures fault { result ≢ Err TableFault.Foreign }
-    ensures survives { CommitsNothing (state S.Store tx.old.conn.now) (state S.Store tx.new.conn.now) }
+    ensures writes { WritesTables S.Store tx.old.conn tx.new.conn result (Adds past_entries past_reserved) }
 {
     tx.execute(
         "CREATE TABLE reserved (pid INTEGER PRIMARY KEY) STRICT",
@@ -123,11 +88,7 @@ fn create_reserved<S: Alter>(tx: &mut Transaction<'_, S>) -> Result<(), TableFau
 }
 
 fn create_kept<S: Alter>(tx: &mut Transaction<'_, S>) -> Result<(), TableFault>
-    ensures same_reference { tx.new.conn.ghost_name ≡ tx.old.conn.ghost_name }
-    ensures made { HasCleanDisk (state S.Store tx.new.conn.now) → IsTrue (state S.Store tx.old.conn.now).in_transaction
-        → OnOk result (Adds past_reserved schema_1 (state S.Store tx.old.conn.now) (state S.Store tx.new.conn.now)) }
-    ensures fault { result ≢ Err TableFault.Foreign }
-    ensures survives { CommitsNothing (state S.Store tx.old.conn.now) (state S.Store tx.new.conn.now) }
+    ensures writes { WritesTables S.Store tx.old.conn tx.new.conn result (Adds past_reserved schema_1) }
 {
     tx.execute(
         "CREATE TABLE kept (caller TEXT NOT NULL, request_key TEXT NOT NULL, request BLOB NOT NULL, reply TEXT NOT NULL, PRIMARY KEY (caller, request_key)) STRICT",
@@ -138,11 +99,7 @@ fn create_kept<S: Alter>(tx: &mut Transaction<'_, S>) -> Result<(), TableFault>
 
 /// Creates the tables of the first schema in a database that has none.
 pub fn create_first<S: Alter>(tx: &mut Transaction<'_, S>) -> Result<(), TableFault>
-    ensures same_reference { tx.new.conn.ghost_name ≡ tx.old.conn.ghost_name }
-    ensures made { HasCleanDisk (state S.Store tx.new.conn.now) → IsTrue (state S.Store tx.old.conn.now).in_transaction
-        → OnOk result (Adds no_schema schema_1 (state S.Store tx.old.conn.now) (state S.Store tx.new.conn.now)) }
-    ensures fault { result ≢ Err TableFault.Foreign }
-    ensures survives { CommitsNothing (state S.Store tx.old.conn.now) (state S.Store tx.new.conn.now) }
+    ensures writes { WritesTables S.Store tx.old.conn tx.new.conn result (Adds no_schema schema_1) }
 {
     create_meta(tx)?;
     create_curators(tx)?;

@@ -1,10 +1,8 @@
 //! The tables that the second and third schemas add to a store, which may have rows.
 
-ghost use Rattle.std.specs.Prelude.{◌≡◌, ◌≢◌, [], ◌∷◌, IsTrue, OnOk, Err};
-ghost use Rattle.sqlite.specs.State.{HasCleanDisk};
-ghost use Rattle.sqlite.specs.Held.{state};
-ghost use Rattle.table_laws.specs.Inside.{CommitsNothing};
+ghost use Rattle.std.specs.Prelude.{[], ◌∷◌};
 ghost use Rattle.registry_schema.specs.Schema.{schema_1, schema_2, past_vendors, past_spans3, past_entries3, spans, vendors, spans3, entries3, petitions3};
+ghost use Rattle.registry_schema.specs.Steps.{WritesTables};
 ghost use Rattle.table_laws.specs.Making.{AddsTo};
 
 use crate::TableFault;
@@ -12,11 +10,7 @@ use sqlite::{Alter, Transaction};
 
 /// Creates the table that the second schema adds.
 pub fn add_second<S: Alter>(tx: &mut Transaction<'_, S>) -> Result<(), TableFault>
-    ensures same_reference { tx.new.conn.ghost_name ≡ tx.old.conn.ghost_name }
-    ensures made { HasCleanDisk (state S.Store tx.new.conn.now) → IsTrue (state S.Store tx.old.conn.now).in_transaction
-        → OnOk result (AddsTo schema_1 (spans ∷ []) (state S.Store tx.old.conn.now) (state S.Store tx.new.conn.now)) }
-    ensures fault { result ≢ Err TableFault.Foreign }
-    ensures survives { CommitsNothing (state S.Store tx.old.conn.now) (state S.Store tx.new.conn.now) }
+    ensures writes { WritesTables S.Store tx.old.conn tx.new.conn result (AddsTo schema_1 (spans ∷ [])) }
 {
     tx.execute(
         "CREATE TABLE spans (lo INTEGER PRIMARY KEY, hi INTEGER NOT NULL) STRICT",
@@ -26,11 +20,7 @@ pub fn add_second<S: Alter>(tx: &mut Transaction<'_, S>) -> Result<(), TableFaul
 }
 
 fn create_vendors<S: Alter>(tx: &mut Transaction<'_, S>) -> Result<(), TableFault>
-    ensures same_reference { tx.new.conn.ghost_name ≡ tx.old.conn.ghost_name }
-    ensures made { HasCleanDisk (state S.Store tx.new.conn.now) → IsTrue (state S.Store tx.old.conn.now).in_transaction
-        → OnOk result (AddsTo schema_2 (vendors ∷ []) (state S.Store tx.old.conn.now) (state S.Store tx.new.conn.now)) }
-    ensures fault { result ≢ Err TableFault.Foreign }
-    ensures survives { CommitsNothing (state S.Store tx.old.conn.now) (state S.Store tx.new.conn.now) }
+    ensures writes { WritesTables S.Store tx.old.conn tx.new.conn result (AddsTo schema_2 (vendors ∷ [])) }
 {
     tx.execute(
         "CREATE TABLE vendors (vid INTEGER PRIMARY KEY, name TEXT NOT NULL) STRICT",
@@ -40,11 +30,7 @@ fn create_vendors<S: Alter>(tx: &mut Transaction<'_, S>) -> Result<(), TableFaul
 }
 
 fn create_spans3<S: Alter>(tx: &mut Transaction<'_, S>) -> Result<(), TableFault>
-    ensures same_reference { tx.new.conn.ghost_name ≡ tx.old.conn.ghost_name }
-    ensures made { HasCleanDisk (state S.Store tx.new.conn.now) → IsTrue (state S.Store tx.old.conn.now).in_transaction
-        → OnOk result (AddsTo past_vendors (spans3 ∷ []) (state S.Store tx.old.conn.now) (state S.Store tx.new.conn.now)) }
-    ensures fault { result ≢ Err TableFault.Foreign }
-    ensures survives { CommitsNothing (state S.Store tx.old.conn.now) (state S.Store tx.new.conn.now) }
+    ensures writes { WritesTables S.Store tx.old.conn tx.new.conn result (AddsTo past_vendors (spans3 ∷ [])) }
 {
     tx.execute(
         "CREATE TABLE spans3 (vid INTEGER NOT NULL, lo INTEGER NOT NULL, hi INTEGER NOT NULL, PRIMARY KEY (vid, lo)) STRICT",
@@ -54,11 +40,7 @@ fn create_spans3<S: Alter>(tx: &mut Transaction<'_, S>) -> Result<(), TableFault
 }
 
 fn create_entries3<S: Alter>(tx: &mut Transaction<'_, S>) -> Result<(), TableFault>
-    ensures same_reference { tx.new.conn.ghost_name ≡ tx.old.conn.ghost_name }
-    ensures made { HasCleanDisk (state S.Store tx.new.conn.now) → IsTrue (state S.Store tx.old.conn.now).in_transaction
-        → OnOk result (AddsTo past_spans3 (entries3 ∷ []) (state S.Store tx.old.conn.now) (state S.Store tx.new.conn.now)) }
-    ensures fault { result ≢ Err TableFault.Foreign }
-    ensures survives { CommitsNothing (state S.Store tx.old.conn.now) (state S.Store tx.new.conn.now) }
+    ensures writes { WritesTables S.Store tx.old.conn tx.new.conn result (AddsTo past_spans3 (entries3 ∷ [])) }
 {
     tx.execute(
         "CREATE TABLE entries3 (vid INTEGER NOT NULL, pid INTEGER NOT NULL, org TEXT NOT NULL, held INTEGER NOT NULL, title TEXT NOT NULL, licence TEXT, site TEXT, source TEXT, PRIMARY KEY (vid, pid)) STRICT",
@@ -68,11 +50,7 @@ fn create_entries3<S: Alter>(tx: &mut Transaction<'_, S>) -> Result<(), TableFau
 }
 
 fn create_petitions3<S: Alter>(tx: &mut Transaction<'_, S>) -> Result<(), TableFault>
-    ensures same_reference { tx.new.conn.ghost_name ≡ tx.old.conn.ghost_name }
-    ensures made { HasCleanDisk (state S.Store tx.new.conn.now) → IsTrue (state S.Store tx.old.conn.now).in_transaction
-        → OnOk result (AddsTo past_entries3 (petitions3 ∷ []) (state S.Store tx.old.conn.now) (state S.Store tx.new.conn.now)) }
-    ensures fault { result ≢ Err TableFault.Foreign }
-    ensures survives { CommitsNothing (state S.Store tx.old.conn.now) (state S.Store tx.new.conn.now) }
+    ensures writes { WritesTables S.Store tx.old.conn tx.new.conn result (AddsTo past_entries3 (petitions3 ∷ [])) }
 {
     tx.execute(
         "CREATE TABLE petitions3 (id INTEGER PRIMARY KEY, vid INTEGER NOT NULL, org TEXT NOT NULL, want INTEGER, title TEXT NOT NULL, licence TEXT NOT NULL, site TEXT NOT NULL, source TEXT NOT NULL, state INTEGER NOT NULL, pid INTEGER) STRICT",
@@ -83,11 +61,7 @@ fn create_petitions3<S: Alter>(tx: &mut Transaction<'_, S>) -> Result<(), TableF
 
 /// Creates the tables that the third schema adds.
 pub fn add_third<S: Alter>(tx: &mut Transaction<'_, S>) -> Result<(), TableFault>
-    ensures same_reference { tx.new.conn.ghost_name ≡ tx.old.conn.ghost_name }
-    ensures made { HasCleanDisk (state S.Store tx.new.conn.now) → IsTrue (state S.Store tx.old.conn.now).in_transaction
-        → OnOk result (AddsTo schema_2 (vendors ∷ spans3 ∷ entries3 ∷ petitions3 ∷ []) (state S.Store tx.old.conn.now) (state S.Store tx.new.conn.now)) }
-    ensures fault { result ≢ Err TableFault.Foreign }
-    ensures survives { CommitsNothing (state S.Store tx.old.conn.now) (state S.Store tx.new.conn.now) }
+    ensures writes { WritesTables S.Store tx.old.conn tx.new.conn result (AddsTo schema_2 (vendors ∷ spans3 ∷ entries3 ∷ petitions3 ∷ [])) }
 {
     create_vendors(tx)?;
     create_spans3(tx)?;

@@ -8,11 +8,12 @@ use Rattle.sqlite.specs.Effect.{Database}
 use Rattle.sqlite_catalog.specs.Listing.{IsSound}
 use Rattle.table_laws.specs.Making.{no_schema, IsBlank, Adds}
 use Rattle.registry_schema.specs.Schema.{schema_3}
+use Rattle.registry_schema.specs.Steps.{WritesTables}
 use Rattle.registry_rules.specs.History.{founded}
 use Rattle.registry_rules.specs.declared.founding.Founding.{Founding}
 use Rattle.registry_rows.specs.Steps.{Changes}
 use Rattle.registry_rows.specs.Tables.{Holds, no_rows}
-use Rattle.registry_tables.specs.Calls.{WritesTables, with_founding}
+use Rattle.registry_tables.specs.Calls.{with_founding}
 use Rattle.registry_tables.specs.Rows.{newest, IsFounding, Rows, HoldsRows}
 use Rattle.registry_tables.proofs.FoundingLemmas.{founded_records, founded_kept}
 use Rattle.registry_tables.proofs.RowsLemmas.{goes_out}

@@ -7,9 +7,10 @@ use Rattle.sqlite.specs.State.{State}
 use Rattle.table_laws.specs.Inside.{GoesOn}
 use Rattle.table_laws.proofs.InsideLemmas.{goes_then}
 use Rattle.registry_schema.specs.declared.fault.TableFault.{TableFault}
+use Rattle.registry_schema.specs.Steps.{WritesTables}
 use Rattle.registry_rows.specs.Steps.{Changes, Writes}
 use Rattle.registry_rows.specs.Tables.{Tables}
-use Rattle.registry_tables.specs.Calls.{WritesTables, WritesTablesOpen}
+use Rattle.registry_tables.specs.Calls.{WritesTablesOpen}
 use Rattle.registry_tables.proofs.ReadLemmas.{quiet_then}
 
 pub done_as : {A : Type 0} (r : Result A TableFault) (R : Type 0) {P Q : Type 0} → (P → Q) → MatchResult r (λ _. P) (λ _. R) → OnOk r Q

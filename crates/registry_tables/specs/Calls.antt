@@ -57,20 +57,12 @@ pub record IsLookUp {A : Type 0} (old new : State) (result : Result A TableFault
   pub foreign : HasCleanDisk new → IsForeign old new result
   pub survives : CommitsNothing old new
 
-module _ {S : Type 0} (g : Ghosts S) (old new : MutBor (Held S)) {A : Type 0} (result : Result A TableFault) (Does : State → State → Type 0) where
-  -- statements within a transaction do this, or a fault comes that is not Foreign; nothing is committed
-  pub record WritesTables : Type 0 where
-    pub same_reference : new.ghost_name ≡ old.ghost_name
-    pub done : HasCleanDisk (state g new.now) → IsTrue (state g old.now).in_transaction → OnOk result (Does (state g old.now) (state g new.now))
-    pub fault : result ≢ Err Foreign
-    pub survives : CommitsNothing (state g old.now) (state g new.now)
-
-  -- the same of a connection that is known to be open: it may need no statement
-  pub record WritesTablesOpen : Type 0 where
-    pub same_reference : new.ghost_name ≡ old.ghost_name
-    pub done : HasCleanDisk (state g new.now) → IsTrue (state g old.now).in_transaction → IsTrue (state g old.now).is_open → OnOk result (Does (state g old.now) (state g new.now))
-    pub fault : result ≢ Err Foreign
-    pub survives : CommitsNothing (state g old.now) (state g new.now)
+-- as `WritesTables`, of a connection that is known to be open: it may need no statement
+pub record WritesTablesOpen {S : Type 0} (g : Ghosts S) (old new : MutBor (Held S)) {A : Type 0} (result : Result A TableFault) (Does : State → State → Type 0) : Type 0 where
+  pub same_reference : new.ghost_name ≡ old.ghost_name
+  pub done : HasCleanDisk (state g new.now) → IsTrue (state g old.now).in_transaction → IsTrue (state g old.now).is_open → OnOk result (Does (state g old.now) (state g new.now))
+  pub fault : result ≢ Err Foreign
+  pub survives : CommitsNothing (state g old.now) (state g new.now)
 
 -- the tables after the rows of a founding are inserted
 abbrev pub with_founding : Founding → Tables → Tables

@@ -10,6 +10,7 @@ ghost use Rattle.registry_tables.specs.Finds.{ReadsHistory};
 ghost use Rattle.registry_tables.specs.Rows.{kept_row_of, HasValidOrder};
 
 use crate::TableFault;
+use crate::beginning::begin;
 use registry_rows::{KeptRow, kept_after};
 use registry_rules::{Accepted, Request, order_of_form};
 use sqlite::{Alter, Connection, Transaction};
@@ -82,9 +83,7 @@ pub fn accepted_after<S: Alter>(
     ensures idle { conn.new.in_transaction ≡ false }
     ensures looked_up { IsLookUp (state S.Store conn.old) (state S.Store conn.new) result (λ h list. AreValid h.deeds → list.items ≡ take most (drop after (accepted_of h.deeds))) }
 {
-    // For the proof only: the schema that the connection shows.
-    let _schema = conn.schema();
-    let mut tx = conn.transaction();
+    let mut tx = begin(conn);
     let accepted = read_accepted(alloc, &mut tx, after, most);
     tx.rollback();
     accepted

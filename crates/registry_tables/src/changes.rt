@@ -4,10 +4,10 @@ ghost use Rattle.std.specs.Prelude.{◌≡◌, ◌≢◌, IsTrue, OnOk, Err};
 ghost use Rattle.sqlite.specs.State.{HasCleanDisk};
 ghost use Rattle.sqlite.specs.Held.{state};
 ghost use Rattle.table_laws.specs.Inside.{CommitsNothing, GoesOn};
+ghost use Rattle.registry_schema.specs.Steps.{WritesTables};
 ghost use Rattle.registry_rules.specs.History.{History};
 ghost use Rattle.registry_rules.specs.Records.{LeadsTo};
 ghost use Rattle.registry_rules.specs.Run.{Legal};
-ghost use Rattle.registry_tables.specs.Calls.{WritesTables};
 ghost use Rattle.registry_tables.specs.Changed.{Makes};
 ghost use Rattle.registry_tables.specs.Rows.{newest, HoldsRows, HoldsUnkept};
 

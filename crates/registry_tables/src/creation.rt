@@ -8,6 +8,7 @@ ghost use Rattle.registry_rules.specs.History.{founded};
 ghost use Rattle.registry_tables.specs.Rows.{newest, Rows};
 
 use crate::TableFault;
+use crate::beginning::begin;
 use crate::committing::commit;
 use crate::founding::write_founding;
 use registry_rules::Founding;
@@ -29,9 +30,7 @@ fn create_in_empty<S: Alter>(
     ensures survives { Survives (state S.Store conn.old) (state S.Store conn.new) (λ db. IsTrue (state S.Store conn.old).is_open × ((state S.Store conn.old).now.schema ≡ no_schema)
         × Rows newest db (founded founding.now)) }
 {
-    // For the proof only: the schema that the connection shows.
-    let _schema = conn.schema();
-    let mut tx = conn.transaction();
+    let mut tx = begin(conn);
     create_tables(&mut tx)?;
     write_founding(&mut tx, founding)?;
     commit(tx)

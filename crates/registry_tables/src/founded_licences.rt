@@ -10,6 +10,7 @@ ghost use Rattle.registry_tables.specs.FirstLicences.{is_reply_of, was_added};
 ghost use Rattle.registry_tables.specs.Finds.{ReadsHistory};
 
 use crate::TableFault;
+use crate::beginning::begin;
 use registry_rows::{KeptRow, kept_with_replies};
 use registry_rules::Licences;
 use sqlite::{Alter, Connection, Transaction};
@@ -90,9 +91,7 @@ pub fn first_licences<S: Alter>(
     ensures idle { conn.new.in_transaction ≡ false }
     ensures looked_up { IsLookUp (state S.Store conn.old) (state S.Store conn.new) result (λ h first. ((licence : List ℕ) → list_any (bytes_eq licence) licences.now ≡ is_licence h licence) → first ≡ h.founding.licences) }
 {
-    // For the proof only: the schema that the connection shows.
-    let _schema = conn.schema();
-    let mut tx = conn.transaction();
+    let mut tx = begin(conn);
     let first = read_first_licences(alloc, &mut tx, licences);
     tx.rollback();
     first

@@ -1,10 +1,11 @@
 //! The rows of a founding.
 
 ghost use Rattle.std.specs.Prelude.{OnOk};
+ghost use Rattle.registry_schema.specs.Steps.{WritesTables};
 ghost use Rattle.registry_rows.specs.Steps.{Changes};
 ghost use Rattle.registry_tables.specs.Rows.{IsFounding};
 ghost use Rattle.registry_tables.specs.Changed.{names_put, spans_put};
-ghost use Rattle.registry_tables.specs.Calls.{WritesTables, WritesTablesOpen, with_founding};
+ghost use Rattle.registry_tables.specs.Calls.{WritesTablesOpen, with_founding};
 
 use crate::TableFault;
 use registry_rows::{put_curator, put_fixed, put_licence, put_meta, put_vendor};

@@ -6,6 +6,7 @@ ghost use Rattle.registry_tables.specs.Calls.{IsLookUp, IsStoreFault};
 ghost use Rattle.registry_tables.specs.Lists.{IsOrgList, IsPetitionList, IsNumberList, IsVendorList};
 
 use crate::TableFault;
+use crate::beginning::begin;
 use registry_rules::{Entry, Org, Petition, Vendor};
 use sqlite::{Alter, Connection};
 use std::alloc::Global;
@@ -23,9 +24,7 @@ pub fn list_orgs<S: Alter>(alloc: Global, conn: &mut Connection<S>) -> Result<Ve
     ensures looked_up { IsLookUp (state S.Store conn.old) (state S.Store conn.new) result (λ h list. IsOrgList h list.items) }
     ensures store { IsStoreFault (state S.Store conn.old) (state S.Store conn.new) result }
 {
-    // For the proof only: the schema that the connection shows.
-    let _schema = conn.schema();
-    let mut tx = conn.transaction();
+    let mut tx = begin(conn);
     let orgs = registry_rows::list_orgs(alloc, &mut tx);
     tx.rollback();
     orgs
@@ -46,9 +45,7 @@ pub fn list_petitions<S: Alter>(
     ensures looked_up { IsLookUp (state S.Store conn.old) (state S.Store conn.new) result (λ h list. IsPetitionList h list.items) }
     ensures store { IsStoreFault (state S.Store conn.old) (state S.Store conn.new) result }
 {
-    // For the proof only: the schema that the connection shows.
-    let _schema = conn.schema();
-    let mut tx = conn.transaction();
+    let mut tx = begin(conn);
     let petitions = registry_rows::list_petitions(alloc, &mut tx);
     tx.rollback();
     petitions
@@ -69,9 +66,7 @@ pub fn list_numbers<S: Alter>(
     ensures looked_up { IsLookUp (state S.Store conn.old) (state S.Store conn.new) result (λ h list. IsNumberList h list.items) }
     ensures store { IsStoreFault (state S.Store conn.old) (state S.Store conn.new) result }
 {
-    // For the proof only: the schema that the connection shows.
-    let _schema = conn.schema();
-    let mut tx = conn.transaction();
+    let mut tx = begin(conn);
     let numbers = registry_rows::list_entries(alloc, &mut tx);
     tx.rollback();
     numbers
@@ -92,9 +87,7 @@ pub fn list_vendors<S: Alter>(
     ensures looked_up { IsLookUp (state S.Store conn.old) (state S.Store conn.new) result (λ h list. IsVendorList h list.items) }
     ensures store { IsStoreFault (state S.Store conn.old) (state S.Store conn.new) result }
 {
-    // For the proof only: the schema that the connection shows.
-    let _schema = conn.schema();
-    let mut tx = conn.transaction();
+    let mut tx = begin(conn);
     let vendors = registry_rows::list_vendors(alloc, &mut tx);
     tx.rollback();
     vendors

@@ -6,12 +6,13 @@ ghost use Rattle.sqlite.specs.Held.{state};
 ghost use Rattle.table_laws.specs.Inside.{CommitsNothing, GoesOn};
 ghost use Rattle.table_laws.specs.Making.{HasTables};
 ghost use Rattle.registry_schema.specs.Texts.{texts_3};
+ghost use Rattle.registry_schema.specs.Steps.{WritesTables};
 ghost use Rattle.registry_rules.specs.History.{History};
-ghost use Rattle.registry_tables.specs.Calls.{WritesTables};
 ghost use Rattle.registry_tables.specs.Known.{SaysFirst, IsNamed, IsKnownOlder};
 ghost use Rattle.registry_tables.specs.Rows.{newest, Rows};
 ghost use Rattle.registry_tables.specs.Raising.{IsMadeBy, CommitsTwo, EndsTwo, CommitsLater, IsAtRest, IsNamedOlder, StaysOpen};
 
+use crate::beginning::begin;
 use crate::second::first_to_second;
 use crate::third::second_to_third;
 use registry_schema::{TableFault, version_of};
@@ -46,7 +47,7 @@ fn unknown<S: Alter>(conn: &mut Connection<S>) -> TableFault
     ensures open { HasCleanDisk (state S.Store conn.new) → result ≡ TableFault.Foreign → IsTrue (state S.Store conn.old).is_open }
     ensures survives { CommitsNothing (state S.Store conn.old) (state S.Store conn.new) }
 {
-    let mut tx = conn.transaction();
+    let mut tx = begin(conn);
     let ran = try_store(&mut tx);
     tx.rollback();
     match ran {

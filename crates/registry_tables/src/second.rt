@@ -16,6 +16,7 @@ ghost use Rattle.registry_tables.specs.Known.{SaysFirst};
 ghost use Rattle.registry_tables.specs.Rows.{Rows};
 ghost use Rattle.registry_tables.specs.Raising.{Raises, CommitsStep, IsMadeBy};
 
+use crate::beginning::begin;
 use crate::committing::commit;
 use crate::marked::old_meta;
 use registry_old_rows::{Reserved, empty_reserved, list_reserved, put_old_meta, put_old_span};
@@ -80,9 +81,7 @@ pub(crate) fn first_to_second<S: Alter>(
     ensures foreign { HasCleanDisk (state S.Store conn.new) → result ≡ Err TableFault.Foreign → IsTrue (state S.Store conn.old).is_open × ((h : History) → ¬ Rows 1 (state S.Store conn.old).now.trees h) }
     ensures survives { Survives (state S.Store conn.old) (state S.Store conn.new) (CommitsStep 1 (state S.Store conn.old)) }
 {
-    // For the proof only: the schema that the connection shows.
-    let _schema = conn.schema();
-    let mut tx = conn.transaction();
+    let mut tx = begin(conn);
     raise_second(alloc, &mut tx)?;
     commit(tx)
 }

@@ -2,10 +2,11 @@
 
 ghost use Rattle.std.specs.Prelude.{◌≡◌, ◌≢◌, ◌+◌, ◌≤◌, MatchOption, Err, filter};
 ghost use Rattle.sqlite_keyed.specs.Lists.{sort_by};
+ghost use Rattle.registry_schema.specs.Steps.{WritesTables};
 ghost use Rattle.registry_rows.specs.Rows.{meets, by_beginning};
 ghost use Rattle.registry_rows.specs.Steps.{Reads};
 ghost use Rattle.registry_rows.specs.Tables.{Holds};
-ghost use Rattle.registry_tables.specs.Calls.{WritesTables, WritesTablesOpen};
+ghost use Rattle.registry_tables.specs.Calls.{WritesTablesOpen};
 ghost use Rattle.registry_tables.specs.Changed.{Makes};
 ghost use Rattle.registry_tables.specs.Reserved.{Reaches, PutsPart};
 

@@ -4,12 +4,13 @@ ghost use Rattle.std.specs.Prelude.{◌≡◌, false, IsTrue, OnOk, Err};
 ghost use Rattle.sqlite.specs.State.{HasCleanDisk, Survives};
 ghost use Rattle.sqlite.specs.Held.{state};
 ghost use Rattle.table_laws.specs.Inside.{CommitsNothing};
+ghost use Rattle.registry_schema.specs.Steps.{WritesTables};
 ghost use Rattle.registry_rules.specs.History.{History};
-ghost use Rattle.registry_tables.specs.Calls.{WritesTables};
 ghost use Rattle.registry_tables.specs.Known.{SaysVersion};
 ghost use Rattle.registry_tables.specs.Rows.{Rows};
 ghost use Rattle.registry_tables.specs.Raising.{MovesAll, Raises, CommitsStep, IsMadeBy};
 
+use crate::beginning::begin;
 use crate::committing::commit;
 use crate::marked::old_meta;
 use registry_old_rows::{
@@ -61,9 +62,7 @@ pub(crate) fn second_to_third<S: Alter>(
     ensures foreign { HasCleanDisk (state S.Store conn.new) → result ≡ Err TableFault.Foreign → IsTrue (state S.Store conn.old).is_open × ((h : History) → ¬ Rows 2 (state S.Store conn.old).now.trees h) }
     ensures survives { Survives (state S.Store conn.old) (state S.Store conn.new) (CommitsStep 2 (state S.Store conn.old)) }
 {
-    // For the proof only: the schema that the connection shows.
-    let _schema = conn.schema();
-    let mut tx = conn.transaction();
+    let mut tx = begin(conn);
     raise_third(alloc, &mut tx)?;
     commit(tx)
 }

@@ -1,11 +1,6 @@
-use Rattle.sqlite.specs.Held.{state}
-use Rattle.registry_schema.specs.Schema.{past_meta, curators}
-use Rattle.registry_schema.specs.Texts.{curators_text}
 use Rattle.registry_schema.proofs.TextLemmas.{makes_curators}
-use Rattle.table_laws.proofs.MakeLemmas.{adds_blank}
+use Rattle.registry_schema.proofs.StepLemmas.{makes_blank}
 use Rattle.registry_schema.proofs.first.create_curators.Goals as goal
 
-pub returns-clause-made : goal.returns-clause-made
-returns-clause-made g c clean inside =
-    let ran = c.in_ok-execute.ensures.runs clean inside in
-    (ran.1, adds_blank (state g.S.Store c.args.tx.now.conn.now) (state g.S.Store c.execute.new.self.conn.now) past_meta curators_text curators makes_curators c.in_ok-execute.field-0 ran.0)
+pub returns : goal.returns
+returns g c = record { writes = makes_blank c.execute.ensures.same_reference c.execute.ensures.survives makes_curators c.in_ok-execute.field-0 c.in_ok-execute.ensures.runs }

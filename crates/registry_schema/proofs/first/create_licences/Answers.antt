@@ -1,11 +1,6 @@
-use Rattle.sqlite.specs.Held.{state}
-use Rattle.registry_schema.specs.Schema.{past_curators, licences}
-use Rattle.registry_schema.specs.Texts.{licences_text}
 use Rattle.registry_schema.proofs.TextLemmas.{makes_licences}
-use Rattle.table_laws.proofs.MakeLemmas.{adds_blank}
+use Rattle.registry_schema.proofs.StepLemmas.{makes_blank}
 use Rattle.registry_schema.proofs.first.create_licences.Goals as goal
 
-pub returns-clause-made : goal.returns-clause-made
-returns-clause-made g c clean inside =
-    let ran = c.in_ok-execute.ensures.runs clean inside in
-    (ran.1, adds_blank (state g.S.Store c.args.tx.now.conn.now) (state g.S.Store c.execute.new.self.conn.now) past_curators licences_text licences makes_licences c.in_ok-execute.field-0 ran.0)
+pub returns : goal.returns
+returns g c = record { writes = makes_blank c.execute.ensures.same_reference c.execute.ensures.survives makes_licences c.in_ok-execute.field-0 c.in_ok-execute.ensures.runs }

@@ -1,14 +1,7 @@
 use Rattle.std.proofs.Common.{refl}
-use Rattle.sqlite.specs.Held.{state}
-use Rattle.registry_schema.specs.Schema.{schema_1, spans}
-use Rattle.registry_schema.specs.Texts.{spans_text}
 use Rattle.registry_schema.proofs.TextLemmas.{makes_spans}
-use Rattle.table_laws.proofs.MakeLemmas.{creates, has_one}
+use Rattle.registry_schema.proofs.StepLemmas.{makes_one}
 use Rattle.registry_schema.proofs.later.add_second.Goals as goal
 
-pub returns-clause-made : goal.returns-clause-made
-returns-clause-made g c clean inside =
-    let ran = c.in_ok-execute.ensures.runs clean inside in
-    let old = state g.S.Store c.args.tx.now.conn.now in
-    let new = state g.S.Store c.execute.new.self.conn.now in
-    (ran.1, λ has. has_one schema_1 spans old.now new.now refl (creates old new schema_1 has spans_text spans makes_spans c.in_ok-execute.field-0 ran.0))
+pub returns : goal.returns
+returns g c = record { writes = makes_one c.execute.ensures.same_reference c.execute.ensures.survives makes_spans c.in_ok-execute.field-0 c.in_ok-execute.ensures.runs refl }

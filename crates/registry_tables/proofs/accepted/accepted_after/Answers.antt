@@ -5,4 +5,4 @@ use Rattle.registry_tables.proofs.accepted.accepted_after.Goals as goal
 pub returns-clause-looked_up : goal.returns-clause-looked_up
 returns-clause-looked_up g c =
     let same : c.rollback.new.self.0 ≡ c.conn-1.given.0 = search rules in
-    look_up c.args.conn.now c.transaction-tx.ensures.begun c.schema-schema.ensures.live c.read_accepted-accepted.ensures.reads c.rollback.ensures.survives c.rollback.ensures.undone same
+    look_up c.args.conn.now c.begin-tx.ensures.begun c.begin-tx.ensures.live c.read_accepted-accepted.ensures.reads c.rollback.ensures.survives c.rollback.ensures.undone same

@@ -7,9 +7,9 @@ use Rattle.registry_tables.proofs.lists.list_numbers.Goals as goal
 pub returns-clause-looked_up : goal.returns-clause-looked_up
 returns-clause-looked_up g c =
     let same : c.rollback.new.self.0 ≡ c.conn-1.given.0 = search rules in
-    look_up c.args.conn.now c.transaction-tx.ensures.begun c.schema-schema.ensures.live (rows_tell (λ h t legal has had list is. number_list h t.entries had.entries list.items is) c.list_entries-numbers.ensures.reads) c.rollback.ensures.survives c.rollback.ensures.undone same
+    look_up c.args.conn.now c.begin-tx.ensures.begun c.begin-tx.ensures.live (rows_tell (λ h t legal has had list is. number_list h t.entries had.entries list.items is) c.list_entries-numbers.ensures.reads) c.rollback.ensures.survives c.rollback.ensures.undone same
 
 pub returns-clause-store : goal.returns-clause-store
 returns-clause-store g c =
     let same : c.rollback.new.self.0 ≡ c.conn-1.given.0 = search rules in
-    store_fault c.args.conn.now c.transaction-tx.ensures.begun c.schema-schema.ensures.live (rows_store c.list_entries-numbers.ensures.reads) c.rollback.ensures.survives same
+    store_fault c.args.conn.now c.begin-tx.ensures.begun c.begin-tx.ensures.live (rows_store c.list_entries-numbers.ensures.reads) c.rollback.ensures.survives same

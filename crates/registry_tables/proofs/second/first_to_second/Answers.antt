@@ -11,22 +11,22 @@ use Rattle.registry_tables.proofs.second.first_to_second.Goals as goal
 pub returns-clause-made : goal.returns-clause-made
 returns-clause-made g c =
     let same : c.commit.new.tx.0 ≡ c.conn-2-1.given.0 = search rules in
-    step_made g.S.Store 1 c.args.conn.now c.transaction-tx.result.conn.now c.raise_second.new.tx.conn.now c.transaction-tx.ensures.begun c.schema-schema.ensures.live c.in_ok-raise_second.ensures.raised c.raise_second.ensures.survives c.commit.new.tx.0 c.conn-2-1.given.0 c.commit.ensures.survives same c.commit.result c.commit.ensures.ok
+    step_made g.S.Store 1 c.args.conn.now c.begin-tx.result.conn.now c.raise_second.new.tx.conn.now c.begin-tx.ensures.begun c.begin-tx.ensures.live c.in_ok-raise_second.ensures.raised c.raise_second.ensures.survives c.commit.new.tx.0 c.conn-2-1.given.0 c.commit.ensures.survives same c.commit.result c.commit.ensures.ok
 
 pub returns-clause-survives : goal.returns-clause-survives
 returns-clause-survives g c =
     let same : c.commit.new.tx.0 ≡ c.conn-2-1.given.0 = search rules in
-    step_survives g.S.Store 1 c.args.conn.now c.transaction-tx.result.conn.now c.raise_second.new.tx.conn.now c.transaction-tx.ensures.begun c.schema-schema.ensures.live c.in_ok-raise_second.ensures.raised c.raise_second.ensures.survives c.commit.new.tx.0 c.conn-2-1.given.0 c.commit.ensures.survives same
+    step_survives g.S.Store 1 c.args.conn.now c.begin-tx.result.conn.now c.raise_second.new.tx.conn.now c.begin-tx.ensures.begun c.begin-tx.ensures.live c.in_ok-raise_second.ensures.raised c.raise_second.ensures.survives c.commit.new.tx.0 c.conn-2-1.given.0 c.commit.ensures.survives same
 
 pub returns-in_err-raise_second-clause-foreign : goal.returns-in_err-raise_second-clause-foreign
 returns-in_err-raise_second-clause-foreign g c clean foreign =
-    let begun = c.transaction-tx.result.conn.now in
+    let begun = c.begin-tx.result.conn.now in
     let mid = c.raise_second.new.tx.conn.now in
     let end = c.conn-1.given.0 in
     let ends : CommitsNothing (state g.S.Store mid) (state g.S.Store end) = search rules in
     let was : c.raise_second.result ≡ Err Foreign = search rules in
     let early : HasCleanDisk (state g.S.Store mid) = omega (arith, ends.clean) in
-    step_foreign g.S.Store 1 c.args.conn.now begun mid c.transaction-tx.ensures.begun c.schema-schema.ensures.live
+    step_foreign g.S.Store 1 c.args.conn.now begun mid c.begin-tx.ensures.begun c.begin-tx.ensures.live
     (λ mids inside. subst (λ x. Raises 1 (state g.S.Store begun) (state g.S.Store mid) x) was (c.raise_second.ensures.raised mids inside)) early
 
 pub returns-clause-named : goal.returns-clause-named
@@ -34,4 +34,4 @@ returns-clause-named g c clean =
     let same : c.commit.new.tx.0 ≡ c.conn-2-1.given.0 = search rules in
     let late : HasCleanDisk (state g.S.Store c.commit.new.tx.0) = search rules in
     let mids : HasCleanDisk (state g.S.Store c.raise_second.new.tx.conn.now) = omega (arith, c.commit.ensures.survives.clean) in
-    step_named g.S.Store 1 c.args.conn.now c.transaction-tx.result.conn.now c.raise_second.new.tx.conn.now c.transaction-tx.ensures.begun c.schema-schema.ensures.live SaysFirst c.in_ok-raise_second.ensures.named mids c.commit.result
+    step_named g.S.Store 1 c.args.conn.now c.begin-tx.result.conn.now c.raise_second.new.tx.conn.now c.begin-tx.ensures.begun c.begin-tx.ensures.live SaysFirst c.in_ok-raise_second.ensures.named mids c.commit.result

@@ -16,7 +16,7 @@ returns-in_err-meta-clause-raised g c clean inside =
     let s1 = state g.S.Store c.add_second.new.tx.conn.now in
     let new = state g.S.Store c.old_meta.new.tx.conn.now in
     let c1 : HasCleanDisk s1 = omega (arith, c.old_meta.ensures.reads.survives.clean) in
-    let one = c.in_ok-add_second.ensures.made c1 inside in
+    let one = c.in_ok-add_second.ensures.writes.done c1 inside in
     let is : c.from_residual-in_err-meta.result ≡ Err c.in_err-meta.field-0.0 = search rules in
     subst (λ r. Raises 1 a new r) (sym is) (first_refused a s1 one.1 new c.in_err-meta.field-0.0 one.0.was_open (c.in_err-meta.ensures.reads.told clean one.0.mode))
 
@@ -28,7 +28,7 @@ returns-in_err-numbers-clause-raised g c clean inside =
     let new = state g.S.Store c.list_reserved.new.tx.conn.now in
     let c2 : HasCleanDisk s2 = omega (arith, c.list_reserved.ensures.reads.survives.clean) in
     let c1 : HasCleanDisk s1 = omega (arith, c.old_meta.ensures.reads.survives.clean) in
-    let one = c.in_ok-add_second.ensures.made c1 inside in
+    let one = c.in_ok-add_second.ensures.writes.done c1 inside in
     let two = c.in_ok-meta.ensures.reads.told c2 one.0.mode in
     let is : c.from_residual-in_err-numbers.result ≡ Err c.in_err-numbers.field-0.0 = search rules in
     let told = c.in_err-numbers.ensures.reads.told clean two.0.mode in
@@ -48,7 +48,7 @@ returns-clause-raised g c clean inside =
     let c3 : HasCleanDisk s3 = omega (arith, c.put_spans.ensures.writes.survives.clean) in
     let c2 : HasCleanDisk s2 = omega (arith, c.list_reserved.ensures.reads.survives.clean) in
     let c1 : HasCleanDisk s1 = omega (arith, c.old_meta.ensures.reads.survives.clean) in
-    let one = c.in_ok-add_second.ensures.made c1 inside in
+    let one = c.in_ok-add_second.ensures.writes.done c1 inside in
     let two = c.in_ok-meta.ensures.reads.told c2 one.0.mode in
     let three = c.in_ok-numbers.ensures.reads.told c3 two.0.mode in
     let four = c.in_ok-put_spans.ensures.writes.done c4 three.0.mode three.0.is_open 1 one_id in
@@ -67,5 +67,5 @@ returns-clause-named g c clean inside vid t numbers has =
     let s2 = state g.S.Store c.old_meta.new.tx.conn.now in
     let c2 : HasCleanDisk s2 = omega (arith, clean, c.list_reserved.ensures.reads.survives.clean, c.put_spans.ensures.writes.survives.clean, c.empty_reserved.ensures.writes.survives.clean, c.put_old_meta.ensures.writes.survives.clean) in
     let c1 : HasCleanDisk s1 = omega (arith, c.old_meta.ensures.reads.survives.clean) in
-    let one = c.in_ok-add_second.ensures.made c1 inside in
+    let one = c.in_ok-add_second.ensures.writes.done c1 inside in
     c.in_ok-meta.ensures.named c2 one.0.mode (record { vid = vid; tables = unspanned t; numbers = numbers }) (second_begins vid a.now s1.now t numbers (one.1 has.schema) has)

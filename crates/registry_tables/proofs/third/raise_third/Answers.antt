@@ -24,9 +24,9 @@ returns-clause-raised g c clean inside =
     let c4 : HasCleanDisk s4 = omega (arith, c.put_meta.ensures.writes.survives.clean) in
     let c3 : HasCleanDisk s3 = omega (arith, c.put_vendor.ensures.writes.survives.clean) in
     let c2 : HasCleanDisk s2 = omega (arith, c.move_rows.ensures.writes.survives.clean) in
-    let c1 : HasCleanDisk s1 = omega (arith, c.add_third.ensures.survives.clean) in
+    let c1 : HasCleanDisk s1 = omega (arith, c.add_third.ensures.writes.survives.clean) in
     let one = c.in_ok-meta.ensures.reads.told c1 inside in
-    let two = c.in_ok-add_third.ensures.made c2 one.0.mode in
+    let two = c.in_ok-add_third.ensures.writes.done c2 one.0.mode in
     let three = c.in_ok-move_rows.ensures.writes.done c3 two.0.mode in
     let four = c.in_ok-put_vendor.ensures.writes.done c4 three.0.mode in
     let five = c.in_ok-put_meta.ensures.writes.done clean four.0.mode in
@@ -34,4 +34,4 @@ returns-clause-raised g c clean inside =
 
 pub returns-clause-named : goal.returns-clause-named
 returns-clause-named g c clean inside =
-    c.in_ok-meta.ensures.named (omega (arith, clean, c.add_third.ensures.survives.clean, c.move_rows.ensures.writes.survives.clean, c.put_vendor.ensures.writes.survives.clean, c.put_meta.ensures.writes.survives.clean)) inside
+    c.in_ok-meta.ensures.named (omega (arith, clean, c.add_third.ensures.writes.survives.clean, c.move_rows.ensures.writes.survives.clean, c.put_vendor.ensures.writes.survives.clean, c.put_meta.ensures.writes.survives.clean)) inside
