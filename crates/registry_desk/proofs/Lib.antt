@@ -1,6 +1,6 @@
 pub mod AnsweredLemmas
 pub mod AskLemmas
-pub mod KeptLemmas
+pub mod CacheLemmas
 pub mod LawLemmas
 pub mod OnceLemmas
 pub mod QueryLemmas

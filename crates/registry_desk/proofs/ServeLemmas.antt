@@ -19,9 +19,9 @@ use Rattle.registry_http.proofs.MessageLemmas.{message_says_one_thing}
 use Rattle.registry_desk.specs.declared.fault.DeskFault.{DeskFault}
 use Rattle.registry_desk.specs.declared.fault.DeskFault.TheVariants.{NoMemory, Registry}
 use Rattle.registry_store.specs.Faults.{is_foreign}
-use Rattle.registry_desk.specs.Faults.{fault_of, unavailable_of}
+use Rattle.registry_desk.specs.Faults.{registry_fault, unavailable_of}
 use Rattle.registry_http.specs.declared.unavailable.Unavailable.{Unavailable}
-use Rattle.registry_desk.specs.Acting.{IsResponse, after_message, IsOfSoundRegistry, IsLeftUnavailable, IsFaultOf}
+use Rattle.registry_desk.specs.Acting.{IsResponse, after_message, IsOfSoundRegistry, IsLeftUnavailable, IsFaultFor}
 use Rattle.registry_desk.specs.Serving.{IsSaidPoisoned, IsSent, IsTold, IsToldBy, IsServed}
 use Rattle.registry_desk.proofs.AskLemmas.{left_first, left_second}
 
@@ -33,7 +33,7 @@ status_503 unavailable.StoreFault = refl
 
 module _ {S : Type 0} {g : Ghosts S} where
   -- memory may run out for any message
-  of_memory : (it : TheRegistry S g) (said : Result Message HttpRefusal) → IsFaultOf said NoMemory it
+  of_memory : (it : TheRegistry S g) (said : Result Message HttpRefusal) → IsFaultFor said NoMemory it
   of_memory it (Err refusal) = refl
   of_memory it (Ok (messages.Query query)) = inl refl
   of_memory it (Ok (messages.Request request)) = tt
@@ -49,7 +49,7 @@ module _ {S : Type 0} {g : Ghosts S} where
     next = h;
     next_is = inl (refl, refl);
     left = left_first it h h stands clean;
-    fault_of = λ said says. of_memory it said;
+    registry_fault = λ said says. of_memory it said;
   })
 
   -- the message was read, and its response was sent, or refusal 31 in its place
@@ -72,14 +72,14 @@ module _ {S : Type 0} {g : Ghosts S} where
     next = after_message h said;
     next_is = inr (said, says, refl, λ other. absurd (other refl));
     left = left_second new h (after_message h said) ok.1 clean;
-    fault_of = λ other same. of_memory new other;
+    registry_fault = λ other same. of_memory new other;
   })
 
   -- the message was read and acted on
   pub served_then : (new : TheRegistry S g) (h : History) (bytes : List ℕ) (response : Response) (fault : Option Fault) (said : Result Message HttpRefusal) (done : Result Response DeskFault)
       → Says h.founding.vendor bytes said → HasCleanDisk (state_of new)
       → IfOk done (λ response. IsResponse h said response × Represents new (after_message h said))
-      → IfErr done (λ fault. IsOfSoundRegistry fault × IsFaultOf said fault new × IsLeftUnavailable fault new h (after_message h said))
+      → IfErr done (λ fault. IsOfSoundRegistry fault × IsFaultFor said fault new × IsLeftUnavailable fault new h (after_message h said))
       → IfErr done (λ fault. fault ≢ NoMemory → IsOk said)
       → IsTold done response fault → IsServed new h bytes response fault
   served_then new h bytes response fault said (Ok wanted) says clean ok err asked told = sent_then new h bytes wanted response fault said says clean ok told.0 told.1
@@ -91,7 +91,7 @@ module _ {S : Type 0} {g : Ghosts S} where
     next = after_message h said;
     next_is = inr (said, says, refl, asked);
     left = err.2;
-    fault_of = λ other same. subst (λ (s : Result Message HttpRefusal). IsFaultOf s why new) (message_says_one_thing h.founding.vendor bytes said other says same) err.1;
+    registry_fault = λ other same. subst (λ (s : Result Message HttpRefusal). IsFaultFor s why new) (message_says_one_thing h.founding.vendor bytes said other says same) err.1;
   })
 
   -- the message was read, and the registry was poisoned
@@ -106,7 +106,7 @@ module _ {S : Type 0} {g : Ghosts S} where
       (inr (subst (λ (f : DeskFault). IsTold (Err f) response fault) refused.1 told), refused.2)
 
 -- the fault is that of the registry
-pub same_fault : (done : Result Response DeskFault) (response : Response) (fault : Option Fault) → IsTold done response fault → fault ≡ fault_of done
+pub same_fault : (done : Result Response DeskFault) (response : Response) (fault : Option Fault) → IsTold done response fault → fault ≡ registry_fault done
 same_fault (Ok wanted) response fault told = told.1
 same_fault (Err why) response fault told = told.1
 

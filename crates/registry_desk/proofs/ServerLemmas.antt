@@ -21,14 +21,14 @@ use Rattle.registry_desk.specs.declared.fault.DeskFault.TheVariants.{NoMemory, R
 use Rattle.registry_desk.specs.declared.serve.Served.{Served}
 use Rattle.registry_desk.specs.Faults.{registry_fault, unavailable_of}
 use Rattle.registry_store.specs.Files.{IsEither}
-use Rattle.registry_desk.specs.Acting.{after_message, IsOfSoundRegistry, IsLeftUnavailable, IsFaultOf}
+use Rattle.registry_desk.specs.Acting.{after_message, IsOfSoundRegistry, IsLeftUnavailable, IsFaultFor}
 use Rattle.registry_desk.specs.Serving.{IsNext, IsServed, IsToldBy, IsTurnedAway, Sends}
 use Rattle.registry_desk.specs.declared.server.ServerStop.{ServerStop}
 use Rattle.registry_desk.specs.declared.server.ServerStop.TheVariants as stops
 use Rattle.registry_desk.specs.Server.{Visit, IsRead, IsVisit, IsToldAt, IsTurnedAwayAt, IsWritten, AreTurnedAway, HaveVisited, IsTurn, Turns, RepresentsAfter, IsServedInPart, IsStoppedServing, EndsVisit, EndsServing, IsLeftAfter, EndsConnections, IfVisited, fault_behind, fault_in, status_of}
-use Rattle.registry_desk.specs.declared.kept.Kept.{Kept}
-use Rattle.registry_desk.specs.Kept.{AreTextsAfter, AreTextsAfterVisit, AreTextsOf, no_texts}
-use Rattle.registry_desk.proofs.KeptLemmas.{none_are, texts_after_visit}
+use Rattle.registry_desk.specs.declared.cache.Cache.{Cache}
+use Rattle.registry_desk.specs.Cache.{AreTextsAfter, AreTextsAfterVisit, AreTextsOf, no_texts}
+use Rattle.registry_desk.proofs.CacheLemmas.{none_are, texts_after_visit}
 use Rattle.registry_desk.proofs.ServeLemmas.{status_503}
 
 -- one more connection
@@ -70,7 +70,7 @@ module _ {S : Type 0} {g : Ghosts S} where
   given_up_visit : (new : TheRegistry S g) (h : History) (bytes text : List ℕ) (served : Served) (why : DeskFault) (next : History)
       → IsOfSoundRegistry why → text ≡ response_bytes (unavailable_response (unavailable_of why)) → IfOk served.status (λ sent. sent ≡ 503)
       → IsNext h bytes why next → IsLeftUnavailable why new h next
-      → ((said : Result Message HttpRefusal) → Says h.founding.vendor bytes said → IsFaultOf said why new)
+      → ((said : Result Message HttpRefusal) → Says h.founding.vendor bytes said → IsFaultFor said why new)
       → EndsVisit new h (record { bytes = bytes; text = text; end = Ok served }) (registry_fault why)
   given_up_visit new h bytes text served NoMemory next kind text_is status_is next_is left fault_of = short_turn new h bytes text served next text_is status_is next_is left.ends
   given_up_visit new h bytes text served (Registry fault) next kind text_is status_is next_is left fault_of =
@@ -87,24 +87,24 @@ module _ {S : Type 0} {g : Ghosts S} where
       subst (λ (f : Option Fault). EndsVisit new h (record { bytes = bytes; text = response_bytes response; end = Ok served }) f) (sym it.fault_is)
       (given_up_visit new h bytes (response_bytes response) served it.why it.next it.kind (ap response_bytes it.response_is) (subst (λ (n : ℕ). IfOk served.status (λ sent. sent ≡ n)) unavailable sent) it.next_is it.left it.fault_of)
 
-  -- the registry represents the history after these connections, and the texts that are kept are of it
-  abbrev pub RepresentsBeside : TheRegistry S g → Kept → History → List Visit → Type 0
-  RepresentsBeside it kept h visits = (next : History) × Turns h visits next × Represents it next × AreTextsOf next kept
+  -- the registry represents the history after these connections, and the texts that are cached are of it
+  abbrev pub RepresentsBeside : TheRegistry S g → Cache → History → List Visit → Type 0
+  RepresentsBeside it cache h visits = (next : History) × Turns h visits next × Represents it next × AreTextsOf next cache
 
-  pub represents_after : (it : TheRegistry S g) (kept : Kept) (h : History) (visits : List Visit) → RepresentsBeside it kept h visits → RepresentsAfter it h visits
-  represents_after it kept h visits so = (so.0, so.1, so.2)
+  pub represents_after : (it : TheRegistry S g) (cache : Cache) (h : History) (visits : List Visit) → RepresentsBeside it cache h visits → RepresentsAfter it h visits
+  represents_after it cache h visits so = (so.0, so.1, so.2)
 
   -- the history after one more connection
-  pub represents_more : (mid new : TheRegistry S g) (kept kept_new : Kept) (h : History) (visits : List Visit) (visit : Visit) → RepresentsBeside mid kept h visits
-      → ((x : History) → Represents mid x → AreTextsOf x kept → EndsVisit new x visit None × AreTextsAfterVisit x visit kept_new) → RepresentsBeside new kept_new h (visits ++ visit ∷ [])
-  represents_more mid new kept kept_new h visits visit before one =
+  pub represents_more : (mid new : TheRegistry S g) (cache cache_new : Cache) (h : History) (visits : List Visit) (visit : Visit) → RepresentsBeside mid cache h visits
+      → ((x : History) → Represents mid x → AreTextsOf x cache → EndsVisit new x visit None × AreTextsAfterVisit x visit cache_new) → RepresentsBeside new cache_new h (visits ++ visit ∷ [])
+  represents_more mid new cache cache_new h visits visit before one =
       let it = one before.0 before.2 before.3 in
       (it.0.0, turns_more h before.0 it.0.0 visits visit before.1 it.0.1, it.0.2, it.1 it.0.0 it.0.1)
 
   -- the fault at one more connection
-  pub halted_more : (mid new : TheRegistry S g) (kept : Kept) (h : History) (visits : List Visit) (visit : Visit) (fault : Fault) → RepresentsBeside mid kept h visits
-      → ((x : History) → Represents mid x → AreTextsOf x kept → EndsVisit new x visit (Some fault)) → IsStoppedServing new h (visits ++ visit ∷ []) fault
-  halted_more mid new kept h visits visit fault before one =
+  pub halted_more : (mid new : TheRegistry S g) (cache : Cache) (h : History) (visits : List Visit) (visit : Visit) (fault : Fault) → RepresentsBeside mid cache h visits
+      → ((x : History) → Represents mid x → AreTextsOf x cache → EndsVisit new x visit (Some fault)) → IsStoppedServing new h (visits ++ visit ∷ []) fault
+  halted_more mid new cache h visits visit fault before one =
       record { before = visits; last = visit; all = refl; middle = before.0; turns = before.1; halted = one before.0 before.2 before.3 }
 
   -- after such a fault these connections were served in part
@@ -168,89 +168,89 @@ module _ {S C R W : Type 0} {g : Ghosts S} (opens : C → C → R → W → Type
       × (is_poisoned first ≡ true → AreTurnedAway visits (fault_in result) × (last ≡ first))
 
   -- a message was served between the opening and the closing of a connection
-  pub visit_of : (old opened new : C) (reader reader_new : R) (writer writer_new : W) (mid last : TheRegistry S g) (kept kept_new : Kept) (served : Result Served Broken) (status : Option ℕ) (fault : Option Fault) (bytes : List ℕ)
+  pub visit_of : (old opened new : C) (reader reader_new : R) (writer writer_new : W) (mid last : TheRegistry S g) (cache cache_new : Cache) (served : Result Served Broken) (status : Option ℕ) (fault : Option Fault) (bytes : List ℕ)
       → opens old opened reader writer → closes opened new reader_new writer_new status → status ≡ status_of served → fault ≡ fault_behind served → MayGive (remaining reader) bytes
       → IfOk served (λ served. (response : Response) × Sends contents writes_failed writer writer_new response served.status
-      × ((h : History) → Represents mid h → HasCleanDisk (state_of last) → AreTextsOf h kept → IsServed last h bytes response served.fault × AreTextsAfter h bytes kept_new)
-      × (is_poisoned mid ≡ true → kept ≡ no_texts → IsTurnedAway bytes response served.fault × (last ≡ mid) × (kept_new ≡ no_texts))
+      × ((h : History) → Represents mid h → HasCleanDisk (state_of last) → AreTextsOf h cache → IsServed last h bytes response served.fault × AreTextsAfter h bytes cache_new)
+      × (is_poisoned mid ≡ true → cache ≡ no_texts → IsTurnedAway bytes response served.fault × (last ≡ mid) × (cache_new ≡ no_texts))
       × (is_poisoned mid ≡ false → IsToldBy served.fault response))
-      → OnErr served (FailsAfter (remaining reader) (remaining reader_new) (reads_failed reader) (reads_failed reader_new) IsIncomplete × (writer_new ≡ writer) × (last ≡ mid) × (kept_new ≡ kept))
+      → OnErr served (FailsAfter (remaining reader) (remaining reader_new) (reads_failed reader) (reads_failed reader_new) IsIncomplete × (writer_new ≡ writer) × (last ≡ mid) × (cache_new ≡ cache))
       → OnOk served (reads_failed reader_new ≡ reads_failed reader)
       → (visit : Visit)
       × IsVisit opens closes remaining reads_failed contents writes_failed old new visit
-      × ((h : History) → Represents mid h → HasCleanDisk (state_of last) → AreTextsOf h kept → EndsVisit last h visit fault × AreTextsAfterVisit h visit kept_new)
-      × (is_poisoned mid ≡ true → kept ≡ no_texts → IsTurnedAwayAt visit fault × (last ≡ mid) × (kept_new ≡ no_texts))
+      × ((h : History) → Represents mid h → HasCleanDisk (state_of last) → AreTextsOf h cache → EndsVisit last h visit fault × AreTextsAfterVisit h visit cache_new)
+      × (is_poisoned mid ≡ true → cache ≡ no_texts → IsTurnedAwayAt visit fault × (last ≡ mid) × (cache_new ≡ no_texts))
       × (is_poisoned mid ≡ false → IsToldAt visit fault)
-  visit_of old opened new reader reader_new writer writer_new mid last kept kept_new (Ok served) status fault bytes opens_with closes_with status_is fault_is gives said failed came =
+  visit_of old opened new reader reader_new writer writer_new mid last cache cache_new (Ok served) status fault bytes opens_with closes_with status_is fault_is gives said failed came =
       let visit : Visit = record { bytes = bytes; text = response_bytes said.0; end = Ok served } in (
         visit,
         visit_with opens closes remaining reads_failed contents writes_failed old opened new reader reader_new writer writer_new visit status opens_with closes_with status_is gives came (said.0, refl, said.1),
         λ h stands clean of.
             let both = said.2 h stands clean of in
-            (subst (λ (f : Option Fault). EndsVisit last h visit f) (sym fault_is) (served_visit last h bytes said.0 served said.1.1 both.0), texts_after_visit h bytes visit.text served kept_new both.1),
+            (subst (λ (f : Option Fault). EndsVisit last h visit f) (sym fault_is) (served_visit last h bytes said.0 served said.1.1 both.0), texts_after_visit h bytes visit.text served cache_new both.1),
         λ poisoned none. let away = said.3 poisoned none in ((said.0, refl, said.1.1, away.0, fault_is), away.1, away.2),
         λ sane. subst (λ (f : Option Fault). IsToldAt visit f) (sym fault_is) (told_at bytes said.0 served served.fault said.1.1 (said.4 sane)),
       )
-  visit_of old opened new reader reader_new writer writer_new mid last kept kept_new (Err broken) status fault bytes opens_with closes_with status_is fault_is gives said failed came =
+  visit_of old opened new reader reader_new writer writer_new mid last cache cache_new (Err broken) status fault bytes opens_with closes_with status_is fault_is gives said failed came =
       let visit : Visit = record { bytes = bytes; text = []; end = Err broken } in (
         visit,
         visit_with opens closes remaining reads_failed contents writes_failed old opened new reader reader_new writer writer_new visit status opens_with closes_with status_is gives failed.0 failed.1,
         λ h stands clean of. (
           subst (λ (f : Option Fault). EndsVisit last h visit f) (sym fault_is) (h, refl, subst (λ (r : TheRegistry S g). Represents r h) (sym failed.2) stands),
-          λ next same. subst (λ (k : Kept). AreTextsOf next k) (sym failed.3) (subst (λ (x : History). AreTextsOf x kept) (sym same) of),
+          λ next same. subst (λ (k : Cache). AreTextsOf next k) (sym failed.3) (subst (λ (x : History). AreTextsOf x cache) (sym same) of),
         ),
         λ poisoned none. (fault_is, failed.2, failed.3 ∙ none),
         λ sane. subst (λ (f : Option Fault). IsToldAt visit f) (sym fault_is) tt,
       )
 
-  -- one connection came beside texts that are kept, with this result
-  abbrev pub CameBeside : C → C → TheRegistry S g → TheRegistry S g → Kept → Kept → Result (Unit {0}) ServerStop → Type 0
-  CameBeside old new mid last kept kept_new result = IfVisited result ((visit : Visit)
+  -- one connection came beside texts that are cached, with this result
+  abbrev pub CameBeside : C → C → TheRegistry S g → TheRegistry S g → Cache → Cache → Result (Unit {0}) ServerStop → Type 0
+  CameBeside old new mid last cache cache_new result = IfVisited result ((visit : Visit)
       × IsVisit opens closes remaining reads_failed contents writes_failed old new visit
-      × ((h : History) → Represents mid h → HasCleanDisk (state_of last) → AreTextsOf h kept → EndsVisit last h visit (fault_in result) × AreTextsAfterVisit h visit kept_new)
-      × (is_poisoned mid ≡ true → kept ≡ no_texts → IsTurnedAwayAt visit (fault_in result) × (last ≡ mid) × (kept_new ≡ no_texts))
+      × ((h : History) → Represents mid h → HasCleanDisk (state_of last) → AreTextsOf h cache → EndsVisit last h visit (fault_in result) × AreTextsAfterVisit h visit cache_new)
+      × (is_poisoned mid ≡ true → cache ≡ no_texts → IsTurnedAwayAt visit (fault_in result) × (last ≡ mid) × (cache_new ≡ no_texts))
       × (is_poisoned mid ≡ false → IsToldAt visit (fault_in result)))
 
   -- the same beside no text
-  pub came_alone : (old new : C) (mid last : TheRegistry S g) (kept kept_new : Kept) (result : Result (Unit {0}) ServerStop) → kept ≡ no_texts → CameBeside old new mid last kept kept_new result
+  pub came_alone : (old new : C) (mid last : TheRegistry S g) (cache cache_new : Cache) (result : Result (Unit {0}) ServerStop) → cache ≡ no_texts → CameBeside old new mid last cache cache_new result
       → IfVisited result ((visit : Visit)
       × IsVisit opens closes remaining reads_failed contents writes_failed old new visit
       × ((h : History) → Represents mid h → HasCleanDisk (state_of last) → EndsVisit last h visit (fault_in result))
       × (is_poisoned mid ≡ true → IsTurnedAwayAt visit (fault_in result) × (last ≡ mid))
       × (is_poisoned mid ≡ false → IsToldAt visit (fault_in result)))
-  came_alone old new mid last kept kept_new (Ok done) none came = (
+  came_alone old new mid last cache cache_new (Ok done) none came = (
     came.0,
     came.1,
-    λ h stands clean. (came.2 h stands clean (none_are h kept none)).0,
+    λ h stands clean. (came.2 h stands clean (none_are h cache none)).0,
     λ poisoned. let away = came.3 poisoned none in (away.0, away.1),
     came.4,
   )
-  came_alone old new mid last kept kept_new (Err stops.Connections) none came = tt
-  came_alone old new mid last kept kept_new (Err (stops.Registry fault)) none came = (
+  came_alone old new mid last cache cache_new (Err stops.Connections) none came = tt
+  came_alone old new mid last cache cache_new (Err (stops.Registry fault)) none came = (
     came.0,
     came.1,
-    λ h stands clean. (came.2 h stands clean (none_are h kept none)).0,
+    λ h stands clean. (came.2 h stands clean (none_are h cache none)).0,
     λ poisoned. let away = came.3 poisoned none in (away.0, away.1),
     came.4,
   )
 
   -- a fault is told at the last connection
-  pub told_last : (old middle new : C) (mid last : TheRegistry S g) (kept kept_new : Kept) (visits : List Visit) (result : Result (Unit {0}) ServerStop) (stop : ServerStop) → result ≡ Err stop
-      → HaveVisited opens closes remaining reads_failed contents writes_failed old middle visits → CameBeside middle new mid last kept kept_new (Err stop) → is_poisoned mid ≡ false
+  pub told_last : (old middle new : C) (mid last : TheRegistry S g) (cache cache_new : Cache) (visits : List Visit) (result : Result (Unit {0}) ServerStop) (stop : ServerStop) → result ≡ Err stop
+      → HaveVisited opens closes remaining reads_failed contents writes_failed old middle visits → CameBeside middle new mid last cache cache_new (Err stop) → is_poisoned mid ≡ false
       → IfSome (fault_in result) (λ fault. (visits : List Visit) × (middle : C) × (last : Visit) × HaveVisited opens closes remaining reads_failed contents writes_failed old middle visits
       × IsVisit opens closes remaining reads_failed contents writes_failed middle new last × IsToldAt last (Some fault))
-  told_last old middle new mid last kept kept_new visits result stops.Connections is before came sane = rw is tt
-  told_last old middle new mid last kept kept_new visits result (stops.Registry fault) is before came sane = rw is (visits, middle, came.0, before, came.1, came.4 sane)
+  told_last old middle new mid last cache cache_new visits result stops.Connections is before came sane = rw is tt
+  told_last old middle new mid last cache cache_new visits result (stops.Registry fault) is before came sane = rw is (visits, middle, came.0, before, came.1, came.4 sane)
 
   -- a server stops when no more connections come, or at a fault
-  pub stops_at : (old middle new : C) (first mid last : TheRegistry S g) (kept kept_new : Kept) (count : ℕ) (visits : List Visit) (stop : ServerStop)
+  pub stops_at : (old middle new : C) (first mid last : TheRegistry S g) (cache cache_new : Cache) (count : ℕ) (visits : List Visit) (stop : ServerStop)
       → HaveVisited opens closes remaining reads_failed contents writes_failed old middle visits → length visits < count
       → (HasCleanDisk (state_of last) → HasCleanDisk (state_of mid))
-      → ((h : History) → Represents first h → HasCleanDisk (state_of mid) → RepresentsBeside mid kept h visits)
-      → (is_poisoned first ≡ true → AreTurnedAway visits None × (mid ≡ first) × (kept ≡ no_texts))
-      → CameBeside middle new mid last kept kept_new (Err stop)
+      → ((h : History) → Represents first h → HasCleanDisk (state_of mid) → RepresentsBeside mid cache h visits)
+      → (is_poisoned first ≡ true → AreTurnedAway visits None × (mid ≡ first) × (cache ≡ no_texts))
+      → CameBeside middle new mid last cache cache_new (Err stop)
       → (stop ≡ stops.Connections → fails middle new × (last ≡ mid)) → Ends old new first last count (Err stop)
-  stops_at old middle new first mid last kept kept_new count visits stops.Connections before less early so_far turned came none = (
+  stops_at old middle new first mid last cache cache_new count visits stops.Connections before less early so_far turned came none = (
     visits,
     middle,
     before,
@@ -258,10 +258,10 @@ module _ {S C R W : Type 0} {g : Ghosts S} (opens : C → C → R → W → Type
     omega (arith, less),
     tt,
     λ h stands clean.
-        with_crash last h visits None (subst (λ it. RepresentsAfter it h visits) (sym (none refl).1) (represents_after mid kept h visits (so_far h stands (early clean)))) clean,
+        with_crash last h visits None (subst (λ it. RepresentsAfter it h visits) (sym (none refl).1) (represents_after mid cache h visits (so_far h stands (early clean)))) clean,
     λ poisoned. let away = turned poisoned in (away.0, (none refl).1 ∙ away.1),
   )
-  stops_at old middle new first mid last kept kept_new count visits (stops.Registry fault) before less early so_far turned came none =
+  stops_at old middle new first mid last cache cache_new count visits (stops.Registry fault) before less early so_far turned came none =
       let longer = length_more visits came.0 (length visits) refl in (
         visits ++ came.0 ∷ [],
         new,
@@ -270,19 +270,19 @@ module _ {S C R W : Type 0} {g : Ghosts S} (opens : C → C → R → W → Type
         omega (arith, less, longer),
         tt,
         λ h stands clean.
-            with_crash last h (visits ++ came.0 ∷ []) (Some fault) (halted_more mid last kept h visits came.0 fault (so_far h stands (early clean)) (λ x at are. (came.2 x at clean are).0)) clean,
+            with_crash last h (visits ++ came.0 ∷ []) (Some fault) (halted_more mid last cache h visits came.0 fault (so_far h stands (early clean)) (λ x at are. (came.2 x at clean are).0)) clean,
         λ poisoned.
             let away = turned poisoned in
             let one = came.3 (subst (λ (r : TheRegistry S g). is_poisoned r ≡ true) (sym away.1) poisoned) away.2 in
             (turned_more visits came.0 (Some fault) away.0 one.0, one.1 ∙ away.1),
       )
 
-  pub stopped_at : (result : Result (Unit {0}) ServerStop) (stop : ServerStop) → result ≡ Err stop → (old middle new : C) (first mid last : TheRegistry S g) (kept kept_new : Kept) (count : ℕ) (visits : List Visit)
+  pub stopped_at : (result : Result (Unit {0}) ServerStop) (stop : ServerStop) → result ≡ Err stop → (old middle new : C) (first mid last : TheRegistry S g) (cache cache_new : Cache) (count : ℕ) (visits : List Visit)
       → HaveVisited opens closes remaining reads_failed contents writes_failed old middle visits → length visits < count
       → (HasCleanDisk (state_of last) → HasCleanDisk (state_of mid))
-      → ((h : History) → Represents first h → HasCleanDisk (state_of mid) → RepresentsBeside mid kept h visits)
-      → (is_poisoned first ≡ true → AreTurnedAway visits None × (mid ≡ first) × (kept ≡ no_texts))
-      → CameBeside middle new mid last kept kept_new (Err stop)
+      → ((h : History) → Represents first h → HasCleanDisk (state_of mid) → RepresentsBeside mid cache h visits)
+      → (is_poisoned first ≡ true → AreTurnedAway visits None × (mid ≡ first) × (cache ≡ no_texts))
+      → CameBeside middle new mid last cache cache_new (Err stop)
       → (stop ≡ stops.Connections → fails middle new × (last ≡ mid)) → Ends old new first last count result
-  stopped_at result stop is old middle new first mid last kept kept_new count visits before less early so_far turned came none =
-      subst (λ (r : Result (Unit {0}) ServerStop). Ends old new first last count r) (sym is) (stops_at old middle new first mid last kept kept_new count visits stop before less early so_far turned came none)
+  stopped_at result stop is old middle new first mid last cache cache_new count visits before less early so_far turned came none =
+      subst (λ (r : Result (Unit {0}) ServerStop). Ends old new first last count r) (sym is) (stops_at old middle new first mid last cache cache_new count visits stop before less early so_far turned came none)

@@ -38,7 +38,7 @@ use Rattle.registry_http.specs.Foundings.{founding_response}
 use Rattle.registry_http.specs.Resources.{number_response, org_response, petition_response}
 use Rattle.registry_desk.specs.declared.fault.DeskFault.{DeskFault}
 use Rattle.registry_desk.specs.declared.fault.DeskFault.TheVariants.{Registry, NoMemory}
-use Rattle.registry_desk.specs.Faults.{fault_of}
+use Rattle.registry_desk.specs.Faults.{registry_fault}
 
 -- a number of a vendor that the query names; refusal 34 if the registry has no such vendor
 abbrev pub vendor_number_at : History → ℕ → ℕ → Response
@@ -114,7 +114,7 @@ module _ {S : Type 0} {g : Ghosts S} (it new : TheRegistry S g) where
     pub answered : (h : History) → Represents it h → HasCleanDisk (state_of new) → IfOk result (Is h)
     pub kind : (h : History) → Represents it h → HasCleanDisk (state_of new) → IfErr result IsOfQuery
     pub left : IsUntouched it new
-    pub notes : NotesForeign it new (fault_of result)
+    pub notes : NotesForeign it new (registry_fault result)
 
 module _ {S : Type 0} {g : Ghosts S} where
   -- After a fault of the registry it is poisoned by this fault, or it represents the history before the message, and the
@@ -131,10 +131,10 @@ module _ {S : Type 0} {g : Ghosts S} where
 
   -- The fault of a message that got refusal 30 or 31: memory ran out; or an order has poisoned the registry by this fault, also
   -- one that the rules would refuse; or the store failed at a query.
-  abbrev pub IsFaultOf : Result Message HttpRefusal → DeskFault → TheRegistry S g → Type 0
-  IsFaultOf (Err refusal) fault it = fault ≡ NoMemory
-  IsFaultOf (Ok (messages.Query query)) fault it = IsOfQuery fault
-  IsFaultOf (Ok (messages.Request request)) fault it = HasPoisoned fault it
+  abbrev pub IsFaultFor : Result Message HttpRefusal → DeskFault → TheRegistry S g → Type 0
+  IsFaultFor (Err refusal) fault it = fault ≡ NoMemory
+  IsFaultFor (Ok (messages.Query query)) fault it = IsOfQuery fault
+  IsFaultFor (Ok (messages.Request request)) fault it = HasPoisoned fault it
 
   -- A message got refusal 30 or 31. A crash leaves one history or the other, and a registry that is not poisoned represents
   -- one of them.

@@ -2,4 +2,4 @@ pub mod Faults
 pub mod Acting
 pub mod Serving
 pub mod Server
-pub mod Kept
+pub mod Cache

@@ -24,7 +24,7 @@ use Rattle.registry_desk.specs.declared.server.ServerStop.{ServerStop}
 use Rattle.registry_desk.specs.declared.server.ServerStop.TheVariants as stops
 use Rattle.registry_desk.specs.Faults.{unavailable_of}
 use Rattle.registry_store.specs.Files.{IsEither}
-use Rattle.registry_desk.specs.Acting.{IsResponse, after_message, IsOfSoundRegistry, IsLeftUnavailable, IsFaultOf}
+use Rattle.registry_desk.specs.Acting.{IsResponse, after_message, IsOfSoundRegistry, IsLeftUnavailable, IsFaultFor}
 use Rattle.registry_desk.specs.Serving.{IsNext, IsTurnedAway, Sends}
 
 -- ---- connections
@@ -156,7 +156,7 @@ module _ {S : Type 0} {g : Ghosts S} where
     pub next : History
     pub next_is : IsNext h visit.bytes (Registry fault) next
     pub left : IsLeftUnavailable (Registry fault) it h next
-    pub fault_of : (said : Result Message HttpRefusal) → Says h.founding.vendor visit.bytes said → IsFaultOf said (Registry fault) it
+    pub fault_of : (said : Result Message HttpRefusal) → Says h.founding.vendor visit.bytes said → IsFaultFor said (Registry fault) it
 
   -- The registry had a fault at the last of these connections: a crash leaves the history after all messages before it, or
   -- after its own.

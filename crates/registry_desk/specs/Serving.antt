@@ -18,7 +18,7 @@ use Rattle.registry_http.specs.Messages.{Says}
 use Rattle.registry_desk.specs.declared.fault.DeskFault.{DeskFault}
 use Rattle.registry_desk.specs.declared.fault.DeskFault.TheVariants.{Registry, NoMemory}
 use Rattle.registry_desk.specs.Faults.{unavailable_of, registry_fault}
-use Rattle.registry_desk.specs.Acting.{IsResponse, after_message, IsOfSoundRegistry, IsLeftUnavailable, IsFaultOf}
+use Rattle.registry_desk.specs.Acting.{IsResponse, after_message, IsOfSoundRegistry, IsLeftUnavailable, IsFaultFor}
 
 -- the response was written to the sink: all of it, with its status, or the sink failed
 abbrev pub Sends : {W : Type 0} → (W → Option (List ℕ)) → (W → ℕ) → W → W → Response → Result ℕ Broken → Type 0
@@ -77,7 +77,7 @@ module _ {S : Type 0} {g : Ghosts S} where
     pub next : History
     pub next_is : IsNext h bytes why next
     pub left : IsLeftUnavailable why new h next
-    pub fault_of : (said : Result Message HttpRefusal) → Says h.founding.vendor bytes said → IsFaultOf said why new
+    pub fault_of : (said : Result Message HttpRefusal) → Says h.founding.vendor bytes said → IsFaultFor said why new
 
   abbrev pub IsServed : TheRegistry S g → History → List ℕ → Response → Option Fault → Type 0
   IsServed new h bytes response fault = IsAnswered new h bytes response fault ⊎ IsGivenUp new h bytes response fault

@@ -9,12 +9,12 @@ ghost use Rattle.registry_store.specs.declared.fault.Fault.TheVariants as faults
 ghost use Rattle.registry_desk.specs.declared.fault.DeskFault.TheVariants as desk_faults;
 ghost use Rattle.registry_store.specs.Queries.{IsUntouched};
 ghost use Rattle.registry_http.specs.Responses.{refusal_response, reply_response};
-ghost use Rattle.registry_desk.specs.Acting.{IsQueryResponse, IsResponse, after_message, IsOfQuery, IsOfSoundRegistry, IsLeftUnavailable, HasPoisoned, IsFaultOf};
-ghost use Rattle.registry_desk.specs.Faults.{fault_of};
-ghost use Rattle.registry_desk.specs.Kept.{AreTextsOf, kept_beside, no_texts, with_text};
+ghost use Rattle.registry_desk.specs.Acting.{IsQueryResponse, IsResponse, after_message, IsOfQuery, IsOfSoundRegistry, IsLeftUnavailable, HasPoisoned, IsFaultFor};
+ghost use Rattle.registry_desk.specs.Faults.{registry_fault};
+ghost use Rattle.registry_desk.specs.Cache.{AreTextsOf, cache_beside, no_texts, with_text};
 
+use crate::cache::Cache;
 use crate::fault::DeskFault;
-use crate::kept::Kept;
 use crate::queries::ask;
 use registry_http::{HttpRefusal, Message, Query, Response, refusal_response, reply_response};
 use registry_rules::Request;
@@ -33,9 +33,9 @@ fn respond_to_order<S: Alter>(
         → IfOk result (λ response. (response ≡ reply_response (reply_to h request.now)) × Represents registry.new (after_one h request.now)) }
     ensures left { (h : History) → Represents registry.old h → HasCleanDisk (state_of registry.new)
         → IfErr result (λ fault. IsOfSoundRegistry fault × HasPoisoned fault registry.new × IsLeftUnavailable fault registry.new h (after_one h request.now)) }
-    ensures goes_on { fault_of result ≡ None → is_poisoned registry.new ≡ false }
+    ensures goes_on { registry_fault result ≡ None → is_poisoned registry.new ≡ false }
     ensures keeps_fault { is_poisoned registry.old ≡ false → IfErr result (λ fault. HasPoisoned fault registry.new) }
-    ensures notes { NotesForeign registry.old registry.new (fault_of result) }
+    ensures notes { NotesForeign registry.old registry.new (registry_fault result) }
     ensures only_poisoned { result ≡ Err (desk_faults.Registry faults.Poisoned) → is_poisoned registry.old ≡ true }
     ensures when_poisoned { is_poisoned registry.old ≡ true → (result ≡ Err (desk_faults.Registry faults.Poisoned)) × (registry.new ≡ registry.old) }
     ensures endures { Endures (state_of registry.old) (state_of registry.new) }
@@ -46,22 +46,22 @@ fn respond_to_order<S: Alter>(
     }
 }
 
-/// Returns the response to a query: the one that is kept, which is taken out, or else a new one.
+/// Returns the response to a query: the one that is cached, which is taken out, or else a new one.
 fn take_or_ask<S: Alter>(
     alloc: Global,
     registry: &mut Registry<S>,
-    kept: &mut Kept,
+    cache: &mut Cache,
     query: &Query,
 ) -> Result<Response, DeskFault>
-    ensures answered { (h : History) → Represents registry.old h → HasCleanDisk (state_of registry.new) → AreTextsOf h kept.old → IfOk result (IsQueryResponse h query.now) }
+    ensures answered { (h : History) → Represents registry.old h → HasCleanDisk (state_of registry.new) → AreTextsOf h cache.old → IfOk result (IsQueryResponse h query.now) }
     ensures kind { (h : History) → Represents registry.old h → HasCleanDisk (state_of registry.new) → IfErr result IsOfQuery }
     ensures left { IsUntouched registry.old registry.new }
-    ensures notes { NotesForeign registry.old registry.new (fault_of result) }
+    ensures notes { NotesForeign registry.old registry.new (registry_fault result) }
     ensures only_poisoned { result ≡ Err (desk_faults.Registry faults.Poisoned) → is_poisoned registry.old ≡ true }
-    ensures when_poisoned { is_poisoned registry.old ≡ true → kept.old ≡ no_texts → (result ≡ Err (desk_faults.Registry faults.Poisoned)) × (registry.new ≡ registry.old) }
-    ensures taken { kept.new ≡ with_text kept.old query.now None }
+    ensures when_poisoned { is_poisoned registry.old ≡ true → cache.old ≡ no_texts → (result ≡ Err (desk_faults.Registry faults.Poisoned)) × (registry.new ≡ registry.old) }
+    ensures taken { cache.new ≡ with_text cache.old query.now None }
 {
-    match kept.take(query) {
+    match cache.take(query) {
         Some(response) => Ok(response),
         None => ask(alloc, registry, query),
     }
@@ -75,32 +75,32 @@ fn refuse(alloc: Global, refusal: HttpRefusal) -> Result<Response, DeskFault>
     Ok(refusal_response(alloc, refusal)?)
 }
 
-/// Acts on what a message says, and returns the response. A kept response is taken out.
+/// Acts on what a message says, and returns the response. A cached response is taken out.
 pub(crate) fn response_to<S: Alter>(
     alloc: Global,
     registry: &mut Registry<S>,
-    kept: &mut Kept,
+    cache: &mut Cache,
     said: &Result<Message, HttpRefusal>,
 ) -> Result<Response, DeskFault>
-    ensures answered { (h : History) → Represents registry.old h → HasCleanDisk (state_of registry.new) → AreTextsOf h kept.old
+    ensures answered { (h : History) → Represents registry.old h → HasCleanDisk (state_of registry.new) → AreTextsOf h cache.old
         → IfOk result (λ response. IsResponse h said.now response × Represents registry.new (after_message h said.now)) }
     ensures left { (h : History) → Represents registry.old h → HasCleanDisk (state_of registry.new)
-        → IfErr result (λ fault. IsOfSoundRegistry fault × IsFaultOf said.now fault registry.new × IsLeftUnavailable fault registry.new h (after_message h said.now)) }
+        → IfErr result (λ fault. IsOfSoundRegistry fault × IsFaultFor said.now fault registry.new × IsLeftUnavailable fault registry.new h (after_message h said.now)) }
     ensures asked { IfErr result (λ fault. fault ≢ desk_faults.NoMemory → IsOk said.now) }
     // Whatever the store holds: without a fault of the registry it is not poisoned, and no call of it
     // found the rows of no history.
-    ensures goes_on { is_poisoned registry.old ≡ false → fault_of result ≡ None → is_poisoned registry.new ≡ false }
-    ensures notes { NotesForeign registry.old registry.new (fault_of result) }
+    ensures goes_on { is_poisoned registry.old ≡ false → registry_fault result ≡ None → is_poisoned registry.new ≡ false }
+    ensures notes { NotesForeign registry.old registry.new (registry_fault result) }
     // A message that is refused gets its refusal, over any registry.
     ensures refused { IfErr said.now (λ refusal. IfOk result (λ response. response ≡ refusal_response refusal) × IfErr result (λ fault. fault ≡ desk_faults.NoMemory) × (registry.new ≡ registry.old)) }
     // An order or a query gets no response over a poisoned registry.
-    ensures when_poisoned { is_poisoned registry.old ≡ true → kept.old ≡ no_texts → OnOk said.now ((result ≡ Err (desk_faults.Registry faults.Poisoned)) × (registry.new ≡ registry.old)) }
+    ensures when_poisoned { is_poisoned registry.old ≡ true → cache.old ≡ no_texts → OnOk said.now ((result ≡ Err (desk_faults.Registry faults.Poisoned)) × (registry.new ≡ registry.old)) }
     ensures only_poisoned { result ≡ Err (desk_faults.Registry faults.Poisoned) → is_poisoned registry.old ≡ true }
-    ensures beside { kept.new ≡ kept_beside kept.old said.now }
+    ensures beside { cache.new ≡ cache_beside cache.old said.now }
     ensures endures { Endures (state_of registry.old) (state_of registry.new) }
 {
     match said {
-        Ok(Message::Query(query)) => take_or_ask(alloc, registry, kept, query),
+        Ok(Message::Query(query)) => take_or_ask(alloc, registry, cache, query),
         Ok(Message::Request(request)) => respond_to_order(alloc, registry, request),
         Err(refusal) => refuse(alloc, *refusal),
     }

@@ -3,8 +3,8 @@
 #![tactic(auto)]
 
 mod acting;
+mod cache;
 mod fault;
-mod kept;
 mod laws;
 mod queries;
 mod serve;

@@ -12,11 +12,11 @@ ghost use Rattle.registry_http.specs.Responses.{unavailable_response};
 ghost use Rattle.registry_desk.specs.Faults.{unavailable_of, registry_fault};
 ghost use Rattle.registry_desk.specs.Serving.{IsSent, IsTold, IsToldBy, IsServed, IsTurnedAway, Sends};
 ghost use Rattle.registry_desk.specs.Server.{fault_behind};
-ghost use Rattle.registry_desk.specs.Kept.{AreTextsAfter, AreTextsOf, no_texts};
+ghost use Rattle.registry_desk.specs.Cache.{AreTextsAfter, AreTextsOf, no_texts};
 
 use crate::acting::response_to;
+use crate::cache::Cache;
 use crate::fault::{DeskFault, registry_fault, unavailable_of};
-use crate::kept::Kept;
 use byte_streams::{Broken, Sink, Source};
 use registry_http::{
     MessageFault, Response, Routes, read_message, write_response, write_unavailable,
@@ -81,7 +81,7 @@ fn send<W: Sink>(alloc: Global, sink: &mut W, done: &Result<Response, DeskFault>
 }
 
 /// Reads one message from the source, acts on it, and writes its response to the sink. The list or
-/// a report that is kept is written again, and a new one is kept.
+/// a report that is cached is written again, and a new one is cached.
 ///
 /// Returns `Broken` only if the source failed in this call, before the message was complete: then
 /// nothing is written and nothing was acted on.
@@ -91,17 +91,17 @@ pub(crate) fn serve_message<R: Source, W: Sink, S: Alter>(
     source: &mut R,
     sink: &mut W,
     registry: &mut Registry<S>,
-    kept: &mut Kept,
+    cache: &mut Cache,
 ) -> Result<Served, Broken>
     ensures served { (bytes : List ℕ) × MayGive (R.remaining source.old) bytes × IfOk result (λ served. (response : TheResponse)
         × Sends W.contents W.failures sink.old sink.new response served.status
-        × ((h : History) → Represents registry.old h → HasCleanDisk (state_of registry.new) → AreTextsOf h kept.old → IsServed registry.new h bytes response served.fault × AreTextsAfter h bytes kept.new)
-        × (is_poisoned registry.old ≡ true → kept.old ≡ no_texts → IsTurnedAway bytes response served.fault × (registry.new ≡ registry.old) × (kept.new ≡ no_texts))
+        × ((h : History) → Represents registry.old h → HasCleanDisk (state_of registry.new) → AreTextsOf h cache.old → IsServed registry.new h bytes response served.fault × AreTextsAfter h bytes cache.new)
+        × (is_poisoned registry.old ≡ true → cache.old ≡ no_texts → IsTurnedAway bytes response served.fault × (registry.new ≡ registry.old) × (cache.new ≡ no_texts))
         × (is_poisoned registry.old ≡ false → IsToldBy served.fault response)) }
     ensures goes_on { is_poisoned registry.old ≡ false → fault_behind result ≡ None → is_poisoned registry.new ≡ false }
     ensures notes { NotesForeign registry.old registry.new (fault_behind result) }
     ensures poisoned { IfOk result (λ served. served.fault ≡ Some faults.Poisoned → is_poisoned registry.old ≡ true) }
-    ensures read { OnErr result (FailsAfter (R.remaining source.old) (R.remaining source.new) (R.failures source.old) (R.failures source.new) IsIncomplete × (sink.new ≡ sink.old) × (registry.new ≡ registry.old) × (kept.new ≡ kept.old)) }
+    ensures read { OnErr result (FailsAfter (R.remaining source.old) (R.remaining source.new) (R.failures source.old) (R.failures source.new) IsIncomplete × (sink.new ≡ sink.old) × (registry.new ≡ registry.old) × (cache.new ≡ cache.old)) }
     ensures kept { OnOk result (R.failures source.new ≡ R.failures source.old) }
     ensures endures { Endures (state_of registry.old) (state_of registry.new) }
 {
@@ -111,7 +111,7 @@ pub(crate) fn serve_message<R: Source, W: Sink, S: Alter>(
         Err(MessageFault::Refused(refusal)) => Err(refusal),
         Err(MessageFault::Broken) => return Err(Broken),
         Err(MessageFault::NoMemory) => {
-            kept.clear();
+            cache.clear();
             let given = give_up(sink, DeskFault::NoMemory);
             // A poisoned registry was not asked, and yet no server goes on over it.
             return Ok(Served {
@@ -120,9 +120,9 @@ pub(crate) fn serve_message<R: Source, W: Sink, S: Alter>(
             });
         }
     };
-    let done = response_to(alloc, registry, kept, &said);
+    let done = response_to(alloc, registry, cache, &said);
     let served = send(alloc, sink, &done);
-    kept.keep(said, done);
+    cache.keep(said, done);
     Ok(served)
 }
 
@@ -156,6 +156,6 @@ pub fn serve_one<R: Source, W: Sink, S: Alter>(
     ensures endures { Endures (state_of registry.old) (state_of registry.new) }
 {
     let mut routes = Routes::new();
-    let mut kept = Kept::new();
-    serve_message(alloc, &mut routes, source, sink, registry, &mut kept)
+    let mut cache = Cache::new();
+    serve_message(alloc, &mut routes, source, sink, registry, &mut cache)
 }

@@ -7,9 +7,9 @@ ghost use Rattle.registry_tables.specs.Rows.{newest};
 ghost use Rattle.registry_store.specs.Promise.{Represents, Endures, Leaves, NotesForeign, is_poisoned, state_of};
 ghost use Rattle.registry_desk.specs.Faults.{server_stop_text};
 ghost use Rattle.registry_desk.specs.Server.{Visit, IsVisit, IsToldAt, IsTurnedAwayAt, AreTurnedAway, HaveVisited, EndsVisit, EndsServing, IsLeftAfter, EndsConnections, IfVisited, fault_behind, fault_in, status_of};
-ghost use Rattle.registry_desk.specs.Kept.{AreTextsAfterVisit, AreTextsOf, no_texts};
+ghost use Rattle.registry_desk.specs.Cache.{AreTextsAfterVisit, AreTextsOf, no_texts};
 
-use crate::kept::Kept;
+use crate::cache::Cache;
 use crate::serve::{Served, serve_message};
 use byte_streams::{Broken, Sink, Source};
 use registry_http::Routes;
@@ -104,12 +104,12 @@ fn serve_beside<C: Connections, S: Alter>(
     routes: &mut Routes,
     connections: &mut C,
     registry: &mut Registry<S>,
-    kept: &mut Kept,
+    cache: &mut Cache,
 ) -> Result<(), ServerStop>
     ensures visited { IfVisited result ((visit : Visit)
         × IsVisit C.opens C.closes C.Reader.remaining C.Reader.failures C.Writer.contents C.Writer.failures connections.old connections.new visit
-        × ((h : History) → Represents registry.old h → HasCleanDisk (state_of registry.new) → AreTextsOf h kept.old → EndsVisit registry.new h visit (fault_in result) × AreTextsAfterVisit h visit kept.new)
-        × (is_poisoned registry.old ≡ true → kept.old ≡ no_texts → IsTurnedAwayAt visit (fault_in result) × (registry.new ≡ registry.old) × (kept.new ≡ no_texts))
+        × ((h : History) → Represents registry.old h → HasCleanDisk (state_of registry.new) → AreTextsOf h cache.old → EndsVisit registry.new h visit (fault_in result) × AreTextsAfterVisit h visit cache.new)
+        × (is_poisoned registry.old ≡ true → cache.old ≡ no_texts → IsTurnedAwayAt visit (fault_in result) × (registry.new ≡ registry.old) × (cache.new ≡ no_texts))
         × (is_poisoned registry.old ≡ false → IsToldAt visit (fault_in result))) }
     ensures goes_on { is_poisoned registry.old ≡ false → fault_in result ≡ None → is_poisoned registry.new ≡ false }
     ensures notes { NotesForeign registry.old registry.new (fault_in result) }
@@ -119,7 +119,7 @@ fn serve_beside<C: Connections, S: Alter>(
     match connections.open() {
         Ok(ends) => {
             let (mut reader, mut writer) = ends;
-            let served = serve_message(alloc, routes, &mut reader, &mut writer, registry, kept);
+            let served = serve_message(alloc, routes, &mut reader, &mut writer, registry, cache);
             connections.close(reader, writer, status_of(served));
             match fault_behind(served) {
                 None => Ok(()),
@@ -151,8 +151,8 @@ pub fn serve_next<C: Connections, S: Alter>(
     ensures endures { Endures (state_of registry.old) (state_of registry.new) }
 {
     let mut routes = Routes::new();
-    let mut kept = Kept::new();
-    serve_beside(alloc, &mut routes, connections, registry, &mut kept)
+    let mut cache = Cache::new();
+    serve_beside(alloc, &mut routes, connections, registry, &mut cache)
 }
 
 /// Serves at most `count` connections, one after another, up to the first fault of the registry.
@@ -163,7 +163,7 @@ pub fn serve_next<C: Connections, S: Alter>(
 /// the last one, perhaps of all but that one. So it holds each message whose response was written
 /// whole with a status other than 503.
 ///
-/// The last list and the last report of each kind are kept in memory, and written again until an
+/// The last list and the last report of each kind are cached in memory, and written again until an
 /// order comes.
 ///
 /// If `act` or a query finds the rows of no history, whatever the store holds, the message gets
@@ -194,9 +194,9 @@ pub fn serve_all<C: Connections, S: Alter>(
     ensures endures { Endures (state_of registry.old) (state_of registry.new) }
 {
     let mut routes = Routes::new();
-    let mut kept = Kept::new();
+    let mut cache = Cache::new();
     for _ in 0..count {
-        serve_beside(alloc, &mut routes, connections, registry, &mut kept)?;
+        serve_beside(alloc, &mut routes, connections, registry, &mut cache)?;
     }
     Ok(())
 }

@@ -7,7 +7,7 @@ use Rattle.registry_store.specs.declared.fault.Fault.{Fault}
 use Rattle.registry_store.specs.Promise.{NotesForeign, has_met_foreign, is_poisoned}
 use Rattle.registry_desk.specs.declared.fault.DeskFault.TheVariants.{NoMemory}
 use Rattle.registry_desk.specs.Faults.{unavailable_of}
-use Rattle.registry_desk.proofs.KeptLemmas.{none_after, none_are, only_done, texts_after}
+use Rattle.registry_desk.proofs.CacheLemmas.{none_after, none_are, only_done, texts_after}
 use Rattle.registry_desk.specs.Serving.{IsToldBy}
 use Rattle.registry_desk.proofs.ServeLemmas.{not_asked, same_fault, served_early, served_then, tells_poisoned, told_by, turned_away}
 use Rattle.registry_desk.proofs.serve.serve_message.Goals as goal
@@ -31,14 +31,14 @@ returns-clause-served g c =
             let here = subst (λ (founding : ℕ). Says founding says.0 c.match-read_message.said) (c.founding.ensures h stands).vendor says.2 in
             let answered = acted.answered h stands clean of in (
               served_then c.response_to-done.new.registry h says.0 told.0 fault c.match-read_message.said c.response_to-done.result here clean answered (acted.left h stands clean) acted.asked told.1,
-              texts_after _ h says.0 c.args.kept.now c.response_to-done.new.kept c.keep.new.self c.response_to-done.result c.match-read_message.said acted.beside c.keep.ensures here of answered,
+              texts_after _ h says.0 c.args.cache.now c.response_to-done.new.cache c.keep.new.self c.response_to-done.result c.match-read_message.said acted.beside c.keep.ensures here of answered,
             ),
         λ poisoned none.
             let away = acted.when_poisoned poisoned none in
             let turned = turned_away c.args.registry.now c.response_to-done.new.registry c.match-read_message.said c.response_to-done.result told.0 fault acted.refused away told.1 in (
               inr (_, c.match-read_message.said, says.2, turned.0),
               turned.1,
-              none_after c.args.kept.now c.response_to-done.new.kept c.keep.new.self c.response_to-done.result c.match-read_message.said acted.beside c.keep.ensures none (only_done _ _ c.match-read_message.said away),
+              none_after c.args.cache.now c.response_to-done.new.cache c.keep.new.self c.response_to-done.result c.match-read_message.said acted.beside c.keep.ensures none (only_done _ _ c.match-read_message.said away),
             ),
         λ sane. told_by c.response_to-done.result told.0 fault told.1,
       ),

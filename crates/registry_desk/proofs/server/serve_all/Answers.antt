@@ -3,14 +3,14 @@ use Rattle.std.specs.Prelude.{Err, None, true}
 use Rattle.sqlite.specs.State.{HasCleanDisk}
 use Rattle.registry_store.specs.Promise.{is_poisoned, state_of}
 use Rattle.registry_store.proofs.IsQueryLemmas.{notes_then}
-use Rattle.registry_desk.proofs.KeptLemmas.{none_are}
+use Rattle.registry_desk.proofs.CacheLemmas.{none_are}
 use Rattle.registry_desk.proofs.ServerLemmas.{length_more, represents_after, represents_more, stopped_at, told_last, turned_more, visited_more, with_crash}
 use Rattle.registry_desk.proofs.server.serve_all.Goals as goal
 
 pub loop-init : goal.loop-init
 loop-init g c = record {
   endures = search rules;
-  served = ([], refl, refl, λ h stands clean. (h, refl, stands, none_are h c.new-kept.result c.new-kept.ensures), λ poisoned. (refl, refl, c.new-kept.ensures));
+  served = ([], refl, refl, λ h stands clean. (h, refl, stands, none_are h c.new-cache.result c.new-cache.ensures), λ poisoned. (refl, refl, c.new-cache.ensures));
   goes_on = λ sane. sane;
   notes = refl;
 }
@@ -27,7 +27,7 @@ loop-preserved g c =
         length_more so_far.0 came.0 c.loop.counter so_far.2,
         λ h stands clean.
             let early : HasCleanDisk (state_of c.loop.registry) = omega (arith, c.serve_beside.ensures.endures.clean, clean) in
-            represents_more c.loop.registry c.serve_beside.new.registry c.loop.kept c.serve_beside.new.kept h so_far.0 came.0 (so_far.3 h stands early) (λ x at are. came.2 x at clean are),
+            represents_more c.loop.registry c.serve_beside.new.registry c.loop.cache c.serve_beside.new.cache h so_far.0 came.0 (so_far.3 h stands early) (λ x at are. came.2 x at clean are),
         λ poisoned.
             let away = so_far.4 poisoned in
             let one = came.3 (subst (λ r. is_poisoned r ≡ true) (sym away.1) poisoned) away.2 in
@@ -43,7 +43,7 @@ returns-in_err-serve_beside-clause-served g c =
     let stop = c.in_err-serve_beside.field-0.0 in
     let is : c.from_residual.result ≡ Err stop = search rules in
     stopped_at g.C.Connections.opens g.C.Connections.closes g.C.Reader.Source.remaining g.C.Reader.Source.failures g.C.Writer.Sink.contents g.C.Writer.Sink.failures g.C.Connections.fails
-    c.from_residual.result stop is c.args.connections.now c.loop.connections c.serve_beside.new.connections c.args.registry.now c.loop.registry c.serve_beside.new.registry c.loop.kept c.serve_beside.new.kept c.args.count so_far.0
+    c.from_residual.result stop is c.args.connections.now c.loop.connections c.serve_beside.new.connections c.args.registry.now c.loop.registry c.serve_beside.new.registry c.loop.cache c.serve_beside.new.cache c.args.count so_far.0
     so_far.1 (omega (arith, so_far.2, c.loop-test.true))
     (λ clean. omega (arith, c.serve_beside.ensures.endures.clean, clean))
     so_far.3 so_far.4 c.in_err-serve_beside.ensures.visited (λ same. c.in_err-serve_beside.ensures.none (ap Err same))
@@ -54,7 +54,7 @@ returns-in_err-serve_beside-clause-told g c sane =
     let stop = c.in_err-serve_beside.field-0.0 in
     let is : c.from_residual.result ≡ Err stop = search rules in
     told_last g.C.Connections.opens g.C.Connections.closes g.C.Reader.Source.remaining g.C.Reader.Source.failures g.C.Writer.Sink.contents g.C.Writer.Sink.failures g.C.Connections.fails
-    c.args.connections.now c.loop.connections c.serve_beside.new.connections c.loop.registry c.serve_beside.new.registry c.loop.kept c.serve_beside.new.kept so_far.0 c.from_residual.result stop is
+    c.args.connections.now c.loop.connections c.serve_beside.new.connections c.loop.registry c.serve_beside.new.registry c.loop.cache c.serve_beside.new.cache so_far.0 c.from_residual.result stop is
     so_far.1 c.in_err-serve_beside.ensures.visited (c.loop.invariant.goes_on sane)
 
 pub returns-in_err-serve_beside-clause-goes_on : goal.returns-in_err-serve_beside-clause-goes_on
@@ -76,6 +76,6 @@ returns-clause-served g c =
       refl,
       omega (arith, so_far.2, c.loop.auto.counter-end),
       omega (arith, so_far.2, c.loop.auto.counter-end, c.loop-test.false),
-      λ h stands clean. with_crash c.loop.registry h so_far.0 None (represents_after c.loop.registry c.loop.kept h so_far.0 (so_far.3 h stands clean)) clean,
+      λ h stands clean. with_crash c.loop.registry h so_far.0 None (represents_after c.loop.registry c.loop.cache h so_far.0 (so_far.3 h stands clean)) clean,
       λ poisoned. let away = so_far.4 poisoned in (away.0, away.1),
     )

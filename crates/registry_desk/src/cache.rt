@@ -1,7 +1,7 @@
 //! The last list and the last reports, which a server gives again until an order comes.
 
 ghost use Rattle.std.specs.Prelude.{◌≡◌, None, Some};
-ghost use Rattle.registry_desk.specs.Kept.{kept_after, no_texts, text_for, with_text};
+ghost use Rattle.registry_desk.specs.Cache.{cache_after, no_texts, text_for, with_text};
 
 use crate::fault::DeskFault;
 use registry_http::{HttpRefusal, Message, Query, Response};
@@ -9,7 +9,7 @@ use registry_reports::ReportKind;
 
 /// The last list and the last report of each kind, each as its whole response.
 #[derive(Drop)]
-pub(crate) struct Kept {
+pub(crate) struct Cache {
     list: Option<Response>,
     census: Option<Response>,
     holders: Option<Response>,
@@ -18,12 +18,12 @@ pub(crate) struct Kept {
     organisations: Option<Response>,
 }
 
-impl Kept {
+impl Cache {
     /// Makes one that keeps nothing.
-    pub(crate) fn new() -> Kept
+    pub(crate) fn new() -> Cache
         ensures { result ≡ no_texts }
     {
-        Kept {
+        Cache {
             list: None,
             census: None,
             holders: None,
@@ -33,7 +33,7 @@ impl Kept {
         }
     }
 
-    /// Takes out the response to a query, if it is kept.
+    /// Takes out the response to a query, if it is cached.
     pub(crate) fn take(&mut self, query: &Query) -> Option<Response>
         ensures taken { result ≡ text_for self.old query.now }
         ensures left { self.new ≡ with_text self.old query.now None }
@@ -76,7 +76,7 @@ impl Kept {
     pub(crate) fn clear(&mut self)
         ensures { self.new ≡ no_texts }
     {
-        *self = Kept::new();
+        *self = Cache::new();
     }
 
     /// Keeps what was done for a message, if it is the list or a report. An order and a fault drop
@@ -86,7 +86,7 @@ impl Kept {
         said: Result<Message, HttpRefusal>,
         done: Result<Response, DeskFault>,
     )
-        ensures { self.new ≡ kept_after self.old done said }
+        ensures { self.new ≡ cache_after self.old done said }
     {
         match done {
             Ok(response) => match said {
