@@ -43,12 +43,13 @@ pub record IsLegalWith (totals : Totals) (h : History) : Type 0 where
   pub totals_are : AreTotalsOf h totals
 
 -- This holds of every call, whatever it commits: an unclean disk stays unclean; if each read was tested against a digest, it
--- still is (`IsShielded`); the count of failed calls of the disk never falls; and over a clean disk the connection shuts only if
--- such a call fails.
+-- still is (`IsShielded`); the count of failed calls of the disk never falls; the limit on the steps of a query stays; and over
+-- a clean disk the connection shuts only if such a call fails.
 pub record Endures (old new : State) : Type 0 where
   pub clean : doubt old.is_clean ≤ doubt new.is_clean
   pub shield : old.IsShielded → new.IsShielded
   pub faults_grow : old.faults ≤ new.faults
+  pub limit : new.step_limit ≡ old.step_limit
   pub closes : HasCleanDisk new → IsTrue old.is_open → IsTrue new.is_open ⊎ MoreFaults old.faults new.faults
 
 module _ {S : Type 0} {g : Ghosts S} where
@@ -75,6 +76,11 @@ module _ {S : Type 0} {g : Ghosts S} where
   -- an earlier one did. So a caller that hides this fault is found out, whatever the store holds.
   abbrev pub NotesForeign : Registry S g → Registry S g → Option Fault → Type 0
   NotesForeign it new fault = has_met_foreign new ≡ (is_foreign fault || has_met_foreign it)
+
+  -- a registry that was just founded or opened: it is not poisoned, and met no rows of no history
+  pub record IsNew (it : Registry S g) : Type 0 where
+    pub sound : is_poisoned it ≡ false
+    pub unmet : has_met_foreign it ≡ false
 
   -- a registry represents a legal history: it is not poisoned, its totals are those of the history, and over a clean disk so
   -- are its tables and what a crash may leave
