@@ -38,7 +38,7 @@ may_give (Some bytes) = (bytes, refl)
 
 -- a state endures as it is
 pub endures_itself : (s : State) → Endures s s
-endures_itself s = record { clean = omega arith; shield = λ shielded. shielded; faults_grow = omega arith; closes = λ _ is_open. inl is_open }
+endures_itself s = record { clean = omega arith; shield = λ shielded. shielded; faults_grow = omega arith; limit = refl; closes = λ _ is_open. inl is_open }
 
 -- nothing was written
 abbrev pub silent : Sunk → Output

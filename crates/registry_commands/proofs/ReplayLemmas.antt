@@ -1,6 +1,6 @@
 -- Lines of a record that were acted on, one after another.
-use Rattle.std.proofs.Common.{◌≡◌, ◌⊎◌, inl, inr, ℕ, ◌+◌, ◌-◌, ◌^◌, false, true, List, [], ◌∷◌, ◌++◌, length, Option, Ok, Err, refl, sym, ap, subst, ◌∙◌, arith, append-nil, length-append}
-use Rattle.std.specs.Prelude.{◌≢◌, All}
+use Rattle.std.proofs.Common.{◌≡◌, ◌⊎◌, inl, inr, ℕ, ◌+◌, ◌-◌, ◌^◌, false, true, List, [], ◌∷◌, ◌++◌, length, Option, Result, Ok, Err, refl, sym, ap, subst, ◌∙◌, arith, append-nil, length-append, true≢false}
+use Rattle.std.specs.Prelude.{◌≢◌, All, Some, None}
 use Rattle.std.proofs.lemmas.List.Elements.{All-nil, All-push}
 use Rattle.std.proofs.lemmas.List.{map-append}
 use Rattle.sqlite.specs.Store.{Ghosts}
@@ -11,21 +11,25 @@ use Rattle.registry_rules.specs.declared.verdict.Reply.TheVariants.{Done}
 use Rattle.registry_rules.specs.History.{History}
 use Rattle.registry_rules.specs.Run.{after, after_one, replies_to, reply_to}
 use Rattle.registry_tables.specs.Rows.{newest}
+use Rattle.registry_store.specs.declared.fault.Fault.{Fault}
+use Rattle.registry_store.specs.declared.fault.Fault.TheVariants as faults
 use Rattle.registry_store.specs.declared.registry.Registry.{Registry}
-use Rattle.registry_store.specs.Promise.{Endures, Leaves, Represents, is_poisoned, state_of}
+use Rattle.registry_store.specs.Promise.{Endures, Leaves, NotesForeign, Represents, is_poisoned, state_of}
+use Rattle.registry_store.proofs.IsQueryLemmas.{notes_then}
 use Rattle.registry_commands.specs.declared.entries.Entry.{Entry}
 use Rattle.registry_commands.specs.declared.entries.Entry.TheVariants.{End, Blank, Founding, Accepted as Request, Bad}
 use Rattle.registry_commands.specs.declared.entries.LineRefusal.{LineRefusal}
+use Rattle.registry_commands.specs.declared.following.ReplayStop.{ReplayStop}
 use Rattle.registry_commands.specs.declared.following.ReplayStop.TheVariants as stop
 use Rattle.registry_commands.specs.declared.input.ReadAllFault.{ReadAllFault}
 use Rattle.registry_commands.specs.declared.input.ReadAllFault.TheVariants as inputs
 use Rattle.registry_commands.specs.declared.messages.Failure.{Failure}
 use Rattle.registry_commands.specs.declared.messages.Failure.TheVariants as of
 use Rattle.byte_streams.specs.Streams.{FailsOnce}
-use Rattle.registry_commands.specs.Messages.{input_failure}
+use Rattle.registry_commands.specs.Messages.{failure_of, input_failure}
 use Rattle.registry_commands.specs.Entries.{FirstSays, PassesOne, entry_in, is_followed}
 use Rattle.registry_commands.specs.RecordLines.{MayHaveLines, Passes}
-use Rattle.registry_commands.specs.Replayed.{GetTheirReplies, IsOfActing, IsOfReplay, IsRefusedFor, IsReplayOf, accepted_in, after_lines, replies_of, requests_of, with_entry}
+use Rattle.registry_commands.specs.Replayed.{ActsOnNone, GetTheirReplies, IsOfActing, IsOfReplay, IsRefusedFor, IsReplayOf, accepted_in, after_lines, foreign_by, replies_of, requests_of, with_entry}
 use Rattle.registry_commands.proofs.ApplyLemmas.{endures_itself}
 use Rattle.registry_commands.proofs.RecordLineLemmas.{may_have, passes_none, passes_then}
 
@@ -80,6 +84,7 @@ endures_then a b c p q = record {
   clean = omega (arith, p.clean, q.clean);
   shield = λ s. q.shield (p.shield s);
   faults_grow = omega (arith, p.faults_grow, q.faults_grow);
+  limit = q.limit ∙ p.limit;
   closes = λ clean is_open.
       let early : HasCleanDisk b = omega (arith, q.clean, clean) in
       elim (p.closes early is_open) [
@@ -100,7 +105,9 @@ module _ {S : Type 0} {g : Ghosts S} where
     pub counted : count ≡ before + length front
     pub replied : (h : History) → Represents it h → HasCleanDisk (state_of mid) → GetTheirReplies h front × Represents mid (after_lines h front)
     pub sound : is_poisoned mid ≡ is_poisoned it
+    pub poisoned : is_poisoned it ≡ true → (mid ≡ it) × (accepted_in front ≡ [])
     pub endures : Endures (state_of it) (state_of mid)
+    pub notes : NotesForeign it mid None
 
   pub none_yet : (to_come : Option (List ℕ)) (before : ℕ) (it : Registry S g) → AreReplayed to_come to_come before before it it
   none_yet to_come before it = record {
@@ -110,8 +117,23 @@ module _ {S : Type 0} {g : Ghosts S} where
     counted = omega arith;
     replied = λ h stands clean. (refl, stands);
     sound = refl;
+    poisoned = λ _. (refl, refl);
     endures = endures_itself (state_of it);
+    notes = refl;
   }
+
+  -- what is noted with the fault of an `act` or a query
+  pub noted_fault : (it new : Registry S g) (fault : Fault) → NotesForeign it new (Some fault) → NotesForeign it new (foreign_by (failure_of fault))
+  noted_fault it new faults.Store notes = notes
+  noted_fault it new faults.NoMemory notes = notes
+  noted_fault it new faults.Foreign notes = notes
+  noted_fault it new faults.Taken notes = notes
+  noted_fault it new faults.Poisoned notes = notes
+
+  -- nothing more is noted with a fault of the record
+  pub noted_record : (it new : Registry S g) (fault : ReadAllFault) → NotesForeign it new None → NotesForeign it new (foreign_by (input_failure fault))
+  noted_record it new inputs.File notes = notes
+  noted_record it new inputs.NoMemory notes = notes
 
   -- a failure of acting on a request after others
   of_acting : (lines failures failures_new : ℕ) (it mid new : Registry S g) → is_poisoned mid ≡ is_poisoned it
@@ -131,6 +153,13 @@ module _ {S : Type 0} {g : Ghosts S} where
   of_record lines failures failures_new it new inputs.NoMemory sound failed = inr sound
 
   module _ (to_come now : Option (List ℕ)) (before count : ℕ) (it mid : Registry S g) (so_far : AreReplayed to_come now before count it mid) where
+    -- the lines passed so far are all that were acted on
+    none_acted : (result : Result (Unit {0}) ReplayStop) → ((number : ℕ) (reply : Reply) → result ≢ Err (stop.Reply number reply)) → is_poisoned it ≡ true → ActsOnNone so_far.front it mid result
+    none_acted result unreplied spent = let old = so_far.poisoned spent in record { same = old.0; passed = old.1; unreplied = unreplied }
+
+    not_poisoned : is_poisoned mid ≡ false → is_poisoned it ≡ true → ⊥
+    not_poisoned sound spent = true≢false (sym spent ∙ sym so_far.sound ∙ sound)
+
     -- a blank line was passed
     pub then_blank : (next : Option (List ℕ)) (more : ℕ) → PassesOne now next Blank → more ≡ count + 1 → AreReplayed to_come next before more it mid
     then_blank next more one is = record {
@@ -145,14 +174,16 @@ module _ {S : Type 0} {g : Ghosts S} where
             subst (λ (l : List Accepted). Represents mid (after h (requests_of l))) (sym same) old.1,
           );
       sound = so_far.sound;
+      poisoned = λ spent. let old = so_far.poisoned spent in (old.0, with_blank so_far.front one.0 one.1 ∙ old.1);
       endures = so_far.endures;
+      notes = so_far.notes;
     }
 
     -- an accepted request was acted on, and got its reply
     pub then_request : (next : Option (List ℕ)) (more : ℕ) (a : Accepted) (new : Registry S g) → PassesOne now next (Request a) → more ≡ count + 1
         → ((h : History) → Represents mid h → HasCleanDisk (state_of new) → Represents new (after_one h a.request) × (reply_to h a.request ≡ Done a.reply))
-        → (is_poisoned mid ≡ false) × (is_poisoned new ≡ false) → Endures (state_of mid) (state_of new) → AreReplayed to_come next before more it new
-    then_request next more a new one is acted sound more_endures = record {
+        → (is_poisoned mid ≡ false) × (is_poisoned new ≡ false) → Endures (state_of mid) (state_of new) → NotesForeign mid new None → AreReplayed to_come next before more it new
+    then_request next more a new one is acted sound more_endures more_notes = record {
       front = so_far.front ++ one.0 ∷ [];
       passed = passes_then to_come now next so_far.front (one.0 ∷ []) so_far.passed one.2;
       each = All-push (λ line. is_followed (entry_in line) ≡ true) so_far.front one.0 so_far.each (rw one.1 refl);
@@ -165,7 +196,9 @@ module _ {S : Type 0} {g : Ghosts S} where
             subst (Represents new) (sym (after_request h so_far.front one.0 a one.1)) did.0,
           );
       sound = sound.1 ∙ sym sound.0 ∙ so_far.sound;
+      poisoned = λ spent. absurd (not_poisoned sound.0 spent);
       endures = endures_then (state_of it) (state_of mid) (state_of new) so_far.endures more_endures;
+      notes = notes_then it mid new None so_far.notes more_notes;
     }
 
     -- ---- the end
@@ -183,8 +216,10 @@ module _ {S : Type 0} {g : Ghosts S} where
         stops = refl;
         replied = so_far.replied;
         cause = λ failure never. absurd cc;
+        poisoned = none_acted (Ok tt) (λ number reply never. cc);
       };
       endures = so_far.endures;
+      notes = so_far.notes;
     }
 
     -- the next line is refused
@@ -201,15 +236,18 @@ module _ {S : Type 0} {g : Ghosts S} where
         stops = (is ∙ ap (λ (n : ℕ). n + 1) so_far.counted, (entry, first, refused));
         replied = so_far.replied;
         cause = λ failure never. absurd cc;
+        poisoned = none_acted (Err (stop.Line number why)) (λ n reply never. cc);
       };
       endures = so_far.endures;
+      notes = so_far.notes;
     }
 
     -- the next request got another reply
     pub at_reply : (failures failures_new : ℕ) (number : ℕ) (reply : Reply) (a : Accepted) (new : Registry S g) (next : Option (List ℕ)) → PassesOne now next (Request a) → number ≡ count + 1
         → ((h : History) → Represents mid h → HasCleanDisk (state_of new) → Represents new (after_one h a.request) × (reply_to h a.request ≡ reply))
-        → reply ≢ Done a.reply → Endures (state_of mid) (state_of new) → IsReplayOf to_come before failures failures_new it new (Err (stop.Reply number reply))
-    at_reply failures failures_new number reply a new next one is acted other more_endures =
+        → reply ≢ Done a.reply → is_poisoned mid ≡ false → Endures (state_of mid) (state_of new) → NotesForeign mid new None
+        → IsReplayOf to_come before failures failures_new it new (Err (stop.Reply number reply))
+    at_reply failures failures_new number reply a new next one is acted other sound more_endures more_notes =
         let later = may_have next in
         record {
           lines = so_far.front ++ one.0 ∷ later.0;
@@ -226,15 +264,18 @@ module _ {S : Type 0} {g : Ghosts S} where
                 let did = acted (after_lines h so_far.front) old.1 clean in
                 (old.0, (a, one.1, sym did.1, did.0));
             cause = λ failure never. absurd cc;
+            poisoned = λ spent. absurd (not_poisoned sound spent);
           };
           endures = endures_then (state_of it) (state_of mid) (state_of new) so_far.endures more_endures;
+          notes = notes_then it mid new None so_far.notes more_notes;
         }
 
     -- acting on the next request failed
     pub at_fault : (failures failures_new : ℕ) (failure : Failure) (a : Accepted) (new : Registry S g) (next : Option (List ℕ)) → PassesOne now next (Request a)
         → ((h : History) → Represents mid h → HasCleanDisk (state_of new) → Leaves newest (state_of new) (λ x. (x ≡ h) ⊎ (x ≡ after_one h a.request)))
-        → IsOfActing mid new failure → Endures (state_of mid) (state_of new) → IsReplayOf to_come before failures failures_new it new (Err (stop.Failure failure))
-    at_fault failures failures_new failure a new next one crash why more_endures =
+        → IsOfActing mid new failure → (is_poisoned mid ≡ true → new ≡ mid) → Endures (state_of mid) (state_of new) → NotesForeign mid new (foreign_by failure)
+        → IsReplayOf to_come before failures failures_new it new (Err (stop.Failure failure))
+    at_fault failures failures_new failure a new next one crash why same more_endures more_notes =
         let later = may_have next in
         record {
           lines = so_far.front ++ one.0 ∷ later.0;
@@ -253,20 +294,24 @@ module _ {S : Type 0} {g : Ghosts S} where
                       let left = crash (after_lines h so_far.front) old.1 clean db may in
                       (left.0, elim left.1 [ inl before_it ↦ inl before_it | inr after_it ↦ inr (a, one.1, after_it) ], left.2),
                 );
-            cause = λ failed same.
+            cause = λ failed told.
                 let is : failure ≡ failed = cc in
                 subst (λ (f : Failure). IsOfReplay (before + length so_far.front) failures failures_new it new f) is
                 (of_acting (before + length so_far.front) failures failures_new it mid new so_far.sound (λ h stands clean.
                 let early : HasCleanDisk (state_of mid) = omega (arith, more_endures.clean, clean) in
                 (after_lines h so_far.front, (so_far.replied h stands early).1)) failure why);
+            poisoned = λ spent.
+                let old = so_far.poisoned spent in
+                record { same = same (so_far.sound ∙ spent) ∙ old.0; passed = old.1; unreplied = λ number reply never. cc };
           };
           endures = endures_then (state_of it) (state_of mid) (state_of new) so_far.endures more_endures;
+          notes = notes_then it mid new (foreign_by failure) so_far.notes more_notes;
         }
 
     -- the next line could not be read
     pub at_unread : (failures failures_new : ℕ) (failure : Failure) → IsOfReplay (before + length so_far.front) failures failures_new it mid failure
-        → IsReplayOf to_come before failures failures_new it mid (Err (stop.Failure failure))
-    at_unread failures failures_new failure why =
+        → NotesForeign it mid (foreign_by failure) → IsReplayOf to_come before failures failures_new it mid (Err (stop.Failure failure))
+    at_unread failures failures_new failure why notes =
         let rest = may_have now in
         record {
           lines = so_far.front ++ rest.0;
@@ -283,6 +328,8 @@ module _ {S : Type 0} {g : Ghosts S} where
             cause = λ failed same.
                 let is : failure ≡ failed = cc in
                 subst (λ (f : Failure). IsOfReplay (before + length so_far.front) failures failures_new it mid f) is why;
+            poisoned = none_acted (Err (stop.Failure failure)) (λ number reply never. cc);
           };
           endures = so_far.endures;
+          notes = notes;
         }

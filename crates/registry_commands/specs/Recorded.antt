@@ -13,7 +13,7 @@ use Rattle.registry_commands.specs.declared.messages.Failure.TheVariants.{File}
 use Rattle.registry_commands.specs.declared.status.ExitStatus.TheVariants.{Success, Failed}
 use Rattle.registry_commands.specs.Ends.{Effect, Receives, ReceivesPrefix}
 use Rattle.registry_commands.specs.Failures.{IsOfOutput, PrintsFailure, PrintsNothing}
-use Rattle.registry_commands.specs.Shown.{HoldsOfHistory, IsOfReading, ShowsNothing}
+use Rattle.registry_commands.specs.Shown.{HidesNoForeign, HoldsOfHistory, IsOfReading, ShowsNothing}
 
 -- accepted requests as lines, one after another
 abbrev pub accepted_lines : List Accepted → List ℕ
@@ -43,3 +43,4 @@ module _ {S : Type 0} {g : Ghosts S} where
     pub whole : did.ends.status ≡ Success → HoldsOfHistory did.old did.new (λ h. AreValid h.deeds → Receives did.ends.out (record_text h after))
     pub part : did.ends.status ≡ Failed → HoldsOfHistory did.old did.new (λ h. AreValid h.deeds → ReceivesPrefix did.ends.out (record_text h after))
     pub poisoned : is_poisoned did.old ≡ true → ShowsNothing did
+    pub notes : HidesNoForeign did

@@ -17,9 +17,10 @@ use Rattle.registry_rules.specs.Run.{Legal, after, after_one, replies_to, reply_
 use Rattle.registry_tables.specs.Rows.{Rows, newest}
 use Rattle.registry_tables.specs.Calls.{HasNoMeta}
 use Rattle.registry_tables.specs.Raising.{CommitsLater, IsNamedOlder}
+use Rattle.registry_store.specs.declared.fault.Fault.{Fault}
 use Rattle.registry_store.specs.declared.fault.Fault.TheVariants as faults
 use Rattle.registry_store.specs.declared.registry.Registry.{Registry}
-use Rattle.registry_store.specs.Promise.{Endures, IsFreshAt, Leaves, LeavesLater, Represents, connection_of, is_poisoned, poisoned_by, state_of}
+use Rattle.registry_store.specs.Promise.{Endures, IsFreshAt, IsNew, Leaves, LeavesLater, NotesForeign, Represents, connection_of, is_poisoned, poisoned_by, state_of}
 use Rattle.registry_store.specs.Queries.{IsUntouched}
 use Rattle.registry_wire.specs.Record.{founding_line}
 use Rattle.registry_commands.specs.declared.entries.Entry.{Entry}
@@ -90,6 +91,18 @@ StopsBefore (Err (stop.Line number why)) n rest = (number ≡ n + 1) × ((entry 
 StopsBefore (Err (stop.Reply number reply)) n rest = (number ≡ n + 1) × ((accepted : Accepted) × FirstSays rest (says.Accepted accepted) × (reply ≢ Done accepted.reply))
 StopsBefore (Err (stop.Failure failure)) n rest = ⊤
 
+-- the fault Foreign, if this is its failure
+abbrev pub foreign_by : Failure → Option Fault
+foreign_by Foreign = Some faults.Foreign
+foreign_by _ = None
+
+-- the fault Foreign, if it ended a replay
+abbrev pub foreign_in : Result (Unit {0}) ReplayStop → Option Fault
+foreign_in (Ok done) = None
+foreign_in (Err (stop.Line number why)) = None
+foreign_in (Err (stop.Reply number reply)) = None
+foreign_in (Err (stop.Failure failure)) = foreign_by failure
+
 -- ---- how a record begins
 
 abbrev pub AreBlank : List (List ℕ) → Type 0
@@ -152,8 +165,14 @@ module _ {S : Type 0} {g : Ghosts S} where
   IsLeftReplayed (Err (stop.Failure failure)) new h rest =
       Leaves newest (state_of new) (λ x. (x ≡ h) ⊎ ((accepted : Accepted) × FirstSays rest (says.Accepted accepted) × (x ≡ after_one h accepted.request)))
 
+  -- Nothing was acted on: the registry is the same, no accepted request was passed, and none got another reply.
+  pub record ActsOnNone (front : List (List ℕ)) (it new : Registry S g) (result : Result (Unit {0}) ReplayStop) : Type 0 where
+    pub same : new ≡ it
+    pub passed : accepted_in front ≡ []
+    pub unreplied : (number : ℕ) (reply : Reply) → result ≢ Err (stop.Reply number reply)
+
   -- These lines were to come, after so many that were passed before. The first of them were acted on, in order, and each got
-  -- the reply that it says; and then this ended it.
+  -- the reply that it says; and then this ended it. A poisoned registry acts on none.
   pub record HasReplayed (lines : List (List ℕ)) (before failures failures_new : ℕ) (it new : Registry S g) (result : Result (Unit {0}) ReplayStop) : Type 0 where
     pub front : List (List ℕ)
     pub rest : List (List ℕ)
@@ -162,21 +181,24 @@ module _ {S : Type 0} {g : Ghosts S} where
     pub stops : StopsBefore result (before + length front) rest
     pub replied : (h : History) → Represents it h → HasCleanDisk (state_of new) → GetTheirReplies h front × IsLeftReplayed result new (after_lines h front) rest
     pub cause : (failure : Failure) → result ≡ Err (stop.Failure failure) → IsOfReplay (before + length front) failures failures_new it new failure
+    pub poisoned : is_poisoned it ≡ true → ActsOnNone front it new result
 
-  -- The lines that were to come were replayed.
+  -- The lines that were to come were replayed. Unless it ended with Foreign, no request found the rows of no history.
   pub record IsReplayOf (to_come : Option (List ℕ)) (before failures failures_new : ℕ) (it new : Registry S g) (result : Result (Unit {0}) ReplayStop) : Type 0 where
     pub lines : List (List ℕ)
     pub come : MayHaveLines to_come lines
     pub replayed : HasReplayed lines before failures failures_new it new result
     pub endures : Endures (state_of it) (state_of new)
+    pub notes : NotesForeign it new (foreign_in result)
 
   -- All whole lines that were read were acted on, and each got the reply that it says; what was read after them is a part of a
-  -- line.
+  -- line. A poisoned registry acts on none.
   pub record HasFollowed (to_come now : Option (List ℕ)) (unread : Unread) (it new : Registry S g) : Type 0 where
     pub lines : List (List ℕ)
     pub each : All (λ line. is_followed (entry_in line) ≡ true) lines
     pub read : HasReadTo to_come now lines unread
     pub replied : (h : History) → Represents it h → HasCleanDisk (state_of new) → GetTheirReplies h lines × Represents new (after_lines h lines)
+    pub poisoned : is_poisoned it ≡ true → (new ≡ it) × (accepted_in lines ≡ [])
 
   -- ---- with the founding
 
@@ -188,9 +210,11 @@ module _ {S : Type 0} {g : Ghosts S} where
   ChecksAs it new number founding (Err (stop.Reply n reply)) = ⊥
   ChecksAs it new number founding (Err (stop.Failure failure)) = IsOfReading it new failure
 
+  -- so it was checked; and unless that ended with Foreign, no rows of no history were found
   pub record IsChecked (it new : Registry S g) (number : ℕ) (founding : Founding) (result : Result (Unit {0}) ReplayStop) : Type 0 where
     pub left : IsUntouched it new
     pub found : ChecksAs it new number founding result
+    pub notes : NotesForeign it new (foreign_in result)
 
   -- once the founding was checked, the lines were replayed; or that ended it
   abbrev pub ThenReplays : Option (List ℕ) → ℕ → ℕ → ℕ → Registry S g → Registry S g → Result (Unit {0}) ReplayStop → Result (Unit {0}) ReplayStop → Type 0
@@ -226,6 +250,7 @@ CommitsFirst founding old db = CommitsIfEmpty founding old db ⊎ CommitsIfOlder
 module _ {S : Type 0} (g : Ghosts S) where
   -- the registry is the one that the connection shows, in any schema
   pub record IsOpen (conn : Held S) (it : Registry S g) : Type 0 where
+    pub is_new : IsNew it
     pub survives : Survives (state g conn) (state_of it) (CommitsIfOlder (state g conn))
     pub opened : (version : ℕ) (h : History) → Legal h → IsFreshAt version (state g conn) h → HasCleanDisk (state_of it) → Represents it h
     pub clean : HasCleanDisk (state_of it) → HasCleanDisk (state g conn)
@@ -233,6 +258,7 @@ module _ {S : Type 0} (g : Ghosts S) where
   -- The registry is the one that the connection shows, in any schema; and if it shows none, the registry was founded like this,
   -- in a database without tables.
   pub record IsFoundOrOpen (conn : Held S) (founding : Founding) (it : Registry S g) : Type 0 where
+    pub is_new : IsNew it
     pub survives : Survives (state g conn) (state_of it) (CommitsFirst founding (state g conn))
     pub empty : HasNoMeta (state g conn).now → (state g conn).now.schema ≡ no_schema
     pub opened : IsLive (state g conn) → (version : ℕ) (h : History) → Legal h → IsFreshAt version (state g conn) h → HasCleanDisk (state_of it) → Represents it h

@@ -1,14 +1,14 @@
 //! Acts on the accepted requests of a record, and compares the replies.
 
-ghost use Rattle.std.specs.Prelude.{◌≡◌, ◌≢◌, ◌⊎◌, ◌<◌, ◌+◌, ◌-◌, ◌^◌, ℕ, List, Bool, true, false, IfErr, IfOk, OnErr, OnOk, Err, Ok, None, Some};
+ghost use Rattle.std.specs.Prelude.{◌≡◌, ◌≢◌, ◌⊎◌, ◌<◌, ◌+◌, ◌-◌, ◌^◌, ℕ, List, Bool, true, false, IfErr, IfOk, MatchResult, OnErr, OnOk, Err, Ok, None, Some};
 ghost use Rattle.sqlite.specs.State.{HasCleanDisk};
 ghost use Rattle.registry_rules.specs.History.{History};
 ghost use Rattle.registry_rules.specs.Run.{after_one, reply_to};
 ghost use Rattle.registry_rules.specs.declared.verdict.Reply.TheVariants as replies;
 ghost use Rattle.registry_tables.specs.Rows.{newest};
-ghost use Rattle.registry_store.specs.Promise.{Endures, Leaves, Represents, is_poisoned, state_of};
+ghost use Rattle.registry_store.specs.Promise.{Endures, Leaves, NotesForeign, Represents, is_poisoned, state_of};
 ghost use Rattle.registry_commands.specs.RecordLines.{ahead};
-ghost use Rattle.registry_commands.specs.Replayed.{Differs, HasFollowed, IsOfActing, IsReplayOf};
+ghost use Rattle.registry_commands.specs.Replayed.{Differs, HasFollowed, IsOfActing, IsReplayOf, foreign_by};
 
 use crate::entries::{Entry, LineRefusal, next_entry};
 use crate::messages::{Failure, failure_of, input_failure};
@@ -55,6 +55,8 @@ fn follow<S: Alter>(
         → OnErr result (Leaves newest (state_of registry.new) (λ x. (x ≡ h) ⊎ (x ≡ after_one h accepted.now.request))) }
     ensures failure { IfErr result (IsOfActing registry.old registry.new) }
     ensures goes_on { OnOk result ((is_poisoned registry.old ≡ false) × (is_poisoned registry.new ≡ false)) }
+    ensures when_poisoned { is_poisoned registry.old ≡ true → registry.new ≡ registry.old }
+    ensures notes { MatchResult result (λ other. NotesForeign registry.old registry.new None) (λ failure. NotesForeign registry.old registry.new (foreign_by failure)) }
     ensures endures { Endures (state_of registry.old) (state_of registry.new) }
 {
     match registry.act(&accepted.request) {

@@ -1,11 +1,11 @@
 //! Writes the record of a registry: its founding and its accepted requests, each as a line.
 
-ghost use Rattle.std.specs.Prelude.{◌≡◌, ◌⊎◌, ◌++◌, ◌∷◌, ℕ, List, [], true, IfErr, IfOk, OnErr, OnOk, Err, drop, length, take, string_bytes};
+ghost use Rattle.std.specs.Prelude.{◌≡◌, ◌⊎◌, ◌++◌, ◌∷◌, ℕ, List, [], true, None, IfErr, IfOk, OnErr, OnOk, Err, drop, length, take, string_bytes};
 ghost use Rattle.std.specs.Io.KnownBytes.{Appends};
 ghost use Rattle.byte_streams.specs.Streams.{AppendsPrefix};
 ghost use Rattle.registry_rules.specs.Accepted.{AreValid, accepted_of};
 ghost use Rattle.registry_rules.specs.declared.accepted.Accepted.{Accepted};
-ghost use Rattle.registry_store.specs.Promise.{is_poisoned};
+ghost use Rattle.registry_store.specs.Promise.{NotesForeign, is_poisoned};
 ghost use Rattle.registry_store.specs.Queries.{IsUntouched};
 ghost use Rattle.registry_wire.specs.Record.{accepted_line, founding_line};
 ghost use Rattle.registry_commands.specs.Ends.{effect, ends_of};
@@ -76,6 +76,7 @@ fn put_piece<S: Alter, W: Sink>(
     ensures kept { OnOk result (W.failures output.new ≡ W.failures output.old) }
     ensures failure { IfErr result (λ failure. IsOfRecord registry.old registry.new failure × IsOfOutput (W.failures output.old) (W.failures output.new) failure) }
     ensures when_poisoned { is_poisoned registry.old ≡ true → (result ≡ Err Failure.Poisoned) × (registry.new ≡ registry.old) × (output.new ≡ output.old) }
+    ensures notes { OnOk result (NotesForeign registry.old registry.new None) }
 {
     let piece = match registry.accepted_after(passed, PIECE) {
         Ok(piece) => piece,
@@ -102,6 +103,7 @@ fn put_requests<S: Alter, W: Sink>(
     ensures kept { OnOk result (W.failures output.new ≡ W.failures output.old) }
     ensures failure { IfErr result (λ failure. IsOfRecord registry.old registry.new failure × IsOfOutput (W.failures output.old) (W.failures output.new) failure) }
     ensures when_poisoned { is_poisoned registry.old ≡ true → (result ≡ Err Failure.Poisoned) × (registry.new ≡ registry.old) × (output.new ≡ output.old) }
+    ensures notes { OnOk result (NotesForeign registry.old registry.new None) }
 {
     let mut passed = after;
     loop {
@@ -134,6 +136,7 @@ fn put_founding<S: Alter, W: Sink>(
     ensures kept { OnOk result (W.failures output.new ≡ W.failures output.old) }
     ensures failure { IfErr result (λ failure. IsOfRecord registry.old registry.new failure × IsOfOutput (W.failures output.old) (W.failures output.new) failure) }
     ensures when_poisoned { is_poisoned registry.old ≡ true → (result ≡ Err Failure.Poisoned) × (registry.new ≡ registry.old) × (output.new ≡ output.old) }
+    ensures notes { OnOk result (NotesForeign registry.old registry.new None) }
 {
     match registry.first_founding() {
         Ok(founding) => match put_line(output, founding_line(alloc, &founding)) {
@@ -159,6 +162,7 @@ fn put_record<S: Alter, W: Sink>(
     ensures kept { OnOk result (W.failures output.new ≡ W.failures output.old) }
     ensures failure { IfErr result (λ failure. IsOfRecord registry.old registry.new failure × IsOfOutput (W.failures output.old) (W.failures output.new) failure) }
     ensures when_poisoned { is_poisoned registry.old ≡ true → (result ≡ Err Failure.Poisoned) × (registry.new ≡ registry.old) × (output.new ≡ output.old) }
+    ensures notes { OnOk result (NotesForeign registry.old registry.new None) }
 {
     match after {
         Some(after) => put_requests(alloc, registry, after, output),

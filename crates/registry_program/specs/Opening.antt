@@ -18,7 +18,7 @@ use Rattle.registry_rules.specs.Run.{Legal}
 use Rattle.registry_tables.specs.Raising.{CommitsLater, IsNamedOlder}
 use Rattle.registry_tables.specs.Rows.{Rows}
 use Rattle.registry_store.specs.declared.registry.Registry.{Registry}
-use Rattle.registry_store.specs.Promise.{Represents, state_of}
+use Rattle.registry_store.specs.Promise.{IsNew, Represents, state_of}
 use Rattle.registry_store.specs.Files.{AreClosed, FilesHoldEither, HoldEither, IsEither}
 use Rattle.registry_commands.specs.declared.messages.Failure.{Failure}
 use Rattle.registry_commands.specs.declared.messages.Failure.TheVariants.{File, Foreign, Memory, Store}
@@ -50,6 +50,7 @@ module _ {D : Type 0} (g : Ghosts D) where
   -- The registry is the one that these files hold: where they hold one of two legal histories, in any schema, it represents
   -- that one.
   pub record Resumes (files : Files D) (it : Registry (FileStore D g) over_files) : Type 0 where
+    pub is_new : IsNew it
     pub honest : HasCleanDisk (state_of it) → AreClean g files.log files.db
     pub represents : (from : ℕ) (h next : History) → Legal h → Legal next → Hold from files h next
         → HasCleanDisk (state_of it) → ∥ ((x : History) × IsEither h next x × Represents it x) ∥₁

@@ -5,7 +5,7 @@ use Rattle.registry_commands.specs.declared.following.ReplayStop.TheVariants as 
 use Rattle.registry_commands.specs.declared.input.ReadAllFault.TheVariants as inputs
 use Rattle.registry_commands.specs.RecordLines.{ahead}
 use Rattle.registry_commands.proofs.EntryLemmas.{none_left}
-use Rattle.registry_commands.proofs.ReplayLemmas.{at_end, at_fault, at_reply, at_unread, none_yet, of_record, then_blank, then_request}
+use Rattle.registry_commands.proofs.ReplayLemmas.{at_end, at_fault, at_reply, at_unread, none_yet, noted_record, of_record, then_blank, then_request}
 use Rattle.registry_commands.specs.Replayed.{IsOfActing}
 use Rattle.registry_commands.specs.declared.messages.Failure.{Failure}
 use Rattle.registry_commands.specs.declared.messages.Failure.TheVariants.{File}
@@ -30,7 +30,7 @@ returns-in-Ok-Some-clause-replays g c =
     at_reply _ _ _ _ _ _ c.loop-accepted.invariant.so_far (g.R.Source.failures c.args.source.now) (g.R.Source.failures c.next_entry.new.source)
     c.lines.result c.in-Ok-Some.reply c.in-Ok-Accepted.accepted c.follow.new.registry _ taken.0 (c.lines.ensures ∙ taken.1)
     (λ h stands clean. rw c.in-Ok-Some.field-0-is at (c.in-Ok-Some.ensures.replied h stands clean))
-    (c.in-Ok-Some.ensures.other c.in-Ok-Some.reply c.in-Ok-Some.field-0-is) c.in-Ok-Some.ensures.endures
+    (c.in-Ok-Some.ensures.other c.in-Ok-Some.reply c.in-Ok-Some.field-0-is) c.in-Ok-Some.ensures.goes_on.0 c.in-Ok-Some.ensures.endures c.in-Ok-Some.ensures.notes
 
 pub returns-in-Err-clause-replays : goal.returns-in-Err-clause-replays
 returns-in-Err-clause-replays g c =
@@ -42,7 +42,8 @@ returns-in-Err-clause-replays g c =
       | inl source ↦ inl (subst (λ (n : ℕ). FailsOnce n after) c.loop-accepted.invariant.kept source)
       | inr full ↦ inr (sym so_far.counted ∙ full)
     ] in
-    rw c.input_failure.ensures (at_unread _ _ _ _ _ _ so_far before after _ (of_record (c.args.unread.now.lines + length so_far.front) before after c.args.registry.now c.loop-accepted.registry c.in-Err.fault so_far.sound failed))
+    rw c.input_failure.ensures (at_unread _ _ _ _ _ _ so_far before after _ (of_record (c.args.unread.now.lines + length so_far.front) before after c.args.registry.now c.loop-accepted.registry c.in-Err.fault so_far.sound failed)
+    (noted_record c.args.registry.now c.loop-accepted.registry c.in-Err.fault so_far.notes))
 
 pub returns-in-Err-clause-kept : goal.returns-in-Err-clause-kept
 returns-in-Err-clause-kept g c = λ other.
@@ -58,6 +59,7 @@ returns-in-Err-clause-waits g c = λ told few.
       each = so_far.each;
       read = read_on _ _ _ so_far.front c.next_entry.new.unread so_far.passed (c.in-Err.ensures.waits (ap Err is) (omega (arith, few, c.in-Err.ensures.lines)));
       replied = so_far.replied;
+      poisoned = so_far.poisoned;
     }
 
 pub returns-in-Err-follow-clause-waits : goal.returns-in-Err-follow-clause-waits
@@ -69,7 +71,8 @@ pub returns-in-Err-follow-clause-replays : goal.returns-in-Err-follow-clause-rep
 returns-in-Err-follow-clause-replays g c =
     let taken = rw c.in-Ok-Accepted.field-0-is at c.in-Ok-Accepted.ensures.taken in
     at_fault _ _ _ _ _ _ c.loop-accepted.invariant.so_far (g.R.Source.failures c.args.source.now) (g.R.Source.failures c.next_entry.new.source)
-    c.in-Err-follow.failure c.in-Ok-Accepted.accepted c.follow.new.registry _ taken.0 c.in-Err-follow.ensures.crash c.in-Err-follow.ensures.failure c.in-Err-follow.ensures.endures
+    c.in-Err-follow.failure c.in-Ok-Accepted.accepted c.follow.new.registry _ taken.0 c.in-Err-follow.ensures.crash c.in-Err-follow.ensures.failure
+    c.in-Err-follow.ensures.when_poisoned c.in-Err-follow.ensures.endures c.in-Err-follow.ensures.notes
 
 pub loop-accepted-preserved-in-Ok-Blank : goal.loop-accepted-preserved-in-Ok-Blank
 loop-accepted-preserved-in-Ok-Blank g c =
@@ -84,6 +87,6 @@ loop-accepted-preserved g c =
     let taken = rw c.in-Ok-Accepted.field-0-is at c.in-Ok-Accepted.ensures.taken in
     record {
       so_far = then_request _ _ _ _ _ _ c.loop-accepted.invariant.so_far _ _ c.in-Ok-Accepted.accepted c.follow.new.registry taken.0 taken.1
-          (λ h stands clean. rw c.in-Ok-None.field-0-is at (c.in-Ok-None.ensures.replied h stands clean)) c.in-Ok-None.ensures.goes_on c.in-Ok-None.ensures.endures;
+          (λ h stands clean. rw c.in-Ok-None.field-0-is at (c.in-Ok-None.ensures.replied h stands clean)) c.in-Ok-None.ensures.goes_on c.in-Ok-None.ensures.endures c.in-Ok-None.ensures.notes;
       kept = c.in-Ok-Accepted.ensures.kept ∙ c.loop-accepted.invariant.kept;
     }

@@ -10,6 +10,7 @@ returns-in-Ok g c = record {
   whole = λ _ h stands clean valid. (c.in-Ok.ensures.ok h stands clean valid, c.in-Ok.ensures.kept);
   part = λ failed. absurd cc;
   poisoned = λ is. let failed = c.in-Ok.ensures.when_poisoned is in absurd (cc failed.0);
+  notes = λ _. c.in-Ok.ensures.notes;
 }
 
 pub returns-in-Err : goal.returns-in-Err
@@ -22,4 +23,5 @@ returns-in-Err g c = record {
       let failed = c.in-Err.ensures.when_poisoned is in
       let spent : c.in-Err.failure ≡ Poisoned = cc failed.0 in
       (c.fail.ensures.status, failed.1, ap g.W.Sink.contents failed.2, (c.in-Err.failure, spent, c.fail.ensures.told));
+  notes = λ success. let failed = c.fail.ensures.status in absurd (cc (failed, success));
 }

@@ -1,5 +1,7 @@
 use Rattle.std.proofs.Common.{◌≡◌, ◌∙◌, ◌++◌, ◌∷◌, [], List, ℕ, ap, subst, sym, refl}
+use Rattle.std.specs.Prelude.{None}
 use Rattle.byte_streams.proofs.StreamLemmas.{appends_prefix_more, appends_prefix_then, appends_then}
+use Rattle.registry_store.proofs.IsQueryLemmas.{notes_then}
 use Rattle.registry_wire.specs.Record.{founding_line}
 use Rattle.registry_commands.specs.Failures.{IsOfOutput}
 use Rattle.registry_commands.proofs.RecordedLemmas.{clean_before, of_later_record, untouched_then}
@@ -21,6 +23,10 @@ returns-in-Ok-put_requests-clause-ok g c = rw c.in-None.is (λ h stands clean va
 
 pub returns-in-Ok-put_requests-clause-when_poisoned : goal.returns-in-Ok-put_requests-clause-when_poisoned
 returns-in-Ok-put_requests-clause-when_poisoned g c is = let failed = c.in-Ok.ensures.when_poisoned is in absurd (cc failed.0)
+
+pub returns-in-Ok-put_requests-clause-notes : goal.returns-in-Ok-put_requests-clause-notes
+returns-in-Ok-put_requests-clause-notes g c =
+    notes_then c.args.registry.now c.put_founding.new.registry c.put_requests-in-Ok.new.registry None c.in-Ok.ensures.notes c.in-Ok-put_requests.ensures.notes
 
 pub returns-in-Err-put_requests-clause-left : goal.returns-in-Err-put_requests-clause-left
 returns-in-Err-put_requests-clause-left g c = untouched_then c.args.registry.now c.put_founding.new.registry c.put_requests-in-Ok.new.registry c.in-Ok.ensures.left c.in-Err-put_requests.ensures.left

@@ -1,5 +1,6 @@
 use Rattle.std.proofs.Common.{◌≡◌, ◌∙◌, inl, inr, List, ℕ, [], length, sym, ap, subst, arith, refl}
-use Rattle.std.specs.Prelude.{Err}
+use Rattle.std.specs.Prelude.{Err, None}
+use Rattle.registry_store.proofs.IsQueryLemmas.{notes_then}
 use Rattle.registry_commands.specs.declared.messages.Failure.{Failure}
 use Rattle.registry_commands.specs.declared.messages.Failure.TheVariants.{Poisoned}
 use Rattle.registry_commands.specs.Failures.{IsOfOutput}
@@ -11,6 +12,7 @@ loop-count-init g c = record {
   so_far = none_written c.args.registry.now (g.W.Sink.contents c.args.output.now) c.args.after;
   kept = refl;
   poisoned = λ _. (refl, refl);
+  notes = refl;
 }
 
 pub returns-in-Err-clause-left : goal.returns-in-Err-clause-left
@@ -49,6 +51,9 @@ pub returns-then-count-eq0-clause-when_poisoned : goal.returns-then-count-eq0-cl
 returns-then-count-eq0-clause-when_poisoned g c is =
     let failed = c.in-Ok.ensures.when_poisoned (c.loop-count.invariant.so_far.left.poisons_nothing ∙ is) in absurd (cc failed.0)
 
+pub returns-then-count-eq0-clause-notes : goal.returns-then-count-eq0-clause-notes
+returns-then-count-eq0-clause-notes g c = notes_then c.args.registry.now c.loop-count.registry c.put_piece.new.registry None c.loop-count.invariant.notes c.in-Ok.ensures.notes
+
 pub returns-in-None-clause-left : goal.returns-in-None-clause-left
 returns-in-None-clause-left g c = untouched_then c.args.registry.now c.loop-count.registry c.put_piece.new.registry c.loop-count.invariant.so_far.left c.in-Ok.ensures.left
 
@@ -74,4 +79,5 @@ loop-count-preserved g c =
           c.loop-count.invariant.so_far piece.0 c.in-Ok.ensures.left piece.3 (g.W.Sink.contents c.put_piece.new.output) _ piece.2 (omega (arith, piece.1));
       kept = c.in-Ok.ensures.kept ∙ c.loop-count.invariant.kept;
       poisoned = λ is. let failed = c.in-Ok.ensures.when_poisoned (c.loop-count.invariant.so_far.left.poisons_nothing ∙ is) in absurd (cc failed.0);
+      notes = notes_then c.args.registry.now c.loop-count.registry c.put_piece.new.registry None c.loop-count.invariant.notes c.in-Ok.ensures.notes;
     }

@@ -1,5 +1,5 @@
-use Rattle.std.proofs.Common.{◌≡◌, ◌-◌, true}
-use Rattle.registry_store.specs.Promise.{is_poisoned}
+use Rattle.std.proofs.Common.{◌≡◌, ◌-◌, true, None}
+use Rattle.registry_store.specs.Promise.{NotesForeign, is_poisoned}
 use Rattle.registry_commands.proofs.RecordedLemmas.{AreWritten}
 use Rattle.registry_commands.proofs.recording.put_requests.Given as goal
 
@@ -8,6 +8,7 @@ invariant-loop-count g l = record {
   so_far : AreWritten l.initial.registry l.registry (g.W.Sink.contents l.initial.output) (g.W.Sink.contents l.output) l.after l.passed;
   kept : g.W.Sink.failures l.output ≡ g.W.Sink.failures l.initial.output;
   poisoned : is_poisoned l.initial.registry ≡ true → (l.registry ≡ l.initial.registry) × (l.output ≡ l.initial.output);
+  notes : NotesForeign l.initial.registry l.registry None;
 }
 
 abbrev pub decreases-loop-count : goal.decreases-loop-count

@@ -12,6 +12,7 @@ returns-in-Ok-clause-ok g c =
     let founding = c.args.founding.now in
     let was : HasCleanDisk (state_of c.in-Ok.registry) → HasCleanDisk conn = λ clean. omega (arith, c.in-Ok.ensures.survives.clean, clean) in
     record {
+      is_new = c.in-Ok.ensures.is_new;
       survives = survives_as conn (state_of c.in-Ok.registry) (CommitsIfEmpty founding conn) (CommitsFirst founding conn) (λ db made. inl made) c.in-Ok.ensures.survives;
       empty = λ none. c.in-Ok.ensures.empty;
       opened = λ live version h legal fresh clean. absurd (true≢false (sym (fresh_meta version conn h live fresh (was clean)) ∙ c.in-Ok.ensures.fresh));

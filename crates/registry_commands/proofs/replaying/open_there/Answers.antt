@@ -4,6 +4,7 @@ use Rattle.registry_commands.proofs.replaying.open_there.Goals as goal
 
 pub returns-in-Ok-clause-ok : goal.returns-in-Ok-clause-ok
 returns-in-Ok-clause-ok g c = record {
+  is_new = c.in-Ok.ensures.is_new;
   survives = if_older _ _ c.in-Ok.ensures.survives c.in-Ok.ensures.untouched;
   opened = c.in-Ok.ensures.fresh;
   clean = λ clean. omega (arith, c.in-Ok.ensures.survives.clean, clean);

@@ -14,6 +14,7 @@ returns-in-Ok-clause-ok g c files opened =
     let conn = c.args.conn in
     let was : HasCleanDisk (file_state c.in-Ok.registry.conn) → HasCleanDisk (file_state conn) = λ clean. omega (arith, c.in-Ok.ensures.survives.clean, clean) in
     record {
+      is_new = c.in-Ok.ensures.is_new;
       honest = λ clean. (opened (was clean)).1.honest;
       represents = λ from h next legal legal_next holds clean.
           let it = opened (was clean) in

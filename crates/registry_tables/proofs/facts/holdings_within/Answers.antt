@@ -1,4 +1,4 @@
-use Rattle.std.proofs.Common.{ℕ, map, filter, refl, sym, ap, subst, ◌∙◌}
+use Rattle.std.proofs.Common.{ℕ, map, filter, sym, ap, subst, ◌∙◌, rules}
 use Rattle.sqlite_keyed.specs.Lists.{sort_by}
 use Rattle.registry_rows.specs.Rows.{by_number, is_between}
 use Rattle.registry_tables.specs.Finds.{AreHoldings, holding_at}
@@ -16,11 +16,11 @@ returns-in-Ok-clause-reads g c =
 
 pub returns-in_err-entries-clause-reads : goal.returns-in_err-entries-clause-reads
 returns-in_err-entries-clause-reads g c =
-    rows_fail refl c.in_err-entries.ensures.reads
+    rows_fail (search rules) c.in_err-entries.ensures.reads
 
 pub returns-in-Err-clause-reads : goal.returns-in-Err-clause-reads
 returns-in-Err-clause-reads g c =
     rows_short (λ never. absurd cc) c.in_ok-entries.ensures.reads
 
 pub returns-in_err-entries-clause-store : goal.returns-in_err-entries-clause-store
-returns-in_err-entries-clause-store g c = fault_store refl c.in_err-entries.ensures.reads
+returns-in_err-entries-clause-store g c = fault_store (search rules) c.in_err-entries.ensures.reads
