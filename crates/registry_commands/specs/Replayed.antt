@@ -1,5 +1,5 @@
 -- What a replay of a record does.
-use Rattle.std.specs.Prelude.{◌≡◌, ◌≢◌, ◌⊎◌, ◌+◌, ◌^◌, ◌-◌, ⊤, ℕ, Bool, true, false, All, List, [], ◌∷◌, ◌++◌, length, map, Option, Some, None, Result, Ok, Err}
+use Rattle.std.specs.Prelude.{◌≡◌, ◌≢◌, ◌⊎◌, ◌<◌, ◌+◌, ◌^◌, ◌-◌, ⊤, ℕ, Bool, true, false, All, List, [], ◌∷◌, ◌++◌, length, map, Option, Some, None, Result, Ok, Err}
 use Rattle.sqlite.specs.Store.{Ghosts}
 use Rattle.sqlite.specs.Held.{Held, state}
 use Rattle.sqlite.specs.State.{State, HasCleanDisk, IsLive, Survives}
@@ -216,21 +216,28 @@ module _ {S : Type 0} {g : Ghosts S} where
     pub found : ChecksAs it new number founding result
     pub notes : NotesForeign it new (foreign_in result)
 
+  -- No read failed, unless that ended the replay; and then all whole lines were acted on that had been read. So none is read
+  -- before those are: any read may fail.
+  pub record ReadsLineByLine (to_come now : Option (List ℕ)) (unread : Unread) (failures failures_new : ℕ) (it new : Registry S g) (result : Result (Unit {0}) ReplayStop) : Type 0 where
+    pub kept : result ≢ Err (stop.Failure File) → failures_new ≡ failures
+    pub waits : result ≡ Err (stop.Failure File) → unread.lines < 2 ^ 64 - 1 → HasFollowed to_come now unread it new
+
   -- once the founding was checked, the lines were replayed; or that ended it
-  abbrev pub ThenReplays : Option (List ℕ) → ℕ → ℕ → ℕ → Registry S g → Registry S g → Result (Unit {0}) ReplayStop → Result (Unit {0}) ReplayStop → Type 0
-  ThenReplays to_come before failures failures_new mid new (Ok done) result = IsReplayOf to_come before failures failures_new mid new result
-  ThenReplays to_come before failures failures_new mid new (Err why) result = (new ≡ mid) × (result ≡ Err why)
+  abbrev pub ThenReplays : Option (List ℕ) → Option (List ℕ) → Unread → ℕ → ℕ → ℕ → Registry S g → Registry S g → Result (Unit {0}) ReplayStop → Result (Unit {0}) ReplayStop → Type 0
+  ThenReplays to_come now unread before failures failures_new mid new (Ok done) result =
+      IsReplayOf to_come before failures failures_new mid new result × ReadsLineByLine to_come now unread failures failures_new mid new result
+  ThenReplays to_come now unread before failures failures_new mid new (Err why) result = (new ≡ mid) × (result ≡ Err why) × (failures_new ≡ failures)
 
   -- The founding was checked, if there is one, whose line is the last of those passed; and the lines that were to come were replayed.
-  abbrev pub IsFollowedFrom : Option Founding → Option (List ℕ) → ℕ → ℕ → ℕ → Registry S g → Registry S g → Result (Unit {0}) ReplayStop → Type 0
-  IsFollowedFrom None to_come before failures failures_new it new result = IsReplayOf to_come before failures failures_new it new result
-  IsFollowedFrom (Some founding) to_come before failures failures_new it new result =
-      (checked : Result (Unit {0}) ReplayStop) × (mid : Registry S g) × IsChecked it mid before founding checked × ThenReplays to_come before failures failures_new mid new checked result
+  abbrev pub IsFollowedFrom : Option Founding → Option (List ℕ) → Option (List ℕ) → Unread → ℕ → ℕ → ℕ → Registry S g → Registry S g → Result (Unit {0}) ReplayStop → Type 0
+  IsFollowedFrom None to_come now unread before failures failures_new it new result = ThenReplays to_come now unread before failures failures_new it new (Ok tt) result
+  IsFollowedFrom (Some founding) to_come now unread before failures failures_new it new result =
+      (checked : Result (Unit {0}) ReplayStop) × (mid : Registry S g) × IsChecked it mid before founding checked × ThenReplays to_come now unread before failures failures_new mid new checked result
 
   -- so it was done, and told
-  abbrev pub IsReplayed : Option Founding → Option (List ℕ) → ℕ → ℕ → ℕ → Registry S g → Registry S g → Output → ExitStatus → Type 0
-  IsReplayed founding to_come before failures failures_new it new errors status =
-      (result : Result (Unit {0}) ReplayStop) × IsFollowedFrom founding to_come before failures failures_new it new result × TellsStop result errors status
+  abbrev pub IsReplayed : Option Founding → Option (List ℕ) → Option (List ℕ) → Unread → ℕ → ℕ → ℕ → Registry S g → Registry S g → Output → ExitStatus → Type 0
+  IsReplayed founding to_come now unread before failures failures_new it new errors status =
+      (result : Result (Unit {0}) ReplayStop) × IsFollowedFrom founding to_come now unread before failures failures_new it new result × TellsStop result errors status
 
 -- ---- from a connection
 
@@ -280,8 +287,8 @@ module _ {S : Type 0} (g : Ghosts S) where
   IsLeftFound conn founding failure last = IsLeft (CommitsFirst founding (state g conn)) conn failure last
 
   -- The registry was founded or opened, and the record replayed over it; or neither could be done.
-  abbrev pub IsReplayedOn : Founding → Option (List ℕ) → ℕ → ℕ → ℕ → Held S → Held S → Output → ExitStatus → Type 0
-  IsReplayedOn founding to_come before failures failures_new conn last errors status =
+  abbrev pub IsReplayedOn : Founding → Option (List ℕ) → Option (List ℕ) → Unread → ℕ → ℕ → ℕ → Held S → Held S → Output → ExitStatus → Type 0
+  IsReplayedOn founding to_come now unread before failures failures_new conn last errors status =
       ((it : Registry S g) × (after : Registry S g) × IsFoundOrOpen conn founding it × (last ≡ connection_of after)
-      × IsReplayed (Some founding) to_come before failures failures_new it after errors status)
-      ⊎ ((failure : Failure) × IsLeftFound conn founding failure last × (status ≡ Failed) × Prints errors (failure_line failure))
+      × IsReplayed (Some founding) to_come now unread before failures failures_new it after errors status)
+      ⊎ ((failure : Failure) × IsLeftFound conn founding failure last × (status ≡ Failed) × Prints errors (failure_line failure) × (failures_new ≡ failures))

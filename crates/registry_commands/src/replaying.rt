@@ -98,7 +98,7 @@ fn follow_record<R: Source, S: Alter>(
     founding: Option<&Founding>,
     registry: &mut Registry<S>,
 ) -> Result<(), ReplayStop>
-    ensures { IsFollowedFrom (option_copied founding.entry) (ahead (R.remaining source.old) unread.old) unread.old.lines (R.failures source.old) (R.failures source.new)
+    ensures { IsFollowedFrom (option_copied founding.entry) (ahead (R.remaining source.old) unread.old) (ahead (R.remaining source.new) unread.new) unread.new unread.old.lines (R.failures source.old) (R.failures source.new)
         registry.old registry.new result }
 {
     match founding {
@@ -128,7 +128,7 @@ pub fn replay<R: Source, S: Alter, E: Sink>(
     registry: &mut Registry<S>,
     errors: &mut E,
 ) -> ExitStatus
-    ensures { IsReplayed (option_copied founding.entry) (ahead (R.remaining source.old) unread.old) unread.old.lines (R.failures source.old) (R.failures source.new)
+    ensures { IsReplayed (option_copied founding.entry) (ahead (R.remaining source.old) unread.old) (ahead (R.remaining source.new) unread.new) unread.new unread.old.lines (R.failures source.old) (R.failures source.new)
         registry.old registry.new (output_of E.Sink errors.old errors.new) result }
 {
     match follow_record(alloc, source, unread, founding, registry) {
@@ -185,7 +185,7 @@ pub fn replay_on<R: Source, S: Alter, E: Sink>(
     conn: Connection<S>,
     errors: &mut E,
 ) -> (ExitStatus, Connection<S>)
-    ensures { IsReplayedOn S.Store founding.now (ahead (R.remaining source.old) unread.old) unread.old.lines (R.failures source.old) (R.failures source.new)
+    ensures { IsReplayedOn S.Store founding.now (ahead (R.remaining source.old) unread.old) (ahead (R.remaining source.new) unread.new) unread.new unread.old.lines (R.failures source.old) (R.failures source.new)
         conn result.1 (output_of E.Sink errors.old errors.new) result.0 }
 {
     match found_or_open(alloc, conn, founding) {

@@ -31,7 +31,7 @@ use Rattle.registry_commands.specs.Entries.{entry_in}
 use Rattle.registry_commands.specs.Failures.{Prints}
 use Rattle.registry_commands.specs.Messages.{failure_line}
 use Rattle.registry_commands.specs.RecordLines.{MayHaveLines, ahead, unread_of}
-use Rattle.registry_commands.specs.Replayed.{Begins, HasReplayed, IsFoundOrOpen, IsLeftFound, IsReplayOf, IsReplayed, ThenReplays, after_lines}
+use Rattle.registry_commands.specs.Replayed.{Begins, HasReadBlank, HasReplayed, IsFoundOrOpen, IsLeftFound, IsReplayOf, IsReplayed, ThenReplays, after_lines}
 use Rattle.registry_commands.specs.Stops.{TellsStop}
 use Rattle.registry_commands.proofs.RecordLineLemmas.{may_have}
 use Rattle.registry_program.specs.declared.host.Host as host
@@ -53,6 +53,9 @@ pub begun_fresh : (o now : Option (List ℕ)) (fresh : Unread) (count failures f
 begun_fresh o now fresh count failures failures_new first none start begins =
     subst (λ (n : ℕ). Begins o now n count failures failures_new first) start
     (subst (λ (a : Option (List ℕ)). Begins a now fresh.lines count failures failures_new first) (ahead_fresh o fresh none) begins)
+
+pub blank_fresh : (o now : Option (List ℕ)) (fresh it : Unread) → unread_of fresh ≡ [] → HasReadBlank (ahead o fresh) now it → HasReadBlank o now it
+blank_fresh o now fresh it none read = subst (λ (a : Option (List ℕ)). HasReadBlank a now it) (ahead_fresh o fresh none) read
 
 -- ---- what a registry leaves
 
@@ -149,18 +152,18 @@ module _ {S : Type 0} {g : Ghosts S} where
     was_clean = λ clean. omega (arith, is.endures.clean, clean);
   }
 
-  then_follows : (founding : Founding) (to_come : Option (List ℕ)) (before failures failures_new : ℕ) (it mid new : Registry S g) (checked result : Result (Unit {0}) ReplayStop) (errors : Output) (status : ExitStatus)
+  then_follows : (founding : Founding) (to_come now : Option (List ℕ)) (unread : Unread) (before failures failures_new : ℕ) (it mid new : Registry S g) (checked result : Result (Unit {0}) ReplayStop) (errors : Output) (status : ExitStatus)
       → (HasCleanDisk (state_of mid) → HasCleanDisk (state_of it)) → ((h : History) → Represents it h → Represents mid h)
-      → ThenReplays to_come before failures failures_new mid new checked result → TellsStop result errors status → Follows to_come it new status
-  then_follows founding to_come before failures failures_new it mid new (Ok done) result errors status was stays then told =
-      let rest = of_replay to_come before failures failures_new mid new result errors status then told in
+      → ThenReplays to_come now unread before failures failures_new mid new checked result → TellsStop result errors status → Follows to_come it new status
+  then_follows founding to_come now unread before failures failures_new it mid new (Ok done) result errors status was stays then told =
+      let rest = of_replay to_come before failures failures_new mid new result errors status then.0 told in
       record {
         lines = rest.lines;
         come = rest.come;
         leaves = λ h stands clean. rest.leaves h (stays h stands) clean;
         was_clean = λ clean. was (rest.was_clean clean);
       }
-  then_follows founding to_come before failures failures_new it mid new (Err why) result errors status was stays then told =
+  then_follows founding to_come now unread before failures failures_new it mid new (Err why) result errors status was stays then told =
       let lines = may_have to_come in
       record {
         lines = lines.0;
@@ -174,12 +177,12 @@ module _ {S : Type 0} {g : Ghosts S} where
         was_clean = λ clean. was (subst (λ (x : Registry S g). HasCleanDisk (state_of x)) then.0 clean);
       }
 
-  follows : (founding : Option Founding) (to_come : Option (List ℕ)) (before failures failures_new : ℕ) (it new : Registry S g) (errors : Output) (status : ExitStatus)
-      → IsReplayed founding to_come before failures failures_new it new errors status → Follows to_come it new status
-  follows None to_come before failures failures_new it new errors status is = of_replay to_come before failures failures_new it new is.0 errors status is.1 is.2
-  follows (Some founding) to_come before failures failures_new it new errors status is =
+  follows : (founding : Option Founding) (to_come now : Option (List ℕ)) (unread : Unread) (before failures failures_new : ℕ) (it new : Registry S g) (errors : Output) (status : ExitStatus)
+      → IsReplayed founding to_come now unread before failures failures_new it new errors status → Follows to_come it new status
+  follows None to_come now unread before failures failures_new it new errors status is = of_replay to_come before failures failures_new it new is.0 errors status is.1.0 is.2
+  follows (Some founding) to_come now unread before failures failures_new it new errors status is =
       let from = is.1 in
-      then_follows founding to_come before failures failures_new it from.1 new from.0 is.0 errors status
+      then_follows founding to_come now unread before failures failures_new it from.1 new from.0 is.0 errors status
       (λ clean. omega (arith, from.2.left.survives.clean, clean)) from.2.left.stays from.3 is.2
 
 -- ---- what the files hold
@@ -191,10 +194,10 @@ module _ {H F I : Type 0} (m : host.Ghosts H F I) (d : disk.Ghosts F) where
     over_whole old new path ends passes is =
         let Does = ReplaysLines r middle source_new begun in
         elim (runs_whole m d old new path ends Does (IsReplayedTo m d r source old new path false ends) (λ over same.
-        let told = follows None _ _ _ _ over.it over.after _ over.before over.does.1 in
+        let told = follows None _ _ _ _ _ _ over.it over.after _ over.before over.does.2 in
         let on = carried m d old new path ends Does over same told.was_clean (IsAfterRecord told.lines ends.status)
         (λ h stands clean. subst (λ (status : ExitStatus). LeavesSome over.after (IsAfterRecord told.lines status h)) (sym same) (told.leaves h stands clean)) in
-        record { before = blank; lines = told.lines; come = passes told.lines told.come; files = on.files; used = on.used; holds = on.holds }) is) [
+        record { before = blank; lines = told.lines; come = passes told.lines told.come; files = on.files; used = on.used; holds = on.holds }) (elim is [ inl not ↦ inl (not.0, not.1, not.2) | inr over ↦ inr over ])) [
           | inl not ↦ inr (inl (not.0, inl not.1, not.2))
           | inr more ↦ elim more [
             | inl failed ↦
@@ -225,10 +228,10 @@ module _ {H F I : Type 0} (m : host.Ghosts H F I) (d : disk.Ghosts F) where
           ))
 
       replayed : ends.status ≡ on.before → (it after : Registry (FileStore F d) over_files) → IsFoundOrOpen over_files on.conn founding it → on.last ≡ connection_of after
-          → IsReplayed (Some founding) (ahead (r.remaining middle) begun) begun.lines (r.failures middle) (r.failures source_new) it after (earlier ends on.errors on.before).errors on.before
+          → IsReplayed (Some founding) (ahead (r.remaining middle) begun) (ahead (r.remaining source_new) on.ended) on.ended begun.lines (r.failures middle) (r.failures source_new) it after (earlier ends on.errors on.before).errors on.before
           → IsReplayedTo m d r source old new path true ends
       replayed same it after opened last did =
-          let told = follows (Some founding) _ _ _ _ it after _ on.before did in
+          let told = follows (Some founding) _ _ _ _ _ _ it after _ on.before did in
           record {
             before = blank;
             lines = told.lines;

@@ -82,7 +82,7 @@ module _ {H F I : Type 0} (m : host.Ghosts H F I) (d : disk.Ghosts F) where
         → LeadsFilesTo m d old path over.closes.files h next After
     files_lead_to h next After does legal legal_next from held honest =
         let clean : HasCleanDisk (state_of over.after) = closed_clean (connection_of over.after) over.closes.files over.closes.closed.closed honest in
-        let found = over.takes.resumes.represents from h next legal legal_next (λ _. subst (λ i. FilesHoldEither from i h next) (sym over.takes.opens.found) held) (endures clean) in
+        let found = over.takes.opens_files.represents from h next legal legal_next (λ _. subst (λ i. FilesHoldEither from i h next) (sym over.takes.opens.found) held) (endures clean) in
         ∥∥₁_map found (λ it.
         let left = does it.0 it.1 it.2 clean in
         (left.0, left.1, left.2, over.closes.closed.holds same newest left.0 left.1 (in_newest (state_of over.after) (IsEither left.0 left.1) (λ _. left.3)) honest))

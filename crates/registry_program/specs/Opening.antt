@@ -49,7 +49,7 @@ module _ {D : Type 0} (g : Ghosts D) where
 
   -- The registry is the one that these files hold: where they hold one of two legal histories, in any schema, it represents
   -- that one.
-  pub record Resumes (files : Files D) (it : Registry (FileStore D g) over_files) : Type 0 where
+  pub record OpensFiles (files : Files D) (it : Registry (FileStore D g) over_files) : Type 0 where
     pub is_new : IsNew it
     pub honest : HasCleanDisk (state_of it) → AreClean g files.log files.db
     pub represents : (from : ℕ) (h next : History) → Legal h → Legal next → Hold from files h next

@@ -1,5 +1,5 @@
 -- What the replay of a record asks of the machine.
-use Rattle.std.specs.Prelude.{◌≡◌, ◌⊎◌, ℕ, true, false, List, codes, Option, Some, None, Result, Ok, Err}
+use Rattle.std.specs.Prelude.{◌≡◌, ◌≢◌, ◌⊎◌, ◌<◌, ◌-◌, ◌^◌, ℕ, true, false, List, codes, Option, Some, None, Result, Ok, Err}
 use Rattle.std.specs.Str.{bytes_eq}
 use Rattle.sqlite_disk.specs.declared.Disk as disk
 use Rattle.sqlite_store.specs.declared.store.FileStore.{FileStore}
@@ -10,28 +10,32 @@ use Rattle.byte_streams.specs.declared.streams.Source as source
 use Rattle.registry_rules.specs.declared.founding.Founding.{Founding}
 use Rattle.registry_store.specs.declared.registry.Registry.{Registry}
 use Rattle.registry_commands.specs.declared.following.ReplayStop.{ReplayStop}
+use Rattle.registry_commands.specs.declared.following.ReplayStop.TheVariants as stop
 use Rattle.registry_commands.specs.declared.messages.Failure.{Failure}
+use Rattle.registry_commands.specs.declared.messages.Failure.TheVariants.{File}
 use Rattle.registry_commands.specs.declared.status.ExitStatus.{ExitStatus}
 use Rattle.registry_commands.specs.declared.unread.Unread.{Unread}
 use Rattle.registry_commands.specs.Ends.{Ends, Sunk}
 use Rattle.registry_commands.specs.RecordLines.{ahead}
-use Rattle.registry_commands.specs.Replayed.{Begins, IsReplayed, IsReplayedOn}
+use Rattle.registry_commands.specs.Replayed.{Begins, HasReadBlank, IsReplayed, IsReplayedOn}
 use Rattle.registry_commands.specs.Stops.{TellsStop}
 use Rattle.registry_program.specs.declared.host.Host as host
 use Rattle.registry_program.specs.Outputs.{IsFailure, earlier}
-use Rattle.registry_program.specs.Stores.{Closes, IsConnected, IsUnconnected, Runs}
+use Rattle.registry_program.specs.Stores.{Closes, IsConnected, IsMissed, IsRunOver, IsUnconnected}
 
 module _ {R : Type 0} (r : source.Ghosts R) where
   -- the lines of the record that were to come were replayed over a registry
   abbrev pub ReplaysLines : {H S : Type 0} {g : store.Ghosts S} → R → R → Unread → H → H → Registry S g → Registry S g → Ends → Type 0
   ReplaysLines source source_new begun old new it after ends =
-      (new ≡ old) × IsReplayed None (ahead (r.remaining source) begun) begun.lines (r.failures source) (r.failures source_new) it after ends.errors ends.status
+      (new ≡ old) × (ended : Unread)
+      × IsReplayed None (ahead (r.remaining source) begun) (ahead (r.remaining source_new) ended) ended begun.lines (r.failures source) (r.failures source_new) it after ends.errors ends.status
 
 module _ {H F I : Type 0} (m : host.Ghosts H F I) (d : disk.Ghosts F) where
   module _ {R : Type 0} (r : source.Ghosts R) where
-    -- over the registry of the store at a path, which must exist
+    -- over the registry of the store at a path, which must exist; or that could not be opened, and nothing was read
     abbrev pub ReplaysOver : R → R → Unread → H → H → List ℕ → Ends → Type 0
-    ReplaysOver source source_new begun old new path ends = Runs m d old new path ends (ReplaysLines r source source_new begun)
+    ReplaysOver source source_new begun old new path ends =
+        ((failure : Failure) × IsMissed m d old new path failure × IsFailure failure ends × (source_new ≡ source)) ⊎ IsRunOver m d old new path ends (ReplaysLines r source source_new begun)
 
     -- the store at a path was opened, or made; a registry was founded on it or opened; the lines that were to come after this
     -- founding were replayed; and it was closed
@@ -42,20 +46,21 @@ module _ {H F I : Type 0} (m : host.Ghosts H F I) (d : disk.Ghosts F) where
       pub last : Held (FileStore F d)
       pub errors : Sunk
       pub before : ExitStatus
-      pub replays : IsReplayedOn over_files founding (ahead (r.remaining source) begun) begun.lines (r.failures source) (r.failures source_new)
+      pub ended : Unread
+      pub replays : IsReplayedOn over_files founding (ahead (r.remaining source) begun) (ahead (r.remaining source_new) ended) ended begun.lines (r.failures source) (r.failures source_new)
           conn last (earlier ends errors before).errors before
       pub silent : ends.out.new ≡ ends.out.old
       pub closes : Closes m d opened new last errors ends.errors.new before ends.status
 
     abbrev pub ReplaysIn : Founding → R → R → Unread → H → H → List ℕ → Ends → Type 0
     ReplaysIn founding source source_new begun old new path ends =
-        ((failure : Failure) × IsUnconnected m d old new path failure × IsFailure failure ends) ⊎ IsReplayedIn founding source source_new begun old new path ends
+        ((failure : Failure) × IsUnconnected m d old new path failure × IsFailure failure ends × (source_new ≡ source)) ⊎ IsReplayedIn founding source source_new begun old new path ends
 
     -- by what the record begins with: no store is opened if that is refused or could not be read
     abbrev pub BeginsReplay : Result (Option Founding) ReplayStop → R → R → Unread → H → H → List ℕ → Ends → Type 0
     BeginsReplay (Ok (Some founding)) source source_new begun old new path ends = ReplaysIn founding source source_new begun old new path ends
     BeginsReplay (Ok None) source source_new begun old new path ends = ReplaysOver source source_new begun old new path ends
-    BeginsReplay (Err why) source source_new begun old new path ends = (new ≡ old) × (ends.out.new ≡ ends.out.old) × TellsStop (Err why) ends.errors ends.status
+    BeginsReplay (Err why) source source_new begun old new path ends = (new ≡ old) × (source_new ≡ source) × (ends.out.new ≡ ends.out.old) × TellsStop (Err why) ends.errors ends.status
 
     -- The beginning of the record was read from this source, and then the store was used. What was read and not yet passed is then this.
     pub record ReplaysFrom (source source_new : R) (old new : H) (path : List ℕ) (ends : Ends) : Type 0 where
@@ -63,6 +68,8 @@ module _ {H F I : Type 0} (m : host.Ghosts H F I) (d : disk.Ghosts F) where
       pub begun : Unread
       pub first : Result (Option Founding) ReplayStop
       pub begins : Begins (r.remaining source) (ahead (r.remaining middle) begun) 0 begun.lines (r.failures source) (r.failures middle) first
+      pub kept : first ≢ Err (stop.Failure File) → r.failures middle ≡ r.failures source
+      pub waits : first ≡ Err (stop.Failure File) → begun.lines < 2 ^ 64 - 1 → HasReadBlank (r.remaining source) (ahead (r.remaining middle) begun) begun
       pub goes_on : BeginsReplay first middle source_new begun old new path ends
 
   -- replay STORE RECORD: the record is the standard input if it is called `-`, else the file at this path, which is opened before

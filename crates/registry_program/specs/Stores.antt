@@ -18,7 +18,7 @@ use Rattle.registry_commands.specs.declared.status.ExitStatus.TheVariants.{Succe
 use Rattle.registry_commands.specs.Ends.{Ends, Sunk}
 use Rattle.registry_commands.specs.Failures.{IsOfClosing, IsOfOpening, IsOfStore, PrintsFailure}
 use Rattle.registry_program.specs.declared.host.Host as host
-use Rattle.registry_program.specs.Opening.{AreLeft, HeldNoneIfForeign, IsConnectedTo, IsLeftUnopened, IsOfFiles, Resumes}
+use Rattle.registry_program.specs.Opening.{AreLeft, HeldNoneIfForeign, IsConnectedTo, IsLeftUnopened, IsOfFiles, OpensFiles}
 use Rattle.registry_program.specs.Outputs.{IsFailure, earlier}
 
 module _ {H F I : Type 0} (m : host.Ghosts H F I) (d : disk.Ghosts F) where
@@ -43,7 +43,7 @@ module _ {H F I : Type 0} (m : host.Ghosts H F I) (d : disk.Ghosts F) where
   pub record OpensRegistry (old new : H) (path : List ℕ) (it : TheRegistry) : Type 0 where
     pub files : Files F
     pub opens : Opens old new path false files
-    pub resumes : Resumes d files it
+    pub opens_files : OpensFiles d files it
 
   -- it could not be opened: there is none, or its files hold no registry that can be read, and none at all if this is Foreign
   abbrev pub IsMissed : H → H → List ℕ → Failure → Type 0

@@ -23,7 +23,7 @@ pub use host::{About, Cause, Host};
 pub use importing::run_import;
 pub use last_line::{Heard, LastLine};
 pub use making::{Making, Standing, is_blank, making_of};
-pub use opening::{connect_to, resume};
+pub use opening::{connect_to, open_files};
 pub use performing::perform;
 pub use replaying::run_replay;
 pub use running::{Terminals, run_over};

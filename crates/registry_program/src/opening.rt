@@ -2,7 +2,7 @@
 
 ghost use Rattle.std.specs.Prelude.{IfOk, IfErr, IsTrue};
 ghost use Rattle.registry_commands.specs.Failures.{IsOfOpening, IsOfStore};
-ghost use Rattle.registry_program.specs.Opening.{AreLeft, HeldNoneIfForeign, IsConnectedTo, IsLeftUnopened, IsLeftUnread, Resumes};
+ghost use Rattle.registry_program.specs.Opening.{AreLeft, HeldNoneIfForeign, IsConnectedTo, IsLeftUnopened, IsLeftUnread, OpensFiles};
 
 use registry_commands::{Failure, failure_of, store_failure};
 use registry_store::{Registry, leave_store};
@@ -31,11 +31,11 @@ pub fn connect_to<D: Disk + Drop>(
 }
 
 /// Opens the registry of a store that was just opened. At a fault it leaves the files as they are.
-fn take_over<D: Disk + Drop>(
+fn open_on<D: Disk + Drop>(
     alloc: Global,
     conn: Connection<FileStore<D>>,
 ) -> Result<Registry<FileStore<D>>, (Failure, Files<D>)>
-    ensures ok { (files : _) → IsConnectedTo D.Disk files conn → IfOk result (Resumes D.Disk files) }
+    ensures ok { (files : _) → IsConnectedTo D.Disk files conn → IfOk result (OpensFiles D.Disk files) }
     ensures err { (files : _) → IsConnectedTo D.Disk files conn → IfErr result (λ e. IsOfOpening e.0 × IsLeftUnread D.Disk files e.1) }
     ensures foreign { (files : _) → IsConnectedTo D.Disk files conn → IfErr result (λ e. HeldNoneIfForeign D.Disk e.0 files e.1) }
 {
@@ -51,18 +51,18 @@ fn take_over<D: Disk + Drop>(
 ///
 /// The failure of opening the store or the registry, with what is left of the files: `Foreign` only
 /// if they hold no registry. `leave_store` lets them go, which does not copy the log.
-pub fn resume<D: Disk + Drop>(
+pub fn open_files<D: Disk + Drop>(
     alloc: Global,
     files: Files<D>,
     options: Options,
 ) -> Result<Registry<FileStore<D>>, (Failure, Files<D>)>
     requires { IsTrue (D.Disk.is_usable files.log) × IsTrue (D.Disk.is_usable files.db) }
-    ensures ok { IfOk result (Resumes D.Disk files) }
+    ensures ok { IfOk result (OpensFiles D.Disk files) }
     ensures err { IfErr result (λ e. IsOfOpening e.0 × AreLeft D.Disk files e.1) }
     ensures foreign { IfErr result (λ e. HeldNoneIfForeign D.Disk e.0 files e.1) }
 {
     match connect_to(alloc, files, options) {
-        Ok(conn) => take_over(alloc, conn),
+        Ok(conn) => open_on(alloc, conn),
         Err(left) => Err(left),
     }
 }

@@ -6,7 +6,7 @@ ghost use Rattle.registry_commands.specs.Ends.{sunk};
 ghost use Rattle.registry_program.specs.Stores.{Closes, IsConnected, IsMissed, IsUnconnected, OpensRegistry};
 
 use crate::host::Host;
-use crate::opening::{connect_to, resume};
+use crate::opening::{connect_to, open_files};
 use byte_streams::Sink;
 use registry_commands::{ExitStatus, Failure, close_store};
 use registry_store::Registry;
@@ -30,7 +30,7 @@ pub fn open_registry<H: Host>(
         Ok(store) => store,
         Err(failure) => return Err(failure),
     };
-    match resume(alloc, files, options) {
+    match open_files(alloc, files, options) {
         Ok(registry) => Ok(registry),
         Err((failure, files)) => {
             host.let_go(files);

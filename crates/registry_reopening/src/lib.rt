@@ -16,7 +16,7 @@ pub use crashing::{
     close_and_open, crash_and_open, crash_and_open_store, crash_until_open, leave_and_open,
     open_through,
 };
-pub use opening::{abandon, leave, open_files, open_files_or_return, take_up, take_up_or_return};
+pub use opening::{abandon, leave, open_files, open_files_or_return, open_on, open_on_or_return};
 pub use recovery::{Abandoned, run_and_recover};
 pub use resuming::{crash_and_run_through, run_in_memory, run_through};
 pub use runs::{RunEnd, run_from};

@@ -41,7 +41,7 @@ pub fn leave<D: Disk + Drop>(registry: Registry<FileStore<D>>) -> Files<D>
 }
 
 /// Opens the registry of a connection to files. Returns `None` after a fault.
-pub fn take_up<D: Disk + Drop>(
+pub fn open_on<D: Disk + Drop>(
     alloc: Global,
     conn: Connection<FileStore<D>>,
 ) -> Option<Registry<FileStore<D>>>
@@ -50,15 +50,15 @@ pub fn take_up<D: Disk + Drop>(
         → (HasCleanDisk (file_state conn) → IsOpened conn × FindsIn image (file_state conn) × FilesHoldEither from image h next)
         → IfSome result (λ it. HasCleanDisk (state_of it) → ∥ ((x : History) × IsEither h next x × Represents it x) ∥₁) }
 {
-    match take_up_or_return(alloc, conn) {
+    match open_on_or_return(alloc, conn) {
         Ok(registry) => Some(registry),
         Err(_) => None,
     }
 }
 
-/// Opens the registry of a connection to files, like `take_up`. After a fault it returns the
+/// Opens the registry of a connection to files, like `open_on`. After a fault it returns the
 /// connection: what a crash then leaves of its files holds the rows of one of the two histories.
-pub fn take_up_or_return<D: Disk + Drop>(
+pub fn open_on_or_return<D: Disk + Drop>(
     alloc: Global,
     conn: Connection<FileStore<D>>,
 ) -> Result<Registry<FileStore<D>>, Connection<FileStore<D>>>
@@ -94,7 +94,7 @@ pub fn open_files_or_return<D: Disk + Drop>(
         → IfErr result (λ left. IfSome left (λ kept. AreClean D.Disk kept.log kept.db → HoldEither D.Disk from kept h next)) }
 {
     match Connection::open_files(alloc, files, options) {
-        Ok(conn) => match take_up_or_return(alloc, conn) {
+        Ok(conn) => match open_on_or_return(alloc, conn) {
             Ok(registry) => Ok(registry),
             Err(conn) => Err(Some(leave_store(conn))),
         },

@@ -2,8 +2,8 @@
 
 use registry_reopening::{
     abandon, close_and_open, crash_and_open, crash_and_open_store, crash_until_open, leave,
-    leave_and_open, open_files, open_files_or_return, open_through, run_in_memory, run_through,
-    take_up, take_up_or_return,
+    leave_and_open, open_files, open_files_or_return, open_on, open_on_or_return, open_through,
+    run_in_memory, run_through,
 };
 use registry_rules::{Founding, Reply, Request};
 use registry_store::{Closed, Registry, close_files, leave_store};
@@ -33,8 +33,8 @@ enum Way {
     OpenThrough,
     CloseStore,
     CrashStore,
-    TakeUp,
-    TakeUpOrReturn,
+    OpenOn,
+    OpenOnOrReturn,
 }
 
 const WAYS: [Way; 11] = [
@@ -47,8 +47,8 @@ const WAYS: [Way; 11] = [
     Way::OpenThrough,
     Way::CloseStore,
     Way::CrashStore,
-    Way::TakeUp,
-    Way::TakeUpOrReturn,
+    Way::OpenOn,
+    Way::OpenOnOrReturn,
 ];
 
 fn open_again<D: Disk + Drop>(alloc: Global, files: Files<D>) -> Option<Registry<FileStore<D>>> {
@@ -83,11 +83,11 @@ fn close_store_and_open<D: Disk + Drop>(
     }
 }
 
-fn take_up_or_none<D: Disk + Drop>(
+fn open_on_or_none<D: Disk + Drop>(
     alloc: Global,
     conn: Connection<FileStore<D>>,
 ) -> Option<Registry<FileStore<D>>> {
-    match take_up_or_return(alloc, conn) {
+    match open_on_or_return(alloc, conn) {
         Ok(registry) => Some(registry),
         Err(conn) => {
             drop(leave_store(conn));
@@ -112,8 +112,8 @@ fn go_through<D: Crash + Drop>(
         Way::OpenThrough => open_through(alloc, leave(registry), PLAIN, 1),
         Way::CloseStore => close_store_and_open(alloc, registry.into_connection()),
         Way::CrashStore => crash_and_open_store(alloc, registry.into_connection(), PLAIN),
-        Way::TakeUp => take_up(alloc, registry.into_connection()),
-        Way::TakeUpOrReturn => take_up_or_none(alloc, registry.into_connection()),
+        Way::OpenOn => open_on(alloc, registry.into_connection()),
+        Way::OpenOnOrReturn => open_on_or_none(alloc, registry.into_connection()),
     }
 }
 

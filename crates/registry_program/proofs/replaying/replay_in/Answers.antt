@@ -10,6 +10,7 @@ returns g c out = inr (record {
   last = c.replay_on-status.result.1;
   errors = sunk g.E.Sink c.replay_on-status.new.errors;
   before = c.replay_on-status.result.0;
+  ended = c.replay_on-status.new.unread;
   replays = c.replay_on-status.ensures;
   silent = refl;
   closes = c.close_connection.ensures;

@@ -7,7 +7,7 @@ use Rattle.registry_store.specs.Promise.{IsFreshAt}
 use Rattle.registry_store.proofs.CrashLemmas.{later_from}
 use Rattle.registry_store.proofs.OpeningLemmas.{either_legal}
 use Rattle.registry_program.proofs.OpeningLemmas.{foreign_fault, of_opening, shows_held}
-use Rattle.registry_program.proofs.opening.take_over.Goals as goal
+use Rattle.registry_program.proofs.opening.open_on.Goals as goal
 
 pub returns-in-Ok-clause-ok : goal.returns-in-Ok-clause-ok
 returns-in-Ok-clause-ok g c files opened =
