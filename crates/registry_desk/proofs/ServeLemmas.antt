@@ -19,7 +19,7 @@ use Rattle.registry_http.proofs.MessageLemmas.{message_says_one_thing}
 use Rattle.registry_desk.specs.declared.fault.DeskFault.{DeskFault}
 use Rattle.registry_desk.specs.declared.fault.DeskFault.TheVariants.{NoMemory, Registry}
 use Rattle.registry_store.specs.Faults.{is_foreign}
-use Rattle.registry_desk.specs.Faults.{registry_fault, unavailable_of}
+use Rattle.registry_desk.specs.Faults.{fault_of_done, unavailable_of}
 use Rattle.registry_http.specs.declared.unavailable.Unavailable.{Unavailable}
 use Rattle.registry_desk.specs.Acting.{IsResponse, after_message, IsOfSoundRegistry, IsLeftUnavailable, IsFaultFor}
 use Rattle.registry_desk.specs.Serving.{IsSaidPoisoned, IsSent, IsTold, IsToldBy, IsServed}
@@ -49,7 +49,7 @@ module _ {S : Type 0} {g : Ghosts S} where
     next = h;
     next_is = inl (refl, refl);
     left = left_first it h h stands clean;
-    registry_fault = λ said says. of_memory it said;
+    fault_of = λ said says. of_memory it said;
   })
 
   -- the message was read, and its response was sent, or refusal 31 in its place
@@ -72,7 +72,7 @@ module _ {S : Type 0} {g : Ghosts S} where
     next = after_message h said;
     next_is = inr (said, says, refl, λ other. absurd (other refl));
     left = left_second new h (after_message h said) ok.1 clean;
-    registry_fault = λ other same. of_memory new other;
+    fault_of = λ other same. of_memory new other;
   })
 
   -- the message was read and acted on
@@ -91,7 +91,7 @@ module _ {S : Type 0} {g : Ghosts S} where
     next = after_message h said;
     next_is = inr (said, says, refl, asked);
     left = err.2;
-    registry_fault = λ other same. subst (λ (s : Result Message HttpRefusal). IsFaultFor s why new) (message_says_one_thing h.founding.vendor bytes said other says same) err.1;
+    fault_of = λ other same. subst (λ (s : Result Message HttpRefusal). IsFaultFor s why new) (message_says_one_thing h.founding.vendor bytes said other says same) err.1;
   })
 
   -- the message was read, and the registry was poisoned
@@ -106,7 +106,7 @@ module _ {S : Type 0} {g : Ghosts S} where
       (inr (subst (λ (f : DeskFault). IsTold (Err f) response fault) refused.1 told), refused.2)
 
 -- the fault is that of the registry
-pub same_fault : (done : Result Response DeskFault) (response : Response) (fault : Option Fault) → IsTold done response fault → fault ≡ registry_fault done
+pub same_fault : (done : Result Response DeskFault) (response : Response) (fault : Option Fault) → IsTold done response fault → fault ≡ fault_of_done done
 same_fault (Ok wanted) response fault told = told.1
 same_fault (Err why) response fault told = told.1
 

@@ -38,7 +38,7 @@ use Rattle.registry_http.specs.Foundings.{founding_response}
 use Rattle.registry_http.specs.Resources.{number_response, org_response, petition_response}
 use Rattle.registry_desk.specs.declared.fault.DeskFault.{DeskFault}
 use Rattle.registry_desk.specs.declared.fault.DeskFault.TheVariants.{Registry, NoMemory}
-use Rattle.registry_desk.specs.Faults.{registry_fault}
+use Rattle.registry_desk.specs.Faults.{fault_of_done}
 
 -- a number of a vendor that the query names; refusal 34 if the registry has no such vendor
 abbrev pub vendor_number_at : History → ℕ → ℕ → Response
@@ -114,7 +114,7 @@ module _ {S : Type 0} {g : Ghosts S} (it new : TheRegistry S g) where
     pub answered : (h : History) → Represents it h → HasCleanDisk (state_of new) → IfOk result (Is h)
     pub kind : (h : History) → Represents it h → HasCleanDisk (state_of new) → IfErr result IsOfQuery
     pub left : IsUntouched it new
-    pub notes : NotesForeign it new (registry_fault result)
+    pub notes : NotesForeign it new (fault_of_done result)
 
 module _ {S : Type 0} {g : Ghosts S} where
   -- After a fault of the registry it is poisoned by this fault, or it represents the history before the message, and the

@@ -26,9 +26,9 @@ registry_fault (Registry fault) = Some fault
 registry_fault NoMemory = None
 
 -- the fault of the registry behind what was done for a message
-abbrev pub registry_fault : Result Response DeskFault → Option Fault
-registry_fault (Ok response) = None
-registry_fault (Err why) = registry_fault why
+abbrev pub fault_of_done : Result Response DeskFault → Option Fault
+fault_of_done (Ok response) = None
+fault_of_done (Err why) = registry_fault why
 
 -- the fault for one of a query: memory that runs out for a query is no fault of the registry
 abbrev pub failed_by : Fault → DeskFault

@@ -10,7 +10,7 @@ ghost use Rattle.registry_desk.specs.declared.fault.DeskFault.TheVariants as des
 ghost use Rattle.registry_store.specs.Queries.{IsUntouched};
 ghost use Rattle.registry_http.specs.Responses.{refusal_response, reply_response};
 ghost use Rattle.registry_desk.specs.Acting.{IsQueryResponse, IsResponse, after_message, IsOfQuery, IsOfSoundRegistry, IsLeftUnavailable, HasPoisoned, IsFaultFor};
-ghost use Rattle.registry_desk.specs.Faults.{registry_fault};
+ghost use Rattle.registry_desk.specs.Faults.{fault_of_done};
 ghost use Rattle.registry_desk.specs.Cache.{AreTextsOf, cache_beside, no_texts, with_text};
 
 use crate::cache::Cache;
@@ -33,9 +33,9 @@ fn respond_to_order<S: Alter>(
         → IfOk result (λ response. (response ≡ reply_response (reply_to h request.now)) × Represents registry.new (after_one h request.now)) }
     ensures left { (h : History) → Represents registry.old h → HasCleanDisk (state_of registry.new)
         → IfErr result (λ fault. IsOfSoundRegistry fault × HasPoisoned fault registry.new × IsLeftUnavailable fault registry.new h (after_one h request.now)) }
-    ensures goes_on { registry_fault result ≡ None → is_poisoned registry.new ≡ false }
+    ensures goes_on { fault_of_done result ≡ None → is_poisoned registry.new ≡ false }
     ensures keeps_fault { is_poisoned registry.old ≡ false → IfErr result (λ fault. HasPoisoned fault registry.new) }
-    ensures notes { NotesForeign registry.old registry.new (registry_fault result) }
+    ensures notes { NotesForeign registry.old registry.new (fault_of_done result) }
     ensures only_poisoned { result ≡ Err (desk_faults.Registry faults.Poisoned) → is_poisoned registry.old ≡ true }
     ensures when_poisoned { is_poisoned registry.old ≡ true → (result ≡ Err (desk_faults.Registry faults.Poisoned)) × (registry.new ≡ registry.old) }
     ensures endures { Endures (state_of registry.old) (state_of registry.new) }
@@ -56,7 +56,7 @@ fn take_or_ask<S: Alter>(
     ensures answered { (h : History) → Represents registry.old h → HasCleanDisk (state_of registry.new) → AreTextsOf h cache.old → IfOk result (IsQueryResponse h query.now) }
     ensures kind { (h : History) → Represents registry.old h → HasCleanDisk (state_of registry.new) → IfErr result IsOfQuery }
     ensures left { IsUntouched registry.old registry.new }
-    ensures notes { NotesForeign registry.old registry.new (registry_fault result) }
+    ensures notes { NotesForeign registry.old registry.new (fault_of_done result) }
     ensures only_poisoned { result ≡ Err (desk_faults.Registry faults.Poisoned) → is_poisoned registry.old ≡ true }
     ensures when_poisoned { is_poisoned registry.old ≡ true → cache.old ≡ no_texts → (result ≡ Err (desk_faults.Registry faults.Poisoned)) × (registry.new ≡ registry.old) }
     ensures taken { cache.new ≡ with_text cache.old query.now None }
@@ -89,8 +89,8 @@ pub(crate) fn response_to<S: Alter>(
     ensures asked { IfErr result (λ fault. fault ≢ desk_faults.NoMemory → IsOk said.now) }
     // Whatever the store holds: without a fault of the registry it is not poisoned, and no call of it
     // found the rows of no history.
-    ensures goes_on { is_poisoned registry.old ≡ false → registry_fault result ≡ None → is_poisoned registry.new ≡ false }
-    ensures notes { NotesForeign registry.old registry.new (registry_fault result) }
+    ensures goes_on { is_poisoned registry.old ≡ false → fault_of_done result ≡ None → is_poisoned registry.new ≡ false }
+    ensures notes { NotesForeign registry.old registry.new (fault_of_done result) }
     // A message that is refused gets its refusal, over any registry.
     ensures refused { IfErr said.now (λ refusal. IfOk result (λ response. response ≡ refusal_response refusal) × IfErr result (λ fault. fault ≡ desk_faults.NoMemory) × (registry.new ≡ registry.old)) }
     // An order or a query gets no response over a poisoned registry.
