@@ -78,6 +78,7 @@ module _ {S : Type 0} {g : Ghosts S} where
       through = λ success. absurd (cc (failed, success));
       sound = λ success. absurd (cc (failed, success));
       quiet = λ success. absurd (cc (failed, success));
+      kept = λ success. absurd (cc (failed, success));
       stopped = λ _ h at clean. stopped_before it h rs a out within at clean;
       told = λ _. inl (record { same = refl; silent = (keeps_same out.contents, refl); told = told });
       poisoned = λ _. (failed, refl, refl, tells_more OfInput (λ failure. (failure ≡ Poisoned) ⊎ OfInput failure) errors (λ failure is. inr is) told);
@@ -99,6 +100,7 @@ module _ {S : Type 0} {g : Ghosts S} where
       through = is.through;
       sound = is.sound;
       quiet = is.quiet;
+      kept = is.kept;
       stopped = is.stopped;
       told = λ failed. elim (is.told failed) [
         | inl unread ↦ inl (record { same = unread.same; silent = unread.silent; told = tells_more OfMemory OfInput did.ends.errors more unread.told })

@@ -74,6 +74,7 @@ module _ {S : Type 0} {g : Ghosts S} where
     pub through : did.ends.status ≡ Success → (h : History) → HasAnswered did.old h rs a → HasCleanDisk (state_of did.new) → IsThrough did.new h rs a did.ends.out
     pub sound : did.ends.status ≡ Success → is_poisoned did.new ≡ false
     pub quiet : did.ends.status ≡ Success → PrintsNothing did.ends.errors
+    pub kept : did.ends.status ≡ Success → did.ends.out.new.failures ≡ did.ends.out.old.failures
     pub stopped : did.ends.status ≡ Failed → (h : History) → HasAnswered did.old h rs a → HasCleanDisk (state_of did.new) → IsStoppedAt did.new h rs a did.ends.out
     pub told : did.ends.status ≡ Failed → IsUnread OfInput did
         ⊎ PrintsFailure (λ failure. IsOfRun did.old did.new (λ h. HasAnswered did.old h rs a) failure × IsOfOutput did.ends.out.old.failures did.ends.out.new.failures failure) did.ends.errors

@@ -11,7 +11,7 @@ use Rattle.registry_commands.specs.declared.status.ExitStatus.TheVariants.{Faile
 use Rattle.registry_commands.specs.Ends.{Receives, ReceivesNothing, ReceivesPrefix, Output}
 use Rattle.registry_commands.specs.Messages.{failure_line}
 
--- the text was written: all of it, or a prefix before one write failed
+-- the text was written: all of it; or a prefix, and then one write failed
 abbrev pub Prints : Output → List ℕ → Type 0
 Prints errors text = ReceivesPrefix errors text × (FailsOnce errors.old.failures errors.new.failures ⊎ Receives errors text)
 
@@ -60,7 +60,7 @@ abbrev pub IsOfOutput : ℕ → ℕ → Failure → Type 0
 IsOfOutput old new File = FailsOnce old new
 IsOfOutput old new _ = new ≡ old
 
--- a read that failed between these two counts of failures is told by the exit status
+-- if a read failed between these two counts of failures, the exit status is Failed
 abbrev pub TellsFailedReads : ExitStatus → ℕ → ℕ → Type 0
 TellsFailedReads status old new = status ≢ Failed → new ≡ old
 

@@ -60,7 +60,7 @@ IsFirstBad caller key org vendor Org = IsSlug caller × IsKey key × ¬ IsSlug o
 IsFirstBad caller key org vendor Vendor = IsSlug caller × IsKey key × IsSlug org × (vendor_argument vendor ≡ Err Vendor)
 IsFirstBad caller key org vendor _ = ⊥
 
--- this is the import that the arguments ask for, or the first invalid one, unless out of memory
+-- this is the import that the arguments ask for, or the first invalid argument, unless memory ran out
 abbrev pub AsksFor : List ℕ → List ℕ → List ℕ → Option (List ℕ) → Result Import (Rejection BadArgument) → Type 0
 AsksFor caller key org vendor (Ok import) = AreOfImport caller key org vendor import
 AsksFor caller key org vendor (Err (WasRefused argument)) = IsFirstBad caller key org vendor argument

@@ -40,6 +40,7 @@ module _ {S : Type 0} {g : Ghosts S} where
     pub left : IsUntouched did.old did.new
     pub ends : ((did.ends.status ≡ Success) × PrintsNothing did.ends.errors)
         ⊎ ((did.ends.status ≡ Failed) × PrintsFailure (λ failure. IsOfRecord did.old did.new failure × IsOfOutput did.ends.out.old.failures did.ends.out.new.failures failure) did.ends.errors)
+    pub kept : did.ends.status ≡ Success → did.ends.out.new.failures ≡ did.ends.out.old.failures
     pub whole : did.ends.status ≡ Success → HoldsOfHistory did.old did.new (λ h. AreValid h.deeds → Receives did.ends.out (record_text h after))
     pub part : did.ends.status ≡ Failed → HoldsOfHistory did.old did.new (λ h. AreValid h.deeds → ReceivesPrefix did.ends.out (record_text h after))
     pub poisoned : is_poisoned did.old ≡ true → ShowsNothing did

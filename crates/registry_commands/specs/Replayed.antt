@@ -216,8 +216,8 @@ module _ {S : Type 0} {g : Ghosts S} where
     pub found : ChecksAs it new number founding result
     pub notes : NotesForeign it new (foreign_in result)
 
-  -- No read failed, unless that ended the replay; and then all whole lines were acted on that had been read. So none is read
-  -- before those are: any read may fail.
+  -- If a read failed, that ended the replay, and all whole lines that had been read were acted on. Any read may fail, so none is
+  -- made before that.
   pub record ReadsLineByLine (to_come now : Option (List ℕ)) (unread : Unread) (failures failures_new : ℕ) (it new : Registry S g) (result : Result (Unit {0}) ReplayStop) : Type 0 where
     pub kept : result ≢ Err (stop.Failure File) → failures_new ≡ failures
     pub waits : result ≡ Err (stop.Failure File) → unread.lines < 2 ^ 64 - 1 → HasFollowed to_come now unread it new

@@ -40,6 +40,7 @@ fn write_replies<S: Alter, W: Sink>(
     ensures failure { IfErr result (λ failure. IsOfRun registry.old registry.new (λ h. HasAnswered registry.old h requests.now answered) failure
         × IsOfOutput (W.failures lines.old.output.now) (W.failures lines.new.output.now) failure) }
     ensures when_poisoned { is_poisoned registry.old ≡ true → (result ≡ Err Failure.Poisoned) × (registry.new ≡ registry.old) × (W.contents lines.new.output.now ≡ W.contents lines.old.output.now) }
+    ensures kept { OnOk result (W.failures lines.new.output.now ≡ W.failures lines.old.output.now) }
     ensures goes_on { OnOk result (is_poisoned registry.new ≡ false) }
     ensures endures { Endures (state_of registry.old) (state_of registry.new) }
 {
@@ -66,6 +67,7 @@ fn answer_from<S: Alter, W: Sink>(
     ensures failure { IfErr result (λ failure. IsOfRun registry.old registry.new (λ h. HasAnswered registry.old h requests.now answered) failure
         × IsOfOutput (W.failures output.old) (W.failures output.new) failure) }
     ensures when_poisoned { is_poisoned registry.old ≡ true → (result ≡ Err Failure.Poisoned) × (registry.new ≡ registry.old) × (W.contents output.new ≡ W.contents output.old) }
+    ensures kept { OnOk result (W.failures output.new ≡ W.failures output.old) }
     ensures goes_on { OnOk result (is_poisoned registry.new ≡ false) }
     ensures endures { Endures (state_of registry.old) (state_of registry.new) }
 {

@@ -68,7 +68,7 @@ fn line_feed_after(bytes: &[u8], searched: usize) -> Option<usize>
     }
 }
 
-/// FindsLine the next line of the source, and passes nothing. Reads only while what was read is a part
+/// Finds the next line of the source, and passes nothing. Reads only while what was read is a part
 /// of the line, in pieces, and searches each byte once.
 ///
 /// # Errors

@@ -19,7 +19,7 @@ pub(crate) struct Cache {
 }
 
 impl Cache {
-    /// Makes one that keeps nothing.
+    /// Makes an empty cache.
     pub(crate) fn new() -> Cache
         ensures { result ≡ no_texts }
     {

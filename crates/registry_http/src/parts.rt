@@ -10,7 +10,7 @@ use registry_reports::report_named;
 use std::alloc::Global;
 use usbnum_core::{NoMemory, Slug, parse_pid, parse_vid};
 
-/// One more than the greatest petition, and than the greatest count of requests.
+/// One more than the greatest number of a petition, and than the greatest count of requests.
 const COUNTS_END: u64 = 4_294_967_296;
 
 /// Reads a part as a slug.

@@ -50,7 +50,7 @@ fn open_on<D: Disk + Drop>(
 /// # Errors
 ///
 /// The failure of opening the store or the registry, with what is left of the files: `Foreign` only
-/// if they hold no registry. `leave_store` lets them go, which does not copy the log.
+/// if they hold no registry. If the registry cannot be opened, `leave_store` gives the files back.
 pub fn open_files<D: Disk + Drop>(
     alloc: Global,
     files: Files<D>,

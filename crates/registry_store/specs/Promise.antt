@@ -77,7 +77,7 @@ module _ {S : Type 0} {g : Ghosts S} where
   abbrev pub NotesForeign : Registry S g → Registry S g → Option Fault → Type 0
   NotesForeign it new fault = has_met_foreign new ≡ (is_foreign fault || has_met_foreign it)
 
-  -- a registry that was just founded or opened: it is not poisoned, and met no rows of no history
+  -- a registry that was just founded or opened: it is not poisoned, and has not met the rows of no history
   pub record IsNew (it : Registry S g) : Type 0 where
     pub sound : is_poisoned it ≡ false
     pub unmet : has_met_foreign it ≡ false

@@ -1,4 +1,4 @@
-//! The one beginning of a transaction.
+//! The one function that begins a transaction.
 
 ghost use Rattle.std.specs.Prelude.{◌≡◌, true, false};
 ghost use Rattle.sqlite.specs.State.{IsLive};

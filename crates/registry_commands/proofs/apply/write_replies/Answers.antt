@@ -16,6 +16,11 @@ returns-in-Ok-clause-same_reference g c =
     let given = c.in-Ok.ensures.given in
     (taken_lines g.W.Sink.contents g.W.Sink.failures c.args.lines.now c.run_to.new.replies given.0 given.1).same_output
 
+pub returns-in-Ok-clause-kept : goal.returns-in-Ok-clause-kept
+returns-in-Ok-clause-kept g c =
+    let given = c.in-Ok.ensures.given in
+    (taken_lines g.W.Sink.contents g.W.Sink.failures c.args.lines.now c.run_to.new.replies given.0 given.1).kept
+
 pub returns-in-Ok-clause-through : goal.returns-in-Ok-clause-through
 returns-in-Ok-clause-through g c h at clean =
     let done = c.in-Ok.ensures.through h at clean in

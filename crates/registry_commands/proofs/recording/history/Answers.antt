@@ -7,6 +7,7 @@ pub returns-in-Ok : goal.returns-in-Ok
 returns-in-Ok g c = record {
   left = c.in-Ok.ensures.left;
   ends = inl (refl, (keeps_same _, refl));
+  kept = λ _. c.in-Ok.ensures.kept;
   whole = λ _ h stands clean valid. (c.in-Ok.ensures.ok h stands clean valid, c.in-Ok.ensures.kept);
   part = λ failed. absurd cc;
   poisoned = λ is. let failed = c.in-Ok.ensures.when_poisoned is in absurd (cc failed.0);
@@ -17,6 +18,7 @@ pub returns-in-Err : goal.returns-in-Err
 returns-in-Err g c = record {
   left = c.in-Err.ensures.left;
   ends = inr (c.fail.ensures.status, (c.in-Err.failure, c.in-Err.ensures.failure, c.fail.ensures.told));
+  kept = λ success. absurd (cc (c.fail.ensures.status, success));
   whole = λ success. absurd (cc (c.fail.ensures.status, success));
   part = λ _. c.in-Err.ensures.err;
   poisoned = λ is.

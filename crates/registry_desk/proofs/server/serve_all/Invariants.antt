@@ -9,7 +9,7 @@ use Rattle.registry_desk.proofs.ServerLemmas.{RepresentsBeside}
 use Rattle.registry_desk.proofs.server.serve_all.Given as goal
 
 -- as many connections as the counter says were served, and the registry represents the history after their messages, of
--- which the texts are that are cached
+-- and the cached texts are of that history
 abbrev pub invariant-loop : goal.invariant-loop
 invariant-loop g l = record {
   endures : Endures (state_of l.initial.registry) (state_of l.registry);
