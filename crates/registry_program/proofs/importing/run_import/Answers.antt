@@ -5,8 +5,8 @@ use Rattle.registry_program.proofs.importing.run_import.Goals as goal
 pub returns : goal.returns
 returns g c = rw c.in-Ok.is (inr (record {
   opened = c.open_registry.new.host;
-  it = c.in-Ok.registry;
-  takes = c.in-Ok.ensures.ok;
+  it = c.in-Ok-open_registry.registry;
+  takes = c.in-Ok-open_registry.ensures.ok;
   done = c.import_file-status.new.host;
   after = c.import_file-status.new.registry;
   errors = sunk g.E.Sink c.import_file-status.new.errors;
