@@ -1,5 +1,5 @@
-//! What a source reads from, and what a sink writes to. Each call relates the state before it to the
-//! state after it, so a contract can say which calls were made.
+//! Readers and writers below a source and a sink. A state of one is known by the calls that led to
+//! it, so a contract can say which calls were made.
 ghost use Rattle.std.specs.Prelude.{ℕ, List, Option, length, take, IfOk, OnErr};
 ghost use Rattle.std.specs.Io.{ReadsAtMost, WritesAtMost};
 ghost use Rattle.std.specs.Io.KnownBytes.{ReadConsumes, WriteAppends};
@@ -11,7 +11,7 @@ pub trait ByteReader {
     /// The bytes that it gives until its end, if they are known.
     ghost remaining: { Self → Option (List ℕ) };
 
-    /// One call, with room for so many bytes, gave these.
+    /// One call was to read up to so many bytes, and gave these.
     ghost reads: { Self → Self → ℕ → List ℕ → Type 0 };
 
     /// One call failed.
@@ -35,7 +35,7 @@ pub trait ByteWriter {
     /// The bytes that it has taken, if they are known.
     ghost contents: { Self → Option (List ℕ) };
 
-    /// One call was given these bytes, and took so many from their front.
+    /// One call was to write these bytes, and took so many from their front.
     ghost writes: { Self → Self → List ℕ → ℕ → Type 0 };
 
     /// One call failed.

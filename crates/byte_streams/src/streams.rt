@@ -51,8 +51,8 @@ pub trait Sink {
         ensures failed { OnErr result (fails self.old self.new) };
 }
 
-/// Writes all of the bytes to the sink. Returns `Broken` only if one call of the sink failed. Before
-/// that call the sink took a prefix of the bytes.
+/// Writes all of the bytes to the sink. Returns `Broken` only if the sink failed, once and after it
+/// took a prefix of them.
 pub fn put_all<W: Sink>(sink: &mut W, bytes: &[u8]) -> Result<(), Broken>
     ensures { Writes (W.contents sink.old) (W.contents sink.new) (W.failures sink.old) (W.failures sink.new) result bytes.now }
 {

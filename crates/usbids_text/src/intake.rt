@@ -39,8 +39,8 @@ fn feed_next<R: Source, I: Intake>(
     Ok(count)
 }
 
-/// Feeds all bytes of the source, also those after a faulty line. Returns `Broken` only if the last
-/// read failed, or if the source has more than 4,294,967,295 bytes.
+/// Feeds all bytes of the source, also those after a faulty line. Returns `Broken` only if a read
+/// failed, the last one, or if the source has more than 4,294,967,295 bytes.
 pub fn feed_all<R: Source, I: Intake>(
     source: &mut R,
     intake: &mut I,
