@@ -1,5 +1,6 @@
 -- What a run of all requests leaves.
-use Rattle.std.proofs.Common.{◌≡◌, ◌+◌, inl, List, length, take, Option, Some, None, sym, ap, subst, ◌∙◌, arith}
+use Rattle.std.proofs.Common.{◌≡◌, ◌⊎◌, ◌+◌, ◌<◌, inl, List, length, take, Option, Some, None, sym, ap, subst, ◌∙◌, arith}
+use Rattle.std.specs.Prelude.{IfSome}
 use Rattle.std.proofs.lemmas.List.{take_all}
 use Rattle.sqlite.specs.Store.{Ghosts}
 use Rattle.sqlite.specs.State.{HasCleanDisk}
@@ -9,6 +10,7 @@ use Rattle.registry_rules.specs.History.{History}
 use Rattle.registry_rules.specs.Run.{after, replies_to}
 use Rattle.registry_tables.specs.Rows.{newest}
 use Rattle.registry_store.specs.declared.fault.Fault.{Fault}
+use Rattle.registry_store.specs.declared.fault.Fault.TheVariants as faults
 use Rattle.registry_store.specs.declared.registry.Registry.{Registry}
 use Rattle.registry_store.specs.Promise.{Leaves, state_of}
 use Rattle.registry_store.specs.Files.{IsEither}
@@ -36,3 +38,7 @@ module _ {S : Type 0} {g : Ghosts S} (it : Registry S g) (h : History) (rs : Lis
   pub run_is_done : (fault : Option Fault) → EndsRun it h rs 0 replies fault → fault ≡ None → replies ≡ replies_to h rs
   run_is_done None done is = done.all
   run_is_done (Some fault) stopped is = absurd cc
+
+  pub run_stops : (fault : Option Fault) → EndsRun it h rs 0 replies fault → IfSome fault (λ why. (length replies < length rs) × ((why ≡ faults.Store) ⊎ (why ≡ faults.NoMemory)))
+  run_stops None done = tt
+  run_stops (Some fault) stopped = (omega (arith, stopped.within), stopped.kind)

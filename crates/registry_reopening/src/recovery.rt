@@ -1,13 +1,14 @@
 //! The headline for every crash: whatever a crash leaves of the files, the next opening finds the
 //! requests that were answered, and at most one more.
 
-ghost use Rattle.std.specs.Prelude.{◌≡◌, ◌+◌, ℕ, IsTrue, IfSome, None, length, take};
+ghost use Rattle.std.specs.Prelude.{◌≡◌, ◌⊎◌, ◌+◌, ◌<◌, ℕ, IsTrue, IfSome, None, length, take};
 ghost use Rattle.sqlite.specs.State.{HasCleanDisk};
 ghost use Rattle.sqlite.specs.Files.{image_of};
 ghost use Rattle.sqlite.specs.WalReads.{AreClean};
 ghost use Rattle.registry_rules.specs.History.{History};
 ghost use Rattle.registry_rules.specs.Run.{Legal, after, replies_to};
 ghost use Rattle.registry_tables.specs.Rows.{newest};
+ghost use Rattle.registry_store.specs.declared.fault.Fault.TheVariants as faults;
 ghost use Rattle.registry_store.specs.Promise.{Represents, state_of};
 ghost use Rattle.registry_reopening.specs.Recovery.{MayLeave, RepresentsPrefix};
 ghost use Rattle.registry_store.specs.Files.{IsEither, HoldEither, FilesHoldEither};
@@ -47,9 +48,11 @@ pub fn run_and_recover<D: Disk + Drop>(
     ensures recovered { (h : History) → Represents first h → AreClean D.Disk result.0.files.log result.0.files.db → MayLeave D.Disk result.0.files found
         → IfSome result.1 (λ it. HasCleanDisk (state_of it) → RepresentsPrefix it h requests.now (length result.0.run.replies.items)) }
 
-    // The replies are those to the first requests, and to all of them if there was no fault.
+    // The replies are those to the first requests, and to all of them only if there was no fault.
     ensures answered { (h : History) → Represents first h → AreClean D.Disk result.0.files.log result.0.files.db → result.0.run.replies.items ≡ take (length result.0.run.replies.items) (replies_to h requests.now) }
     ensures through { (h : History) → Represents first h → AreClean D.Disk result.0.files.log result.0.files.db → result.0.run.fault ≡ None → result.0.run.replies.items ≡ replies_to h requests.now }
+    ensures stopped { (h : History) → Represents first h → AreClean D.Disk result.0.files.log result.0.files.db
+        → IfSome result.0.run.fault (λ fault. (length result.0.run.replies.items < length requests.now) × ((fault ≡ faults.Store) ⊎ (fault ≡ faults.NoMemory))) }
 
     // Each state that a crash may leave holds the rows of one of the two histories, and what is
     // opened is what was found.

@@ -91,7 +91,7 @@ fn write<S: Alter>(
 }
 
 /// Acts on one request in one transaction: one commit if the request is accepted and new, otherwise
-/// no write.
+/// none.
 pub(crate) fn attempt<S: Alter>(
     alloc: Global,
     conn: &mut Connection<S>,

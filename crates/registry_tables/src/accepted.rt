@@ -66,7 +66,7 @@ fn read_accepted<S: Alter>(
 }
 
 /// Returns at most `most` accepted requests after the first `after`, oldest first, each with the
-/// reply that it got. Reads the rows of these requests alone, and writes nothing.
+/// reply that it got. Reads the rows of these requests alone, and commits nothing.
 ///
 /// # Errors
 ///

@@ -76,7 +76,7 @@ fn read_first_licences<S: Alter>(
 }
 
 /// Returns the licences of the founding, from those that the registry allows now. The store reads
-/// all kept replies. Writes nothing.
+/// all kept replies. Commits nothing.
 ///
 /// # Errors
 ///

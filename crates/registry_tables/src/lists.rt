@@ -12,7 +12,7 @@ use sqlite::{Alter, Connection};
 use std::alloc::Global;
 use usbnum_core::Number;
 
-/// Returns all organisations, in order of slug. Writes nothing.
+/// Returns all organisations, in order of slug. Commits nothing.
 ///
 /// # Errors
 ///
@@ -30,7 +30,7 @@ pub fn list_orgs<S: Alter>(alloc: Global, conn: &mut Connection<S>) -> Result<Ve
     orgs
 }
 
-/// Returns all petitions, in order of number. Writes nothing.
+/// Returns all petitions, in order of number. Commits nothing.
 ///
 /// # Errors
 ///
@@ -51,7 +51,7 @@ pub fn list_petitions<S: Alter>(
     petitions
 }
 
-/// Returns all numbers that have an owner, in order of vendor and then product. Writes nothing.
+/// Returns all numbers that have an owner, in order of vendor and then product. Commits nothing.
 ///
 /// # Errors
 ///
@@ -72,7 +72,7 @@ pub fn list_numbers<S: Alter>(
     numbers
 }
 
-/// Returns all vendors, the founding one included, in order of vendor ID. Writes nothing.
+/// Returns all vendors, the founding one included, in order of vendor ID. Commits nothing.
 ///
 /// # Errors
 ///

@@ -2,7 +2,7 @@ use Rattle.std.proofs.Common.{◌+◌, inl, length, take}
 use Rattle.registry_rules.specs.Run.{after}
 use Rattle.registry_rules.proofs.RunLemmas.{legal_after}
 use Rattle.registry_tables.specs.Rows.{newest}
-use Rattle.registry_reopening.proofs.RecoveryLemmas.{run_leaves, run_answers, run_is_done}
+use Rattle.registry_reopening.proofs.RecoveryLemmas.{run_leaves, run_answers, run_is_done, run_stops}
 use Rattle.registry_reopening.proofs.recovery.run_and_recover.Goals as goal
 
 pub returns-clause-left : goal.returns-clause-left
@@ -23,6 +23,11 @@ pub returns-clause-through : goal.returns-clause-through
 returns-clause-through g c h stands honest =
     let run = c.run_from-run.result in
     run_is_done c.run_from-run.new.registry h c.args.requests.now run.replies.items run.fault (c.run_from-run.ensures.run h (inl stands) (c.leave-files.ensures.clean honest))
+
+pub returns-clause-stopped : goal.returns-clause-stopped
+returns-clause-stopped g c h stands honest =
+    let run = c.run_from-run.result in
+    run_stops c.run_from-run.new.registry h c.args.requests.now run.replies.items run.fault (c.run_from-run.ensures.run h (inl stands) (c.leave-files.ensures.clean honest))
 
 pub returns-clause-recovered : goal.returns-clause-recovered
 returns-clause-recovered g c h stands honest may =
