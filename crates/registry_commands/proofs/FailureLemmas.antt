@@ -10,11 +10,13 @@ use Rattle.registry_store.specs.declared.fault.Fault.{Fault}
 use Rattle.registry_store.specs.declared.fault.Fault.TheVariants as faults
 use Rattle.registry_store.specs.declared.registry.Registry.{Registry}
 use Rattle.registry_store.specs.Promise.{is_poisoned, poisoned_by, state_of}
+use Rattle.registry_commands.specs.declared.input.ReadAllFault.{ReadAllFault}
+use Rattle.registry_commands.specs.declared.input.ReadAllFault.TheVariants as inputs
 use Rattle.registry_commands.specs.declared.messages.Failure.{Failure}
 use Rattle.registry_commands.specs.declared.messages.Failure.TheVariants.{Store, Memory, Foreign, Taken, Poisoned, File}
 use Rattle.registry_commands.specs.Ends.{Output}
-use Rattle.registry_commands.specs.Failures.{IsOfClosing, IsOfInput, IsOfMemory, IsOfOutput, IsOfSoundRun, IsOfStore, IsTooLong, PrintsFailure}
-use Rattle.registry_commands.specs.Messages.{failure_of}
+use Rattle.registry_commands.specs.Failures.{IsOfClosing, IsOfInput, IsOfMemory, IsOfOutput, IsOfSoundRun, IsOfStore, IsTooLong, Prints, PrintsFailure, TellsFailedReads}
+use Rattle.registry_commands.specs.Messages.{failure_line, failure_of, input_failure}
 use Rattle.registry_commands.specs.Apply.{IsOfRun}
 
 pub if_err : {A E : Type 0} (P Q : E → Type 0) (r : Result A E) → ((e : E) → P e → Q e) → IfErr r P → IfErr r Q
@@ -38,6 +40,12 @@ of_store May File never = absurd never
 -- what was read is not too long
 pub not_too_long : (bytes : List ℕ) → length bytes ≤ most_bytes → ¬ IsTooLong bytes
 not_too_long bytes most long = omega (arith, most, long)
+
+-- the failure of an input is told as it is
+pub tells_input : (HasFailed : Type 0) (errors : Output) (old new : ℕ) (bytes : List ℕ) (fault : ReadAllFault) → HasFailed → Prints errors (failure_line (input_failure fault))
+    → IsOfInput old new bytes (input_failure fault) → TellsFailedReads HasFailed errors old new bytes
+tells_input HasFailed errors old new bytes inputs.File failed told is = inr (failed, told, is)
+tells_input HasFailed errors old new bytes inputs.NoMemory failed told same = inl same
 
 -- out of memory, and the input did not fail
 pub memory_of_input : (old new : ℕ) (bytes : List ℕ) → new ≡ old → (failure : Failure) → IsOfMemory failure → IsOfInput old new bytes failure

@@ -6,8 +6,6 @@ use Rattle.sqlite.specs.declared.error.ErrorCode.TheVariants.{OutOfMemory}
 use Rattle.byte_streams.specs.Streams.{FailsOnce, most_bytes}
 use Rattle.registry_commands.specs.declared.messages.Failure.{Failure}
 use Rattle.registry_commands.specs.declared.messages.Failure.TheVariants.{File, Memory, Poisoned, Store, Taken}
-use Rattle.registry_commands.specs.declared.status.ExitStatus.{ExitStatus}
-use Rattle.registry_commands.specs.declared.status.ExitStatus.TheVariants.{Failed}
 use Rattle.registry_commands.specs.Ends.{Receives, ReceivesNothing, ReceivesPrefix, Output}
 use Rattle.registry_commands.specs.Messages.{failure_line}
 
@@ -60,9 +58,9 @@ abbrev pub IsOfOutput : ℕ → ℕ → Failure → Type 0
 IsOfOutput old new File = FailsOnce old new
 IsOfOutput old new _ = new ≡ old
 
--- if a read failed between these two counts of failures, the exit status is Failed
-abbrev pub TellsFailedReads : ExitStatus → ℕ → ℕ → Type 0
-TellsFailedReads status old new = status ≢ Failed → new ≡ old
+-- No read of these bytes failed; or the command failed, which is this, and the error output says that the input did.
+abbrev pub TellsFailedReads : Type 0 → Output → ℕ → ℕ → List ℕ → Type 0
+TellsFailedReads HasFailed errors old new bytes = (new ≡ old) ⊎ (HasFailed × Prints errors (failure_line File) × IsOfInput old new bytes File)
 
 -- a failure over a sound registry and a clean disk: neither Foreign nor Taken nor Poisoned
 abbrev pub IsOfSoundRun : Failure → Type 0

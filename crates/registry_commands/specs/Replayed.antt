@@ -1,5 +1,5 @@
 -- What a replay of a record does.
-use Rattle.std.specs.Prelude.{◌≡◌, ◌≢◌, ◌⊎◌, ◌<◌, ◌+◌, ◌^◌, ◌-◌, ⊤, ℕ, Bool, true, false, All, List, [], ◌∷◌, ◌++◌, length, map, Option, Some, None, Result, Ok, Err}
+use Rattle.std.specs.Prelude.{◌≡◌, ◌≢◌, ◌⊎◌, ◌≤◌, ◌+◌, ◌^◌, ◌-◌, ⊤, ℕ, Bool, true, false, All, List, [], ◌∷◌, ◌++◌, length, map, Option, Some, None, Result, Ok, Err}
 use Rattle.sqlite.specs.Store.{Ghosts}
 use Rattle.sqlite.specs.Held.{Held, state}
 use Rattle.sqlite.specs.State.{State, HasCleanDisk, IsLive, Survives}
@@ -114,6 +114,10 @@ IsOfRecordInput lines failures failures_new File = FailsOnce failures failures_n
 IsOfRecordInput lines failures failures_new Memory = failures_new ≡ failures
 IsOfRecordInput lines failures failures_new failure = ⊥
 
+-- as many lines came as are counted, after so many that were passed before
+abbrev pub HasAllLines : ℕ → Option (List ℕ) → Type 0
+HasAllLines before to_come = (front : List (List ℕ)) × (rest : List (List ℕ)) × MayHaveLines to_come (front ++ rest) × (2 ^ 64 - 1 ≤ before + length front)
+
 -- Blank lines were passed, and what was read after them is a part of a line.
 abbrev pub HasReadBlank : Option (List ℕ) → Option (List ℕ) → Unread → Type 0
 HasReadBlank to_come now it = (blank : List (List ℕ)) × AreBlank blank × HasReadTo to_come now blank it
@@ -135,7 +139,8 @@ Begins to_come now before count failures failures_new (Ok None) =
 Begins to_come now before count failures failures_new (Err (stop.Line number why)) =
     (blank : List (List ℕ)) × AreBlank blank × (number ≡ before + length blank + 1) × ((lines : List (List ℕ)) × FirstSays lines (says.Bad why) × MayHaveLines to_come (blank ++ lines))
 Begins to_come now before count failures failures_new (Err (stop.Reply number reply)) = ⊥
-Begins to_come now before count failures failures_new (Err (stop.Failure failure)) = IsOfRecordInput count failures failures_new failure
+Begins to_come now before count failures failures_new (Err (stop.Failure failure)) =
+    (blank : List (List ℕ)) × AreBlank blank × (count ≡ before + length blank) × ((rest : List (List ℕ)) × MayHaveLines to_come (blank ++ rest)) × IsOfRecordInput count failures failures_new failure
 
 module _ {S : Type 0} {g : Ghosts S} where
   -- A failure of acting on a request. Store, Memory or Foreign: the registry had this fault, and is poisoned by it. Foreign: it
@@ -218,14 +223,14 @@ module _ {S : Type 0} {g : Ghosts S} where
 
   -- If a read failed, that ended the replay, and all whole lines that had been read were acted on. Any read may fail, so none is
   -- made before that.
-  pub record ReadsLineByLine (to_come now : Option (List ℕ)) (unread : Unread) (failures failures_new : ℕ) (it new : Registry S g) (result : Result (Unit {0}) ReplayStop) : Type 0 where
+  pub record ReadsLineByLine (to_come now : Option (List ℕ)) (unread : Unread) (before failures failures_new : ℕ) (it new : Registry S g) (result : Result (Unit {0}) ReplayStop) : Type 0 where
     pub kept : result ≢ Err (stop.Failure File) → failures_new ≡ failures
-    pub waits : result ≡ Err (stop.Failure File) → unread.lines < 2 ^ 64 - 1 → HasFollowed to_come now unread it new
+    pub waits : result ≡ Err (stop.Failure File) → HasAllLines before to_come ⊎ HasFollowed to_come now unread it new
 
   -- once the founding was checked, the lines were replayed; or that ended it
   abbrev pub ThenReplays : Option (List ℕ) → Option (List ℕ) → Unread → ℕ → ℕ → ℕ → Registry S g → Registry S g → Result (Unit {0}) ReplayStop → Result (Unit {0}) ReplayStop → Type 0
   ThenReplays to_come now unread before failures failures_new mid new (Ok done) result =
-      IsReplayOf to_come before failures failures_new mid new result × ReadsLineByLine to_come now unread failures failures_new mid new result
+      IsReplayOf to_come before failures failures_new mid new result × ReadsLineByLine to_come now unread before failures failures_new mid new result
   ThenReplays to_come now unread before failures failures_new mid new (Err why) result = (new ≡ mid) × (result ≡ Err why) × (failures_new ≡ failures)
 
   -- The founding was checked, if there is one, whose line is the last of those passed; and the lines that were to come were replayed.

@@ -158,7 +158,7 @@ pub fn apply_lines<R: Source, S: Alter, W: Sink, E: Sink>(
         (effect registry.old registry.new (ends_of W.Sink E.Sink output.old output.new errors.old errors.new result)) (requests_in bytes) answered
         × (IsTooLong bytes → (result ≡ ExitStatus.Failed) × IsUnread (IsOfInput (R.failures source.old) (R.failures source.new) bytes)
         (effect registry.old registry.new (ends_of W.Sink E.Sink output.old output.new errors.old errors.new result)))
-        × TellsFailedReads result (R.failures source.old) (R.failures source.new) }
+        × TellsFailedReads (result ≡ ExitStatus.Failed) (output_of E.Sink errors.old errors.new) (R.failures source.old) (R.failures source.new) bytes }
 {
     match read_all(alloc, source) {
         Ok(bytes) => apply_bytes(alloc, bytes.as_slice(), answered, registry, output, errors),

@@ -1,6 +1,6 @@
 //! Acts on the accepted requests of a record, and compares the replies.
 
-ghost use Rattle.std.specs.Prelude.{◌≡◌, ◌≢◌, ◌⊎◌, ◌<◌, ◌+◌, ◌-◌, ◌^◌, ℕ, List, Bool, true, false, IfErr, IfOk, MatchResult, OnErr, OnOk, Err, Ok, None, Some};
+ghost use Rattle.std.specs.Prelude.{◌≡◌, ◌≢◌, ◌⊎◌, ◌+◌, true, false, IfErr, IfOk, MatchResult, OnErr, OnOk, Err, Ok, None, Some};
 ghost use Rattle.sqlite.specs.State.{HasCleanDisk};
 ghost use Rattle.registry_rules.specs.History.{History};
 ghost use Rattle.registry_rules.specs.Run.{after_one, reply_to};
@@ -8,7 +8,7 @@ ghost use Rattle.registry_rules.specs.declared.verdict.Reply.TheVariants as repl
 ghost use Rattle.registry_tables.specs.Rows.{newest};
 ghost use Rattle.registry_store.specs.Promise.{Endures, Leaves, NotesForeign, Represents, is_poisoned, state_of};
 ghost use Rattle.registry_commands.specs.RecordLines.{ahead};
-ghost use Rattle.registry_commands.specs.Replayed.{Differs, HasFollowed, IsOfActing, IsReplayOf, foreign_by};
+ghost use Rattle.registry_commands.specs.Replayed.{Differs, HasAllLines, HasFollowed, IsOfActing, IsReplayOf, foreign_by};
 
 use crate::entries::{Entry, LineRefusal, next_entry};
 use crate::messages::{Failure, failure_of, input_failure};
@@ -88,8 +88,8 @@ pub fn follow_lines<R: Source, S: Alter>(
     ensures replays { IsReplayOf (ahead (R.remaining source.old) unread.old) unread.old.lines (R.failures source.old) (R.failures source.new)
         registry.old registry.new result }
     ensures kept { result ≢ Err (ReplayStop.Failure Failure.File) → R.failures source.new ≡ R.failures source.old }
-    ensures waits { result ≡ Err (ReplayStop.Failure Failure.File) → unread.new.lines < 2 ^ 64 - 1
-        → HasFollowed (ahead (R.remaining source.old) unread.old) (ahead (R.remaining source.new) unread.new) unread.new registry.old registry.new }
+    ensures waits { result ≡ Err (ReplayStop.Failure Failure.File) → HasAllLines unread.old.lines (ahead (R.remaining source.old) unread.old)
+        ⊎ HasFollowed (ahead (R.remaining source.old) unread.old) (ahead (R.remaining source.new) unread.new) unread.new registry.old registry.new }
 {
     loop {
         match next_entry(alloc, source, unread) {

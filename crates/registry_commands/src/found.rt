@@ -1,10 +1,10 @@
 //! Reads a founding file, and founds a registry on a connection.
 
-ghost use Rattle.std.specs.Prelude.{◌≡◌, ◌≢◌, ◌⊎◌, ℕ, List, Err};
+ghost use Rattle.std.specs.Prelude.{◌≡◌, ◌⊎◌, ℕ, List, Err};
 ghost use Rattle.byte_streams.specs.Streams.{MayGive};
 ghost use Rattle.registry_wire.specs.Founding.{founding_listed};
 ghost use Rattle.registry_commands.specs.Ends.{output_of};
-ghost use Rattle.registry_commands.specs.Failures.{IsOfInput, IsOfMemory, IsTooLong, Prints, PrintsFailure};
+ghost use Rattle.registry_commands.specs.Failures.{IsOfInput, IsOfMemory, IsTooLong, Prints, PrintsFailure, TellsFailedReads};
 ghost use Rattle.registry_commands.specs.Messages.{refusal_line};
 ghost use Rattle.registry_commands.specs.Found.{IsTriedOn, ReadsFounding, attempt};
 
@@ -56,7 +56,7 @@ pub fn read_founding<R: Source, E: Sink>(
     ensures { (bytes : List ℕ) × MayGive (R.remaining source.old) bytes
         × ReadsFounding (IsOfInput (R.failures source.old) (R.failures source.new) bytes) (founding_listed bytes) (output_of E.Sink errors.old errors.new) result
         × (IsTooLong bytes → (result ≡ Err ExitStatus.Failed) × PrintsFailure (IsOfInput (R.failures source.old) (R.failures source.new) bytes) (output_of E.Sink errors.old errors.new))
-        × (result ≢ Err ExitStatus.Failed → R.failures source.new ≡ R.failures source.old) }
+        × TellsFailedReads (result ≡ Err ExitStatus.Failed) (output_of E.Sink errors.old errors.new) (R.failures source.old) (R.failures source.new) bytes }
 {
     match read_all(alloc, source) {
         Ok(bytes) => founding_in(alloc, bytes.as_slice(), errors),

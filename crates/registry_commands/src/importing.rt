@@ -2,7 +2,7 @@
 
 ghost use Rattle.std.specs.Prelude.{◌≡◌, ◌⊎◌, ℕ, List, Ok, option_copied};
 ghost use Rattle.byte_streams.specs.Streams.{MayGive};
-ghost use Rattle.registry_commands.specs.Ends.{effect, ends_of};
+ghost use Rattle.registry_commands.specs.Ends.{effect, ends_of, output_of};
 ghost use Rattle.registry_commands.specs.Failures.{IsOfInput, IsOfOutput, TellsFailedReads};
 ghost use Rattle.registry_commands.specs.Imports.{AsksFor, IsActedOn, IsImportOf, IsImported, IsReplied, exit_status_of};
 
@@ -171,7 +171,7 @@ pub fn import_list<R: Source, S: Alter, W: Sink, E: Sink>(
     ensures { (bytes : List ℕ) × MayGive (R.remaining source.old) bytes
         × IsImported (IsOfInput (R.failures source.old) (R.failures source.new) bytes)
         (effect registry.old registry.new (ends_of W.Sink E.Sink output.old output.new errors.old errors.new result)) import bytes
-        × TellsFailedReads result (R.failures source.old) (R.failures source.new) }
+        × TellsFailedReads (result ≡ ExitStatus.Failed) (output_of E.Sink errors.old errors.new) (R.failures source.old) (R.failures source.new) bytes }
 {
     let mut reader = Reader::new(alloc);
     let mut room = [0u8; 32768];

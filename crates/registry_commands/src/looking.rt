@@ -100,7 +100,7 @@ pub fn look_up<R: Source, W: Sink, E: Sink>(
     ensures { (bytes : List ℕ) × MayGive (R.remaining source.old) bytes
         × IsLookedUp (IsOfInput (R.failures source.old) (R.failures source.new) bytes) (record { vendor = vendor; code = code }) bytes
         (ends_of W.Sink E.Sink output.old output.new errors.old errors.new result)
-        × TellsFailedReads result (R.failures source.old) (R.failures source.new) }
+        × TellsFailedReads (result ≡ ExitStatus.Failed) (output_of E.Sink errors.old errors.new) (R.failures source.old) (R.failures source.new) bytes }
 {
     let mut scan = Scan::new(alloc, vendor, code);
     let mut room = [0u8; 32768];

@@ -1,11 +1,11 @@
 //! Replays a record over a registry: its founding, and then its accepted requests.
 
-ghost use Rattle.std.specs.Prelude.{◌≡◌, ◌≢◌, ◌<◌, ◌-◌, ◌^◌, IfErr, IfOk, Ok, Err, true, false, option_copied};
+ghost use Rattle.std.specs.Prelude.{◌≡◌, ◌≢◌, IfErr, IfOk, Ok, Err, true, false, option_copied};
 ghost use Rattle.sqlite.specs.Held.{state};
 ghost use Rattle.registry_wire.specs.Record.{founding_line};
 ghost use Rattle.registry_commands.specs.Ends.{output_of};
 ghost use Rattle.registry_commands.specs.RecordLines.{ahead};
-ghost use Rattle.registry_commands.specs.Replayed.{Begins, CommitsIfOlder, HasReadBlank, IsChecked, IsFollowedFrom, IsFoundOrOpen, IsLeft, IsLeftFound, IsOpen, IsReplayed, IsReplayedOn};
+ghost use Rattle.registry_commands.specs.Replayed.{Begins, CommitsIfOlder, HasAllLines, HasReadBlank, IsChecked, IsFollowedFrom, IsFoundOrOpen, IsLeft, IsLeftFound, IsOpen, IsReplayed, IsReplayedOn};
 
 use crate::entries::{Entry, LineRefusal, peek};
 use crate::following::{ReplayStop, follow_lines};
@@ -36,8 +36,8 @@ pub fn take_founding<R: Source>(
     ensures begins { Begins (ahead (R.remaining source.old) unread.old) (ahead (R.remaining source.new) unread.new) unread.old.lines unread.new.lines
         (R.failures source.old) (R.failures source.new) result }
     ensures kept { result ≢ Err (ReplayStop.Failure Failure.File) → R.failures source.new ≡ R.failures source.old }
-    ensures waits { result ≡ Err (ReplayStop.Failure Failure.File) → unread.new.lines < 2 ^ 64 - 1
-        → HasReadBlank (ahead (R.remaining source.old) unread.old) (ahead (R.remaining source.new) unread.new) unread.new }
+    ensures waits { result ≡ Err (ReplayStop.Failure Failure.File) → HasAllLines unread.old.lines (ahead (R.remaining source.old) unread.old)
+        ⊎ HasReadBlank (ahead (R.remaining source.old) unread.old) (ahead (R.remaining source.new) unread.new) unread.new }
 {
     loop {
         match peek(alloc, source, unread) {

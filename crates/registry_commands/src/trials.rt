@@ -113,7 +113,7 @@ pub fn trial<R: Source, W: Sink, E: Sink>(
     ensures { (bytes : List ℕ) × MayGive (R.remaining source.old) bytes
         × IsTrialOf (IsOfInput (R.failures source.old) (R.failures source.new) bytes) (requests_in bytes) (ends_of W.Sink E.Sink output.old output.new errors.old errors.new result)
         × (IsTooLong bytes → (result ≡ ExitStatus.Failed) × ReceivesNothing (output_of W.Sink output.old output.new) × PrintsFailure (IsOfStart (IsOfInput (R.failures source.old) (R.failures source.new) bytes)) (output_of E.Sink errors.old errors.new))
-        × TellsFailedReads result (R.failures source.old) (R.failures source.new) }
+        × TellsFailedReads (result ≡ ExitStatus.Failed) (output_of E.Sink errors.old errors.new) (R.failures source.old) (R.failures source.new) bytes }
 {
     let mut registry = match found_trial(alloc) {
         Ok(registry) => registry,

@@ -31,7 +31,7 @@ use Rattle.registry_commands.specs.Entries.{entry_in}
 use Rattle.registry_commands.specs.Failures.{Prints}
 use Rattle.registry_commands.specs.Messages.{failure_line}
 use Rattle.registry_commands.specs.RecordLines.{MayHaveLines, ahead, unread_of}
-use Rattle.registry_commands.specs.Replayed.{Begins, HasReadBlank, HasReplayed, IsFoundOrOpen, IsLeftFound, IsReplayOf, IsReplayed, ThenReplays, after_lines}
+use Rattle.registry_commands.specs.Replayed.{Begins, HasAllLines, HasReadBlank, HasReplayed, IsFoundOrOpen, IsLeftFound, IsReplayOf, IsReplayed, ThenReplays, after_lines}
 use Rattle.registry_commands.specs.Stops.{TellsStop}
 use Rattle.registry_commands.proofs.RecordLineLemmas.{may_have}
 use Rattle.registry_program.specs.declared.host.Host as host
@@ -54,8 +54,11 @@ begun_fresh o now fresh count failures failures_new first none start begins =
     subst (λ (n : ℕ). Begins o now n count failures failures_new first) start
     (subst (λ (a : Option (List ℕ)). Begins a now fresh.lines count failures failures_new first) (ahead_fresh o fresh none) begins)
 
-pub blank_fresh : (o now : Option (List ℕ)) (fresh it : Unread) → unread_of fresh ≡ [] → HasReadBlank (ahead o fresh) now it → HasReadBlank o now it
-blank_fresh o now fresh it none read = subst (λ (a : Option (List ℕ)). HasReadBlank a now it) (ahead_fresh o fresh none) read
+pub blank_fresh : (o now : Option (List ℕ)) (fresh it : Unread) → unread_of fresh ≡ [] → fresh.lines ≡ 0 → HasAllLines fresh.lines (ahead o fresh) ⊎ HasReadBlank (ahead o fresh) now it
+    → HasAllLines 0 o ⊎ HasReadBlank o now it
+blank_fresh o now fresh it none start read =
+    subst (λ (n : ℕ). HasAllLines n o ⊎ HasReadBlank o now it) start
+    (subst (λ (a : Option (List ℕ)). HasAllLines fresh.lines a ⊎ HasReadBlank a now it) (ahead_fresh o fresh none) read)
 
 -- ---- what a registry leaves
 

@@ -55,7 +55,7 @@ Tries s input input_new ends =
     (bytes : List ℕ) × MayGive (s.remaining input) bytes
     × IsTrialOf (IsOfInput (s.failures input) (s.failures input_new) bytes) (requests_in bytes) ends
     × (IsTooLong bytes → (ends.status ≡ Failed) × ReceivesNothing ends.out × PrintsFailure (IsOfStart (IsOfInput (s.failures input) (s.failures input_new) bytes)) ends.errors)
-    × TellsFailedReads ends.status (s.failures input) (s.failures input_new)
+    × TellsFailedReads (ends.status ≡ Failed) ends.errors (s.failures input) (s.failures input_new) bytes
 
 -- ---- apply
 
@@ -65,7 +65,7 @@ ActsOnLines s old new answered it after ends =
     (bytes : List ℕ) × MayGive (s.remaining old) bytes
     × IsApplied (IsOfInput (s.failures old) (s.failures new) bytes) (effect it after ends) (requests_in bytes) answered
     × (IsTooLong bytes → (ends.status ≡ Failed) × IsUnread (IsOfInput (s.failures old) (s.failures new) bytes) (effect it after ends))
-    × TellsFailedReads ends.status (s.failures old) (s.failures new)
+    × TellsFailedReads (ends.status ≡ Failed) ends.errors (s.failures old) (s.failures new) bytes
 
 module _ {H F I : Type 0} (m : host.Ghosts H F I) (s : source.Ghosts I) where
   -- those of the file at this path are; or it could not be opened
@@ -82,7 +82,7 @@ module _ {H F I : Type 0} (m : host.Ghosts H F I) (s : source.Ghosts I) where
       ReadsFrom m old new path
       (λ input input_new. (bytes : List ℕ) × MayGive (s.remaining input) bytes
       × IsImported (IsOfInput (s.failures input) (s.failures input_new) bytes) (effect it after ends) import bytes
-      × TellsFailedReads ends.status (s.failures input) (s.failures input_new))
+      × TellsFailedReads (ends.status ≡ Failed) ends.errors (s.failures input) (s.failures input_new) bytes)
       (λ failure. (after ≡ it) × IsFailure failure ends)
 
 -- ---- lists and reports
@@ -114,7 +114,7 @@ module _ {H F I : Type 0} (m : host.Ghosts H F I) (s : source.Ghosts I) where
       ReadsFrom m old new path
       (λ input input_new. (bytes : List ℕ) × MayGive (s.remaining input) bytes
       × IsLookedUp (IsOfInput (s.failures input) (s.failures input_new) bytes) wanted bytes ends
-      × TellsFailedReads ends.status (s.failures input) (s.failures input_new))
+      × TellsFailedReads (ends.status ≡ Failed) ends.errors (s.failures input) (s.failures input_new) bytes)
       (λ failure. IsFailure failure ends)
 
 -- ---- found
@@ -127,7 +127,7 @@ module _ {H F I : Type 0} (m : host.Ghosts H F I) (s : source.Ghosts I) where
       (λ input input_new. (bytes : List ℕ) × MayGive (s.remaining input) bytes
       × ReadsFounding (IsOfInput (s.failures input) (s.failures input_new) bytes) (founding_listed bytes) errors read
       × (IsTooLong bytes → (read ≡ Err Failed) × PrintsFailure (IsOfInput (s.failures input) (s.failures input_new) bytes) errors)
-      × (read ≢ Err Failed → s.failures input_new ≡ s.failures input))
+      × TellsFailedReads (read ≡ Err Failed) errors (s.failures input) (s.failures input_new) bytes)
       (λ failure. (read ≡ Err Failed) × Prints errors (failure_line failure))
 
 -- ---- commands

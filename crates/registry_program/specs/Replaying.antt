@@ -1,5 +1,5 @@
 -- What the replay of a record asks of the machine.
-use Rattle.std.specs.Prelude.{◌≡◌, ◌≢◌, ◌⊎◌, ◌<◌, ◌-◌, ◌^◌, ℕ, true, false, List, codes, Option, Some, None, Result, Ok, Err}
+use Rattle.std.specs.Prelude.{◌≡◌, ◌≢◌, ◌⊎◌, ℕ, true, false, List, codes, Option, Some, None, Result, Ok, Err}
 use Rattle.std.specs.Str.{bytes_eq}
 use Rattle.sqlite_disk.specs.declared.Disk as disk
 use Rattle.sqlite_store.specs.declared.store.FileStore.{FileStore}
@@ -17,7 +17,7 @@ use Rattle.registry_commands.specs.declared.status.ExitStatus.{ExitStatus}
 use Rattle.registry_commands.specs.declared.unread.Unread.{Unread}
 use Rattle.registry_commands.specs.Ends.{Ends, Sunk}
 use Rattle.registry_commands.specs.RecordLines.{ahead}
-use Rattle.registry_commands.specs.Replayed.{Begins, HasReadBlank, IsReplayed, IsReplayedOn}
+use Rattle.registry_commands.specs.Replayed.{Begins, HasAllLines, HasReadBlank, IsReplayed, IsReplayedOn}
 use Rattle.registry_commands.specs.Stops.{TellsStop}
 use Rattle.registry_program.specs.declared.host.Host as host
 use Rattle.registry_program.specs.Outputs.{IsFailure, earlier}
@@ -69,7 +69,7 @@ module _ {H F I : Type 0} (m : host.Ghosts H F I) (d : disk.Ghosts F) where
       pub first : Result (Option Founding) ReplayStop
       pub begins : Begins (r.remaining source) (ahead (r.remaining middle) begun) 0 begun.lines (r.failures source) (r.failures middle) first
       pub kept : first ≢ Err (stop.Failure File) → r.failures middle ≡ r.failures source
-      pub waits : first ≡ Err (stop.Failure File) → begun.lines < 2 ^ 64 - 1 → HasReadBlank (r.remaining source) (ahead (r.remaining middle) begun) begun
+      pub waits : first ≡ Err (stop.Failure File) → HasAllLines 0 (r.remaining source) ⊎ HasReadBlank (r.remaining source) (ahead (r.remaining middle) begun) begun
       pub goes_on : BeginsReplay first middle source_new begun old new path ends
 
   -- replay STORE RECORD: the record is the standard input if it is called `-`, else the file at this path, which is opened before

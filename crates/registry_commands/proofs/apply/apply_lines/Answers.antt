@@ -1,10 +1,10 @@
-use Rattle.std.proofs.Common.{sym, subst, refl}
+use Rattle.std.proofs.Common.{sym, subst, refl, inl}
 use Rattle.registry_commands.specs.declared.messages.Failure.{Failure}
-use Rattle.registry_commands.specs.Ends.{effect, ends_of}
+use Rattle.registry_commands.specs.Ends.{effect, ends_of, output_of}
 use Rattle.registry_commands.specs.Failures.{IsOfInput, IsOfMemory, PrintsFailure}
 use Rattle.registry_commands.specs.Lines.{requests_in}
 use Rattle.registry_commands.proofs.ApplyLemmas.{applied_more, fails_before, keeps_same}
-use Rattle.registry_commands.proofs.FailureLemmas.{memory_of_input, not_too_long}
+use Rattle.registry_commands.proofs.FailureLemmas.{memory_of_input, not_too_long, tells_input}
 use Rattle.registry_commands.proofs.apply.apply_lines.Goals as goal
 
 pub returns-in-Ok : goal.returns-in-Ok
@@ -18,7 +18,7 @@ returns-in-Ok g c =
           (effect c.args.registry.now c.apply_bytes.new.registry (ends_of g.W.Sink g.E.Sink c.args.output.now c.apply_bytes.new.output c.args.errors.now c.apply_bytes.new.errors c.apply_bytes.result))
           (requests_in bytes) c.args.answered c.apply_bytes.ensures,
       λ long. absurd (not_too_long bytes (rw c.as_slice.ensures.value c.in-Ok.ensures.ok.1) long),
-      λ _. c.in-Ok.ensures.kept,
+      inl c.in-Ok.ensures.kept,
     )
 
 pub returns-in-Err : goal.returns-in-Err
@@ -31,5 +31,5 @@ returns-in-Err g c =
       c.in-Err.ensures.err.1,
       fails_before OfInput c.args.registry.now (requests_in bytes) c.args.answered _ _ c.fail.result c.fail.ensures.status told,
       λ long. (c.fail.ensures.status, record { same = refl; silent = (keeps_same _, refl); told = told }),
-      λ other. absurd (other c.fail.ensures.status),
+      tells_input _ (output_of g.E.Sink c.args.errors.now c.fail.new.errors) (g.R.Source.failures c.args.source.now) (g.R.Source.failures c.read_all.new.source) bytes c.in-Err.fault c.fail.ensures.status (rw (← c.input_failure.ensures) c.fail.ensures.told) c.in-Err.ensures.err.2,
     )

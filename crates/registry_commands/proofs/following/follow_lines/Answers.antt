@@ -1,5 +1,6 @@
 use Rattle.std.proofs.Common.{◌≡◌, ◌⊎◌, ◌∙◌, ◌+◌, ◌-◌, ◌^◌, ℕ, refl, sym, ap, subst, inl, inr, length, arith}
 use Rattle.std.specs.Prelude.{Err}
+use Rattle.std.proofs.lemmas.Bool.{cases_lt}
 use Rattle.byte_streams.specs.Streams.{FailsOnce}
 use Rattle.registry_commands.specs.declared.following.ReplayStop.TheVariants as stop
 use Rattle.registry_commands.specs.declared.input.ReadAllFault.TheVariants as inputs
@@ -10,7 +11,7 @@ use Rattle.registry_commands.specs.Replayed.{IsOfActing}
 use Rattle.registry_commands.specs.declared.messages.Failure.{Failure}
 use Rattle.registry_commands.specs.declared.messages.Failure.TheVariants.{File}
 use Rattle.registry_commands.proofs.BeginLemmas.{file_input, kept_unless_file}
-use Rattle.registry_commands.proofs.RecordLineLemmas.{read_on}
+use Rattle.registry_commands.proofs.RecordLineLemmas.{may_have, read_on}
 use Rattle.registry_commands.proofs.following.follow_lines.Goals as goal
 
 pub loop-accepted-init : goal.loop-accepted-init
@@ -51,19 +52,23 @@ returns-in-Err-clause-kept g c = λ other.
     (λ is. c.in-Err.ensures.memory (ap Err is)) c.loop-accepted.invariant.kept
 
 pub returns-in-Err-clause-waits : goal.returns-in-Err-clause-waits
-returns-in-Err-clause-waits g c = λ told few.
+returns-in-Err-clause-waits g c = λ told.
     let so_far = c.loop-accepted.invariant.so_far in
     let is : c.in-Err.fault ≡ inputs.File = file_input c.in-Err.fault (sym c.input_failure.ensures ∙ cc told) in
-    record {
-      lines = so_far.front;
-      each = so_far.each;
-      read = read_on _ _ _ so_far.front c.next_entry.new.unread so_far.passed (c.in-Err.ensures.waits (ap Err is) (omega (arith, few, c.in-Err.ensures.lines)));
-      replied = so_far.replied;
-      poisoned = so_far.poisoned;
-    }
+    let rest = may_have (ahead (g.R.Source.remaining c.loop-accepted.source) c.loop-accepted.unread) in
+    elim (cases_lt c.loop-accepted.unread.lines (2 ^ 64 - 1)) [
+      | inl few ↦ inr (record {
+        lines = so_far.front;
+        each = so_far.each;
+        read = read_on _ _ _ so_far.front c.next_entry.new.unread so_far.passed (c.in-Err.ensures.waits (ap Err is) few);
+        replied = so_far.replied;
+        poisoned = so_far.poisoned;
+      })
+      | inr full ↦ inl (so_far.front, rest.0, so_far.passed rest.0 rest.1, omega (arith, full, so_far.counted))
+    ]
 
 pub returns-in-Err-follow-clause-waits : goal.returns-in-Err-follow-clause-waits
-returns-in-Err-follow-clause-waits g c = λ told few.
+returns-in-Err-follow-clause-waits g c = λ told.
     let is : c.in-Err-follow.failure ≡ File = cc told in
     absurd (subst (IsOfActing c.loop-accepted.registry c.follow.new.registry) is c.in-Err-follow.ensures.failure)
 

@@ -1,11 +1,11 @@
-use Rattle.std.proofs.Common.{ap, inr, sym, subst}
+use Rattle.std.proofs.Common.{ap, inl, inr, sym, subst}
 use Rattle.std.specs.Prelude.{Err}
 use Rattle.registry_commands.specs.declared.messages.Failure.{Failure}
 use Rattle.registry_commands.specs.Ends.{output_of}
 use Rattle.registry_commands.specs.Failures.{IsOfInput, IsOfMemory, PrintsFailure}
 use Rattle.registry_wire.specs.Founding.{founding_listed}
 use Rattle.registry_commands.proofs.EndLemmas.{reads_more}
-use Rattle.registry_commands.proofs.FailureLemmas.{memory_of_input, not_too_long}
+use Rattle.registry_commands.proofs.FailureLemmas.{memory_of_input, not_too_long, tells_input}
 use Rattle.registry_commands.proofs.found.read_founding.Goals as goal
 
 pub returns-in-Ok : goal.returns-in-Ok
@@ -18,7 +18,7 @@ returns-in-Ok g c =
       reads_more IsOfMemory (IsOfInput before after bytes) (memory_of_input before after bytes c.in-Ok.ensures.kept)
           (founding_listed bytes) (output_of g.E.Sink c.args.errors.now c.founding_in.new.errors) c.founding_in.result c.founding_in.ensures,
       λ long. absurd (not_too_long bytes (rw c.as_slice.ensures.value c.in-Ok.ensures.ok.1) long),
-      λ _. c.in-Ok.ensures.kept,
+      inl c.in-Ok.ensures.kept,
     )
 
 pub returns-in-Err : goal.returns-in-Err
@@ -31,5 +31,5 @@ returns-in-Err g c =
       c.in-Err.ensures.err.1,
       inr (c.fail.ensures.status, told),
       λ long. (ap Err c.fail.ensures.status, told),
-      λ other. absurd (other (ap Err c.fail.ensures.status)),
+      tells_input _ (output_of g.E.Sink c.args.errors.now c.fail.new.errors) (g.R.Source.failures c.args.source.now) (g.R.Source.failures c.read_all.new.source) bytes c.in-Err.fault (ap Err c.fail.ensures.status) (rw (← c.input_failure.ensures) c.fail.ensures.told) c.in-Err.ensures.err.2,
     )

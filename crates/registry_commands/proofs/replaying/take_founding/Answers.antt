@@ -1,5 +1,6 @@
 use Rattle.std.proofs.Common.{◌≡◌, ◌⊎◌, ◌∙◌, ◌+◌, ◌-◌, ◌^◌, ℕ, refl, sym, ap, subst, inl, inr, arith}
 use Rattle.std.specs.Prelude.{Err}
+use Rattle.std.proofs.lemmas.Bool.{cases_lt}
 use Rattle.byte_streams.specs.Streams.{FailsOnce}
 use Rattle.registry_commands.specs.declared.entries.Entry.TheVariants as says
 use Rattle.registry_commands.specs.declared.following.ReplayStop.TheVariants as stop
@@ -7,7 +8,7 @@ use Rattle.registry_commands.specs.declared.input.ReadAllFault.TheVariants as in
 use Rattle.registry_commands.specs.declared.messages.Failure.{Failure}
 use Rattle.registry_commands.specs.RecordLines.{ahead}
 use Rattle.registry_commands.proofs.BeginLemmas.{begins_founding, begins_later, begins_refused, file_input, kept_unless_file, nothing_passed, of_record_input, one_passed}
-use Rattle.registry_commands.proofs.RecordLineLemmas.{read_on}
+use Rattle.registry_commands.proofs.RecordLineLemmas.{may_have, read_on}
 use Rattle.registry_commands.proofs.replaying.take_founding.Goals as goal
 
 pub loop-entry-init : goal.loop-entry-init
@@ -49,7 +50,15 @@ returns-in-Err-clause-begins g c =
       | inl source ↦ inl (subst (λ (n : ℕ). FailsOnce n after) c.loop-entry.invariant.kept source)
       | inr full ↦ inr (c.in-Err.ensures.lines ∙ full)
     ] in
-    rw c.input_failure.ensures (of_record_input c.peek.new.unread.lines before after c.in-Err.fault failed (λ is. c.in-Err.ensures.memory (ap Err is) ∙ c.loop-entry.invariant.kept))
+    let so_far = c.loop-entry.invariant.so_far in
+    let rest = may_have (ahead (g.R.Source.remaining c.loop-entry.source) c.loop-entry.unread) in
+    rw c.input_failure.ensures (
+      so_far.lines,
+      so_far.blank,
+      c.in-Err.ensures.lines ∙ so_far.counted,
+      (rest.0, so_far.passes rest.0 rest.1),
+      of_record_input c.peek.new.unread.lines before after c.in-Err.fault failed (λ is. c.in-Err.ensures.memory (ap Err is) ∙ c.loop-entry.invariant.kept),
+    )
 
 pub returns-in-Err-clause-kept : goal.returns-in-Err-clause-kept
 returns-in-Err-clause-kept g c = λ other.
@@ -57,7 +66,11 @@ returns-in-Err-clause-kept g c = λ other.
     (λ is. c.in-Err.ensures.memory (ap Err is)) c.loop-entry.invariant.kept
 
 pub returns-in-Err-clause-waits : goal.returns-in-Err-clause-waits
-returns-in-Err-clause-waits g c = λ told few.
+returns-in-Err-clause-waits g c = λ told.
     let so_far = c.loop-entry.invariant.so_far in
     let is : c.in-Err.fault ≡ inputs.File = file_input c.in-Err.fault (sym c.input_failure.ensures ∙ cc told) in
-    (so_far.lines, so_far.blank, read_on _ _ _ so_far.lines c.peek.new.unread so_far.passes (c.in-Err.ensures.waits (ap Err is) (omega (arith, few, c.in-Err.ensures.lines))))
+    let rest = may_have (ahead (g.R.Source.remaining c.loop-entry.source) c.loop-entry.unread) in
+    elim (cases_lt c.loop-entry.unread.lines (2 ^ 64 - 1)) [
+      | inl few ↦ inr (so_far.lines, so_far.blank, read_on _ _ _ so_far.lines c.peek.new.unread so_far.passes (c.in-Err.ensures.waits (ap Err is) few))
+      | inr full ↦ inl (so_far.lines, rest.0, so_far.passes rest.0 rest.1, omega (arith, full, so_far.counted))
+    ]

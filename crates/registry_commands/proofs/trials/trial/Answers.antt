@@ -1,4 +1,4 @@
-use Rattle.std.proofs.Common.{inr, refl}
+use Rattle.std.proofs.Common.{inl, inr, refl}
 use Rattle.registry_commands.specs.Ends.{effect, ends_of}
 use Rattle.registry_commands.specs.Failures.{IsOfInput, PrintsFailure}
 use Rattle.registry_commands.specs.Lines.{requests_in}
@@ -17,7 +17,7 @@ returns-in-Err g c =
       bytes.1,
       trial_fails (IsOfInput before before bytes.0) (requests_in bytes.0) _ _ c.fail.result c.fail.ensures.status told,
       λ long. (c.fail.ensures.status, (keeps_same _, refl), told),
-      λ _. refl,
+      inl refl,
     )
 
 pub returns : goal.returns

@@ -35,6 +35,6 @@ returns g c out = record {
   begins = begun_fresh _ (ahead (g.R.Source.remaining c.take_founding.new.source) c.take_founding.new.unread) c.new-unread.result _
       (g.R.Source.failures c.args.source.now) (g.R.Source.failures c.take_founding.new.source) (Err c.in-Err.stop) c.new-unread.ensures.empty c.new-unread.ensures.first c.in-Err.ensures.begins;
   kept = c.in-Err.ensures.kept;
-  waits = λ is few. blank_fresh _ _ c.new-unread.result c.take_founding.new.unread c.new-unread.ensures.empty (c.in-Err.ensures.waits is few);
+  waits = λ is. blank_fresh _ _ c.new-unread.result c.take_founding.new.unread c.new-unread.ensures.empty c.new-unread.ensures.first (c.in-Err.ensures.waits is);
   goes_on = (refl, refl, refl, c.tell_stop.ensures);
 }
