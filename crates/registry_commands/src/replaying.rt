@@ -1,6 +1,6 @@
 //! Replays a record over a registry: its founding, and then its accepted requests.
 
-ghost use Rattle.std.specs.Prelude.{◌≡◌, ◌≢◌, IfErr, IfOk, Ok, Err, true, false, option_copied};
+ghost use Rattle.std.specs.Prelude.{◌≡◌, ◌≢◌, ◌⊎◌, IfErr, IfOk, Ok, Err, true, false, option_copied};
 ghost use Rattle.sqlite.specs.Held.{state};
 ghost use Rattle.registry_wire.specs.Record.{founding_line};
 ghost use Rattle.registry_commands.specs.Ends.{output_of};
