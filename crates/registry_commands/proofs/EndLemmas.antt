@@ -27,9 +27,9 @@ use Rattle.registry_commands.specs.declared.messages.Failure.TheVariants.{Store,
 use Rattle.registry_commands.specs.declared.status.ExitStatus.{ExitStatus}
 use Rattle.registry_commands.specs.declared.status.ExitStatus.TheVariants.{Failed}
 use Rattle.registry_commands.specs.Ends.{Effect, Output, Sunk}
-use Rattle.registry_commands.specs.Failures.{IsOfClosing, IsOfInput, IsOfOutput, IsOfSoundRun, PrintsFailure}
+use Rattle.registry_commands.specs.Failures.{IsOfClosing, IsOfInput, IsOfSoundRun, PrintsFailure}
 use Rattle.registry_commands.specs.Messages.{failure_of}
-use Rattle.registry_commands.specs.Apply.{IsApplied, IsOfRun}
+use Rattle.registry_commands.specs.Apply.{IsApplied, IsOfReplies, IsOfRun}
 use Rattle.registry_commands.specs.Found.{IsOfFounding, ReadsFounding}
 use Rattle.registry_commands.specs.Trial.{IsOfStart, IsTrial, IsTrialOf}
 use Rattle.registry_commands.proofs.ApplyLemmas.{keeps_same, silent}
@@ -82,7 +82,7 @@ tried OfInput did founding trial stands (Err bad) applied =
     (applied.silent, elim applied.told [ inl said ↦ inl said | inr failed ↦ inr (failed.0, tells_more OfInput (IsOfStart OfInput) did.ends.errors (λ failure is. inr is) failed.1) ])
 tried OfInput did founding trial stands (Ok rs) applied =
     let run = applied.1 (omega arith) in
-    let OfOutput = IsOfOutput did.ends.out.old.failures did.ends.out.new.failures in
+    let OfOutput = IsOfReplies did.ends.out in
     elim run.statuses [
       | inl success ↦
           let through = run.through success (founded founding) (inl stands) (memory_is_clean did.new) in

@@ -1,6 +1,6 @@
 -- The lines of accepted requests, piece by piece.
 use Rattle.std.proofs.Common.{◌≡◌, inl, inr, ℕ, ◌+◌, ◌<◌, zero, suc, List, [], ◌∷◌, ◌++◌, length, take, drop, get_or, Option, refl, sym, ap, subst, ◌∙◌, arith, append_assoc, append-nil, add-one, drop-drop}
-use Rattle.std.specs.Prelude.{Result, Ok, Err, OnErr}
+use Rattle.std.specs.Prelude.{None, Result, Ok, Err, OnErr}
 use Rattle.std.proofs.Math.Seq.{take-suc, drop-cons}
 use Rattle.std.proofs.lemmas.List.{take-append-drop}
 use Rattle.std.specs.Io.KnownBytes.{Appends}
@@ -12,8 +12,9 @@ use Rattle.registry_rules.specs.Accepted.{AreValid, accepted_of}
 use Rattle.registry_rules.specs.declared.accepted.Accepted.{Accepted}
 use Rattle.registry_rules.specs.History.{History}
 use Rattle.registry_store.specs.declared.registry.Registry.{Registry}
-use Rattle.registry_store.specs.Promise.{Represents, state_of}
+use Rattle.registry_store.specs.Promise.{NotesForeign, Represents, state_of}
 use Rattle.registry_store.specs.Queries.{IsUntouched}
+use Rattle.registry_store.proofs.IsQueryLemmas.{notes_then}
 use Rattle.registry_store.proofs.TransactionLemmas.{quiet_then}
 use Rattle.registry_commands.specs.declared.messages.Failure.{Failure}
 use Rattle.registry_commands.specs.declared.messages.Failure.TheVariants as of
@@ -83,13 +84,13 @@ module _ {S : Type 0} {g : Ghosts S} where
   }
 
   -- a failure of a later reading
-  pub of_later : (it mid new : Registry S g) → IsUntouched it mid → (failure : Failure) → IsOfReading mid new failure → IsOfReading it new failure
-  of_later it mid new left of.Store why = tt
-  of_later it mid new left of.Memory why = tt
-  of_later it mid new left of.Poisoned why = sym left.poisons_nothing ∙ why
-  of_later it mid new left of.Foreign why = λ at. why (at.0, left.stays at.0 at.1, at.2)
-  of_later it mid new left of.Taken why = why
-  of_later it mid new left of.File why = why
+  pub of_later : (it mid new : Registry S g) → IsUntouched it mid → NotesForeign it mid None → (failure : Failure) → IsOfReading mid new failure → IsOfReading it new failure
+  of_later it mid new left notes of.Store why = notes_then it mid new None notes why
+  of_later it mid new left notes of.Memory why = notes_then it mid new None notes why
+  of_later it mid new left notes of.Poisoned why = sym left.poisons_nothing ∙ why
+  of_later it mid new left notes of.Foreign why = λ at. why (at.0, left.stays at.0 at.1, at.2)
+  of_later it mid new left notes of.Taken why = why
+  of_later it mid new left notes of.File why = why
 
   -- The lines of the requests after the first `after`, as far as the first `passed`, are written, and nothing else.
   pub record AreWritten (it mid : Registry S g) (old new : Option (List ℕ)) (after passed : ℕ) : Type 0 where
@@ -156,5 +157,5 @@ module _ {S : Type 0} {g : Ghosts S} where
 
 module _ {S : Type 0} {g : Ghosts S} where
   -- a failure of writing a later piece
-  pub of_later_record : (it mid new : Registry S g) → IsUntouched it mid → (failure : Failure) → IsOfRecord mid new failure → IsOfRecord it new failure
-  of_later_record it mid new left failure why = elim why [ inl file ↦ inl file | inr reading ↦ inr (of_later it mid new left failure reading) ]
+  pub of_later_record : (it mid new : Registry S g) → IsUntouched it mid → NotesForeign it mid None → (failure : Failure) → IsOfRecord mid new failure → IsOfRecord it new failure
+  of_later_record it mid new left notes failure why = elim why [ inl file ↦ inl file | inr reading ↦ inr (of_later it mid new left notes failure reading) ]

@@ -1,5 +1,6 @@
 -- Runs that write their replies as lines.
 use Rattle.std.proofs.Common.{◌≡◌, ◌⊎◌, inl, inr, ℕ, true, ◌+◌, List, take, [], ◌∷◌, Option, refl, sym, ap, subst, ◌∙◌, arith}
+use Rattle.std.specs.Prelude.{◌≢◌}
 use Rattle.std.proofs.lemmas.List.{append-nil}
 use Rattle.std.specs.Io.KnownBytes.{Appends, Keeps}
 use Rattle.sqlite.specs.Store.{Ghosts}
@@ -15,6 +16,7 @@ use Rattle.registry_store.specs.declared.replies.RunStop.TheVariants as stop
 use Rattle.registry_store.specs.Promise.{Represents, is_poisoned}
 use Rattle.registry_store.specs.RunTo.{HaveTaken, IsCutBy, IsHalted, IsLeftAt}
 use Rattle.registry_commands.specs.declared.messages.Failure.{Failure}
+use Rattle.registry_commands.specs.declared.messages.Failure.TheVariants.{File}
 use Rattle.registry_commands.specs.declared.replies.ReplyLines.{ReplyLines}
 use Rattle.registry_commands.specs.Messages.{reply_line, reply_lines}
 use Rattle.registry_commands.specs.Apply.{IsStoppedAt, lines_between}
@@ -46,11 +48,16 @@ module _ {W : Type 0} (contents : W → Option (List ℕ)) (failures : W → ℕ
       }
 
   -- nothing was written after these replies
-  pub no_more : (old middle new : ReplyLines W) (replies : List Reply) → HaveTaken (TakesLine contents failures) old middle replies → new ≡ middle
-      → (new.output.ghost_name ≡ old.output.ghost_name) × (failures new.output.now ≡ failures old.output.now)
-  no_more old middle new replies taken same =
-      let out = taken_lines old middle replies taken in
-      subst (λ (k : ReplyLines W). (k.output.ghost_name ≡ old.output.ghost_name) × (failures k.output.now ≡ failures old.output.now)) (sym same) (out.same_output, out.kept)
+  pub no_more : (old middle new : ReplyLines W) (replies : List Reply) → HaveTaken (TakesLine contents failures) old middle replies → new ≡ middle → AreOut old new replies
+  no_more old middle new replies taken same = subst (λ (k : ReplyLines W). AreOut old k replies) (sym same) (taken_lines old middle replies taken)
+
+  -- a line is cut only if the output failed
+  pub none_cut : (old middle new : ReplyLines W) (replies : List Reply) (reply : Reply) (failure : Failure) → HaveTaken (TakesLine contents failures) old middle replies
+      → CutsLine contents failures middle new reply failure → failure ≢ File → Appends (contents old.output.now) (contents new.output.now) (reply_lines replies)
+  none_cut old middle new replies reply failure taken cut other = elim cut.kind [
+    | inl memory ↦ subst (λ (text : Option (List ℕ)). Appends (contents old.output.now) text (reply_lines replies)) (sym (cut.silent memory)) (taken_lines old middle replies taken).gained
+    | inr file ↦ absurd (other file)
+  ]
 
   -- at most a prefix of the next line is written
   next_begun : (why : RunStop Failure) (middle new : ReplyLines W) (next : Reply) → IsCutBy (CutsLine contents failures) why middle new next

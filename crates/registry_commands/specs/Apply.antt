@@ -1,10 +1,11 @@
 -- What is written, and what the registry represents, after request lines were acted on.
-use Rattle.std.specs.Prelude.{◌≡◌, ◌⊎◌, ◌<◌, ◌≤◌, ◌+◌, ℕ, true, false, List, length, take, drop, Option, Some, Result, Ok, Err}
+use Rattle.std.specs.Prelude.{◌≡◌, ◌≢◌, ◌⊎◌, ◌<◌, ◌≤◌, ◌+◌, ℕ, true, false, List, length, take, drop, Option, Some, Result, Ok, Err}
 use Rattle.std.specs.Io.KnownBytes.{Appends, Keeps}
 use Rattle.sqlite.specs.Store.{Ghosts}
 use Rattle.sqlite.specs.State.{HasCleanDisk}
 use Rattle.byte_streams.specs.Streams.{AppendsPrefix}
 use Rattle.registry_rules.specs.declared.order.Request.{Request}
+use Rattle.registry_rules.specs.declared.verdict.Reply.{Reply}
 use Rattle.registry_rules.specs.History.{History}
 use Rattle.registry_rules.specs.Run.{after, replies_to}
 use Rattle.registry_tables.specs.Rows.{newest}
@@ -23,6 +24,11 @@ use Rattle.registry_commands.specs.Messages.{bad_line_text, exceeds_text, reply_
 -- the reply lines of the requests after the first a, up to the n-th
 abbrev pub lines_between : History → List Request → ℕ → ℕ → List ℕ
 lines_between h rs a n = reply_lines (drop a (replies_to h (take n rs)))
+
+-- What a failure of a run says of the output. File: one write failed. Any other: none did, and whole reply lines were written.
+abbrev pub IsOfReplies : Output → Failure → Type 0
+IsOfReplies out failure =
+    IsOfOutput out.old.failures out.new.failures failure × (failure ≢ File → (replies : List Reply) × Appends out.old.contents out.new.contents (reply_lines replies))
 
 module _ {S : Type 0} {g : Ghosts S} where
   -- The failures of a run over this registry. Store, Memory and Foreign: the registry had this fault, and is poisoned by it.
@@ -77,7 +83,7 @@ module _ {S : Type 0} {g : Ghosts S} where
     pub kept : did.ends.status ≡ Success → did.ends.out.new.failures ≡ did.ends.out.old.failures
     pub stopped : did.ends.status ≡ Failed → (h : History) → HasAnswered did.old h rs a → HasCleanDisk (state_of did.new) → IsStoppedAt did.new h rs a did.ends.out
     pub told : did.ends.status ≡ Failed → IsUnread OfInput did
-        ⊎ PrintsFailure (λ failure. IsOfRun did.old did.new (λ h. HasAnswered did.old h rs a) failure × IsOfOutput did.ends.out.old.failures did.ends.out.new.failures failure) did.ends.errors
+        ⊎ PrintsFailure (λ failure. IsOfRun did.old did.new (λ h. HasAnswered did.old h rs a) failure × IsOfReplies did.ends.out failure) did.ends.errors
     pub poisoned : is_poisoned did.old ≡ true → (did.ends.status ≡ Failed) × (did.new ≡ did.old) × (did.ends.out.new.contents ≡ did.ends.out.old.contents)
         × PrintsFailure (λ failure. (failure ≡ Poisoned) ⊎ OfInput failure) did.ends.errors
     pub endures : Endures (state_of did.old) (state_of did.new)

@@ -1,5 +1,6 @@
 -- What is written, and what the registry represents, after a list was imported.
-use Rattle.std.specs.Prelude.{◌≡◌, ◌⊎◌, ◌≤◌, ℕ, true, false, ⊤, List, length, Option, Some, None, Result, Ok, Err}
+use Rattle.std.specs.Prelude.{◌≡◌, ◌≢◌, ◌⊎◌, ◌≤◌, ℕ, true, false, ⊤, List, length, Option, Some, None, Result, Ok, Err}
+use Rattle.std.specs.Io.KnownBytes.{Keeps}
 use Rattle.sqlite.specs.Store.{Ghosts}
 use Rattle.sqlite.specs.State.{HasCleanDisk}
 use Rattle.usbnum_core.specs.Number.{number_of}
@@ -22,7 +23,7 @@ use Rattle.registry_store.specs.RunTo.{MayHaveBeenActedOn}
 use Rattle.registry_wire.specs.Import.{import_of}
 use Rattle.registry_commands.specs.declared.importing.Import.{Import}
 use Rattle.registry_commands.specs.declared.messages.Failure.{Failure}
-use Rattle.registry_commands.specs.declared.messages.Failure.TheVariants.{Memory, Poisoned}
+use Rattle.registry_commands.specs.declared.messages.Failure.TheVariants.{File, Memory, Poisoned}
 use Rattle.registry_commands.specs.declared.arguments.BadArgument.{BadArgument}
 use Rattle.registry_commands.specs.declared.arguments.BadArgument.TheVariants.{Caller, Key, Org, Vendor}
 use Rattle.registry_commands.specs.declared.status.ExitStatus.{ExitStatus}
@@ -96,18 +97,19 @@ module _ {S : Type 0} {g : Ghosts S} where
     pub sound : is_poisoned did.new ≡ false
     pub answered : (h : History) → MayHaveBeenActedOn did.old h r → HasCleanDisk (state_of did.new) → (reply ≡ reply_to h r) × Represents did.new (after_one h r)
 
-  -- A prefix of the reply's line is written. A crash leaves the history before the request or after it, and the registry is
-  -- poisoned or represents the history after it.
+  -- A crash leaves the history before the request or after it. The registry is poisoned and nothing is written; or it represents
+  -- the history after the request, and a prefix of the reply's line is written.
   pub record IsCut (new : Registry S g) (h : History) (r : Request) (out : Output) : Type 0 where
     pub gained : ReceivesPrefix out (reply_line (reply_to h r))
     pub leaves : Leaves newest (state_of new) (λ x. (x ≡ h) ⊎ (x ≡ after_one h r))
-    pub ends : (is_poisoned new ≡ true) ⊎ Represents new (after_one h r)
+    pub ends : ((is_poisoned new ≡ true) × Keeps out.old.contents out.new.contents) ⊎ Represents new (after_one h r)
 
-  -- The request failed, or the output did.
+  -- The request failed, or the output did. A part of the reply's line is written only if the output failed.
   pub record IsFailed (did : Effect S g) (r : Request) : Type 0 where
     pub status_is : did.ends.status ≡ Failed
     pub cut : (h : History) → MayHaveBeenActedOn did.old h r → HasCleanDisk (state_of did.new) → IsCut did.new h r did.ends.out
-    pub told : PrintsFailure (λ failure. IsOfRun did.old did.new (λ h. MayHaveBeenActedOn did.old h r) failure × IsOfOutput did.ends.out.old.failures did.ends.out.new.failures failure) did.ends.errors
+    pub told : PrintsFailure (λ failure. IsOfRun did.old did.new (λ h. MayHaveBeenActedOn did.old h r) failure × IsOfOutput did.ends.out.old.failures did.ends.out.new.failures failure
+        × (failure ≢ File → did.ends.out.new.contents ≡ did.ends.out.old.contents)) did.ends.errors
 
   -- One request was acted on, or stopped by a failure. A poisoned registry stays as it is, nothing is written, and the error
   -- output says that it is poisoned.

@@ -114,9 +114,10 @@ IsOfRecordInput lines failures failures_new File = FailsOnce failures failures_n
 IsOfRecordInput lines failures failures_new Memory = failures_new ≡ failures
 IsOfRecordInput lines failures failures_new failure = ⊥
 
--- as many lines came as are counted, after so many that were passed before
-abbrev pub HasAllLines : ℕ → Option (List ℕ) → Type 0
-HasAllLines before to_come = (front : List (List ℕ)) × (rest : List (List ℕ)) × MayHaveLines to_come (front ++ rest) × (2 ^ 64 - 1 ≤ before + length front)
+-- As many lines were passed as can be counted: so many before, and then the first of those to come.
+abbrev pub HasAllLines : ℕ → Option (List ℕ) → Unread → Type 0
+HasAllLines before to_come it =
+    (front : List (List ℕ)) × (rest : List (List ℕ)) × MayHaveLines to_come (front ++ rest) × (it.lines ≡ before + length front) × (2 ^ 64 - 1 ≤ it.lines)
 
 -- Blank lines were passed, and what was read after them is a part of a line.
 abbrev pub HasReadBlank : Option (List ℕ) → Option (List ℕ) → Unread → Type 0
@@ -225,7 +226,7 @@ module _ {S : Type 0} {g : Ghosts S} where
   -- made before that.
   pub record ReadsLineByLine (to_come now : Option (List ℕ)) (unread : Unread) (before failures failures_new : ℕ) (it new : Registry S g) (result : Result (Unit {0}) ReplayStop) : Type 0 where
     pub kept : result ≢ Err (stop.Failure File) → failures_new ≡ failures
-    pub waits : result ≡ Err (stop.Failure File) → HasAllLines before to_come ⊎ HasFollowed to_come now unread it new
+    pub waits : result ≡ Err (stop.Failure File) → HasAllLines before to_come unread ⊎ HasFollowed to_come now unread it new
 
   -- once the founding was checked, the lines were replayed; or that ended it
   abbrev pub ThenReplays : Option (List ℕ) → Option (List ℕ) → Unread → ℕ → ℕ → ℕ → Registry S g → Registry S g → Result (Unit {0}) ReplayStop → Result (Unit {0}) ReplayStop → Type 0

@@ -16,9 +16,10 @@ module _ {W : Type 0} (contents : W → Option (List ℕ)) (failures : W → ℕ
     pub gained : Appends (contents old.output.now) (contents new.output.now) (reply_line reply)
     pub kept : failures new.output.now ≡ failures old.output.now
 
-  -- a prefix of the reply line is written, and this failure says why
+  -- A prefix of the reply line is written, and this failure says why. Nothing is written if memory ran out.
   pub record CutsLine (failure : Failure) : Type 0 where
     pub same_output : new.output.ghost_name ≡ old.output.ghost_name
     pub gained : AppendsPrefix (contents old.output.now) (contents new.output.now) (reply_line reply)
     pub kind : (failure ≡ Memory) ⊎ (failure ≡ File)
     pub cause : IsOfOutput (failures old.output.now) (failures new.output.now) failure
+    pub silent : failure ≡ Memory → contents new.output.now ≡ contents old.output.now

@@ -1,5 +1,5 @@
 -- What a command shows of a registry without changing it.
-use Rattle.std.specs.Prelude.{◌≡◌, ◌⊎◌, ⊤, true, List, Option, None}
+use Rattle.std.specs.Prelude.{◌≡◌, ◌⊎◌, true, List, Option, None}
 use Rattle.sqlite.specs.Store.{Ghosts}
 use Rattle.sqlite.specs.State.{HasCleanDisk}
 use Rattle.usbids_text.specs.Documents.{IsTextOf}
@@ -19,11 +19,11 @@ use Rattle.registry_commands.specs.Failures.{PrintsFailure}
 use Rattle.registry_commands.specs.Printed.{IsPrinted, IsUnprinted}
 
 module _ {S : Type 0} {g : Ghosts S} where
-  -- The failures of reading a registry. Poisoned: it was poisoned before. Foreign: it represented no history, or the disk is
-  -- not clean. Never Taken, and never File, since nothing is written yet.
+  -- The failures of reading a registry. Store and Memory: no call found the rows of no history. Poisoned: it was poisoned before.
+  -- Foreign: it represented no history, or the disk is not clean. Never Taken, and never File, since nothing is written yet.
   abbrev pub IsOfReading : Registry S g → Registry S g → Failure → Type 0
-  IsOfReading it new Store = ⊤
-  IsOfReading it new Memory = ⊤
+  IsOfReading it new Store = NotesForeign it new None
+  IsOfReading it new Memory = NotesForeign it new None
   IsOfReading it new Poisoned = is_poisoned it ≡ true
   IsOfReading it new Foreign = ¬ ((h : History) × Represents it h × HasCleanDisk (state_of new))
   IsOfReading it new Taken = ⊥

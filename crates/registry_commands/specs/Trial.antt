@@ -13,9 +13,9 @@ use Rattle.registry_commands.specs.declared.messages.Failure.{Failure}
 use Rattle.registry_commands.specs.declared.messages.Failure.TheVariants.{Store}
 use Rattle.registry_commands.specs.declared.status.ExitStatus.TheVariants.{Success, Failed, Rejected}
 use Rattle.registry_commands.specs.Ends.{Ends, Receives, ReceivesNothing, Output}
-use Rattle.registry_commands.specs.Failures.{IsOfOutput, IsOfSoundRun, Prints, PrintsFailure, PrintsNothing}
+use Rattle.registry_commands.specs.Failures.{IsOfSoundRun, Prints, PrintsFailure, PrintsNothing}
 use Rattle.registry_commands.specs.Messages.{bad_line_text, reply_lines}
-use Rattle.registry_commands.specs.Apply.{lines_between}
+use Rattle.registry_commands.specs.Apply.{IsOfReplies, lines_between}
 
 -- vendor 1209, `Shared products`, with the curator `cora`, two licences and the fixed numbers 0001 to 0010
 pub record IsTrial (founding : Founding) : Type 0 where
@@ -52,4 +52,4 @@ IsTrialOf OfInput (Err bad) ends =
 IsTrialOf OfInput (Ok rs) ends =
     ((ends.status ≡ Success) × IsTried rs ends.out × PrintsNothing ends.errors)
     ⊎ ((ends.status ≡ Failed) × ReceivesNothing ends.out × PrintsFailure (IsOfStart OfInput) ends.errors)
-    ⊎ ((ends.status ≡ Failed) × IsTriedInPart rs ends.out × PrintsFailure (λ failure. IsOfSoundRun failure × IsOfOutput ends.out.old.failures ends.out.new.failures failure) ends.errors)
+    ⊎ ((ends.status ≡ Failed) × IsTriedInPart rs ends.out × PrintsFailure (λ failure. IsOfSoundRun failure × IsOfReplies ends.out failure) ends.errors)

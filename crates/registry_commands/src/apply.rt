@@ -8,9 +8,9 @@ ghost use Rattle.registry_store.specs.Promise.{Endures, is_poisoned, state_of};
 ghost use Rattle.registry_store.specs.Run.{HasAnswered};
 ghost use Rattle.registry_commands.specs.Lines.{requests_in};
 ghost use Rattle.registry_commands.specs.Messages.{bad_line_text};
-ghost use Rattle.registry_commands.specs.Apply.{IsApplied, IsOfRun, IsStoppedAt, IsThrough, IsUnread};
+ghost use Rattle.registry_commands.specs.Apply.{IsApplied, IsOfReplies, IsOfRun, IsStoppedAt, IsThrough, IsUnread};
 ghost use Rattle.registry_commands.specs.Ends.{effect, ends_of, output_of};
-ghost use Rattle.registry_commands.specs.Failures.{IsOfInput, IsOfMemory, IsOfOutput, IsTooLong, Prints, PrintsFailure, TellsFailedReads};
+ghost use Rattle.registry_commands.specs.Failures.{IsOfInput, IsOfMemory, IsTooLong, Prints, PrintsFailure, TellsFailedReads};
 
 use crate::input::read_all;
 use crate::lines::{BadLine, requests_in};
@@ -38,7 +38,7 @@ fn write_replies<S: Alter, W: Sink>(
     ensures stopped { (h : History) → HasAnswered registry.old h requests.now answered → HasCleanDisk (state_of registry.new)
         → OnErr result (IsStoppedAt registry.new h requests.now answered (output_of W.Sink lines.old.output.now lines.new.output.now)) }
     ensures failure { IfErr result (λ failure. IsOfRun registry.old registry.new (λ h. HasAnswered registry.old h requests.now answered) failure
-        × IsOfOutput (W.failures lines.old.output.now) (W.failures lines.new.output.now) failure) }
+        × IsOfReplies (output_of W.Sink lines.old.output.now lines.new.output.now) failure) }
     ensures when_poisoned { is_poisoned registry.old ≡ true → (result ≡ Err Failure.Poisoned) × (registry.new ≡ registry.old) × (W.contents lines.new.output.now ≡ W.contents lines.old.output.now) }
     ensures kept { OnOk result (W.failures lines.new.output.now ≡ W.failures lines.old.output.now) }
     ensures goes_on { OnOk result (is_poisoned registry.new ≡ false) }
@@ -65,7 +65,7 @@ fn answer_from<S: Alter, W: Sink>(
     ensures stopped { (h : History) → HasAnswered registry.old h requests.now answered → HasCleanDisk (state_of registry.new)
         → OnErr result (IsStoppedAt registry.new h requests.now answered (output_of W.Sink output.old output.new)) }
     ensures failure { IfErr result (λ failure. IsOfRun registry.old registry.new (λ h. HasAnswered registry.old h requests.now answered) failure
-        × IsOfOutput (W.failures output.old) (W.failures output.new) failure) }
+        × IsOfReplies (output_of W.Sink output.old output.new) failure) }
     ensures when_poisoned { is_poisoned registry.old ≡ true → (result ≡ Err Failure.Poisoned) × (registry.new ≡ registry.old) × (W.contents output.new ≡ W.contents output.old) }
     ensures kept { OnOk result (W.failures output.new ≡ W.failures output.old) }
     ensures goes_on { OnOk result (is_poisoned registry.new ≡ false) }

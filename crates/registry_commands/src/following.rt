@@ -88,7 +88,7 @@ pub fn follow_lines<R: Source, S: Alter>(
     ensures replays { IsReplayOf (ahead (R.remaining source.old) unread.old) unread.old.lines (R.failures source.old) (R.failures source.new)
         registry.old registry.new result }
     ensures kept { result ≢ Err (ReplayStop.Failure Failure.File) → R.failures source.new ≡ R.failures source.old }
-    ensures waits { result ≡ Err (ReplayStop.Failure Failure.File) → HasAllLines unread.old.lines (ahead (R.remaining source.old) unread.old)
+    ensures waits { result ≡ Err (ReplayStop.Failure Failure.File) → HasAllLines unread.old.lines (ahead (R.remaining source.old) unread.old) unread.new
         ⊎ HasFollowed (ahead (R.remaining source.old) unread.old) (ahead (R.remaining source.new) unread.new) unread.new registry.old registry.new }
 {
     loop {

@@ -182,7 +182,7 @@ fn put_record<S: Alter, W: Sink>(
 /// Reads the requests in pieces, so that memory does not grow with the history.
 ///
 /// The status is `Success` if all lines are written. It is `Failed` after a failure of the
-/// registry, of memory or of the output, which the error output names: then a prefix of the lines
+/// registry, of memory or of the output, which the error output names: then a prefix of their text
 /// is written.
 pub fn history<S: Alter, W: Sink, E: Sink>(
     alloc: Global,

@@ -36,7 +36,7 @@ pub fn take_founding<R: Source>(
     ensures begins { Begins (ahead (R.remaining source.old) unread.old) (ahead (R.remaining source.new) unread.new) unread.old.lines unread.new.lines
         (R.failures source.old) (R.failures source.new) result }
     ensures kept { result ≢ Err (ReplayStop.Failure Failure.File) → R.failures source.new ≡ R.failures source.old }
-    ensures waits { result ≡ Err (ReplayStop.Failure Failure.File) → HasAllLines unread.old.lines (ahead (R.remaining source.old) unread.old)
+    ensures waits { result ≡ Err (ReplayStop.Failure Failure.File) → HasAllLines unread.old.lines (ahead (R.remaining source.old) unread.old) unread.new
         ⊎ HasReadBlank (ahead (R.remaining source.old) unread.old) (ahead (R.remaining source.new) unread.new) unread.new }
 {
     loop {

@@ -137,26 +137,28 @@ module _ {S : Type 0} {g : Ghosts S} where
           answers = answers;
           r = r;
           r_is = acted.1 h stands;
-          x_is = inr refl;
           y_is = refl;
-          replied = λ _. (refl, gives.status_is ∙ ap exit_status_of both.0, subst (λ (reply : Reply). Receives did.ends.out (reply_line reply)) both.0 gives.gained);
+          replied = λ _. (gives.status_is ∙ ap exit_status_of both.0, subst (λ (reply : Reply). Receives did.ends.out (reply_line reply)) both.0 gives.gained);
+          last = inr refl;
         }),
         leaves_itself did.new (after_one h r) both.1 clean,
       )
-      | inr failed ↦ (
-        h,
-        after_one h r,
-        inr (record {
-          doc = doc;
-          answers = answers;
-          r = r;
-          r_is = acted.1 h stands;
-          x_is = inl refl;
-          y_is = refl;
-          replied = λ other. absurd (other failed.status_is);
-        }),
-        (failed.cut h (inl stands) clean).leaves,
-      )
+      | inr failed ↦
+          let so_far : (x : History) → ((x ≡ h) × Keeps did.ends.out.old.contents did.ends.out.new.contents) ⊎ (x ≡ after_one h r)
+          → IsAfterImport bytes import did.ends.out did.ends.status h x (after_one h r) = λ x last. record {
+            doc = doc;
+            answers = answers;
+            r = r;
+            r_is = acted.1 h stands;
+            y_is = refl;
+            replied = λ other. absurd (other failed.status_is);
+            last = last;
+          } in
+          let cut = failed.cut h (inl stands) clean in
+          elim cut.ends [
+            | inl kept ↦ (h, after_one h r, inr (so_far h (inl (refl, kept.1))), cut.leaves)
+            | inr acted_on ↦ (after_one h r, after_one h r, inr (so_far (after_one h r) (inr refl)), leaves_itself did.new (after_one h r) acted_on clean)
+          ]
     ]
     | inr none ↦ not_made did bytes import h none.0 stands clean
   ]

@@ -54,11 +54,11 @@ begun_fresh o now fresh count failures failures_new first none start begins =
     subst (λ (n : ℕ). Begins o now n count failures failures_new first) start
     (subst (λ (a : Option (List ℕ)). Begins a now fresh.lines count failures failures_new first) (ahead_fresh o fresh none) begins)
 
-pub blank_fresh : (o now : Option (List ℕ)) (fresh it : Unread) → unread_of fresh ≡ [] → fresh.lines ≡ 0 → HasAllLines fresh.lines (ahead o fresh) ⊎ HasReadBlank (ahead o fresh) now it
-    → HasAllLines 0 o ⊎ HasReadBlank o now it
+pub blank_fresh : (o now : Option (List ℕ)) (fresh it : Unread) → unread_of fresh ≡ [] → fresh.lines ≡ 0 → HasAllLines fresh.lines (ahead o fresh) it ⊎ HasReadBlank (ahead o fresh) now it
+    → HasAllLines 0 o it ⊎ HasReadBlank o now it
 blank_fresh o now fresh it none start read =
-    subst (λ (n : ℕ). HasAllLines n o ⊎ HasReadBlank o now it) start
-    (subst (λ (a : Option (List ℕ)). HasAllLines fresh.lines a ⊎ HasReadBlank a now it) (ahead_fresh o fresh none) read)
+    subst (λ (n : ℕ). HasAllLines n o it ⊎ HasReadBlank o now it) start
+    (subst (λ (a : Option (List ℕ)). HasAllLines fresh.lines a it ⊎ HasReadBlank a now it) (ahead_fresh o fresh none) read)
 
 -- ---- what a registry leaves
 

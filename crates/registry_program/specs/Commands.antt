@@ -92,7 +92,7 @@ module _ {H F I : Type 0} (m : host.Ghosts H F I) (s : source.Ghosts I) where
 abbrev pub IsStampOf : Option (List ℕ) → Result (Option Moment) BadArgument → Type 0
 IsStampOf None read = read ≡ Ok None
 IsStampOf (Some text) (Ok None) = ⊥
-IsStampOf (Some text) (Ok (Some moment)) = moment_text moment ≡ text
+IsStampOf (Some text) (Ok (Some moment)) = (is_moment moment ≡ true) × (moment_text moment ≡ text)
 IsStampOf (Some text) (Err argument) = (argument ≡ Stamp) × ((m : Moment) → is_moment m ≡ true → moment_text m ≢ text)
 
 -- the list of a registry is written

@@ -69,7 +69,7 @@ module _ {H F I : Type 0} (m : host.Ghosts H F I) (d : disk.Ghosts F) where
       pub first : Result (Option Founding) ReplayStop
       pub begins : Begins (r.remaining source) (ahead (r.remaining middle) begun) 0 begun.lines (r.failures source) (r.failures middle) first
       pub kept : first ≢ Err (stop.Failure File) → r.failures middle ≡ r.failures source
-      pub waits : first ≡ Err (stop.Failure File) → HasAllLines 0 (r.remaining source) ⊎ HasReadBlank (r.remaining source) (ahead (r.remaining middle) begun) begun
+      pub waits : first ≡ Err (stop.Failure File) → HasAllLines 0 (r.remaining source) begun ⊎ HasReadBlank (r.remaining source) (ahead (r.remaining middle) begun) begun
       pub goes_on : BeginsReplay first middle source_new begun old new path ends
 
   -- replay STORE RECORD: the record is the standard input if it is called `-`, else the file at this path, which is opened before

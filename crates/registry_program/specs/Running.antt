@@ -82,6 +82,7 @@ module _ {H F I R W IN : Type 0} (m : host.Ghosts H F I) (d : disk.Ghosts F) (s 
   -- suffice for them, and nothing was done but to say so.
   abbrev pub IsRunBy : List (List ℕ) → Bool → Bool → H → H → IN → IN → Ends → Type 0
   IsRunBy arguments says_causes is_waited_for old new input input_new ends =
-      ((command : Command (List ℕ)) × (command_of arguments ≡ Some command) × IsObeyed m d s c r w i command says_causes is_waited_for old new input input_new ends)
+      ((command : Command (List ℕ)) × (accepts arguments ≡ true) × (command_of arguments ≡ Some command)
+      × IsObeyed m d s c r w i command says_causes is_waited_for old new input input_new ends)
       ⊎ ((usage : Usage) × (accepts arguments ≡ true → usage ≡ NoMemory) × IsOfFaults (faults_of arguments) usage
       × (new ≡ old) × (input_new ≡ input) × IsUsage usage ends)

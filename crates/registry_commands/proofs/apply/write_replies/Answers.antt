@@ -8,7 +8,7 @@ use Rattle.registry_store.specs.declared.fault.Fault.TheVariants.{Store, NoMemor
 use Rattle.registry_store.specs.declared.replies.RunStop.TheVariants as stop
 use Rattle.registry_commands.specs.Failures.{IsOfOutput}
 use Rattle.registry_commands.proofs.FailureLemmas.{not_of_output, of_fault, of_reply}
-use Rattle.registry_commands.proofs.ReplyLemmas.{no_more, stopped_lines, taken_lines}
+use Rattle.registry_commands.proofs.ReplyLemmas.{no_more, none_cut, stopped_lines, taken_lines}
 use Rattle.registry_commands.proofs.apply.write_replies.Goals as goal
 
 pub returns-in-Ok-clause-same_reference : goal.returns-in-Ok-clause-same_reference
@@ -30,7 +30,7 @@ returns-in-Ok-clause-through g c h at clean =
 pub returns-in-Err-Fault-clause-same_reference : goal.returns-in-Err-Fault-clause-same_reference
 returns-in-Err-Fault-clause-same_reference g c =
     let given = rw c.in-Err-Fault.field-0-is at c.in-Err-Fault.ensures.cut in
-    (no_more g.W.Sink.contents g.W.Sink.failures c.args.lines.now given.middle c.run_to.new.replies given.replies given.taken given.last).0
+    (no_more g.W.Sink.contents g.W.Sink.failures c.args.lines.now given.middle c.run_to.new.replies given.replies given.taken given.last).same_output
 
 pub returns-in-Err-Fault-clause-stopped : goal.returns-in-Err-Fault-clause-stopped
 returns-in-Err-Fault-clause-stopped g c h at clean =
@@ -42,7 +42,7 @@ returns-in-Err-Fault-clause-failure g c =
     let given = rw c.in-Err-Fault.field-0-is at c.in-Err-Fault.ensures.cut in
     let old = c.args.lines.now in
     let new = c.run_to.new.replies in
-    let kept = (no_more g.W.Sink.contents g.W.Sink.failures old given.middle new given.replies given.taken given.last).1 in
+    let out = no_more g.W.Sink.contents g.W.Sink.failures old given.middle new given.replies given.taken given.last in
     let fault = c.in-Err-Fault.fault in
     let kind : (h : History) → HasAnswered c.args.registry.now h c.args.requests.now c.args.answered → HasCleanDisk (state_of c.run_to.new.self) → (fault ≡ Store) ⊎ (fault ≡ NoMemory) =
     λ h at clean. let halted = rw c.in-Err-Fault.field-0-is at (c.in-Err-Fault.ensures.stopped h at clean) in halted.1.reply.2.1 in
@@ -52,7 +52,7 @@ returns-in-Err-Fault-clause-failure g c =
       of_fault c.args.registry.now c.run_to.new.self (λ h. HasAnswered c.args.registry.now h c.args.requests.now c.args.answered) fault
           (λ poisoned. c.in-Err-Fault.ensures.only_poisoned (ap Err (c.in-Err-Fault.field-0-is ∙ ap stop.Fault poisoned))) spent keeps
           (λ taken. c.in-Err-Fault.ensures.never_taken (ap Err (c.in-Err-Fault.field-0-is ∙ ap stop.Fault taken))) kind,
-      not_of_output (g.W.Sink.failures old.output.now) (g.W.Sink.failures new.output.now) kept fault,
+      (not_of_output (g.W.Sink.failures old.output.now) (g.W.Sink.failures new.output.now) out.kept fault, λ _. (given.replies, out.gained)),
     )
 
 pub returns-in-Err-Cut-clause-same_reference : goal.returns-in-Err-Cut-clause-same_reference
@@ -74,5 +74,8 @@ returns-in-Err-Cut-clause-failure g c =
     let kept : g.W.Sink.failures given.middle.output.now ≡ old = (taken_lines g.W.Sink.contents g.W.Sink.failures c.args.lines.now given.middle given.replies given.taken).kept in
     let sound : is_poisoned c.run_to.new.self ≡ false = rw c.in-Err-Cut.field-0-is at c.in-Err-Cut.ensures.ends in (
       of_reply c.args.registry.now c.run_to.new.self (λ h. HasAnswered c.args.registry.now h c.args.requests.now c.args.answered) c.in-Err-Cut.failure sound cut.kind,
-      subst (λ (n : ℕ). IsOfOutput n new c.in-Err-Cut.failure) kept cut.cause,
+      (
+        subst (λ (n : ℕ). IsOfOutput n new c.in-Err-Cut.failure) kept cut.cause,
+        λ other. (given.replies, none_cut g.W.Sink.contents g.W.Sink.failures c.args.lines.now given.middle c.run_to.new.replies given.replies given.last.0 c.in-Err-Cut.failure given.taken cut other),
+      ),
     )

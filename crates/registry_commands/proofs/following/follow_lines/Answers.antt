@@ -64,7 +64,7 @@ returns-in-Err-clause-waits g c = λ told.
         replied = so_far.replied;
         poisoned = so_far.poisoned;
       })
-      | inr full ↦ inl (so_far.front, rest.0, so_far.passed rest.0 rest.1, omega (arith, full, so_far.counted))
+      | inr full ↦ inl (so_far.front, rest.0, so_far.passed rest.0 rest.1, c.in-Err.ensures.lines ∙ so_far.counted, omega (arith, full, c.in-Err.ensures.lines))
     ]
 
 pub returns-in-Err-follow-clause-waits : goal.returns-in-Err-follow-clause-waits

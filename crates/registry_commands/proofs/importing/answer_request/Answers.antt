@@ -7,7 +7,7 @@ use Rattle.registry_store.specs.declared.fault.Fault.TheVariants as faults
 use Rattle.registry_commands.specs.Ends.{effect, ends_of}
 use Rattle.registry_commands.specs.Messages.{failure_of}
 use Rattle.registry_commands.proofs.FailureLemmas.{not_of_output, of_fault}
-use Rattle.registry_commands.proofs.ApplyLemmas.{prefix_of_any}
+use Rattle.registry_commands.proofs.ApplyLemmas.{keeps_same, prefix_of_any}
 use Rattle.registry_commands.proofs.ImportLemmas.{kind_of, replied}
 use Rattle.registry_commands.proofs.importing.answer_request.Goals as goal
 
@@ -33,7 +33,7 @@ returns-in-Err g c =
         cut = λ h may clean. record {
           gained = prefix_of_any (g.W.Sink.contents c.args.output.now) _;
           leaves = once_left it new h r c.act.ensures.crash may clean;
-          ends = inl c.in-Err.ensures.ends;
+          ends = inl (c.in-Err.ensures.ends, keeps_same (g.W.Sink.contents c.args.output.now));
         };
         told = (
           c.failure_of.result,
@@ -41,6 +41,7 @@ returns-in-Err g c =
             of_fault it new (λ h. MayHaveBeenActedOn it h r) fault (λ e. c.in-Err.ensures.only_poisoned (ap Err e)) spent c.in-Err.ensures.keeps_fault
                 (λ e. c.in-Err.ensures.never_taken (ap Err e)) (λ h may clean. kind_of it new h r fault c.in-Err.ensures.kind may clean),
             not_of_output (g.W.Sink.failures c.args.output.now) (g.W.Sink.failures c.args.output.now) refl fault,
+            λ _. refl,
           ),
           c.fail.ensures.told,
         );

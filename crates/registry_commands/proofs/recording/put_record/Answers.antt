@@ -39,7 +39,7 @@ returns-in-Err-put_requests-clause-err g c = rw c.in-None.is (λ h stands clean 
 pub returns-in-Err-put_requests-clause-failure : goal.returns-in-Err-put_requests-clause-failure
 returns-in-Err-put_requests-clause-failure g c =
     let why = c.in-Err-put_requests.ensures.failure in (
-      of_later_record c.args.registry.now c.put_founding.new.registry c.put_requests-in-Ok.new.registry c.in-Ok.ensures.left c.in-Err-put_requests.failure why.0,
+      of_later_record c.args.registry.now c.put_founding.new.registry c.put_requests-in-Ok.new.registry c.in-Ok.ensures.left c.in-Ok.ensures.notes c.in-Err-put_requests.failure why.0,
       subst (λ (n : ℕ). IsOfOutput n (g.W.Sink.failures c.put_requests-in-Ok.new.output) c.in-Err-put_requests.failure) c.in-Ok.ensures.kept why.1,
     )
 

@@ -26,7 +26,7 @@ returns-in-Err-clause-err g c =
 pub returns-in-Err-clause-failure : goal.returns-in-Err-clause-failure
 returns-in-Err-clause-failure g c =
     let why = c.in-Err.ensures.failure in (
-      of_later_record c.args.registry.now c.loop-count.registry c.put_piece.new.registry c.loop-count.invariant.so_far.left c.in-Err.failure why.0,
+      of_later_record c.args.registry.now c.loop-count.registry c.put_piece.new.registry c.loop-count.invariant.so_far.left c.loop-count.invariant.notes c.in-Err.failure why.0,
       subst (λ (n : ℕ). IsOfOutput n (g.W.Sink.failures c.put_piece.new.output) c.in-Err.failure) c.loop-count.invariant.kept why.1,
     )
 
@@ -65,7 +65,8 @@ returns-in-None-clause-err g c =
     part_written c.args.registry.now c.put_piece.new.registry c.put_piece.new.registry (g.W.Sink.contents c.args.output.now) (g.W.Sink.contents c.put_piece.new.output) c.args.after _ so_far (untouched_itself c.put_piece.new.registry)
 
 pub returns-in-None-clause-failure : goal.returns-in-None-clause-failure
-returns-in-None-clause-failure g c = (inr tt, c.in-Ok.ensures.kept ∙ c.loop-count.invariant.kept)
+returns-in-None-clause-failure g c =
+    (inr (notes_then c.args.registry.now c.loop-count.registry c.put_piece.new.registry None c.loop-count.invariant.notes c.in-Ok.ensures.notes), c.in-Ok.ensures.kept ∙ c.loop-count.invariant.kept)
 
 pub returns-in-None-clause-when_poisoned : goal.returns-in-None-clause-when_poisoned
 returns-in-None-clause-when_poisoned g c is =

@@ -72,5 +72,5 @@ returns-in-Err-clause-waits g c = λ told.
     let rest = may_have (ahead (g.R.Source.remaining c.loop-entry.source) c.loop-entry.unread) in
     elim (cases_lt c.loop-entry.unread.lines (2 ^ 64 - 1)) [
       | inl few ↦ inr (so_far.lines, so_far.blank, read_on _ _ _ so_far.lines c.peek.new.unread so_far.passes (c.in-Err.ensures.waits (ap Err is) few))
-      | inr full ↦ inl (so_far.lines, rest.0, so_far.passes rest.0 rest.1, omega (arith, full, so_far.counted))
+      | inr full ↦ inl (so_far.lines, rest.0, so_far.passes rest.0 rest.1, c.in-Err.ensures.lines ∙ so_far.counted, omega (arith, full, c.in-Err.ensures.lines))
     ]

@@ -4,7 +4,7 @@ use Rattle.registry_program.proofs.StatusLemmas.{is_status}
 use Rattle.registry_program.proofs.running.run_over.Goals as goal
 
 pub returns-in-Ok-clause-runs : goal.returns-in-Ok-clause-runs
-returns-in-Ok-clause-runs g c = inl (texts c.in-Ok.asked.command, c.in-Ok.ensures.ok, rw c.in-Ok.ensures.verbose c.obey.ensures)
+returns-in-Ok-clause-runs g c = inl (texts c.in-Ok.asked.command, c.in-Ok.ensures.taken, c.in-Ok.ensures.ok, rw c.in-Ok.ensures.verbose c.obey.ensures)
 
 pub returns-in-Ok-clause-status : goal.returns-in-Ok-clause-status
 returns-in-Ok-clause-status g c = is_status c.obey.result
