@@ -15,6 +15,7 @@ use Rattle.sqlite.specs.declared.file.Leftover.{Leftover}
 use Rattle.table_laws.specs.Inside.{CommitsNothing}
 use Rattle.registry_rules.specs.History.{History}
 use Rattle.registry_rules.specs.Run.{Legal}
+use Rattle.registry_tables.specs.Known.{IsKnown}
 use Rattle.registry_tables.specs.Raising.{CommitsLater, IsNamedOlder}
 use Rattle.registry_tables.specs.Rows.{Rows}
 use Rattle.registry_store.specs.declared.registry.Registry.{Registry}
@@ -48,12 +49,17 @@ module _ {D : Type 0} (g : Ghosts D) where
   Hold from files h next = AreClean g files.log files.db → FilesHoldEither from (image_of g files) h next
 
   -- The registry is the one that these files hold: where they hold one of two legal histories, in any schema, it represents
-  -- that one.
+  -- that one. Their tables have the names of a schema. Nothing is committed unless it is an older one.
   pub record OpensFiles (files : Files D) (it : Registry (FileStore D g) over_files) : Type 0 where
     pub is_new : IsNew it
     pub honest : HasCleanDisk (state_of it) → AreClean g files.log files.db
     pub represents : (from : ℕ) (h next : History) → Legal h → Legal next → Hold from files h next
         → HasCleanDisk (state_of it) → ∥ ((x : History) × IsEither h next x × Represents it x) ∥₁
+    pub conn : Held (FileStore D g)
+    pub connected : IsConnectedTo files conn
+    pub known : HasCleanDisk (state_of it) → IsKnown (file_state conn).now
+    pub survives : Survives (file_state conn) (state_of it) (CommitsLater (file_state conn))
+    pub untouched : IsNamedOlder (file_state conn) ⊎ CommitsNothing (file_state conn) (state_of it)
 
   -- what an opening of the store that failed left of its files
   abbrev pub IsLeftUnopened : Files D → Files D → Type 0

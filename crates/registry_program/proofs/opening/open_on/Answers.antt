@@ -21,6 +21,11 @@ returns-in-Ok-clause-ok g c files opened =
           ∥∥₁_map (holds it.1.honest) (λ found.
           let fresh : IsFreshAt found.4 (file_state conn) found.2 = λ _. (it.0.0.is_open, it.0.0.clean, subst (λ db. Rows found.4 db found.2) (sym (it.1.holds found.0 found.1)) found.6) in
           (found.2, found.3, c.in-Ok.ensures.fresh found.4 found.2 (either_legal h next found.2 legal legal_next found.3) fresh clean));
+      conn = conn;
+      connected = opened;
+      known = c.in-Ok.ensures.known;
+      survives = c.in-Ok.ensures.survives;
+      untouched = c.in-Ok.ensures.untouched;
     }
 
 pub returns-in-Err-clause-err : goal.returns-in-Err-clause-err
