@@ -18,7 +18,7 @@ use Rattle.registry_rules.specs.History.{History}
 use Rattle.registry_rules.specs.Run.{after_one, reply_to}
 use Rattle.registry_tables.specs.Rows.{newest}
 use Rattle.registry_store.specs.declared.registry.Registry.{Registry}
-use Rattle.registry_store.specs.Promise.{Endures, Leaves, Represents, is_poisoned, state_of}
+use Rattle.registry_store.specs.Promise.{Endures, Leaves, NotesForeign, Represents, is_poisoned, state_of}
 use Rattle.registry_store.specs.RunTo.{MayHaveBeenActedOn}
 use Rattle.registry_wire.specs.Import.{import_of}
 use Rattle.registry_commands.specs.declared.importing.Import.{Import}
@@ -87,14 +87,15 @@ abbrev pub request_of_import : Import → ℕ → List TopEntry → Request
 request_of_import import founding_vendor doc = import_of import.caller import.key import.org founding_vendor import.vendor doc
 
 module _ {S : Type 0} {g : Ghosts S} where
-  -- The request was acted on: its reply's line is written, and the registry represents the history after it. It is not poisoned,
-  -- whatever its store holds.
+  -- The request was acted on: its reply's line is written, and the registry represents the history after it. Whatever its store
+  -- holds, the registry is not poisoned, and no call found the rows of no history.
   pub record GivesReply (did : Effect S g) (r : Request) : Type 0 where
     pub reply : Reply
     pub status_is : did.ends.status ≡ exit_status_of reply
     pub gained : Receives did.ends.out (reply_line reply)
     pub quiet : PrintsNothing did.ends.errors
     pub sound : is_poisoned did.new ≡ false
+    pub notes : NotesForeign did.old did.new None
     pub answered : (h : History) → MayHaveBeenActedOn did.old h r → HasCleanDisk (state_of did.new) → (reply ≡ reply_to h r) × Represents did.new (after_one h r)
 
   -- A crash leaves the history before the request or after it. The registry is poisoned and nothing is written; or it represents

@@ -144,7 +144,7 @@ fn apply_bytes<S: Alter, W: Sink, E: Sink>(
 /// requests: then nothing is acted on, and the error output says why. It is `Failed` after a
 /// failure of the source, the registry, the output, or memory, which the error output names. An
 /// input of more than 4,294,967,295 bytes is such a failure, and nothing is acted on. A failure of
-/// the error output changes nothing else.
+/// the error output is told nowhere.
 pub fn apply_lines<R: Source, S: Alter, W: Sink, E: Sink>(
     alloc: Global,
     source: &mut R,

@@ -14,7 +14,7 @@ use Rattle.registry_commands.proofs.importing.answer_request.Goals as goal
 pub returns-in-Ok : goal.returns-in-Ok
 returns-in-Ok g c = record {
   ends = replied (effect c.args.registry.now c.act.new.self (ends_of g.W.Sink g.E.Sink c.args.output.now c.put_status.new.output c.args.errors.now c.put_status.new.errors c.put_status.result))
-      c.args.request.now c.in-Ok.reply c.in-Ok.ensures.goes_on
+      c.args.request.now c.in-Ok.reply c.in-Ok.ensures.goes_on c.in-Ok.ensures.notes
       (λ h may clean. once c.args.registry.now c.act.new.self h c.args.request.now c.in-Ok.reply c.in-Ok.ensures.answered may clean) c.put_status.ensures;
   endures = c.act.ensures.endures;
   poisoned = λ e. let failed = c.in-Ok.ensures.when_poisoned e in absurd (cc failed.0);
