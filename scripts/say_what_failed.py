@@ -13,6 +13,7 @@ import contextlib
 import errno
 import os
 import pty
+import select
 import shutil
 import socket
 import sqlite3
@@ -292,32 +293,36 @@ def try_others(cases):
         cases.case(["export", store], 1, STORE, f"{store}: in use by another process")
 
 
-def through_terminal(words, given=None):
-    """Returns what a program writes to a terminal as its standard error, its input too if nothing is given."""
+def through_terminal(words, awaited=b""):
+    """Returns what a program writes to a terminal as its standard error. If words are awaited there, the terminal is its
+    standard input too, and ends once they came."""
     ours, theirs = pty.openpty()
+    ran = subprocess.Popen(words, stdin=theirs if awaited else subprocess.DEVNULL, stdout=subprocess.DEVNULL, stderr=theirs)
     try:
-        ran = subprocess.Popen(words, stdin=theirs if given is None else subprocess.DEVNULL, stdout=subprocess.DEVNULL, stderr=theirs)
         os.close(theirs)
-        if given is None:
-            os.write(ours, b"\x04")
-        ran.wait(timeout=60)
         said = b""
         with contextlib.suppress(OSError):
-            while more := os.read(ours, 4096):
+            while select.select([ours], [], [], 60)[0] and (more := os.read(ours, 4096)):
                 said += more
+                if awaited and awaited in said:
+                    os.write(ours, b"\x04")
+                    awaited = b""
         return said.replace(b"\r\n", b"\n").decode()
     finally:
+        ran.kill()
+        ran.wait()
         os.close(ours)
 
 
 def try_terminals(cases):
     """A terminal has the causes unasked, and a trial that reads one says so."""
     missing = f"{cases.room}/none.db"
-    said = through_terminal([cases.usbreg, "export", missing], b"")
+    said = through_terminal([cases.usbreg, "export", missing])
     if said != named(FILE, f"{missing}: no such file"):
         sys.exit(f"to a terminal: {said!r}")
-    said = through_terminal([cases.usbreg, "trial"])
-    if "usbreg: request lines are read from the terminal; Ctrl-D ends them\n" not in said:
+    asks = "usbreg: request lines are read from the terminal; Ctrl-D ends them"
+    said = through_terminal([cases.usbreg, "trial"], asks.encode())
+    if f"{asks}\n" not in said:
         sys.exit(f"a trial from a terminal: {said!r}")
     cases.count += 2
 

@@ -138,7 +138,7 @@ module _ {S : Type 0} {g : Ghosts S} where
           r = r;
           r_is = acted.1 h stands;
           y_is = refl;
-          replied = λ _. (gives.status_is ∙ ap exit_status_of both.0, subst (λ (reply : Reply). Receives did.ends.out (reply_line reply)) both.0 gives.gained);
+          replied = λ _. (refl, gives.status_is ∙ ap exit_status_of both.0, subst (λ (reply : Reply). Receives did.ends.out (reply_line reply)) both.0 gives.gained);
           last = inr refl;
         }),
         leaves_itself did.new (after_one h r) both.1 clean,

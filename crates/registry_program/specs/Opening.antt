@@ -49,7 +49,8 @@ module _ {D : Type 0} (g : Ghosts D) where
   Hold from files h next = AreClean g files.log files.db → FilesHoldEither from (image_of g files) h next
 
   -- The registry is the one that these files hold: where they hold one of two legal histories, in any schema, it represents
-  -- that one. Their tables have the names of a schema. Nothing is committed unless it is an older one.
+  -- that one. Over a clean disk their tables had the names of a schema, and `meta` said its version. Nothing was committed unless
+  -- that is an older one, and then only the same history in that schema or a later one.
   pub record OpensFiles (files : Files D) (it : Registry (FileStore D g) over_files) : Type 0 where
     pub is_new : IsNew it
     pub honest : HasCleanDisk (state_of it) → AreClean g files.log files.db

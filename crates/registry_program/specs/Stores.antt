@@ -61,8 +61,8 @@ module _ {H F I : Type 0} (m : host.Ghosts H F I) (d : disk.Ghosts F) where
   abbrev pub IsUnconnected : H → H → List ℕ → Failure → Type 0
   IsUnconnected old new path failure = (m.misses old new path true failure × IsOfFiles true failure) ⊎ (IsOfStore failure × IsClosedUndone old new path true (IsLeftUnopened d))
 
-  -- How a store was closed after a command that ended with the first status: at Success its log was copied. Unless that failed,
-  -- its files hold what the store held.
+  -- How a store was closed after a command that ended with the first status: at Success its log was copied, or the error output
+  -- says that this failed. Unless it failed, its files hold what the store held.
   pub record ClosesStore (conn : Held (FileStore F d)) (files : Files F) (errors errors_new : Sunk) (before status : ExitStatus) : Type 0 where
     pub kept : before ≢ Success → (status ≡ before) × (errors_new ≡ errors)
     pub well : before ≡ Success → ((status ≡ Success) × (errors_new ≡ errors)) ⊎ ((status ≡ Failed) × PrintsFailure (IsOfClosing (IsUncopied conn files)) (record { old = errors; new = errors_new }))

@@ -93,15 +93,15 @@ IsReportedOn name ends h x y = Stays h x y × (ends.status ≡ Success → (text
 abbrev pub IsRecordedOn : Option ℕ → Ends → History → History → History → Type 0
 IsRecordedOn from ends h x y = Stays h x y × (ends.status ≡ Success → AreValid h.deeds → Receives ends.out (record_text h from))
 
--- The request of the list in these bytes was acted on. Unless the status is Failed, its reply is written. If anything of the
--- reply's line is written, both histories are the one after the request.
+-- The request of the list in these bytes was acted on, perhaps until a failure: y is the history after it, and x is y or the
+-- history before it. Unless the status is Failed, its reply is written and x is y; x is y too if anything is written.
 pub record IsAfterImport (bytes : List ℕ) (import : Import) (out : Output) (status : ExitStatus) (h x y : History) : Type 0 where
   pub doc : List TopEntry
   pub answers : ReadsAs bytes (Ok doc)
   pub r : Request
   pub r_is : r ≡ request_of_import import h.founding.vendor doc
   pub y_is : y ≡ after_one h r
-  pub replied : status ≢ Failed → (status ≡ exit_status_of (reply_to h r)) × Receives out (reply_line (reply_to h r))
+  pub replied : status ≢ Failed → (x ≡ y) × (status ≡ exit_status_of (reply_to h r)) × Receives out (reply_line (reply_to h r))
   pub last : ((x ≡ h) × Keeps out.old.contents out.new.contents) ⊎ (x ≡ y)
 
 -- each is a history that a crash leaves after these connections
