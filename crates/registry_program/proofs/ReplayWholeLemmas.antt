@@ -197,7 +197,7 @@ module _ {H F I : Type 0} (m : host.Ghosts H F I) (d : disk.Ghosts F) where
     over_whole old new path ends passes is =
         let Does = ReplaysLines r middle source_new begun in
         elim (runs_whole m d old new path ends Does (IsReplayedTo m d r source old new path false ends) (λ over same.
-        let told = follows None _ _ _ _ _ _ over.it over.after _ over.before over.does.2 in
+        let told = follows None _ _ _ _ _ _ over.it over.after _ over.before over.does.3 in
         let on = carried m d old new path ends Does over same told.was_clean (IsAfterRecord told.lines ends.status)
         (λ h stands clean. subst (λ (status : ExitStatus). LeavesSome over.after (IsAfterRecord told.lines status h)) (sym same) (told.leaves h stands clean)) in
         record { before = blank; lines = told.lines; come = passes told.lines told.come; files = on.files; used = on.used; holds = on.holds }) (elim is [ inl not ↦ inl (not.0, not.1, not.2) | inr over ↦ inr over ])) [

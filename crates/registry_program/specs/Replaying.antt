@@ -24,10 +24,10 @@ use Rattle.registry_program.specs.Outputs.{IsFailure, earlier}
 use Rattle.registry_program.specs.Stores.{Closes, IsConnected, IsMissed, IsRunOver, IsUnconnected}
 
 module _ {R : Type 0} (r : source.Ghosts R) where
-  -- the lines of the record that were to come were replayed over a registry
+  -- the lines of the record that were to come were replayed over a registry, and the output took nothing
   abbrev pub ReplaysLines : {H S : Type 0} {g : store.Ghosts S} → R → R → Unread → H → H → Registry S g → Registry S g → Ends → Type 0
   ReplaysLines source source_new begun old new it after ends =
-      (new ≡ old) × (ended : Unread)
+      (new ≡ old) × (ends.out.new ≡ ends.out.old) × (ended : Unread)
       × IsReplayed None (ahead (r.remaining source) begun) (ahead (r.remaining source_new) ended) ended begun.lines (r.failures source) (r.failures source_new) it after ends.errors ends.status
 
 module _ {H F I : Type 0} (m : host.Ghosts H F I) (d : disk.Ghosts F) where

@@ -11,6 +11,6 @@ returns g c out = inr (record {
   after = c.replay-status.new.registry;
   errors = sunk g.E.Sink c.replay-status.new.errors;
   before = c.replay-status.result;
-  does = (refl, c.replay-status.new.unread, c.replay-status.ensures);
+  does = (refl, refl, c.replay-status.new.unread, c.replay-status.ensures);
   closes = c.close_registry.ensures;
 })
