@@ -88,7 +88,7 @@ request_of_import import founding_vendor doc = import_of import.caller import.ke
 
 module _ {S : Type 0} {g : Ghosts S} where
   -- The request was acted on: its reply's line is written, and the registry represents the history after it. Whatever its store
-  -- holds, the registry is not poisoned, and no call found the rows of no history.
+  -- holds, the registry is not poisoned, and no call of it found the rows of no history, if none had before.
   pub record GivesReply (did : Effect S g) (r : Request) : Type 0 where
     pub reply : Reply
     pub status_is : did.ends.status ≡ exit_status_of reply
@@ -98,8 +98,8 @@ module _ {S : Type 0} {g : Ghosts S} where
     pub notes : NotesForeign did.old did.new None
     pub answered : (h : History) → MayHaveBeenActedOn did.old h r → HasCleanDisk (state_of did.new) → (reply ≡ reply_to h r) × Represents did.new (after_one h r)
 
-  -- A crash leaves the history before the request or after it. The registry is poisoned and nothing is written; or it represents
-  -- the history after the request, and a prefix of the reply's line is written.
+  -- The registry is poisoned and nothing is written; or it represents the history after the request, and a prefix of the reply's
+  -- line is written. A crash leaves the history before the request or after it.
   pub record IsCut (new : Registry S g) (h : History) (r : Request) (out : Output) : Type 0 where
     pub gained : ReceivesPrefix out (reply_line (reply_to h r))
     pub leaves : Leaves newest (state_of new) (λ x. (x ≡ h) ⊎ (x ≡ after_one h r))

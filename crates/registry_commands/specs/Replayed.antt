@@ -189,7 +189,7 @@ module _ {S : Type 0} {g : Ghosts S} where
     pub cause : (failure : Failure) → result ≡ Err (stop.Failure failure) → IsOfReplay (before + length front) failures failures_new it new failure
     pub poisoned : is_poisoned it ≡ true → ActsOnNone front it new result
 
-  -- The lines that were to come were replayed. Unless it ended with Foreign, no request found the rows of no history.
+  -- The lines that were to come were replayed. Unless it ended with Foreign, no request found the rows of no history, if none had before.
   pub record IsReplayOf (to_come : Option (List ℕ)) (before failures failures_new : ℕ) (it new : Registry S g) (result : Result (Unit {0}) ReplayStop) : Type 0 where
     pub lines : List (List ℕ)
     pub come : MayHaveLines to_come lines

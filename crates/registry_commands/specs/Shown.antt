@@ -19,8 +19,9 @@ use Rattle.registry_commands.specs.Failures.{PrintsFailure}
 use Rattle.registry_commands.specs.Printed.{IsPrinted, IsUnprinted}
 
 module _ {S : Type 0} {g : Ghosts S} where
-  -- The failures of reading a registry. Store and Memory: no call found the rows of no history. Poisoned: it was poisoned before.
-  -- Foreign: it represented no history, or the disk is not clean. Never Taken, and never File, since nothing is written yet.
+  -- The failures of reading a registry. Store and Memory: no call found the rows of no history, if none had before. Poisoned: it was
+  -- poisoned before. Foreign: it represented no history, or the disk is not clean. Never Taken, and never File, since nothing is
+  -- written yet.
   abbrev pub IsOfReading : Registry S g → Registry S g → Failure → Type 0
   IsOfReading it new Store = NotesForeign it new None
   IsOfReading it new Memory = NotesForeign it new None
@@ -38,7 +39,7 @@ module _ {S : Type 0} {g : Ghosts S} where
   ShowsNothing did =
       (did.ends.status ≡ Failed) × (did.new ≡ did.old) × (did.ends.out.new.contents ≡ did.ends.out.old.contents) × PrintsFailure (λ failure. failure ≡ Poisoned) did.ends.errors
 
-  -- At success no call found the rows of no history.
+  -- At success no call found the rows of no history, if none had before.
   abbrev pub HidesNoForeign : Effect S g → Type 0
   HidesNoForeign did = did.ends.status ≡ Success → NotesForeign did.old did.new None
 

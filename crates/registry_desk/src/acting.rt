@@ -88,7 +88,7 @@ pub(crate) fn response_to<S: Alter>(
         → IfErr result (λ fault. IsOfSoundRegistry fault × IsFaultFor said.now fault registry.new × IsLeftUnavailable fault registry.new h (after_message h said.now)) }
     ensures asked { IfErr result (λ fault. fault ≢ desk_faults.NoMemory → IsOk said.now) }
     // Whatever the store holds: without a fault of the registry it is not poisoned, and no call of it
-    // found the rows of no history.
+    // found the rows of no history, if none had before.
     ensures goes_on { is_poisoned registry.old ≡ false → fault_of_done result ≡ None → is_poisoned registry.new ≡ false }
     ensures notes { NotesForeign registry.old registry.new (fault_of_done result) }
     // A message that is refused gets its refusal, over any registry.

@@ -147,7 +147,7 @@ pub fn serve_one<R: Source, W: Sink, S: Alter>(
         × (is_poisoned registry.old ≡ true → IsTurnedAway bytes response served.fault × (registry.new ≡ registry.old))
         × (is_poisoned registry.old ≡ false → IsToldBy served.fault response)) }
     // Whatever the store holds: without a fault of the registry it is not poisoned, and no call of it
-    // found the rows of no history.
+    // found the rows of no history, if none had before.
     ensures goes_on { is_poisoned registry.old ≡ false → fault_behind result ≡ None → is_poisoned registry.new ≡ false }
     ensures notes { NotesForeign registry.old registry.new (fault_behind result) }
     ensures poisoned { IfOk result (λ served. served.fault ≡ Some faults.Poisoned → is_poisoned registry.old ≡ true) }

@@ -184,7 +184,7 @@ pub fn serve_all<C: Connections, S: Alter>(
         × ((h : History) → Represents registry.old h → HasCleanDisk (state_of registry.new) → EndsServing registry.new h visits (fault_in result) × Leaves newest (state_of registry.new) (IsLeftAfter h visits))
         × (is_poisoned registry.old ≡ true → AreTurnedAway visits (fault_in result) × (registry.new ≡ registry.old)) }
     // Whatever the store holds: a fault of the registry is told at the last connection; without one
-    // the registry is not poisoned, and no call of it found the rows of no history.
+    // the registry is not poisoned, and no call of it found the rows of no history, if none had before.
     ensures told { is_poisoned registry.old ≡ false → IfSome (fault_in result) (λ fault. (visits : List Visit) × (middle : C) × (last : Visit)
         × HaveVisited C.opens C.closes C.Reader.remaining C.Reader.failures C.Writer.contents C.Writer.failures connections.old middle visits
         × IsVisit C.opens C.closes C.Reader.remaining C.Reader.failures C.Writer.contents C.Writer.failures middle connections.new last
