@@ -36,7 +36,7 @@ pub struct Abandoned<D: Disk> {
 /// The contract is the headline for every crash. It is about each state of the two files that a
 /// crash may leave after the run, and not about one crash: if `found` is such a state, then the
 /// registry that is opened represents the history after the answered requests, or after one more.
-/// Whatever `found` holds otherwise, the registry is the one in it.
+/// If `found` holds another legal history, the registry represents that one.
 pub fn run_and_recover<D: Disk + Drop>(
     alloc: Global,
     first: Registry<FileStore<D>>,

@@ -43,7 +43,7 @@ impl Page {
 
     /// Appends a line and a line feed if the line is the first, or if the page then has at most
     /// 1,000 lines and at most 1,048,576 bytes. Returns whether it did. After `NoMemory` the page
-    /// may have a part of the line.
+    /// must not be used any more.
     pub fn push(&mut self, line: &str) -> Result<bool, NoMemory>
         ensures { IfOk result (λ pushed. (lines : List (List ℕ)) → HasLines self.old lines →
             MatchBool pushed (HasLines self.new (lines ++ line.now ∷ []) × MayFollow lines line.now) (HasLines self.new lines × ¬ MayFollow lines line.now)) }

@@ -57,7 +57,7 @@ impl<S: Alter> Registry<S> {
     /// `Fault::Poisoned` if the registry is poisoned, without a store call. `Fault::NoMemory` if
     /// out of memory for the rows or the founding. `Fault::Store` if the store refuses or fails.
     /// `Fault::Foreign` if the rows are those of no history, which no registry over a clean disk
-    /// has. The registry stays as it was.
+    /// has. The registry still represents its history, and nothing is committed.
     pub fn first_founding(&mut self) -> Result<Founding, Fault>
         ensures query { IsQuery self.old self.new result (λ h founding. AreValid h.deeds → founding ≡ h.founding) }
     {

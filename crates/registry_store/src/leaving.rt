@@ -28,7 +28,7 @@ pub fn leave_store<D: Disk + Drop>(conn: Connection<FileStore<D>>) -> Files<D>
 pub struct Closed<D: Disk> {
     /// The files of the store.
     pub files: Files<D>,
-    /// Why the log was not copied into the database file; `None` if it was.
+    /// The error of the store if the log was not copied into the database file; `None` if it was.
     pub error: Option<Error>,
 }
 

@@ -40,10 +40,9 @@ fn create_in_empty<S: Alter>(
 ///
 /// # Errors
 ///
-/// `TableFault::Store` if the database has any table or view, and nothing is written.
-/// `TableFault::NoMemory` if the store is out of memory, and `TableFault::Store` if it refuses or
-/// fails otherwise; a crash then leaves what it could before, or all of it. Never
-/// `TableFault::Foreign`.
+/// If the database has any table or view it fails, and commits nothing. `TableFault::NoMemory` if
+/// the store is out of memory, and `TableFault::Store` if it refuses or fails; a crash then leaves
+/// what it could before, or all of it. Never `TableFault::Foreign`.
 pub fn create<S: Alter>(conn: &mut Connection<S>, founding: &Founding) -> Result<(), TableFault>
     requires { conn.old.in_transaction ≡ false }
     ensures idle { conn.new.in_transaction ≡ false }
