@@ -9,7 +9,7 @@ use std::time::Duration;
 /// The seconds that a peer may take for each read of its message, and each write of its response.
 const PEER_SECONDS: u64 = 10;
 
-/// Returns the reader and the writer of a connection. Each read and each write waits at most ten seconds.
+/// Returns the reader and the writer of a connection. Sets the limit of each read and write to ten seconds.
 ///
 /// # Errors
 ///

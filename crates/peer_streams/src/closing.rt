@@ -70,8 +70,8 @@ fn drain<P: Peer>(peer: &mut P) -> Result<(), Broken>
 }
 
 /// Does what is to be done before a connection is closed whose response had this status, or whose peer
-/// failed: if the message may have left bytes unread, ends the response and reads them, for at most two
-/// seconds and up to 16 MiB.
+/// failed: if the message may have left bytes unread, ends the response and reads them, until two
+/// seconds have passed or 16 MiB have come.
 pub fn close<P: Peer>(peer: &mut P, status: Option<u16>)
     ensures { IsClosed P.Peer peer.old peer.new status }
 {

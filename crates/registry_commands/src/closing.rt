@@ -20,8 +20,8 @@ use sqlite_disk::Disk;
 
 /// Ends the use of a store, and returns the exit status and the files. At the status `Success` it
 /// closes the store, which copies the log into the database file; if that fails it prints the
-/// failure, and the status is `Failed`. At any other status it writes nothing to the store, and the
-/// log stays beside its file.
+/// failure, and the status is `Failed`. At any other status it lets the store go, with its log
+/// beside its file; no clause says so.
 ///
 /// Whatever the status, nothing is committed. Unless closing failed, the two files hold what the
 /// store held, as they read now and after any crash.

@@ -66,9 +66,9 @@ pub fn read_founding<R: Source, E: Sink>(
 
 /// Founds a registry on a connection, and returns the exit status and the connection.
 ///
-/// The status is `Success` if the registry is founded, else `Failed`, and then the error output
-/// names the failure. A store that already holds a registry is such a failure, and nothing is
-/// changed: a registry is never replaced.
+/// At the status `Success` the registry is founded. Else it is `Failed`, the error output names the
+/// failure, and the whole registry may be there or nothing of it. A store that already holds a
+/// registry is such a failure, and nothing is changed: a registry is never replaced.
 pub fn found_registry<S: Alter, E: Sink>(
     alloc: Global,
     conn: Connection<S>,

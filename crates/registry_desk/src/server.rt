@@ -158,10 +158,10 @@ pub fn serve_next<C: Connections, S: Alter>(
 /// Serves at most `count` connections, one after another, up to the first fault of the registry.
 ///
 /// Over a registry that represents a history, each message gets its response over the history
-/// before it, and the registry then represents the history after all messages, in order. A crash
-/// leaves the history after the messages of all connections, or, if the registry had a fault at
-/// the last one, perhaps of all but that one. So it holds each message whose response was written
-/// whole with a status other than 503.
+/// before it, or refusal 30 or 31, and the registry then represents the history after all messages
+/// that it acted on, in order. A crash leaves the history after these, or, if the registry had a
+/// fault at the last connection, perhaps after all but that one. So it holds each message whose
+/// response was written whole with a status other than 503.
 ///
 /// The last list and the last report of each kind are cached in memory, and written again until an
 /// order comes.
