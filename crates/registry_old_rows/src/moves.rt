@@ -33,7 +33,8 @@ pub fn copy_entries<S: Alter>(tx: &mut Transaction<'_, S>, vid: Vid) -> Result<(
     Ok(())
 }
 
-/// Copies the petitions of the second schema's table into that of the third, with this vendor.
+/// Copies the petitions of the second schema's table into that of the third, which has none, with
+/// this vendor.
 pub fn copy_petitions<S: Alter>(tx: &mut Transaction<'_, S>, vid: Vid) -> Result<(), TableFault>
     ensures writes { Writes S.Store tx.old.conn tx.new.conn result (λ old new. GoesOn old new × ((o t : Tables) → HoldsBoth vid old.now o t → t.petitions ≡ [] → HoldsBoth vid new.now o (record t { petitions = o.petitions }))) }
 {

@@ -42,7 +42,8 @@ fn all_rows<S: Alter>(tx: &mut Transaction<'_, S>) -> Result<Vec<Row>, TableFaul
     Ok(tx.query_all("SELECT lo, hi FROM fixed ORDER BY lo", &[])?)
 }
 
-/// Returns all fixed numbers as maximal spans, ascending.
+/// Returns all spans of fixed numbers, in the order of the table. Those of a history are maximal and
+/// ascending.
 pub fn list_fixed<S: Alter>(
     alloc: Global,
     tx: &mut Transaction<'_, S>,

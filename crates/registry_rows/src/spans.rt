@@ -106,7 +106,7 @@ fn all_rows<S: Alter>(tx: &mut Transaction<'_, S>) -> Result<Vec<Row>, TableFaul
     )?)
 }
 
-/// Returns all spans, which are maximal, in order of vendor and then first number.
+/// Returns all spans, in order of vendor and then first number. Those of a history are maximal.
 pub fn list_spans<S: Alter>(
     alloc: Global,
     tx: &mut Transaction<'_, S>,

@@ -121,8 +121,7 @@ impl Licences {
         })
     }
 
-    // Adds a title. Returns NoMemory also if the list has `MOST_LICENCES`. At NoMemory nothing is
-    // changed.
+    // Adds a title. Returns NoMemory also if the list has `MOST_LICENCES`.
     pub(crate) fn add(&mut self, title: Title) -> Result<(), NoMemory>
         ensures { OnOk result (AreSorted (self.old ++ title ∷ []) self.new) }
     {
