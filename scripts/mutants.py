@@ -13,7 +13,7 @@ What is not refused beside others is tried again alone.
 Usage: scripts/mutants.py [--jobs N] [--edits FOLDER] [NAME | NAME/EDIT ..], by default all of mutants/, or of FOLDER.
 Run `rt ci` on the same files first: the script takes it that each crate is proved as it stands, and checks over the
 libraries that the run left. The first check of a crate proves what its edits leave, unless `rt check` kept that; later
-checks take it from there. The last line counts the edits, and the exit status is 0 if all were refused. With
+checks take it from there, and check the functions of their edits alone. The last line counts the edits, and the exit status is 0 if all were refused. With
 --self-test it tries edits of a small crate that it writes."""
 
 import argparse
@@ -40,7 +40,7 @@ ITEM = re.compile(r"(?:pub(?:\([a-z]+\))? )?(?:const|static|struct|enum|type) (\
 
 # What a check prints: its end, what it says of a function, a goal that failed, an error in the proof of a function
 # (which goes on in further lines), and an error of the front end.
-ENDED = re.compile(r"^(?:logic=|rattle: no verdict)", re.M)
+ENDED = re.compile(r"^(?:logic=|only=|rattle: no verdict)", re.M)
 VERDICT = re.compile(r"^fn \w+::(\S+): (.*)$", re.M)
 GOAL = re.compile(r"^note: (?:\./)?((src/\S+?):(\d+):\d+: it is not proved that .*)$", re.M)
 PROOF = re.compile(r"^(?:\./)?(proofs/(\S+)/(?:Answers|Invariants|Proof)\.antt:\d\S* error: .*(?:\n  .*)*)$", re.M)
@@ -55,6 +55,7 @@ class Crate:
     def __init__(self, top, name):
         self.name, self.folder = name, f"{top}/crates/{name}"
         self.own, self.of_kit, self.kept = [], ["std"], f"{self.folder}/out/incremental"
+        self.checked = []  # the functions that its first check named
         files = sorted(Path(self.folder, "src").rglob("*.rt"))
         self.texts = {str(it.relative_to(self.folder)): it.read_text("utf-8") for it in files}
 
@@ -199,6 +200,12 @@ def link(one, other):
     return shutil.copy2(one, other)
 
 
+def only(crate, edits):
+    """Returns the flags for a check of the functions of these edits alone, or none if a name of theirs is not known."""
+    named = [[it for it in crate.checked if one.owns(it.split("::"))] for edit in edits for one in edit.functions]
+    return [word for names in named for it in names for word in ("--only", it)] if all(named) else []
+
+
 def check(crate, edits):
     """Returns what a check of a copy of the crate with these edits prints, over what an earlier check kept, if any did."""
     with tempfile.TemporaryDirectory(prefix="mutants-") as room:
@@ -212,10 +219,12 @@ def check(crate, edits):
         for path in {path for path, _ in changed}:
             lines = enumerate(crate.texts[path].split("\n"), 1)
             Path(room, path).write_text("\n".join(changed.get((path, at), text) for at, text in lines), "utf-8")
-        words = [f"{KIT}/bin/rattle", "check", *crate.flags(), "--incremental", f"{room}/kept"]
+        words = [f"{KIT}/bin/rattle", "check", *crate.flags(), "--incremental", f"{room}/kept", *only(crate, edits)]
         said = subprocess.run(words, cwd=room, check=False, **HEARD).stdout
         if is_first and VERDICT.search(said):
             shutil.move(f"{room}/kept", crate.kept)
+        if ENDED.search(said):
+            crate.checked = crate.checked or [name for name, _ in VERDICT.findall(said)]
         return said
 
 
