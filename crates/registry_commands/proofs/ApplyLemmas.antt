@@ -1,5 +1,5 @@
 -- Requests that are acted on one after another, and their reply lines.
-use Rattle.std.proofs.Common.{◌≡◌, ◌⊎◌, inl, inr, ℕ, ◌+◌, ◌≤◌, List, [], length, Option, Some, None, refl, sym, ap, subst, arith}
+use Rattle.std.proofs.Common.{◌≡◌, ◌⊎◌, inl, inr, ℕ, List, [], length, drop, Option, Some, None, refl, sym, subst, arith}
 use Rattle.std.specs.Prelude.{Result, Ok, Err}
 use Rattle.std.proofs.lemmas.Bool.{cases_lt}
 use Rattle.std.specs.Io.KnownBytes.{Appends, Keeps}
@@ -11,8 +11,8 @@ use Rattle.registry_rules.specs.declared.order.Request.{Request}
 use Rattle.registry_rules.specs.History.{History}
 use Rattle.registry_store.specs.declared.registry.Registry.{Registry}
 use Rattle.registry_store.specs.Promise.{Endures, state_of}
-use Rattle.registry_store.specs.Run.{HasAnswered}
-use Rattle.registry_store.proofs.RunToLemmas.{between_none, place_left}
+use Rattle.registry_store.specs.Run.{HasAnsweredNone}
+use Rattle.registry_store.proofs.RunToLemmas.{place_left}
 use Rattle.registry_commands.specs.declared.lines.BadLine.{BadLine}
 use Rattle.registry_commands.specs.declared.messages.Failure.{Failure}
 use Rattle.registry_commands.specs.declared.messages.Failure.TheVariants.{Poisoned}
@@ -20,7 +20,7 @@ use Rattle.registry_commands.specs.declared.status.ExitStatus.{ExitStatus}
 use Rattle.registry_commands.specs.declared.status.ExitStatus.TheVariants.{Failed}
 use Rattle.registry_commands.specs.Ends.{Effect, Output, Sunk, effect}
 use Rattle.registry_commands.specs.Failures.{PrintsFailure}
-use Rattle.registry_commands.specs.Messages.{bad_line_text, exceeds_text, reply_lines}
+use Rattle.registry_commands.specs.Messages.{bad_line_text, exceeds_text}
 use Rattle.registry_commands.specs.Apply.{IsApplied, IsRejected, IsRun, IsStoppedAt, lines_between}
 use Rattle.registry_commands.proofs.FailureLemmas.{tells_more}
 
@@ -50,18 +50,12 @@ module _ {S : Type 0} {g : Ghosts S} where
   idle it out errors status = effect it it (record { out = silent out; errors = errors; status = status })
 
   -- the run stops before its first request
-  pub stopped_before : (it : Registry S g) (h : History) (rs : List Request) (a : ℕ) (out : Sunk) → a ≤ length rs → HasAnswered it h rs a → HasCleanDisk (state_of it) → IsStoppedAt it h rs a (silent out)
-  stopped_before it h rs a out low at clean = record {
-    n = a;
-    from = omega arith;
-    within = low;
-    gained = (
-      out.contents,
-      subst (Appends out.contents out.contents) (sym (ap reply_lines (between_none h rs a low))) (appends_nil out.contents),
-      prefix_of_any out.contents (lines_between h rs a (a + 1)),
-      inl (keeps_same out.contents),
-    );
-    leaves = place_left it h rs a at clean;
+  pub stopped_before : (it : Registry S g) (h : History) (rs : List Request) (out : Sunk) → HasAnsweredNone it h rs → HasCleanDisk (state_of it) → IsStoppedAt it h rs (silent out)
+  stopped_before it h rs out at clean = record {
+    n = 0;
+    within = omega arith;
+    gained = (out.contents, appends_nil out.contents, prefix_of_any out.contents (lines_between h rs 0 1), inl (keeps_same out.contents));
+    leaves = place_left it h rs 0 at clean;
     ends = inr at;
   }
 
@@ -79,7 +73,8 @@ module _ {S : Type 0} {g : Ghosts S} where
       sound = λ success. absurd (cc (failed, success));
       quiet = λ success. absurd (cc (failed, success));
       kept = λ success. absurd (cc (failed, success));
-      stopped = λ _ h at clean. stopped_before it h rs a out within at clean;
+      notes = λ success. absurd (cc (failed, success));
+      stopped = λ _ h at clean. stopped_before it h (drop a rs) out at clean;
       told = λ _. inl (record { same = refl; silent = (keeps_same out.contents, refl); told = told });
       poisoned = λ _. (failed, refl, refl, tells_more OfInput (λ failure. (failure ≡ Poisoned) ⊎ OfInput failure) errors (λ failure is. inr is) told);
       endures = endures_itself (state_of it);
@@ -94,13 +89,14 @@ module _ {S : Type 0} {g : Ghosts S} where
       told = elim is.told [ inl said ↦ inl said | inr failed ↦ inr (failed.0, tells_more OfMemory OfInput did.ends.errors more failed.1) ];
     }
 
-    run_more : (rs : List Request) (a : ℕ) → IsRun OfMemory did rs a → IsRun OfInput did rs a
-    run_more rs a is = record {
+    run_more : (rs : List Request) → IsRun OfMemory did rs → IsRun OfInput did rs
+    run_more rs is = record {
       statuses = is.statuses;
       through = is.through;
       sound = is.sound;
       quiet = is.quiet;
       kept = is.kept;
+      notes = is.notes;
       stopped = is.stopped;
       told = λ failed. elim (is.told failed) [
         | inl unread ↦ inl (record { same = unread.same; silent = unread.silent; told = tells_more OfMemory OfInput did.ends.errors more unread.told })
@@ -119,7 +115,7 @@ module _ {S : Type 0} {g : Ghosts S} where
     -- the requests were read from an input, which may fail too
     pub applied_more : (read : Result (List Request) BadLine) (a : ℕ) → IsApplied OfMemory did read a → IsApplied OfInput did read a
     applied_more (Err bad) a is = rejected_more (bad_line_text bad) is
-    applied_more (Ok rs) a is = (λ more_answered. rejected_more exceeds_text (is.0 more_answered), λ within. run_more rs a (is.1 within))
+    applied_more (Ok rs) a is = (λ more_answered. rejected_more exceeds_text (is.0 more_answered), λ within. run_more (drop a rs) (is.1 within))
 
   -- whatever the lines were
   pub applied_endures : (OfInput : Failure → Type 0) (did : Effect S g) (read : Result (List Request) BadLine) (a : ℕ) → IsApplied OfInput did read a → Endures (state_of did.old) (state_of did.new)

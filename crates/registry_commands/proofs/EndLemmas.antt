@@ -18,7 +18,7 @@ use Rattle.registry_store.specs.declared.fault.Fault.{Fault}
 use Rattle.registry_store.specs.declared.fault.Fault.TheVariants as faults
 use Rattle.registry_store.specs.declared.registry.Registry.{Registry}
 use Rattle.registry_store.specs.Promise.{Represents, state_of}
-use Rattle.registry_store.specs.Run.{HasAnswered}
+use Rattle.registry_store.specs.Run.{HasAnsweredNone}
 use Rattle.registry_wire.specs.declared.refusal.WireRefusal.{WireRefusal}
 use Rattle.registry_wire.specs.Founding.{Listed}
 use Rattle.registry_commands.specs.declared.lines.BadLine.{BadLine}
@@ -95,8 +95,8 @@ tried OfInput did founding trial stands (Ok rs) applied =
               let at = run.stopped failed (founded founding) (inl stands) (memory_is_clean did.new) in
               record { founding = founding; trial = trial; n = at.n; within = at.within; middle = at.gained.0; whole = at.gained.1; cut = at.gained.2 }
               ),
-          tells_more (λ failure. IsOfRun did.old did.new (λ h. HasAnswered did.old h rs 0) failure × OfOutput failure) (λ failure. IsOfSoundRun failure × OfOutput failure) did.ends.errors
-              (λ failure is. (of_sound_run did.old did.new (λ h. HasAnswered did.old h rs 0) (founded founding) (inl stands) stands.not_poisoned (memory_is_clean did.new) failure is.0, is.1)) told,
+          tells_more (λ failure. IsOfRun did.old did.new (λ h. HasAnsweredNone did.old h rs) failure × OfOutput failure) (λ failure. IsOfSoundRun failure × OfOutput failure) did.ends.errors
+              (λ failure is. (of_sound_run did.old did.new (λ h. HasAnsweredNone did.old h rs) (founded founding) (inl stands) stands.not_poisoned (memory_is_clean did.new) failure is.0, is.1)) told,
         ))
       ]
     ]

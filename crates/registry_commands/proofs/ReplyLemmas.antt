@@ -81,14 +81,13 @@ module _ {W : Type 0} (contents : W → Option (List ℕ)) (failures : W → ℕ
     new = record { contents = contents new.output.now; failures = failures new.output.now };
   }
 
-  pub stopped_lines : {S : Type 0} {g : Ghosts S} (it : Registry S g) (h : History) (rs : List Request) (a n : ℕ) (old new : ReplyLines W) (why : RunStop Failure)
-      → IsHalted (TakesLine contents failures) (CutsLine contents failures) it h rs a n old new why → IsStoppedAt it h rs a (output_between old new)
-  stopped_lines it h rs a n old new why halted =
+  pub stopped_lines : {S : Type 0} {g : Ghosts S} (it : Registry S g) (h : History) (rs : List Request) (n : ℕ) (old new : ReplyLines W) (why : RunStop Failure)
+      → IsHalted (TakesLine contents failures) (CutsLine contents failures) it h rs n old new why → IsStoppedAt it h rs (output_between old new)
+  stopped_lines it h rs n old new why halted =
       let middle = halted.middle in
       let one : lines_between h rs n (n + 1) ≡ reply_line halted.reply.0 = ap reply_lines halted.reply.1 ∙ append-nil (reply_line halted.reply.0) in
       record {
         n = n;
-        from = halted.from;
         within = omega (arith, halted.within);
         gained = (
           contents middle.output.now,

@@ -12,7 +12,7 @@ use Rattle.registry_tables.specs.Rows.{newest}
 use Rattle.registry_store.specs.declared.fault.Fault.TheVariants as faults
 use Rattle.registry_store.specs.declared.registry.Registry.{Registry}
 use Rattle.registry_store.specs.Promise.{Endures, Leaves, Represents, is_poisoned, poisoned_by, state_of}
-use Rattle.registry_store.specs.Run.{HasAnswered, IsAfterOrNext}
+use Rattle.registry_store.specs.Run.{HasAnswered, HasAnsweredNone, IsAfterOrNext}
 use Rattle.registry_commands.specs.declared.lines.BadLine.{BadLine}
 use Rattle.registry_commands.specs.declared.messages.Failure.{Failure}
 use Rattle.registry_commands.specs.declared.messages.Failure.TheVariants.{File, Foreign, Memory, Poisoned, Store, Taken}
@@ -20,6 +20,7 @@ use Rattle.registry_commands.specs.declared.status.ExitStatus.TheVariants.{Succe
 use Rattle.registry_commands.specs.Ends.{Effect, Receives, ReceivesNothing, Output}
 use Rattle.registry_commands.specs.Failures.{IsOfOutput, Prints, PrintsFailure, PrintsNothing}
 use Rattle.registry_commands.specs.Messages.{bad_line_text, exceeds_text, reply_lines}
+use Rattle.registry_commands.specs.Shown.{HidesNoForeign}
 
 -- the reply lines of the requests after the first a, up to the n-th
 abbrev pub lines_between : History → List Request → ℕ → ℕ → List ℕ
@@ -42,20 +43,18 @@ module _ {S : Type 0} {g : Ghosts S} where
   IsOfRun it new These Taken = ⊥
   IsOfRun it new These File = is_poisoned new ≡ false
 
-  -- All requests after the first a are answered: their reply lines are written, and the registry represents the history
-  -- after all requests.
-  pub record IsThrough (it : Registry S g) (h : History) (rs : List Request) (a : ℕ) (out : Output) : Type 0 where
-    pub gained : Receives out (reply_lines (drop a (replies_to h rs)))
+  -- All requests are answered: their reply lines are written, and the registry represents the history after them.
+  pub record IsThrough (it : Registry S g) (h : History) (rs : List Request) (out : Output) : Type 0 where
+    pub gained : Receives out (reply_lines (replies_to h rs))
     pub represents : Represents it (after h rs)
 
   -- The run stopped with n requests answered, whose reply lines are written. Of the next line either nothing is written, or
   -- a prefix is and the registry represents the history after its request. A crash leaves these n requests, and at most one
   -- more.
-  pub record IsStoppedAt (it : Registry S g) (h : History) (rs : List Request) (a : ℕ) (out : Output) : Type 0 where
+  pub record IsStoppedAt (it : Registry S g) (h : History) (rs : List Request) (out : Output) : Type 0 where
     pub n : ℕ
-    pub from : a ≤ n
     pub within : n ≤ length rs
-    pub gained : (middle : Option (List ℕ)) × Appends out.old.contents middle (lines_between h rs a n) × AppendsPrefix middle out.new.contents (lines_between h rs n (n + 1))
+    pub gained : (middle : Option (List ℕ)) × Appends out.old.contents middle (lines_between h rs 0 n) × AppendsPrefix middle out.new.contents (lines_between h rs n (n + 1))
         × (Keeps middle out.new.contents ⊎ Represents it (after h (take (n + 1) rs)))
     pub leaves : Leaves newest (state_of it) (IsAfterOrNext h rs n)
     pub ends : (is_poisoned it ≡ true) ⊎ HasAnswered it h rs n
@@ -72,24 +71,25 @@ module _ {S : Type 0} {g : Ghosts S} where
     pub silent : ReceivesNothing did.ends.out
     pub told : PrintsFailure OfInput did.ends.errors
 
-  -- The requests after the first a were acted on in turn: all of them, or up to a failure. After all of them the registry is not
-  -- poisoned, whatever its store holds. A poisoned registry acts on none, no
-  -- reply is written, and the error output says that it is poisoned, or that the input failed or memory ran out.
-  pub record IsRun (OfInput : Failure → Type 0) (did : Effect S g) (rs : List Request) (a : ℕ) : Type 0 where
+  -- The requests were acted on in turn: all of them, or up to a failure. The first one may have been acted on before. After all
+  -- of them the registry is not poisoned, whatever its store holds. A poisoned registry acts on none, no reply is written, and
+  -- the error output says that it is poisoned, or that the input failed or memory ran out.
+  pub record IsRun (OfInput : Failure → Type 0) (did : Effect S g) (rs : List Request) : Type 0 where
     pub statuses : (did.ends.status ≡ Success) ⊎ (did.ends.status ≡ Failed)
-    pub through : did.ends.status ≡ Success → (h : History) → HasAnswered did.old h rs a → HasCleanDisk (state_of did.new) → IsThrough did.new h rs a did.ends.out
+    pub through : did.ends.status ≡ Success → (h : History) → HasAnsweredNone did.old h rs → HasCleanDisk (state_of did.new) → IsThrough did.new h rs did.ends.out
     pub sound : did.ends.status ≡ Success → is_poisoned did.new ≡ false
     pub quiet : did.ends.status ≡ Success → PrintsNothing did.ends.errors
     pub kept : did.ends.status ≡ Success → did.ends.out.new.failures ≡ did.ends.out.old.failures
-    pub stopped : did.ends.status ≡ Failed → (h : History) → HasAnswered did.old h rs a → HasCleanDisk (state_of did.new) → IsStoppedAt did.new h rs a did.ends.out
+    pub notes : HidesNoForeign did
+    pub stopped : did.ends.status ≡ Failed → (h : History) → HasAnsweredNone did.old h rs → HasCleanDisk (state_of did.new) → IsStoppedAt did.new h rs did.ends.out
     pub told : did.ends.status ≡ Failed → IsUnread OfInput did
-        ⊎ PrintsFailure (λ failure. IsOfRun did.old did.new (λ h. HasAnswered did.old h rs a) failure × IsOfReplies did.ends.out failure) did.ends.errors
+        ⊎ PrintsFailure (λ failure. IsOfRun did.old did.new (λ h. HasAnsweredNone did.old h rs) failure × IsOfReplies did.ends.out failure) did.ends.errors
     pub poisoned : is_poisoned did.old ≡ true → (did.ends.status ≡ Failed) × (did.new ≡ did.old) × (did.ends.out.new.contents ≡ did.ends.out.old.contents)
         × PrintsFailure (λ failure. (failure ≡ Poisoned) ⊎ OfInput failure) did.ends.errors
     pub endures : Endures (state_of did.old) (state_of did.new)
 
-  -- What a command on request lines did. Ok: these requests were read, and the first a of them were answered before. Err: this
-  -- is the first line that is not a request.
+  -- What a command on request lines did. Ok: these requests were read, and those after the first a acted on, of whatever
+  -- history the registry represents. Err: this is the first line that is not a request.
   abbrev pub IsApplied : (Failure → Type 0) → Effect S g → Result (List Request) BadLine → ℕ → Type 0
   IsApplied OfInput did (Err bad) a = IsRejected OfInput did (bad_line_text bad)
-  IsApplied OfInput did (Ok rs) a = (length rs < a → IsRejected OfInput did exceeds_text) × (a ≤ length rs → IsRun OfInput did rs a)
+  IsApplied OfInput did (Ok rs) a = (length rs < a → IsRejected OfInput did exceeds_text) × (a ≤ length rs → IsRun OfInput did (drop a rs))

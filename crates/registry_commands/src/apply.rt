@@ -1,11 +1,11 @@
 //! Acts on request lines over a registry, one after another.
 
-ghost use Rattle.std.specs.Prelude.{◌≡◌, ◌≤◌, ◌⊎◌, ℕ, List, true, false, length, IfErr, Ok, Err, OnOk, OnErr};
+ghost use Rattle.std.specs.Prelude.{◌≡◌, ◌≤◌, ◌⊎◌, ℕ, List, true, false, length, drop, IfErr, None, Ok, Err, OnOk, OnErr};
 ghost use Rattle.sqlite.specs.State.{HasCleanDisk};
 ghost use Rattle.byte_streams.specs.Streams.{MayGive};
 ghost use Rattle.registry_rules.specs.History.{History};
-ghost use Rattle.registry_store.specs.Promise.{Endures, is_poisoned, state_of};
-ghost use Rattle.registry_store.specs.Run.{HasAnswered};
+ghost use Rattle.registry_store.specs.Promise.{Endures, NotesForeign, is_poisoned, state_of};
+ghost use Rattle.registry_store.specs.Run.{HasAnsweredNone};
 ghost use Rattle.registry_commands.specs.Lines.{requests_in};
 ghost use Rattle.registry_commands.specs.Messages.{bad_line_text};
 ghost use Rattle.registry_commands.specs.Apply.{IsApplied, IsOfReplies, IsOfRun, IsStoppedAt, IsThrough, IsUnread};
@@ -33,15 +33,16 @@ fn write_replies<S: Alter, W: Sink>(
 ) -> Result<(), Failure>
     requires { answered ≤ length requests.now }
     ensures same_reference { lines.new.output.ghost_name ≡ lines.old.output.ghost_name }
-    ensures through { (h : History) → HasAnswered registry.old h requests.now answered → HasCleanDisk (state_of registry.new)
-        → OnOk result (IsThrough registry.new h requests.now answered (output_of W.Sink lines.old.output.now lines.new.output.now)) }
-    ensures stopped { (h : History) → HasAnswered registry.old h requests.now answered → HasCleanDisk (state_of registry.new)
-        → OnErr result (IsStoppedAt registry.new h requests.now answered (output_of W.Sink lines.old.output.now lines.new.output.now)) }
-    ensures failure { IfErr result (λ failure. IsOfRun registry.old registry.new (λ h. HasAnswered registry.old h requests.now answered) failure
+    ensures through { (h : History) → HasAnsweredNone registry.old h (drop answered requests.now) → HasCleanDisk (state_of registry.new)
+        → OnOk result (IsThrough registry.new h (drop answered requests.now) (output_of W.Sink lines.old.output.now lines.new.output.now)) }
+    ensures stopped { (h : History) → HasAnsweredNone registry.old h (drop answered requests.now) → HasCleanDisk (state_of registry.new)
+        → OnErr result (IsStoppedAt registry.new h (drop answered requests.now) (output_of W.Sink lines.old.output.now lines.new.output.now)) }
+    ensures failure { IfErr result (λ failure. IsOfRun registry.old registry.new (λ h. HasAnsweredNone registry.old h (drop answered requests.now)) failure
         × IsOfReplies (output_of W.Sink lines.old.output.now lines.new.output.now) failure) }
     ensures when_poisoned { is_poisoned registry.old ≡ true → (result ≡ Err Failure.Poisoned) × (registry.new ≡ registry.old) × (W.contents lines.new.output.now ≡ W.contents lines.old.output.now) }
     ensures kept { OnOk result (W.failures lines.new.output.now ≡ W.failures lines.old.output.now) }
     ensures goes_on { OnOk result (is_poisoned registry.new ≡ false) }
+    ensures notes { OnOk result (NotesForeign registry.old registry.new None) }
     ensures endures { Endures (state_of registry.old) (state_of registry.new) }
 {
     match registry.run_to(requests, answered, lines) {
@@ -60,15 +61,16 @@ fn answer_from<S: Alter, W: Sink>(
     output: &mut W,
 ) -> Result<(), Failure>
     requires { answered ≤ length requests.now }
-    ensures through { (h : History) → HasAnswered registry.old h requests.now answered → HasCleanDisk (state_of registry.new)
-        → OnOk result (IsThrough registry.new h requests.now answered (output_of W.Sink output.old output.new)) }
-    ensures stopped { (h : History) → HasAnswered registry.old h requests.now answered → HasCleanDisk (state_of registry.new)
-        → OnErr result (IsStoppedAt registry.new h requests.now answered (output_of W.Sink output.old output.new)) }
-    ensures failure { IfErr result (λ failure. IsOfRun registry.old registry.new (λ h. HasAnswered registry.old h requests.now answered) failure
+    ensures through { (h : History) → HasAnsweredNone registry.old h (drop answered requests.now) → HasCleanDisk (state_of registry.new)
+        → OnOk result (IsThrough registry.new h (drop answered requests.now) (output_of W.Sink output.old output.new)) }
+    ensures stopped { (h : History) → HasAnsweredNone registry.old h (drop answered requests.now) → HasCleanDisk (state_of registry.new)
+        → OnErr result (IsStoppedAt registry.new h (drop answered requests.now) (output_of W.Sink output.old output.new)) }
+    ensures failure { IfErr result (λ failure. IsOfRun registry.old registry.new (λ h. HasAnsweredNone registry.old h (drop answered requests.now)) failure
         × IsOfReplies (output_of W.Sink output.old output.new) failure) }
     ensures when_poisoned { is_poisoned registry.old ≡ true → (result ≡ Err Failure.Poisoned) × (registry.new ≡ registry.old) × (W.contents output.new ≡ W.contents output.old) }
     ensures kept { OnOk result (W.failures output.new ≡ W.failures output.old) }
     ensures goes_on { OnOk result (is_poisoned registry.new ≡ false) }
+    ensures notes { OnOk result (NotesForeign registry.old registry.new None) }
     ensures endures { Endures (state_of registry.old) (state_of registry.new) }
 {
     let mut lines = ReplyLines { alloc, output };

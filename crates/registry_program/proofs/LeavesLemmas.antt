@@ -1,5 +1,5 @@
 -- What a registry leaves after a command, by the history that it represented.
-use Rattle.std.proofs.Common.{◌≡◌, ◌⊎◌, inl, inr, ℕ, ◌+◌, ◌≤◌, ◌<◌, List, length, take, Option, Some, None, refl, sym, ap, subst, ◌∙◌, arith}
+use Rattle.std.proofs.Common.{◌≡◌, ◌⊎◌, inl, inr, ℕ, ◌+◌, ◌≤◌, ◌<◌, List, length, take, drop, Option, Some, None, refl, sym, ap, subst, ◌∙◌, arith}
 use Rattle.std.specs.Prelude.{◌≢◌, Result, Ok, Err}
 use Rattle.std.proofs.lemmas.List.{take_all}
 use Rattle.std.specs.Io.KnownBytes.{Appends, Keeps}
@@ -17,7 +17,7 @@ use Rattle.registry_store.specs.declared.fault.Fault.{Fault}
 use Rattle.registry_store.specs.declared.registry.Registry.{Registry}
 use Rattle.registry_store.specs.Promise.{Endures, Leaves, Represents, state_of}
 use Rattle.registry_store.specs.Files.{IsEither}
-use Rattle.registry_store.specs.Run.{HasAnswered, IsAfterOrNext}
+use Rattle.registry_store.specs.Run.{HasAnsweredNone, IsAfterOrNext}
 use Rattle.registry_store.proofs.RunLemmas.{leaves_weaker}
 use Rattle.registry_store.proofs.RunToLemmas.{between_all}
 use Rattle.registry_commands.specs.declared.importing.Import.{Import}
@@ -57,9 +57,9 @@ module _ {S : Type 0} {g : Ghosts S} where
 
   -- ---- request lines
 
-  run_leaves : (OfInput : Failure → Type 0) (did : Effect S g) (rs : List Request) (a : ℕ) → a ≤ length rs
-      → IsRun OfInput did rs a → (h : History) → HasAnswered did.old h rs a → HasCleanDisk (state_of did.new) → LeavesSome did.new (IsAfterLines h rs a did.ends.out did.ends.status)
-  run_leaves OfInput did rs a within run h at clean = elim run.statuses [
+  run_leaves : (OfInput : Failure → Type 0) (did : Effect S g) (rs : List Request)
+      → IsRun OfInput did rs → (h : History) → HasAnsweredNone did.old h rs → HasCleanDisk (state_of did.new) → LeavesSome did.new (IsAfterLines h rs did.ends.out did.ends.status)
+  run_leaves OfInput did rs run h at clean = elim run.statuses [
     | inl success ↦
         let through = run.through success h at clean in
         let out = did.ends.out in
@@ -69,11 +69,10 @@ module _ {S : Type 0} {g : Ghosts S} where
           after h (take (n + 1) rs),
           record {
             n = n;
-            from = within;
             within = omega arith;
             whole = λ _. refl;
             middle = out.new.contents;
-            gained = subst (λ (text : List ℕ). Appends out.old.contents out.new.contents text) (sym (ap reply_lines (between_all h rs a n refl))) through.gained.0;
+            gained = subst (λ (text : List ℕ). Appends out.old.contents out.new.contents text) (sym (ap reply_lines (between_all h rs 0 n refl))) through.gained.0;
             begun = prefix_of_any out.new.contents (lines_between h rs n (n + 1));
             next = refl;
             last = inl (refl, keeps_same out.new.contents);
@@ -85,9 +84,8 @@ module _ {S : Type 0} {g : Ghosts S} where
         let n = stopped.n in
         let gained = stopped.gained in
         let next = after h (take (n + 1) rs) in
-        let so_far : (x : History) → ((x ≡ after h (take n rs)) × Keeps gained.0 did.ends.out.new.contents) ⊎ (x ≡ next) → IsAfterLines h rs a did.ends.out did.ends.status x next = λ x last. record {
+        let so_far : (x : History) → ((x ≡ after h (take n rs)) × Keeps gained.0 did.ends.out.new.contents) ⊎ (x ≡ next) → IsAfterLines h rs did.ends.out did.ends.status x next = λ x last. record {
           n = n;
-          from = stopped.from;
           within = stopped.within;
           whole = λ success. absurd (cc (failed, success));
           middle = gained.0;
@@ -103,13 +101,13 @@ module _ {S : Type 0} {g : Ghosts S} where
   ]
 
   pub applied : (OfInput : Failure → Type 0) (did : Effect S g) (read : Result (List Request) BadLine) (a : ℕ) → IsApplied OfInput did read a
-      → (h : History) (rs : List Request) → read ≡ Ok rs → a ≤ length rs → HasAnswered did.old h rs a → HasCleanDisk (state_of did.new)
-      → LeavesSome did.new (IsAfterLines h rs a did.ends.out did.ends.status)
+      → (h : History) (rs : List Request) → read ≡ Ok rs → a ≤ length rs → HasAnsweredNone did.old h (drop a rs) → HasCleanDisk (state_of did.new)
+      → LeavesSome did.new (IsAfterLines h (drop a rs) did.ends.out did.ends.status)
   applied OfInput did (Err bad) a is h rs parsed within at clean = absurd (cc parsed)
   applied OfInput did (Ok read) a is h rs parsed within at clean =
       let same : read ≡ rs = cc parsed in
       let run = subst (λ (x : List Request). IsApplied OfInput did (Ok x) a) same is in
-      run_leaves OfInput did rs a within (run.1 within) h at clean
+      run_leaves OfInput did (drop a rs) (run.1 within) h at clean
 
   pub unacted : (OfInput : Failure → Type 0) (did : Effect S g) (read : Result (List Request) BadLine) (a : ℕ) → IsApplied OfInput did read a
       → ((rs : List Request) → read ≡ Ok rs → length rs < a) → did.new ≡ did.old

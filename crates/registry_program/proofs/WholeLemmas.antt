@@ -1,5 +1,5 @@
 -- What the files of a store hold after a command.
-use Rattle.std.proofs.Common.{◌≡◌, ◌⊎◌, inl, inr, ℕ, ◌+◌, false, List, take, Option, Some, None, refl, sym, subst, ◌∙◌, arith}
+use Rattle.std.proofs.Common.{◌≡◌, ◌⊎◌, inl, inr, ℕ, false, List, take, drop, Option, Some, None, refl, sym, subst, ◌∙◌, arith}
 use Rattle.std.specs.Prelude.{Result, Ok, Err}
 use Rattle.std.proofs.Math.Logic.{∥∥₁_map}
 use Rattle.sqlite_disk.specs.declared.Disk as disk
@@ -146,9 +146,9 @@ module _ {H F I : Type 0} (m : host.Ghosts H F I) (d : disk.Ghosts F) where
             files = over.closes.files;
             used = used old new path ends (ActsOnFile m s file a) over;
             holds = λ h rs parsed within.
-                files_lead_to old new path ends (ActsOnFile m s file a) over same was_clean (after h (take a rs)) (after h (take (a + 1) rs)) (IsAfterLines h rs a ends.out ends.status)
-                (λ x is stands clean. subst (λ (status : ExitStatus). LeavesSome over.after (IsAfterLines h rs a ends.out status)) (sym same)
-                (applied _ did _ a read.3.2 h rs parsed within (at_place over.it h rs a x is stands) clean));
+                files_lead_to old new path ends (ActsOnFile m s file a) over same was_clean h (after h (take 1 (drop a rs))) (IsAfterLines h (drop a rs) ends.out ends.status)
+                (λ x is stands clean. subst (λ (status : ExitStatus). LeavesSome over.after (IsAfterLines h (drop a rs) ends.out status)) (sym same)
+                (applied _ did _ a read.3.2 h rs parsed within (at_place over.it h (drop a rs) 0 x is stands) clean));
             stays = λ none h.
                 files_lead_to old new path ends (ActsOnFile m s file a) over same was_clean h h (Stays h)
                 (λ x is stands clean. stayed over.it over.after h (unacted _ did _ a read.3.2 none) (subst (Represents over.it) (same_of_either h x is) stands) clean);

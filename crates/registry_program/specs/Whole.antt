@@ -1,6 +1,6 @@
 -- What the files of a store hold after a command, and what the outputs have gained, by the history that the files held before
 -- it.
-use Rattle.std.specs.Prelude.{◌≡◌, ◌≢◌, ◌⊎◌, ◌<◌, ◌≤◌, ◌+◌, ⊤, Bool, false, true, ℕ, List, [], ◌++◌, codes, length, take, Option, Some, None, Result, Ok, Err}
+use Rattle.std.specs.Prelude.{◌≡◌, ◌≢◌, ◌⊎◌, ◌<◌, ◌≤◌, ◌+◌, ⊤, Bool, false, true, ℕ, List, [], ◌++◌, codes, length, take, drop, Option, Some, None, Result, Ok, Err}
 use Rattle.std.specs.Io.KnownBytes.{Appends, Keeps}
 use Rattle.std.specs.Str.{bytes_eq}
 use Rattle.sqlite_disk.specs.declared.Disk as disk
@@ -66,16 +66,15 @@ use Rattle.registry_program.specs.Stores.{ClosesStore, IsMissed, IsRunOver, IsUn
 abbrev pub Stays : History → History → History → Type 0
 Stays h x y = (x ≡ h) × (y ≡ h)
 
--- Requests were acted on, of which the first a had been answered before: the reply lines up to the n-th are written, and at
--- the status Success these are all. Then x is the history after the first n requests and y the one after one more. If anything
--- of the next line is written, x is the one after that request too.
-pub record IsAfterLines (h : History) (rs : List Request) (a : ℕ) (out : Output) (status : ExitStatus) (x y : History) : Type 0 where
+-- Requests were acted on: the reply lines to the first n are written, and at the status Success these are all. Then x is the
+-- history after the first n requests and y the one after one more. If anything of the next line is written, x is the one after
+-- that request too.
+pub record IsAfterLines (h : History) (rs : List Request) (out : Output) (status : ExitStatus) (x y : History) : Type 0 where
   pub n : ℕ
-  pub from : a ≤ n
   pub within : n ≤ length rs
   pub whole : status ≡ Success → n ≡ length rs
   pub middle : Option (List ℕ)
-  pub gained : Appends out.old.contents middle (lines_between h rs a n)
+  pub gained : Appends out.old.contents middle (lines_between h rs 0 n)
   pub begun : AppendsPrefix middle out.new.contents (lines_between h rs n (n + 1))
   pub next : y ≡ after h (take (n + 1) rs)
   pub last : ((x ≡ after h (take n rs)) × Keeps middle out.new.contents) ⊎ (x ≡ y)
@@ -169,15 +168,15 @@ module _ {H F I : Type 0} (m : host.Ghosts H F I) (d : disk.Ghosts F) where
       pub reads : m.reads reading read path input
       pub gives : MayGive (s.remaining input) bytes
 
-    -- The lines came from the file at the second path. The store's files held the history after the first `answered` requests of
-    -- these lines, or after one more, as an earlier run may have left them.
+    -- The lines came from the file at the second path. The requests after the first `answered` ones were acted on, whatever
+    -- history the store's files held. An earlier run may have acted on the first of these already.
     pub record IsAppliedTo (old new : H) (path file : List ℕ) (answered : ℕ) (ends : Ends) : Type 0 where
       pub bytes : List ℕ
       pub read : IsReadFrom file bytes
       pub files : Files F
       pub used : IsUsed old new path false files
       pub holds : (h : History) (rs : List Request) → requests_in bytes ≡ Ok rs → answered ≤ length rs
-          → LeadsFilesTo old path files (after h (take answered rs)) (after h (take (answered + 1) rs)) (IsAfterLines h rs answered ends.out ends.status)
+          → LeadsFilesTo old path files h (after h (take 1 (drop answered rs))) (IsAfterLines h (drop answered rs) ends.out ends.status)
       -- otherwise nothing was acted on
       pub stays : ((rs : List Request) → requests_in bytes ≡ Ok rs → length rs < answered) → (h : History) → LeadsFilesTo old path files h h (Stays h)
 
@@ -242,8 +241,8 @@ module _ {H F I : Type 0} (m : host.Ghosts H F I) (d : disk.Ghosts F) where
     pub holds : (h : History) → Legal h → (from : ℕ) → FilesHoldEither from (m.holds old path) h h → AreClean d files.log files.db → HoldEither d from files h h
 
   module _ {R : Type 0} (r : source.Ghosts R) where
-    -- Lines of the record came after those before them, which are blank or its founding. The store at the path was used, and for
-    -- each history that its files held they were replayed over it.
+    -- Lines of the record came after some before them; `performs` says that these are blank or its founding. The store at the path
+    -- was used, and for each history that its files held the lines were replayed over it.
     pub record IsReplayedTo (source : R) (old new : H) (path : List ℕ) (may_make : Bool) (ends : Ends) : Type 0 where
       pub before : List (List ℕ)
       pub lines : List (List ℕ)

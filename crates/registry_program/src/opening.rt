@@ -30,7 +30,7 @@ pub fn connect_to<D: Disk + Drop>(
     }
 }
 
-/// Opens the registry of a store that was just opened. At a fault it leaves the files as they are.
+/// Opens the registry of a store that was just opened. At a fault it gives the files back.
 fn open_on<D: Disk + Drop>(
     alloc: Global,
     conn: Connection<FileStore<D>>,

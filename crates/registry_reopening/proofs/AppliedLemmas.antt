@@ -1,5 +1,5 @@
 -- What is opened after request lines were acted on.
-use Rattle.std.proofs.Common.{◌≡◌, inl, inr, ℕ, ◌+◌, ◌≤◌, List, length, take, Option, Some, None, refl, sym, ap, subst, ◌∙◌, arith}
+use Rattle.std.proofs.Common.{◌≡◌, inl, inr, ℕ, ◌+◌, List, length, take, drop, Option, Some, None, refl, sym, ap, subst, ◌∙◌, arith}
 use Rattle.std.specs.Prelude.{Result, Ok, Err, IfSome}
 use Rattle.std.proofs.Math.Logic.{∥∥₁_map}
 use Rattle.std.proofs.lemmas.List.{take_all}
@@ -14,7 +14,7 @@ use Rattle.registry_tables.specs.Rows.{newest}
 use Rattle.registry_store.specs.declared.registry.Registry.{Registry}
 use Rattle.registry_store.specs.Promise.{Leaves, Represents, state_of}
 use Rattle.registry_store.specs.Files.{IsEither}
-use Rattle.registry_store.specs.Run.{HasAnswered, IsAfterOrNext}
+use Rattle.registry_store.specs.Run.{HasAnswered, HasAnsweredNone, IsAfterOrNext}
 use Rattle.registry_store.proofs.RunLemmas.{leaves_weaker}
 use Rattle.registry_store.proofs.RunToLemmas.{at_place, between_all}
 use Rattle.registry_commands.specs.declared.lines.BadLine.{BadLine}
@@ -50,9 +50,9 @@ module _ {S : Type 0} {g : Ghosts S} where
 
     -- closing the store may print more
     module _ (OfInput : Failure → Type 0) (ends : Ends) (errors : Output) where
-      ran : (rs : List Request) (a : ℕ) → a ≤ length rs → IsRun OfInput (effect first last ends) rs a
-          → (h : History) → Legal h → HasAnswered first h rs a → HasCleanDisk (state_of it) → IsReopenedAfter it h rs a (record ends { errors = errors })
-      ran rs a within run h legal at clean = elim run.statuses [
+      ran : (rs : List Request) → IsRun OfInput (effect first last ends) rs
+          → (h : History) → Legal h → HasAnsweredNone first h rs → HasCleanDisk (state_of it) → IsReopenedAfter it h rs (record ends { errors = errors })
+      ran rs run h legal at clean = elim run.statuses [
         | inl success ↦
             let through = run.through success h at (before clean) in
             let n = length rs in
@@ -61,12 +61,11 @@ module _ {S : Type 0} {g : Ghosts S} where
             leaves_weaker newest (state_of last) (λ x. x ≡ after h rs) (IsAfterOrNext h rs n) (λ x e. inl (e ∙ all)) (through.represents.at.left (before clean)) in
             record {
               n = n;
-              from = within;
               within = omega arith;
               whole = λ _. refl;
               gained = (
                 ends.out.new.contents,
-                subst (λ (text : List ℕ). Appends ends.out.old.contents ends.out.new.contents text) (sym (ap reply_lines (between_all h rs a n refl))) through.gained.0,
+                subst (λ (text : List ℕ). Appends ends.out.old.contents ends.out.new.contents text) (sym (ap reply_lines (between_all h rs 0 n refl))) through.gained.0,
                 prefix_of_any ends.out.new.contents (lines_between h rs n (n + 1)),
                 inl (keeps_same ends.out.new.contents),
               );
@@ -77,7 +76,6 @@ module _ {S : Type 0} {g : Ghosts S} where
             let gained = stopped.gained in
             record {
               n = stopped.n;
-              from = stopped.from;
               within = stopped.within;
               whole = λ success. absurd (cc (failed, success));
               gained = (
@@ -92,7 +90,7 @@ module _ {S : Type 0} {g : Ghosts S} where
 
       reopened : (read : Result (List Request) BadLine) (a : ℕ) → IsApplied OfInput (effect first last ends) read a → IsReopenedAfterLines first read a (record ends { errors = errors }) it
       reopened (Err bad) a is = (is.silent, as_before is.same)
-      reopened (Ok rs) a is = (λ more. let rejected = is.0 more in (rejected.silent, as_before rejected.same), λ within. ran rs a within (is.1 within))
+      reopened (Ok rs) a is = (λ more. let rejected = is.0 more in (rejected.silent, as_before rejected.same), λ within. ran (drop a rs) (is.1 within))
 
   abbrev pub MayOpen : Registry S g → Option (Registry S g) → Type 0
   MayOpen last opened = (h next : History) → Legal h → Legal next → (HasCleanDisk (state_of last) → Leaves newest (state_of last) (IsEither h next))

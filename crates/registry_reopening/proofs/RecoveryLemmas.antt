@@ -14,7 +14,6 @@ use Rattle.registry_store.specs.declared.fault.Fault.TheVariants as faults
 use Rattle.registry_store.specs.declared.registry.Registry.{Registry}
 use Rattle.registry_store.specs.Promise.{Leaves, state_of}
 use Rattle.registry_store.specs.Files.{IsEither}
-use Rattle.registry_store.specs.Run.{IsAfterOrNext}
 use Rattle.registry_reopening.specs.Runs.{EndsRun}
 use Rattle.registry_store.proofs.RunToLemmas.{length_answers}
 
@@ -23,22 +22,22 @@ module _ {S : Type 0} {g : Ghosts S} (it : Registry S g) (h : History) (rs : Lis
   as_many all = sym (ap length all ∙ length_answers h rs)
 
   -- a crash leaves the answered requests, or one more
-  pub run_leaves : (fault : Option Fault) → EndsRun it h rs 0 replies fault → HasCleanDisk (state_of it)
+  pub run_leaves : (fault : Option Fault) → EndsRun it h rs replies fault → HasCleanDisk (state_of it)
       → Leaves newest (state_of it) (IsEither (after h (take (length replies) rs)) (after h (take (length replies + 1) rs)))
-  run_leaves None done clean db may =
+  run_leaves None done clean = λ db may.
       let x = done.represents.at.left clean db may in
       let whole : take (length replies) rs ≡ rs = take_all (length replies) rs (omega (arith, as_many done.all)) in
       (x.0, inl (x.1 ∙ ap (after h) (sym whole)), x.2)
-  run_leaves (Some fault) stopped clean db may = subst (λ n. (x : History) × IsAfterOrNext h rs n x × Rattle.registry_tables.specs.Rows.Rows newest db x) (omega arith) (stopped.leaves db may)
+  run_leaves (Some fault) stopped clean = stopped.leaves
 
-  pub run_answers : (fault : Option Fault) → EndsRun it h rs 0 replies fault → replies ≡ take (length replies) (replies_to h rs)
+  pub run_answers : (fault : Option Fault) → EndsRun it h rs replies fault → replies ≡ take (length replies) (replies_to h rs)
   run_answers None done = done.all ∙ sym (take_all (length replies) (replies_to h rs) (omega (arith, ap length done.all)))
   run_answers (Some fault) stopped = stopped.front
 
-  pub run_is_done : (fault : Option Fault) → EndsRun it h rs 0 replies fault → fault ≡ None → replies ≡ replies_to h rs
+  pub run_is_done : (fault : Option Fault) → EndsRun it h rs replies fault → fault ≡ None → replies ≡ replies_to h rs
   run_is_done None done is = done.all
   run_is_done (Some fault) stopped is = absurd cc
 
-  pub run_stops : (fault : Option Fault) → EndsRun it h rs 0 replies fault → IfSome fault (λ why. (length replies < length rs) × ((why ≡ faults.Store) ⊎ (why ≡ faults.NoMemory)))
+  pub run_stops : (fault : Option Fault) → EndsRun it h rs replies fault → IfSome fault (λ why. (length replies < length rs) × ((why ≡ faults.Store) ⊎ (why ≡ faults.NoMemory)))
   run_stops None done = tt
-  run_stops (Some fault) stopped = (omega (arith, stopped.within), stopped.kind)
+  run_stops (Some fault) stopped = (stopped.within, stopped.kind)

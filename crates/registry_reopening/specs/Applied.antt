@@ -1,5 +1,5 @@
 -- What the next opening of a store finds after request lines were acted on.
-use Rattle.std.specs.Prelude.{◌≡◌, ◌⊎◌, ◌<◌, ◌≤◌, ◌+◌, ℕ, List, length, take, Option, Result, Ok, Err}
+use Rattle.std.specs.Prelude.{◌≡◌, ◌⊎◌, ◌<◌, ◌≤◌, ◌+◌, ℕ, List, length, take, drop, Option, Result, Ok, Err}
 use Rattle.std.specs.Io.KnownBytes.{Appends, Keeps}
 use Rattle.sqlite.specs.Store.{Ghosts}
 use Rattle.sqlite.specs.State.{HasCleanDisk}
@@ -10,7 +10,7 @@ use Rattle.registry_rules.specs.History.{History}
 use Rattle.registry_rules.specs.Run.{Legal, after}
 use Rattle.registry_store.specs.declared.registry.Registry.{Registry}
 use Rattle.registry_store.specs.Promise.{Represents, state_of}
-use Rattle.registry_store.specs.Run.{HasAnswered}
+use Rattle.registry_store.specs.Run.{HasAnswered, HasAnsweredNone}
 use Rattle.registry_commands.specs.declared.lines.BadLine.{BadLine}
 use Rattle.registry_commands.specs.declared.messages.Failure.{Failure}
 use Rattle.registry_commands.specs.declared.status.ExitStatus.{ExitStatus}
@@ -36,19 +36,18 @@ module _ {S : Type 0} {g : Ghosts S} where
 
   -- The reply lines of the requests up to the n-th are written; at the status Success these are all requests. The opened
   -- registry has acted on these n requests, and on at most one more: on that one if anything of its line is written.
-  pub record IsReopenedAfter (it : Registry S g) (h : History) (rs : List Request) (a : ℕ) (ends : Ends) : Type 0 where
+  pub record IsReopenedAfter (it : Registry S g) (h : History) (rs : List Request) (ends : Ends) : Type 0 where
     pub n : ℕ
-    pub from : a ≤ n
     pub within : n ≤ length rs
     pub whole : ends.status ≡ Success → n ≡ length rs
-    pub gained : (middle : Option (List ℕ)) × Appends ends.out.old.contents middle (lines_between h rs a n) × AppendsPrefix middle ends.out.new.contents (lines_between h rs n (n + 1))
+    pub gained : (middle : Option (List ℕ)) × Appends ends.out.old.contents middle (lines_between h rs 0 n) × AppendsPrefix middle ends.out.new.contents (lines_between h rs n (n + 1))
         × (Keeps middle ends.out.new.contents ⊎ ∥ Represents it (after h (take (n + 1) rs)) ∥₁)
     pub answered : ∥ HasAnswered it h rs n ∥₁
 
-  -- The registry that is opened after the first one. Ok: these requests were read, and the first a of them were answered
-  -- before. Err: this was the first line that is not a request.
+  -- The registry that is opened after the first one. Ok: these requests were read, and those after the first a acted on. Err:
+  -- this was the first line that is not a request.
   abbrev pub IsReopenedAfterLines : Registry S g → Result (List Request) BadLine → ℕ → Ends → Registry S g → Type 0
   IsReopenedAfterLines first (Err bad) a ends it = IsReopenedAsBefore first it ends.out
   IsReopenedAfterLines first (Ok rs) a ends it =
       (length rs < a → IsReopenedAsBefore first it ends.out)
-      × (a ≤ length rs → (h : History) → Legal h → HasAnswered first h rs a → HasCleanDisk (state_of it) → IsReopenedAfter it h rs a ends)
+      × (a ≤ length rs → (h : History) → Legal h → HasAnsweredNone first h (drop a rs) → HasCleanDisk (state_of it) → IsReopenedAfter it h (drop a rs) ends)

@@ -1,11 +1,11 @@
 //! A run whose replies go to a list.
 
-ghost use Rattle.std.specs.Prelude.{◌≡◌, ◌≢◌, ◌≤◌, ◌⊎◌, true, false, [], length, Some, None, IfSome};
+ghost use Rattle.std.specs.Prelude.{◌≡◌, ◌≢◌, ◌≤◌, ◌⊎◌, true, false, [], length, drop, Some, None, IfSome};
 ghost use Rattle.sqlite.specs.State.{HasCleanDisk};
 ghost use Rattle.registry_rules.specs.History.{History};
 ghost use Rattle.registry_rules.specs.Run.{Legal, after};
 ghost use Rattle.registry_store.specs.Promise.{Endures, is_poisoned, poisoned_by, state_of};
-ghost use Rattle.registry_store.specs.Run.{HasAnswered, NameOneOrganisation};
+ghost use Rattle.registry_store.specs.Run.{HasAnsweredNone, NameOneOrganisation};
 ghost use Rattle.registry_reopening.specs.Runs.{EndsRun};
 
 use registry_rules::{Reply, Request};
@@ -37,8 +37,8 @@ pub fn run_from<S: Alter>(
     ensures when_poisoned { is_poisoned registry.old ≡ true → (result.fault ≡ Some Fault.Poisoned) × (result.replies.items ≡ []) × (registry.new ≡ registry.old) }
     ensures only_poisoned { result.fault ≡ Some Fault.Poisoned → is_poisoned registry.old ≡ true }
     ensures never_taken { result.fault ≢ Some Fault.Taken }
-    ensures run { (h : History) → HasAnswered registry.old h requests.now answered → HasCleanDisk (state_of registry.new)
-        → EndsRun registry.new h requests.now answered result.replies.items result.fault }
+    ensures run { (h : History) → HasAnsweredNone registry.old h (drop answered requests.now) → HasCleanDisk (state_of registry.new)
+        → EndsRun registry.new h (drop answered requests.now) result.replies.items result.fault }
 
     // A fault poisons the registry. If it does not, memory ran out before the first request.
     ensures ends { IfSome result.fault (λ fault. (is_poisoned registry.new ≡ true) ⊎ ((fault ≡ Fault.NoMemory) × (result.replies.items ≡ []) × (registry.new ≡ registry.old))) }

@@ -23,12 +23,12 @@ pub fn leave_store<D: Disk + Drop>(conn: Connection<FileStore<D>>) -> Files<D>
     conn.into_store().close()
 }
 
-/// The files of a closed store, and why its log was not copied into its database file.
+/// The files of a closed store, and why closing it failed, if it did.
 #[derive(Drop)]
 pub struct Closed<D: Disk> {
     /// The files of the store.
     pub files: Files<D>,
-    /// The error of the store if the log was not copied into the database file; `None` if it was.
+    /// The error of the store; `None` only if the log was copied into the database file.
     pub error: Option<Error>,
 }
 

@@ -1,12 +1,12 @@
 use Rattle.std.proofs.Common.{◌≡◌, inl, ◌∙◌, refl, sym, subst, rules, arith, length, ◌+◌, ◌++◌, take, []}
+use Rattle.std.specs.Prelude.{Some}
 use Rattle.std.proofs.Math.Logic.{∥∥₁_map, ∥∥₁_elim}
 use Rattle.sqlite.specs.State.{HasCleanDisk}
 use Rattle.registry_rules.specs.Run.{after, replies_to}
 use Rattle.registry_store.specs.Promise.{connection_of, state_of}
 use Rattle.registry_store.specs.Run.{HasAnswered}
-use Rattle.registry_reopening.specs.Runs.{EndsRun, IsStopped}
 use Rattle.registry_rules.proofs.RunLemmas.{legal_after}
-use Rattle.registry_reopening.proofs.RunThroughLemmas.{always_clean, ended, goes_on, so_far}
+use Rattle.registry_reopening.proofs.RunThroughLemmas.{EndsNext, always_clean, ended, ends_next, goes_on, leaves_so_far, so_far}
 use Rattle.registry_reopening.proofs.resuming.run_through.Goals as goal
 
 pub returns-in-None-clause-ended : goal.returns-in-None-clause-ended
@@ -19,9 +19,7 @@ returns-in-None-clause-ended g c h stands clean =
     let pushed : c.append.new.self.items ≡ old ++ more = search rules in
     let count : c.len-in-stops.result ≡ length old = search rules in
     ∥∥₁_map (c.stops.invariant.at h stands early) (λ inv.
-    let end : EndsRun last h rs (length old) more c.run_from-more.result.fault =
-    subst (λ n. EndsRun last h rs n more c.run_from-more.result.fault) count
-    (c.run_from-more.ensures.run h (subst (HasAnswered c.stops.registry h rs) (sym count) inv.0) clean) in
+    let end = ends_next h rs old more c.stops.registry last c.len-in-stops.result c.run_from-more.result.fault count inv.0 (λ x at. c.run_from-more.ensures.run x at clean) in
     let done = ended h rs old more inv.1 last (rw c.in-None.is at end) in
     (pushed ∙ done.0, done.1))
 
@@ -48,12 +46,10 @@ stops-preserved g c = record {
       let now = c.in-Some-crash_until_open.registry in
       let legal = stands.legal_with.legal in
       ∥∥₁_elim (c.stops.invariant.at h stands early) squash₁ (λ inv.
-      let end : EndsRun last h rs (length old) more c.run_from-more.result.fault =
-      subst (λ n. EndsRun last h rs n more c.run_from-more.result.fault) count
-      (c.run_from-more.ensures.run h (subst (HasAnswered c.stops.registry h rs) (sym count) inv.0) mid) in
-      let stopped : IsStopped last h rs (length old) more c.in-Some.field-0 = rw c.in-Some.is at end in
+      let end = ends_next h rs old more c.stops.registry last c.len-in-stops.result c.run_from-more.result.fault count inv.0 (λ x at. c.run_from-more.ensures.run x at mid) in
+      let stopped : EndsNext h rs old more last (Some c.in-Some.field-0) = rw c.in-Some.is at end in
       let place = length old + length more in
-      ∥∥₁_map (c.in-Some-crash_until_open.ensures.represents (after h (take place rs)) (after h (take (place + 1) rs)) (legal_after h (take place rs) legal) (legal_after h (take (place + 1) rs) legal) (λ _. stopped.leaves) clean)
+      ∥∥₁_map (c.in-Some-crash_until_open.ensures.represents (after h (take place rs)) (after h (take (place + 1) rs)) (legal_after h (take place rs) legal) (legal_after h (take (place + 1) rs) legal) (λ _. leaves_so_far h rs old more inv.1 last _ stopped) clean)
       (λ it. subst (λ y. HasAnswered now h rs (length y) × (y ≡ take (length y) (replies_to h rs))) (sym pushed)
       (goes_on h rs old more inv.1 last _ stopped now it.0 it.1 it.2)));
 }
@@ -86,8 +82,6 @@ returns-in-None-crash_until_open-clause-unfinished g c h stands word =
     let count : c.len-in-stops.result ≡ length old = search rules in
     subst (λ xs. ∥ (xs ≡ take (length xs) (replies_to h rs)) ∥₁) (sym pushed)
     (∥∥₁_map (c.stops.invariant.at h stands early) (λ inv.
-    let end : EndsRun last h rs (length old) more c.run_from-more.result.fault =
-    subst (λ n. EndsRun last h rs n more c.run_from-more.result.fault) count
-    (c.run_from-more.ensures.run h (subst (HasAnswered c.stops.registry h rs) (sym count) inv.0) mid) in
-    let stopped : IsStopped last h rs (length old) more c.in-Some.field-0 = rw c.in-Some.is at end in
+    let end = ends_next h rs old more c.stops.registry last c.len-in-stops.result c.run_from-more.result.fault count inv.0 (λ x at. c.run_from-more.ensures.run x at mid) in
+    let stopped : EndsNext h rs old more last (Some c.in-Some.field-0) = rw c.in-Some.is at end in
     so_far h rs old more inv.1 last _ stopped))

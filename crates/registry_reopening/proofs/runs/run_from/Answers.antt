@@ -1,4 +1,4 @@
-use Rattle.std.proofs.Common.{◌≡◌, ◌-◌, ◌≤◌, ◌∙◌, inl, inr, List, [], ◌++◌, drop, length, ap, arith, vec_capacity}
+use Rattle.std.proofs.Common.{◌≡◌, ◌-◌, ◌≤◌, ◌∙◌, inl, inr, List, [], ◌++◌, drop, length, length-drop, ap, arith, vec_capacity}
 use Rattle.registry_rules.specs.declared.verdict.Reply.{Reply}
 use Rattle.registry_rules.specs.Run.{after, replies_to}
 use Rattle.registry_rules.proofs.RunLemmas.{legal_after}
@@ -10,19 +10,20 @@ pub returns-in-Ok-run_to-clause-run : goal.returns-in-Ok-run_to-clause-run
 returns-in-Ok-run_to-clause-run g c h at clean =
     let got = c.in-Ok-run_to.ensures.through h at clean in
     let none : c.in-Ok.replies.items ≡ [] = c.in-Ok.ensures.items in
-    let rest = drop c.args.answered (replies_to h c.args.requests.now) in
+    let rest = replies_to h (drop c.args.answered c.args.requests.now) in
     record { all = (listed c.in-Ok.replies c.run_to.new.replies rest got.0).0 ∙ ap (λ (xs : List Reply). xs ++ rest) none; represents = got.1 }
 
 pub returns-in-Err-Fault-clause-run : goal.returns-in-Err-Fault-clause-run
 returns-in-Err-Fault-clause-run g c h at clean =
     let stop = rw c.in-Err-Fault.field-0-is at (c.in-Err-Fault.ensures.stopped h at clean) in
-    stopped_list c.run_to.new.self h c.args.requests.now c.args.answered stop.0 c.in-Ok.replies c.run_to.new.replies c.in-Ok.ensures.items c.in-Err-Fault.fault stop.1
+    stopped_list c.run_to.new.self h (drop c.args.answered c.args.requests.now) stop.0 c.in-Ok.replies c.run_to.new.replies c.in-Ok.ensures.items c.in-Err-Fault.fault stop.1
 
 pub returns-in-Err-Cut-clause-run : goal.returns-in-Err-Cut-clause-run
 returns-in-Err-Cut-clause-run g c h at clean =
     let stop = rw c.in-Err-Cut.field-0-is at (c.in-Err-Cut.ensures.stopped h at clean) in
-    let room : length c.args.requests.now - c.args.answered ≤ vec_capacity c.in-Ok.replies = omega (arith, c.in-Ok.ensures.exact) in
-    absurd (has_room c.run_to.new.self h c.args.requests.now c.args.answered stop.0 c.in-Ok.replies c.run_to.new.replies c.in-Ok.ensures.items room stop.1)
+    let rest = drop c.args.answered c.args.requests.now in
+    let room : length rest ≤ vec_capacity c.in-Ok.replies = omega (arith, c.in-Ok.ensures.exact, length-drop c.args.answered c.args.requests.now) in
+    absurd (has_room c.run_to.new.self h rest stop.0 c.in-Ok.replies c.run_to.new.replies c.in-Ok.ensures.items room stop.1)
 
 pub returns-in-Ok-run_to-clause-one_owner : goal.returns-in-Ok-run_to-clause-one_owner
 returns-in-Ok-run_to-clause-one_owner g c h legal n deed org has gives = one_organisation (after h c.args.requests.now) (legal_after h c.args.requests.now legal) n deed org has gives

@@ -18,7 +18,7 @@ pub returns : goal.returns
 returns g c =
     let q = queried c.in_ok-check_not_poisoned.ensures.sound refl refl refl c.first_licences-licences.ensures.looked_up c.in_ok-first.ensures in
     record {
-      query = made q (λ h stands is _.
+      query = made q (λ h stands is.
           c.in_ok-with_licences.ensures
           ∙ founding_is h c.founding-2.result.now c.in_ok-first.first (c.founding-2.ensures h (q.left.stays h stands)) (is (c.founding.ensures h stands.legal_with.totals_are).allowed));
     }
