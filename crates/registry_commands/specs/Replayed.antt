@@ -11,7 +11,6 @@ use Rattle.registry_rules.specs.declared.order.Request.{Request}
 use Rattle.registry_rules.specs.declared.verdict.Reply.{Reply}
 use Rattle.registry_rules.specs.declared.verdict.Reply.TheVariants.{Done}
 use Rattle.registry_rules.specs.declared.founding.Founding.{Founding}
-use Rattle.registry_rules.specs.Accepted.{AreValid}
 use Rattle.registry_rules.specs.History.{History, founded}
 use Rattle.registry_rules.specs.Run.{Legal, after, after_one, replies_to, reply_to}
 use Rattle.registry_tables.specs.Rows.{Rows, newest}
@@ -210,17 +209,19 @@ module _ {S : Type 0} {g : Ghosts S} where
 
   -- The registry was founded like this, by the lines of the two foundings; or it was not; or it could not be read.
   abbrev pub ChecksAs : Registry S g → Registry S g → ℕ → Founding → Result (Unit {0}) ReplayStop → Type 0
-  ChecksAs it new number founding (Ok done) = HoldsOfHistory it new (λ h. AreValid h.deeds → founding_line h.founding ≡ founding_line founding)
+  ChecksAs it new number founding (Ok done) = HoldsOfHistory it new (λ h. founding_line h.founding ≡ founding_line founding)
   ChecksAs it new number founding (Err (stop.Line n why)) =
-      (n ≡ number) × (why ≡ OtherFounding) × HoldsOfHistory it new (λ h. AreValid h.deeds → founding_line h.founding ≢ founding_line founding)
+      (n ≡ number) × (why ≡ OtherFounding) × HoldsOfHistory it new (λ h. founding_line h.founding ≢ founding_line founding)
   ChecksAs it new number founding (Err (stop.Reply n reply)) = ⊥
   ChecksAs it new number founding (Err (stop.Failure failure)) = IsOfReading it new failure
 
-  -- so it was checked; and unless that ended with Foreign, no rows of no history were found
+  -- So it was checked; and unless that ended with Foreign, no rows of no history were found. If the registry is poisoned, that
+  -- ends it.
   pub record IsChecked (it new : Registry S g) (number : ℕ) (founding : Founding) (result : Result (Unit {0}) ReplayStop) : Type 0 where
     pub left : IsUntouched it new
     pub found : ChecksAs it new number founding result
     pub notes : NotesForeign it new (foreign_in result)
+    pub poisoned : is_poisoned it ≡ true → (new ≡ it) × (result ≡ Err (stop.Failure Poisoned))
 
   -- If a read failed, that ended the replay, and all whole lines that had been read were acted on. Any read may fail, so none is
   -- made before that.

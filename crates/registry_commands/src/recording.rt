@@ -129,10 +129,8 @@ fn put_founding<S: Alter, W: Sink>(
     output: &mut W,
 ) -> Result<(), Failure>
     ensures left { IsUntouched registry.old registry.new }
-    ensures ok { OnOk result (HoldsOfHistory registry.old registry.new (λ h. AreValid h.deeds
-        → Appends (W.contents output.old) (W.contents output.new) (founding_line h.founding ++ 10 ∷ []))) }
-    ensures err { OnErr result (HoldsOfHistory registry.old registry.new (λ h. AreValid h.deeds
-        → AppendsPrefix (W.contents output.old) (W.contents output.new) (founding_line h.founding ++ 10 ∷ []))) }
+    ensures ok { OnOk result (HoldsOfHistory registry.old registry.new (λ h. Appends (W.contents output.old) (W.contents output.new) (founding_line h.founding ++ 10 ∷ []))) }
+    ensures err { OnErr result (HoldsOfHistory registry.old registry.new (λ h. AppendsPrefix (W.contents output.old) (W.contents output.new) (founding_line h.founding ++ 10 ∷ []))) }
     ensures kept { OnOk result (W.failures output.new ≡ W.failures output.old) }
     ensures failure { IfErr result (λ failure. IsOfRecord registry.old registry.new failure × IsOfOutput (W.failures output.old) (W.failures output.new) failure) }
     ensures when_poisoned { is_poisoned registry.old ≡ true → (result ≡ Err Failure.Poisoned) × (registry.new ≡ registry.old) × (output.new ≡ output.old) }

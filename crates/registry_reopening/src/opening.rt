@@ -1,6 +1,6 @@
 //! A registry that is abandoned, and the one that is opened in its files.
 
-ghost use Rattle.std.specs.Prelude.{◌≡◌, ℕ, IsTrue, IfSome, IfOk, IfErr};
+ghost use Rattle.std.specs.Prelude.{◌≡◌, ℕ, IsTrue, None, IfSome, IfOk, IfErr, IsErrAnd};
 ghost use Rattle.sqlite.specs.State.{HasCleanDisk};
 ghost use Rattle.sqlite.specs.View.{IsClean};
 ghost use Rattle.sqlite.specs.Files.{file_state, image_of, IsOpened};
@@ -40,12 +40,13 @@ pub fn leave<D: Disk + Drop>(registry: Registry<FileStore<D>>) -> Files<D>
     leave_store(registry.into_connection())
 }
 
-/// Opens the registry of a connection to files. Returns `None` after a fault.
+/// Opens the registry of a connection to files that was just opened. Returns `None` after a fault.
 pub fn open_on<D: Disk + Drop>(
     alloc: Global,
     conn: Connection<FileStore<D>>,
 ) -> Option<Registry<FileStore<D>>>
     ensures clean { IfSome result (λ it. HasCleanDisk (state_of it) → HasCleanDisk (file_state conn)) }
+    ensures busy { IsTrue conn.in_transaction → result ≡ None }
     ensures represents { (from : ℕ) (image : Image) (h next : History) → Legal h → Legal next
         → (HasCleanDisk (file_state conn) → IsOpened conn × FindsIn image (file_state conn) × FilesHoldEither from image h next)
         → IfSome result (λ it. HasCleanDisk (state_of it) → ∥ ((x : History) × IsEither h next x × Represents it x) ∥₁) }
@@ -57,12 +58,14 @@ pub fn open_on<D: Disk + Drop>(
 }
 
 /// Opens the registry of a connection to files, like `open_on`. After a fault it returns the
-/// connection: what a crash then leaves of its files holds the rows of one of the two histories.
+/// connection: what a crash then leaves of its files holds the rows of one of the two histories. If a
+/// transaction is open it does nothing.
 pub fn open_on_or_return<D: Disk + Drop>(
     alloc: Global,
     conn: Connection<FileStore<D>>,
 ) -> Result<Registry<FileStore<D>>, Connection<FileStore<D>>>
     ensures clean { IfOk result (λ it. HasCleanDisk (state_of it) → HasCleanDisk (file_state conn)) }
+    ensures busy { IsTrue conn.in_transaction → IsErrAnd result (λ left. left ≡ conn) }
     ensures returned { IfErr result (λ left. HasCleanDisk (file_state left) → HasCleanDisk (file_state conn)) }
     ensures represents { (from : ℕ) (image : Image) (h next : History) → Legal h → Legal next
         → (HasCleanDisk (file_state conn) → IsOpened conn × FindsIn image (file_state conn) × FilesHoldEither from image h next)

@@ -19,7 +19,7 @@ returns-in-Ok-put_requests-clause-left g c = untouched_then c.args.registry.now 
 pub returns-in-Ok-put_requests-clause-ok : goal.returns-in-Ok-put_requests-clause-ok
 returns-in-Ok-put_requests-clause-ok g c = rw c.in-None.is (λ h stands clean valid.
     let early = clean_before c.put_founding.new.registry c.put_requests-in-Ok.new.registry c.in-Ok-put_requests.ensures.left clean in
-    appends_then _ _ _ _ _ (c.in-Ok.ensures.ok h stands early valid) (c.in-Ok-put_requests.ensures.ok h (c.in-Ok.ensures.left.stays h stands) clean valid))
+    appends_then _ _ _ _ _ (c.in-Ok.ensures.ok h stands early) (c.in-Ok-put_requests.ensures.ok h (c.in-Ok.ensures.left.stays h stands) clean valid))
 
 pub returns-in-Ok-put_requests-clause-when_poisoned : goal.returns-in-Ok-put_requests-clause-when_poisoned
 returns-in-Ok-put_requests-clause-when_poisoned g c is = let failed = c.in-Ok.ensures.when_poisoned is in absurd (cc failed.0)
@@ -34,7 +34,7 @@ returns-in-Err-put_requests-clause-left g c = untouched_then c.args.registry.now
 pub returns-in-Err-put_requests-clause-err : goal.returns-in-Err-put_requests-clause-err
 returns-in-Err-put_requests-clause-err g c = rw c.in-None.is (λ h stands clean valid.
     let early = clean_before c.put_founding.new.registry c.put_requests-in-Ok.new.registry c.in-Err-put_requests.ensures.left clean in
-    appends_prefix_then _ _ _ _ _ (c.in-Ok.ensures.ok h stands early valid) (c.in-Err-put_requests.ensures.err h (c.in-Ok.ensures.left.stays h stands) clean valid))
+    appends_prefix_then _ _ _ _ _ (c.in-Ok.ensures.ok h stands early) (c.in-Err-put_requests.ensures.err h (c.in-Ok.ensures.left.stays h stands) clean valid))
 
 pub returns-in-Err-put_requests-clause-failure : goal.returns-in-Err-put_requests-clause-failure
 returns-in-Err-put_requests-clause-failure g c =
@@ -47,4 +47,4 @@ pub returns-in-Err-put_requests-clause-when_poisoned : goal.returns-in-Err-put_r
 returns-in-Err-put_requests-clause-when_poisoned g c is = let failed = c.in-Ok.ensures.when_poisoned is in absurd (cc failed.0)
 
 pub returns-in-Err-clause-err : goal.returns-in-Err-clause-err
-returns-in-Err-clause-err g c = rw c.in-None.is (λ h stands clean valid. appends_prefix_more _ _ _ _ (c.in-Err.ensures.err h stands clean valid))
+returns-in-Err-clause-err g c = rw c.in-None.is (λ h stands clean valid. appends_prefix_more _ _ _ _ (c.in-Err.ensures.err h stands clean))
