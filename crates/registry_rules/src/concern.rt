@@ -49,7 +49,8 @@ pub fn petition_concerned(order: &Order) -> Option<u32>
 }
 
 /// Returns the vendor that the order concerns: the one that it names, or its petition's, otherwise
-/// the founding vendor. `petition` is the petition that the order names.
+/// the founding vendor. An order that adds a vendor concerns the founding one. `petition` is the
+/// petition that the order names.
 #[tactic(auto, unfolding(crate::specs::FactsOf::vendor_concerned, crate::specs::FactsOf::petition_named))]
 pub fn vid_concerned(order: &Order, founding: Vid, petition: Option<&Petition>) -> Vid
     ensures { (h : History) → founding ≡ h.founding.vendor → option_copied petition.entry ≡ petition_named h order.now → result ≡ vendor_concerned h order.now }
