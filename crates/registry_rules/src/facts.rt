@@ -78,9 +78,10 @@ pub struct Facts<'a> {
     pub petition: Option<Petition>,
     /// The number of petitions.
     pub petitions: u32,
-    /// The holdings of the numbers that the order concerns, and perhaps of others, in any order.
+    /// The holdings of the numbers that the order concerns, in any order. What it says of other
+    /// numbers does not matter.
     pub holdings: Holdings,
-    /// The numbers of the vendor concerned that are owned or reserved.
+    /// The numbers of the vendor concerned that are owned, and perhaps reserved ones.
     pub taken: &'a Spans,
     /// The reserved numbers of the vendor concerned, including the fixed ones. The other taken
     /// numbers are the owned ones.
