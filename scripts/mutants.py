@@ -13,8 +13,8 @@ What is not refused beside others is tried again alone.
 Usage: scripts/mutants.py [--jobs N] [--edits FOLDER] [NAME | NAME/EDIT ..], by default all of mutants/, or of FOLDER.
 Run `rt ci` on the same files first: the script takes it that each crate is proved as it stands, and checks over the
 libraries that the run left. The first check of a crate proves what its edits leave, unless `rt check` kept that; later
-checks take it from there, and check the functions of their edits alone. The last line counts the edits, and the exit status is 0 if all were refused. With
---self-test it tries edits of a small crate that it writes."""
+checks take it from there, and check the functions of their edits alone. The last line counts the edits, and the exit
+status is 0 if all were refused. With --self-test it tries edits of a small crate that it writes."""
 
 import argparse
 import concurrent.futures
