@@ -1,23 +1,14 @@
 -- What a crash leaves if a registry represents one of two histories.
-use Rattle.std.proofs.Common.{inl, inr, refl, arith}
+use Rattle.std.proofs.Common.{inl, inr}
 use Rattle.sqlite.specs.Store.{Ghosts}
 use Rattle.sqlite.specs.State.{HasCleanDisk}
 use Rattle.registry_rules.specs.History.{History}
 use Rattle.registry_store.specs.declared.registry.Registry.{Registry as TheRegistry}
 use Rattle.registry_store.specs.Promise.{Represents, state_of}
-use Rattle.registry_store.specs.Queries.{IsUntouched}
 use Rattle.registry_desk.specs.declared.fault.DeskFault.TheVariants.{NoMemory}
 use Rattle.registry_desk.specs.Acting.{IsLeftUnavailable}
 
 module _ {S : Type 0} {g : Ghosts S} where
-  -- a registry that is not asked is left as it is
-  pub left_same : (it : TheRegistry S g) → IsUntouched it it
-  left_same it = record {
-    stays = λ h stands. stands;
-    poisons_nothing = refl;
-    survives = record { clean = omega arith; shield = λ is. is; counts = omega arith; limit = refl; closes = λ clean is. inl is; crash = λ clean db may. inl may };
-  }
-
   -- a crash leaves the history that the registry represents: the first of two
   pub left_first : (it : TheRegistry S g) (h next : History) → Represents it h → HasCleanDisk (state_of it) → IsLeftUnavailable NoMemory it h next
   left_first it h next stands clean = record {

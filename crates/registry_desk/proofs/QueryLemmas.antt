@@ -8,13 +8,13 @@ use Rattle.registry_store.specs.declared.fault.Fault.{Fault}
 use Rattle.registry_store.specs.declared.fault.Fault.TheVariants as faults
 use Rattle.registry_store.specs.declared.registry.Registry.{Registry as TheRegistry}
 use Rattle.registry_store.specs.Promise.{Represents, is_poisoned}
+use Rattle.registry_store.proofs.IsQueryLemmas.{untouched_itself}
 use Rattle.registry_store.specs.Queries.{IsQuery}
 use Rattle.registry_http.specs.declared.response.Response.{Response}
 use Rattle.registry_desk.specs.declared.fault.DeskFault.{DeskFault}
 use Rattle.registry_desk.specs.declared.fault.DeskFault.TheVariants.{NoMemory, Registry}
 use Rattle.registry_desk.specs.Acting.{IsAsked, IsOfQuery}
 use Rattle.registry_desk.specs.Faults.{failed_by}
-use Rattle.registry_desk.proofs.AskLemmas.{left_same}
 
 -- a query may have this fault
 of_query : (e : Fault) → e ≢ faults.NoMemory → (e ≡ faults.Store) ⊎ (e ≡ faults.NoMemory) → IsOfQuery (Registry e)
@@ -101,7 +101,7 @@ module _ {S : Type 0} {g : Ghosts S} {it : TheRegistry S g} {To : History → Re
     only_poisoned = λ never. absurd cc;
     answered = λ h stands clean. make h stands;
     kind = λ h stands clean. tt;
-    left = left_same it;
+    left = untouched_itself it;
     notes = refl;
   }
   told_same (Err fault) sound err make = subst (λ (f : DeskFault). IsAsked it it (Err f) To) (sym err) (record {
@@ -109,7 +109,7 @@ module _ {S : Type 0} {g : Ghosts S} {it : TheRegistry S g} {To : History → Re
     only_poisoned = λ never. absurd cc;
     answered = λ h stands clean. tt;
     kind = λ h stands clean. inl refl;
-    left = left_same it;
+    left = untouched_itself it;
     notes = refl;
   })
 
@@ -123,6 +123,6 @@ module _ {S : Type 0} {g : Ghosts S} {it : TheRegistry S g} {To : History → Re
         only_poisoned = λ is. spent;
         answered = λ h stands clean. tt;
         kind = λ h stands clean. let never = found h stands in absurd (cc never);
-        left = left_same it;
+        left = untouched_itself it;
         notes = refl;
       })

@@ -20,6 +20,7 @@ use Rattle.registry_store.specs.Promise.{IsAt, IsLegalWith, NotesForeign, Repres
 use Rattle.registry_store.specs.Queries.{IsNoted, IsQuery, IsUntouched}
 use Rattle.registry_store.proofs.OpeningLemmas.{earlier, rows_now, still_at}
 use Rattle.registry_store.proofs.QueryLemmas.{listed}
+use Rattle.registry_store.proofs.TransactionLemmas.{quiet_itself}
 
 -- ---- the faults of the tables
 
@@ -113,6 +114,10 @@ no_fault (Some fault) is = absurd cc
 -- what an `act` notes with its fault: the registry was not poisoned before
 pub not_met : {S : Type 0} {g : Ghosts S} (it : Registry S g) (fault : Fault) → is_poisoned it ≡ false → (is_foreign (Some fault) || has_met_foreign it) ≡ (is_foreign (Some fault) || it.foreign)
 not_met it fault sound = ap (λ (b : Bool). is_foreign (Some fault) || (b || it.foreign)) (no_fault (poisoned_by it) sound)
+
+-- a registry that stays as it is
+pub untouched_itself : {S : Type 0} {g : Ghosts S} (it : Registry S g) → IsUntouched it it
+untouched_itself it = record { stays = λ h stands. stands; poisons_nothing = refl; survives = quiet_itself (state_of it) }
 
 -- what a call notes after one without a fault
 pub notes_then : {S : Type 0} {g : Ghosts S} (it mid new : Registry S g) (fault : Option Fault) → NotesForeign it mid None → NotesForeign mid new fault → NotesForeign it new fault

@@ -57,6 +57,10 @@ module _ (old mid new : State) (before after : Totals) (r : Request) (d : Deed) 
   wrote (Ok x) second kept = wrote_both second kept
   wrote (Err e) second kept = second
 
+-- a state that stays as it is
+pub quiet_itself : (s : State) → CommitsNothing s s
+quiet_itself s = record { clean = omega arith; shield = λ x. x; counts = omega arith; limit = refl; closes = λ _ o. inl o; crash = λ _ db may. inl may }
+
 pub quiet_then : (a b c : State) → CommitsNothing a b → CommitsNothing b c → CommitsNothing a c
 quiet_then a b c p q = survives_then a b c _ _ (λ _. ⊥) (λ _ db none. none) (λ _ db none. none) p q
 

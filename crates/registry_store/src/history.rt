@@ -34,10 +34,10 @@ impl<S: Alter> Registry<S> {
     /// # Errors
     ///
     /// `Fault::Poisoned` if the registry is poisoned, without a store call. `Fault::NoMemory` if out
-    /// of memory for the rows or the list. `Fault::Store` if the store refuses or fails, if it holds
-    /// an order that is not valid, or if `after` is 2^32 or more. `Fault::Foreign` if the rows are
-    /// those of no history; a registry that represents a history over a clean disk never returns it.
-    /// The registry stays as it was.
+    /// of memory for the rows or the list. `Fault::Store` if the store refuses or fails, or holds an
+    /// order that is not valid; it may also come if `after` is 2^32 or more. `Fault::Foreign` only if
+    /// the rows are those of no history; a registry that represents one over a clean disk never
+    /// returns it. The registry still represents its history, and nothing is committed.
     pub fn accepted_after(&mut self, after: u64, most: u32) -> Result<Vec<Accepted>, Fault>
         ensures query { IsQuery self.old self.new result (λ h list. AreValid h.deeds → list.items ≡ take most (drop after (accepted_of h.deeds))) }
     {
@@ -55,10 +55,10 @@ impl<S: Alter> Registry<S> {
     /// # Errors
     ///
     /// `Fault::Poisoned` if the registry is poisoned, without a store call. `Fault::NoMemory` if out
-    /// of memory for the rows or the founding. `Fault::Store` if the store refuses or fails.
-    /// `Fault::Foreign` if the rows are those of no history; a registry that represents a history
-    /// over a clean disk never returns it. The registry still represents its history, and nothing is
-    /// committed.
+    /// of memory for the rows or the founding. `Fault::Store` if the store refuses or fails, or if
+    /// later deeds allow all licences, which no history has. `Fault::Foreign` only if the rows are
+    /// those of no history; a registry that represents one over a clean disk never returns it. The
+    /// registry still represents its history, and nothing is committed.
     pub fn first_founding(&mut self) -> Result<Founding, Fault>
         ensures query { IsQuery self.old self.new result (λ h founding. founding ≡ h.founding) }
     {

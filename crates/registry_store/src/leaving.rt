@@ -12,8 +12,8 @@ ghost use Rattle.registry_store.specs.Files.{AreClosed, IsEither, IsUncopied, Ho
 use sqlite::{Connection, Error, FileStore, Files};
 use sqlite_disk::Disk;
 
-/// Returns the files of an abandoned store, as a process that dies leaves them: its log is not
-/// copied into its database file.
+/// Returns the files of an abandoned store, as a process that dies leaves them. Its log is not
+/// copied into its database file; no clause says so.
 pub fn leave_store<D: Disk + Drop>(conn: Connection<FileStore<D>>) -> Files<D>
     ensures closed { AreClosed conn result }
     ensures clean { AreClean D.Disk result.log result.db → HasCleanDisk (file_state conn) }

@@ -16,7 +16,7 @@ use Rattle.registry_store.specs.Promise.{NotesForeign, Represents, is_poisoned, 
 use Rattle.registry_store.specs.Queries.{IsUntouched, IsQuery}
 use Rattle.registry_views.specs.Records.{IsBegun, IsPageText, IsRecordPage, lines_after}
 use Rattle.registry_views.proofs.RecordLemmas.{begun_empty, never_full}
-use Rattle.registry_store.proofs.IsQueryLemmas.{notes_then}
+use Rattle.registry_store.proofs.IsQueryLemmas.{notes_then, untouched_itself}
 use Rattle.registry_views.proofs.ViewLemmas.{clean_before, left_then, sound}
 
 -- what one piece finds
@@ -37,7 +37,7 @@ module _ {S : Type 0} {g : Ghosts S} where
   none_read it after page none = record {
     start = λ is. refl;
     later = λ less. absurd (omega (arith, less));
-    left = record { stays = λ h stands. stands; poisons_nothing = refl; survives = record { clean = omega arith; shield = λ is. is; counts = omega arith; limit = refl; closes = λ clean is. inl is; crash = λ clean db may. inl may } };
+    left = untouched_itself it;
     notes = refl;
     begun = λ h stands clean valid. let count : page.count ≡ 0 = none.1 in (begun_empty (lines_after h after) page none, omega (arith, count), omega (arith, count));
   }
