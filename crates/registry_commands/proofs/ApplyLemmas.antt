@@ -13,6 +13,7 @@ use Rattle.registry_store.specs.declared.registry.Registry.{Registry}
 use Rattle.registry_store.specs.Promise.{Endures, state_of}
 use Rattle.registry_store.specs.Run.{HasAnsweredNone}
 use Rattle.registry_store.proofs.RunToLemmas.{place_left}
+use Rattle.registry_store.proofs.TransactionLemmas.{quiet_itself}
 use Rattle.registry_commands.specs.declared.lines.BadLine.{BadLine}
 use Rattle.registry_commands.specs.declared.messages.Failure.{Failure}
 use Rattle.registry_commands.specs.declared.messages.Failure.TheVariants.{Poisoned}
@@ -76,6 +77,7 @@ module _ {S : Type 0} {g : Ghosts S} where
       notes = λ success. absurd (cc (failed, success));
       stopped = λ _ h at clean. stopped_before it h (drop a rs) out at clean;
       told = λ _. inl (record { same = refl; silent = (keeps_same out.contents, refl); told = told });
+      no_deed = λ h stands none clean. quiet_itself (state_of it);
       poisoned = λ _. (failed, refl, refl, tells_more OfInput (λ failure. (failure ≡ Poisoned) ⊎ OfInput failure) errors (λ failure is. inr is) told);
       endures = endures_itself (state_of it);
     },
@@ -109,6 +111,7 @@ module _ {S : Type 0} {g : Ghosts S} where
         tells_more (λ failure. (failure ≡ Poisoned) ⊎ OfMemory failure) (λ failure. (failure ≡ Poisoned) ⊎ OfInput failure) did.ends.errors
             (λ failure. elim [ inl e ↦ inl e | inr m ↦ inr (more failure m) ]) all.3,
       );
+      no_deed = is.no_deed;
       endures = is.endures;
     }
 

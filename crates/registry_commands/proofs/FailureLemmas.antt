@@ -1,6 +1,6 @@
 -- Which failure is printed, from the step that failed up to the whole command.
 use Rattle.std.proofs.Common.{◌≡◌, ◌⊎◌, inl, inr, ℕ, ◌≤◌, List, length, refl, sym, subst, arith}
-use Rattle.std.specs.Prelude.{◌≢◌, Bool, Some, Result, Ok, Err, IfErr, true, false}
+use Rattle.std.specs.Prelude.{◌≢◌, Bool, Some, None, Result, Ok, Err, IfErr, true, false}
 use Rattle.sqlite.specs.declared.error.Error.{Error}
 use Rattle.sqlite.specs.Store.{Ghosts}
 use Rattle.sqlite.specs.State.{HasCleanDisk}
@@ -9,7 +9,7 @@ use Rattle.registry_rules.specs.History.{History}
 use Rattle.registry_store.specs.declared.fault.Fault.{Fault}
 use Rattle.registry_store.specs.declared.fault.Fault.TheVariants as faults
 use Rattle.registry_store.specs.declared.registry.Registry.{Registry}
-use Rattle.registry_store.specs.Promise.{is_poisoned, poisoned_by, state_of}
+use Rattle.registry_store.specs.Promise.{NotesForeign, is_poisoned, poisoned_by, state_of}
 use Rattle.registry_commands.specs.declared.input.ReadAllFault.{ReadAllFault}
 use Rattle.registry_commands.specs.declared.input.ReadAllFault.TheVariants as inputs
 use Rattle.registry_commands.specs.declared.messages.Failure.{Failure}
@@ -61,9 +61,10 @@ not_of_output old new same faults.Poisoned = same
 
 module _ {S : Type 0} {g : Ghosts S} where
   -- a reply that is not written stops a run, over a registry that is not poisoned
-  pub of_reply : (it new : Registry S g) (These : History → Type 0) (failure : Failure) → is_poisoned new ≡ false → (failure ≡ Memory) ⊎ (failure ≡ File) → IsOfRun it new These failure
-  of_reply it new These failure on (inl is) = subst (λ (f : Failure). IsOfRun it new These f) (sym is) (inr on)
-  of_reply it new These failure on (inr is) = subst (λ (f : Failure). IsOfRun it new These f) (sym is) on
+  pub of_reply : (it new : Registry S g) (These : History → Type 0) (failure : Failure) → is_poisoned new ≡ false → NotesForeign it new None → (failure ≡ Memory) ⊎ (failure ≡ File)
+      → IsOfRun it new These failure
+  of_reply it new These failure on notes (inl is) = subst (λ (f : Failure). IsOfRun it new These f) (sym is) (inr on, notes)
+  of_reply it new These failure on notes (inr is) = subst (λ (f : Failure). IsOfRun it new These f) (sym is) (on, notes)
 
   -- the registry keeps a fault that is its first
   keeps_fault : (it new : Registry S g) (fault : Fault) → (is_poisoned it ≡ true → fault ≡ faults.Poisoned) → (is_poisoned it ≡ false → poisoned_by new ≡ Some fault) → fault ≢ faults.Poisoned
@@ -76,14 +77,14 @@ module _ {S : Type 0} {g : Ghosts S} where
 
   -- a fault of the registry stops a run
   pub of_fault : (it new : Registry S g) (These : History → Type 0) (fault : Fault) → (fault ≡ faults.Poisoned → is_poisoned it ≡ true) → (is_poisoned it ≡ true → fault ≡ faults.Poisoned)
-      → (is_poisoned it ≡ false → poisoned_by new ≡ Some fault) → (fault ≡ faults.Taken → ⊥)
+      → (is_poisoned it ≡ false → poisoned_by new ≡ Some fault) → NotesForeign it new (Some fault) → (fault ≡ faults.Taken → ⊥)
       → ((h : History) → These h → HasCleanDisk (state_of new) → (fault ≡ faults.Store) ⊎ (fault ≡ faults.NoMemory)) → IsOfRun it new These (failure_of fault)
-  of_fault it new These faults.Store poisoned spent keeps never kind = keeps_fault it new faults.Store spent keeps (λ e. absurd cc)
-  of_fault it new These faults.NoMemory poisoned spent keeps never kind = inl (keeps_fault it new faults.NoMemory spent keeps (λ e. absurd cc))
-  of_fault it new These faults.Foreign poisoned spent keeps never kind =
+  of_fault it new These faults.Store poisoned spent keeps notes never kind = (keeps_fault it new faults.Store spent keeps (λ e. absurd cc), notes)
+  of_fault it new These faults.NoMemory poisoned spent keeps notes never kind = (inl (keeps_fault it new faults.NoMemory spent keeps (λ e. absurd cc)), notes)
+  of_fault it new These faults.Foreign poisoned spent keeps notes never kind =
       (keeps_fault it new faults.Foreign spent keeps (λ e. absurd cc), λ at. elim (kind at.0 at.1 at.2) [ inl e ↦ absurd cc | inr e ↦ absurd cc ])
-  of_fault it new These faults.Taken poisoned spent keeps never kind = never refl
-  of_fault it new These faults.Poisoned poisoned spent keeps never kind = poisoned refl
+  of_fault it new These faults.Taken poisoned spent keeps notes never kind = never refl
+  of_fault it new These faults.Poisoned poisoned spent keeps notes never kind = poisoned refl
 
   -- a sound registry over a clean disk
   pub of_sound_run : (it new : Registry S g) (These : History → Type 0) (h : History) → These h → is_poisoned it ≡ false → HasCleanDisk (state_of new)

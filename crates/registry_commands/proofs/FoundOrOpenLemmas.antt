@@ -1,5 +1,5 @@
 -- A connection that shows the rows of a history has the table meta. What an opening or a founding that failed leaves.
-use Rattle.std.proofs.Common.{◌≡◌, ◌⊎◌, ◌∙◌, inl, inr, false, refl, true≢false, ℕ, IsTrue, true, ap, arith, subst, sym}
+use Rattle.std.proofs.Common.{◌≡◌, ◌⊎◌, ◌∙◌, inl, inr, Bool, false, refl, true≢false, ℕ, IsTrue, true, ap, arith, subst, sym}
 use Rattle.sqlite.specs.Held.{Held, state}
 use Rattle.sqlite.specs.State.{State, HasCleanDisk, IsLive, Survives}
 use Rattle.sqlite.specs.Store.{Ghosts}
@@ -15,12 +15,13 @@ use Rattle.registry_tables.specs.Raising.{CommitsLater, IsNamedOlder}
 use Rattle.registry_tables.specs.Rows.{HasValues, Rows}
 use Rattle.registry_store.specs.declared.fault.Fault.{Fault}
 use Rattle.registry_store.specs.declared.fault.Fault.TheVariants as faults
+use Rattle.registry_store.specs.declared.registry.Registry.{Registry}
 use Rattle.registry_store.specs.Promise.{IsFreshAt, LeavesLater}
 use Rattle.registry_commands.specs.declared.messages.Failure.{Failure}
 use Rattle.registry_commands.specs.declared.messages.Failure.TheVariants.{Foreign}
 use Rattle.registry_commands.specs.Messages.{failure_of}
 use Rattle.registry_commands.specs.Failures.{IsOfOpening}
-use Rattle.registry_commands.specs.Replayed.{CommitsFirst, CommitsIfEmpty, CommitsIfOlder, IsLeft, IsLeftFound}
+use Rattle.registry_commands.specs.Replayed.{CommitsFirst, CommitsIfEmpty, CommitsIfOlder, IsFoundOrOpen, IsLeft, IsLeftFound, IsOpen}
 use Rattle.registry_store.proofs.OpeningLemmas.{at_rest}
 
 has_meta : (vid version : ℕ) (t : Tables) (s : State) → IsLive s → IsTrue s.is_open → HasValues version vid s.now.trees t → has_meta_table s.now.schema ≡ true
@@ -36,6 +37,11 @@ pub fresh_meta : (version : ℕ) (s : State) (h : History) → IsLive s → IsFr
 fresh_meta version s h live fresh clean =
     let shown = fresh clean in
     rows_meta version s h live shown.0 (subst (λ db. Rows version db.trees h) (sym shown.1) shown.2)
+
+-- what is not so is false
+pub is_not : (b : Bool) → (IsTrue b → ⊥) → b ≡ false
+is_not true not = absurd (not refl)
+is_not false not = refl
 
 -- a connection at rest leaves what it shows
 pub fresh_leaves : {S : Type 0} (g : Ghosts S) (conn : Held S) (version : ℕ) (h : History)
@@ -84,11 +90,29 @@ module _ {S : Type 0} (g : Ghosts S) (conn : Held S) (founding : Founding) where
     left_same : (failure : Failure) (last : Held S) → IsLeft g (CommitsIfOlder (state g conn)) conn failure last → IsLeftFound g conn founding failure last
     left_same failure last is = record {
       kind = is.kind;
+      idle = is.idle;
+      busy = is.busy;
       survives = survives_as _ _ (CommitsIfOlder (state g conn)) (CommitsFirst founding (state g conn)) (λ db made. inr made) is.survives;
       leaves = is.leaves;
       clean = is.clean;
       foreign = is.foreign;
     }
+
+    opened_same : has_meta_table (state g conn).now.schema ≡ true → (it : Registry S g) → IsOpen g conn it → IsFoundOrOpen g conn founding it
+    opened_same meta it is = record {
+      is_new = is.is_new;
+      idle = is.idle;
+      survives = survives_as _ _ (CommitsIfOlder (state g conn)) (CommitsFirst founding (state g conn)) (λ db made. inr made) is.survives;
+      empty = λ none. absurd (true≢false (sym meta ∙ none));
+      opened = λ live. is.opened;
+      founds = λ none. absurd (true≢false (sym meta ∙ none));
+      known = inr is.known;
+      clean = is.clean;
+    }
+
+    -- the registry that is there was opened
+    pub opened_there : has_meta_table (state g conn).now.schema ≡ true → (it : Registry S g) → IsOpen g there it → IsFoundOrOpen g conn founding it
+    opened_there meta it is = opened_same meta it (subst (λ (c : Held S). IsOpen g c it) same is)
 
     -- the registry that is there could not be opened
     pub left_there : (failure : Failure) (last : Held S) → IsLeft g (CommitsIfOlder (state g there)) there failure last → IsLeftFound g conn founding failure last
@@ -97,17 +121,20 @@ module _ {S : Type 0} (g : Ghosts S) (conn : Held S) (founding : Founding) where
   -- A founding failed. Where the connection shows a history it is left as it was.
   pub left_found : (last : Held S) (fault : Fault) (failure : Failure) → failure ≡ failure_of fault → (fault ≢ faults.Poisoned) × (fault ≢ faults.Foreign) → fault ≢ faults.Taken
       → ((s : S) (db : Trees) → IsTrue (g.view s).is_open → g.recovers s db → db ≡ (g.view s).committed)
-      → (has_meta_table (state g conn).now.schema ≡ false) ⊎ IsTrue conn.in_transaction → (IsTrue conn.in_transaction → last ≡ conn)
+      → (has_meta_table (state g conn).now.schema ≡ false) ⊎ IsTrue conn.in_transaction
+      → (conn.in_transaction ≡ false → last.in_transaction ≡ false) → (IsTrue conn.in_transaction → (fault ≡ faults.Store) × (last ≡ conn))
       → Survives (state g conn) (state g last) (CommitsIfEmpty founding (state g conn)) → IsLeftFound g conn founding failure last
-  left_found last fault failure failure_is kind free settled untaken busy survives =
+  left_found last fault failure failure_is kind free settled untaken idle busy survives =
       let was : HasCleanDisk (state g last) → HasCleanDisk (state g conn) = λ clean. omega (arith, survives.clean, clean) in
       record {
         kind = subst IsOfOpening (sym failure_is) (of_opening fault kind.0 free);
+        idle = idle;
+        busy = λ inside. let left = busy inside in (failure_is ∙ ap failure_of left.0, left.1);
         survives = survives_as _ _ (CommitsIfEmpty founding (state g conn)) (CommitsFirst founding (state g conn)) (λ db made. inl made) survives;
         leaves = λ live version h legal fresh clean.
             let same : last ≡ conn = elim untaken [
               | inl none ↦ absurd (true≢false (sym (fresh_meta version (state g conn) h live fresh (was clean)) ∙ none))
-              | inr inside ↦ busy inside
+              | inr inside ↦ (busy inside).1
             ] in
             subst (λ (c : Held S). LeavesLater version (state g c) h) (sym same) (fresh_leaves g conn version h settled fresh (was clean));
         clean = was;

@@ -47,5 +47,5 @@ module _ {S : Type 0} {g : Ghosts S} where
   replied did r reply on notes acted (inr failed) = inr (record {
     status_is = failed.0;
     cut = λ h may clean. cut_at did.new h r did.ends.out reply (acted h may clean) clean failed.1;
-    told = let t = failed.2 in (t.0, (of_reply did.old did.new (λ h. MayHaveBeenActedOn did.old h r) t.0 on t.1.0.0, t.1.0.1, λ other. t.1.1 (elim t.1.0.0 [ inl memory ↦ memory | inr file ↦ absurd (other file) ])), t.2);
+    told = let t = failed.2 in (t.0, (of_reply did.old did.new (λ h. MayHaveBeenActedOn did.old h r) t.0 on notes t.1.0.0, t.1.0.1, λ other. t.1.1 (elim t.1.0.0 [ inl memory ↦ memory | inr file ↦ absurd (other file) ])), t.2);
   })

@@ -1,5 +1,5 @@
 -- The lines of accepted requests, piece by piece.
-use Rattle.std.proofs.Common.{◌≡◌, inl, inr, ℕ, ◌+◌, ◌<◌, zero, suc, List, [], ◌∷◌, ◌++◌, length, take, drop, get_or, Option, refl, sym, ap, subst, ◌∙◌, arith, append_assoc, append-nil, add-one, drop-drop}
+use Rattle.std.proofs.Common.{◌≡◌, ◌⊎◌, inl, inr, ℕ, ◌+◌, ◌<◌, zero, suc, List, [], ◌∷◌, ◌++◌, length, take, drop, get_or, Option, refl, sym, ap, subst, ◌∙◌, arith, append_assoc, append-nil, add-one, drop-drop}
 use Rattle.std.specs.Prelude.{None, Result, Ok, Err, OnErr}
 use Rattle.std.proofs.Math.Seq.{take-suc, drop-cons}
 use Rattle.std.proofs.lemmas.List.{take-append-drop}
@@ -14,7 +14,7 @@ use Rattle.registry_rules.specs.History.{History}
 use Rattle.registry_store.specs.declared.registry.Registry.{Registry}
 use Rattle.registry_store.specs.Promise.{NotesForeign, Represents, state_of}
 use Rattle.registry_store.specs.Queries.{IsUntouched}
-use Rattle.registry_store.proofs.IsQueryLemmas.{notes_then}
+use Rattle.registry_store.proofs.IsQueryLemmas.{notes_then, untouched_itself}
 use Rattle.registry_store.proofs.TransactionLemmas.{quiet_then}
 use Rattle.registry_commands.specs.declared.messages.Failure.{Failure}
 use Rattle.registry_commands.specs.declared.messages.Failure.TheVariants as of
@@ -75,13 +75,6 @@ module _ {S : Type 0} {g : Ghosts S} where
 
   pub clean_before : (mid new : Registry S g) → IsUntouched mid new → HasCleanDisk (state_of new) → HasCleanDisk (state_of mid)
   clean_before mid new b clean = let more = b.survives.clean in omega (arith, more, clean)
-
-  pub untouched_itself : (it : Registry S g) → IsUntouched it it
-  untouched_itself it = record {
-    stays = λ h stands. stands;
-    poisons_nothing = refl;
-    survives = record { clean = omega arith; shield = λ x. x; counts = omega arith; limit = refl; closes = λ _ o. inl o; crash = λ _ db may. inl may };
-  }
 
   -- a failure of a later reading
   pub of_later : (it mid new : Registry S g) → IsUntouched it mid → NotesForeign it mid None → (failure : Failure) → IsOfReading mid new failure → IsOfReading it new failure
@@ -158,4 +151,4 @@ module _ {S : Type 0} {g : Ghosts S} where
 module _ {S : Type 0} {g : Ghosts S} where
   -- a failure of writing a later piece
   pub of_later_record : (it mid new : Registry S g) → IsUntouched it mid → NotesForeign it mid None → (failure : Failure) → IsOfRecord mid new failure → IsOfRecord it new failure
-  of_later_record it mid new left notes failure why = elim why [ inl file ↦ inl file | inr reading ↦ inr (of_later it mid new left notes failure reading) ]
+  of_later_record it mid new left notes failure why = elim why [ inl file ↦ inl (file.0, notes_then it mid new None notes file.1) | inr reading ↦ inr (of_later it mid new left notes failure reading) ]

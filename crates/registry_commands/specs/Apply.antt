@@ -1,5 +1,5 @@
 -- What is written, and what the registry represents, after request lines were acted on.
-use Rattle.std.specs.Prelude.{◌≡◌, ◌≢◌, ◌⊎◌, ◌<◌, ◌≤◌, ◌+◌, ℕ, true, false, List, length, take, drop, Option, Some, Result, Ok, Err}
+use Rattle.std.specs.Prelude.{◌≡◌, ◌≢◌, ◌⊎◌, ◌<◌, ◌≤◌, ◌+◌, ℕ, true, false, All, List, length, take, drop, Option, Some, None, Result, Ok, Err}
 use Rattle.std.specs.Io.KnownBytes.{Appends, Keeps}
 use Rattle.sqlite.specs.Store.{Ghosts}
 use Rattle.sqlite.specs.State.{HasCleanDisk}
@@ -8,10 +8,12 @@ use Rattle.registry_rules.specs.declared.order.Request.{Request}
 use Rattle.registry_rules.specs.declared.verdict.Reply.{Reply}
 use Rattle.registry_rules.specs.History.{History}
 use Rattle.registry_rules.specs.Run.{after, replies_to}
+use Rattle.table_laws.specs.Inside.{CommitsNothing}
 use Rattle.registry_tables.specs.Rows.{newest}
 use Rattle.registry_store.specs.declared.fault.Fault.TheVariants as faults
 use Rattle.registry_store.specs.declared.registry.Registry.{Registry}
-use Rattle.registry_store.specs.Promise.{Endures, Leaves, Represents, is_poisoned, poisoned_by, state_of}
+use Rattle.registry_store.specs.Attempt.{AddsNoDeed}
+use Rattle.registry_store.specs.Promise.{Endures, Leaves, NotesForeign, Represents, is_poisoned, poisoned_by, state_of}
 use Rattle.registry_store.specs.Run.{HasAnswered, HasAnsweredNone, IsAfterOrNext}
 use Rattle.registry_commands.specs.declared.lines.BadLine.{BadLine}
 use Rattle.registry_commands.specs.declared.messages.Failure.{Failure}
@@ -34,14 +36,15 @@ IsOfReplies out failure =
 module _ {S : Type 0} {g : Ghosts S} where
   -- The failures of a run over this registry. Store, Memory and Foreign: the registry had this fault, and is poisoned by it.
   -- Memory also: memory ran out for a reply line, and the registry is not poisoned. Foreign: it represented none of these
-  -- histories, or the disk is not clean. Poisoned: it was poisoned before. Never Taken. A file fails only if the output did.
+  -- histories, or the disk is not clean. Poisoned: it was poisoned before. Never Taken. A file fails only if the output did. At
+  -- Store, Memory and File no call found the rows of no history, if none had before.
   abbrev pub IsOfRun : Registry S g → Registry S g → (History → Type 0) → Failure → Type 0
-  IsOfRun it new These Store = poisoned_by new ≡ Some faults.Store
-  IsOfRun it new These Memory = (poisoned_by new ≡ Some faults.NoMemory) ⊎ (is_poisoned new ≡ false)
+  IsOfRun it new These Store = (poisoned_by new ≡ Some faults.Store) × NotesForeign it new None
+  IsOfRun it new These Memory = ((poisoned_by new ≡ Some faults.NoMemory) ⊎ (is_poisoned new ≡ false)) × NotesForeign it new None
   IsOfRun it new These Foreign = (poisoned_by new ≡ Some faults.Foreign) × ¬ ((h : History) × These h × HasCleanDisk (state_of new))
   IsOfRun it new These Poisoned = is_poisoned it ≡ true
   IsOfRun it new These Taken = ⊥
-  IsOfRun it new These File = is_poisoned new ≡ false
+  IsOfRun it new These File = (is_poisoned new ≡ false) × NotesForeign it new None
 
   -- All requests are answered: their reply lines are written, and the registry represents the history after them.
   pub record IsThrough (it : Registry S g) (h : History) (rs : List Request) (out : Output) : Type 0 where
@@ -72,8 +75,8 @@ module _ {S : Type 0} {g : Ghosts S} where
     pub told : PrintsFailure OfInput did.ends.errors
 
   -- The requests were acted on in turn: all of them, or up to a failure. The first one may have been acted on before. After all
-  -- of them the registry is not poisoned, whatever its store holds. A poisoned registry acts on none, no reply is written, and
-  -- the error output says that it is poisoned, or that the input failed or memory ran out.
+  -- of them the registry is not poisoned, whatever its store holds. Repeats and refused requests commit nothing. A poisoned registry
+  -- acts on none, no reply is written, and the error output says that it is poisoned, or that the input failed or memory ran out.
   pub record IsRun (OfInput : Failure → Type 0) (did : Effect S g) (rs : List Request) : Type 0 where
     pub statuses : (did.ends.status ≡ Success) ⊎ (did.ends.status ≡ Failed)
     pub through : did.ends.status ≡ Success → (h : History) → HasAnsweredNone did.old h rs → HasCleanDisk (state_of did.new) → IsThrough did.new h rs did.ends.out
@@ -86,6 +89,7 @@ module _ {S : Type 0} {g : Ghosts S} where
         ⊎ PrintsFailure (λ failure. IsOfRun did.old did.new (λ h. HasAnsweredNone did.old h rs) failure × IsOfReplies did.ends.out failure) did.ends.errors
     pub poisoned : is_poisoned did.old ≡ true → (did.ends.status ≡ Failed) × (did.new ≡ did.old) × (did.ends.out.new.contents ≡ did.ends.out.old.contents)
         × PrintsFailure (λ failure. (failure ≡ Poisoned) ⊎ OfInput failure) did.ends.errors
+    pub no_deed : (h : History) → Represents did.old h → All (AddsNoDeed h) rs → HasCleanDisk (state_of did.new) → CommitsNothing (state_of did.old) (state_of did.new)
     pub endures : Endures (state_of did.old) (state_of did.new)
 
   -- What a command on request lines did. Ok: these requests were read, and those after the first a acted on, of whatever

@@ -1,5 +1,5 @@
 -- What is read of a founding file, and what a founding does to its connection.
-use Rattle.std.specs.Prelude.{◌≡◌, ◌⊎◌, IsTrue, Result, Ok, Err}
+use Rattle.std.specs.Prelude.{◌≡◌, ◌⊎◌, false, IsTrue, Result, Ok, Err}
 use Rattle.sqlite.specs.Store.{Ghosts}
 use Rattle.sqlite.specs.State.{HasCleanDisk, Survives}
 use Rattle.sqlite.specs.Held.{Held, state}
@@ -44,11 +44,12 @@ module _ {S : Type 0} (g : Ghosts S) where
   IsOfFounding old new _ = ⊥
 
   -- A founding was attempted. Whether it failed or not, a crash leaves what it could leave before or, if the store had no
-  -- table, the whole new registry. Nothing is done in a transaction that is open.
+  -- table, the whole new registry; and no transaction is left open. Nothing is done in one that was open before.
   pub record IsTriedOn (did : Attempt S) (founding : Founding) : Type 0 where
     pub survives : Survives (state g did.old) (state g did.new) (λ db. ((state g did.old).now.schema ≡ no_schema) × Rows newest db (founded founding))
     pub ends : ((did.status ≡ Success) × IsFounded did.old did.new founding × PrintsNothing did.errors)
         ⊎ ((did.status ≡ Failed) × PrintsFailure (IsOfFounding did.old did.new) did.errors)
+    pub idle : did.old.in_transaction ≡ false → did.new.in_transaction ≡ false
     pub busy : IsTrue did.old.in_transaction → (did.status ≡ Failed) × (did.new ≡ did.old)
 
 -- What is read of a founding file, by what it lists or by its first fault: the founding, and nothing is printed; or the exit

@@ -16,8 +16,10 @@ use Rattle.registry_rules.specs.declared.verdict.Reply.{Reply}
 use Rattle.registry_rules.specs.declared.verdict.Reply.TheVariants.{Done, Refused}
 use Rattle.registry_rules.specs.History.{History}
 use Rattle.registry_rules.specs.Run.{after_one, reply_to}
+use Rattle.table_laws.specs.Inside.{CommitsNothing}
 use Rattle.registry_tables.specs.Rows.{newest}
 use Rattle.registry_store.specs.declared.registry.Registry.{Registry}
+use Rattle.registry_store.specs.Attempt.{AddsNoDeed}
 use Rattle.registry_store.specs.Promise.{Endures, Leaves, NotesForeign, Represents, is_poisoned, state_of}
 use Rattle.registry_store.specs.RunTo.{MayHaveBeenActedOn}
 use Rattle.registry_wire.specs.Import.{import_of}
@@ -112,10 +114,11 @@ module _ {S : Type 0} {g : Ghosts S} where
     pub told : PrintsFailure (λ failure. IsOfRun did.old did.new (λ h. MayHaveBeenActedOn did.old h r) failure × IsOfOutput did.ends.out.old.failures did.ends.out.new.failures failure
         × (failure ≢ File → did.ends.out.new.contents ≡ did.ends.out.old.contents)) did.ends.errors
 
-  -- One request was acted on, or stopped by a failure. A poisoned registry stays as it is, nothing is written, and the error
-  -- output says that it is poisoned.
+  -- One request was acted on, or stopped by a failure. A repeat and a refused request commit nothing. A poisoned registry stays as
+  -- it is, nothing is written, and the error output says that it is poisoned.
   pub record IsActedOn (did : Effect S g) (r : Request) : Type 0 where
     pub ends : GivesReply did r ⊎ IsFailed did r
+    pub no_deed : (h : History) → Represents did.old h → AddsNoDeed h r → CommitsNothing (state_of did.old) (state_of did.new)
     pub endures : Endures (state_of did.old) (state_of did.new)
     pub poisoned : is_poisoned did.old ≡ true → (did.ends.status ≡ Failed) × (did.new ≡ did.old) × (did.ends.out.new.contents ≡ did.ends.out.old.contents)
         × PrintsFailure (λ failure. failure ≡ Poisoned) did.ends.errors

@@ -6,7 +6,7 @@ use Rattle.registry_rules.specs.declared.accepted.Accepted.{Accepted}
 use Rattle.registry_rules.specs.History.{History}
 use Rattle.registry_wire.specs.Record.{accepted_line, founding_line}
 use Rattle.registry_store.specs.declared.registry.Registry.{Registry}
-use Rattle.registry_store.specs.Promise.{is_poisoned}
+use Rattle.registry_store.specs.Promise.{NotesForeign, is_poisoned}
 use Rattle.registry_store.specs.Queries.{IsUntouched}
 use Rattle.registry_commands.specs.declared.messages.Failure.{Failure}
 use Rattle.registry_commands.specs.declared.messages.Failure.TheVariants.{File}
@@ -31,9 +31,10 @@ abbrev pub AreNextRequests : ℕ → History → List Accepted → Type 0
 AreNextRequests n h items = AreValid h.deeds → items ≡ take 64 (drop n (accepted_of h.deeds))
 
 module _ {S : Type 0} {g : Ghosts S} where
-  -- The failures of writing a record. File: the output failed. Any other: the registry could not be read.
+  -- The failures of writing a record. File: the output failed, and no call found the rows of no history, if none had before. Any
+  -- other: the registry could not be read.
   abbrev pub IsOfRecord : Registry S g → Registry S g → Failure → Type 0
-  IsOfRecord it new failure = (failure ≡ File) ⊎ IsOfReading it new failure
+  IsOfRecord it new failure = ((failure ≡ File) × NotesForeign it new None) ⊎ IsOfReading it new failure
 
   -- The record of the history is written, whole or in part, if its requests are valid; and nothing else is.
   pub record IsRecorded (did : Effect S g) (after : Option ℕ) : Type 0 where

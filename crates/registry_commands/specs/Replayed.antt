@@ -1,5 +1,5 @@
 -- What a replay of a record does.
-use Rattle.std.specs.Prelude.{◌≡◌, ◌≢◌, ◌⊎◌, ◌≤◌, ◌+◌, ◌^◌, ◌-◌, ⊤, ℕ, Bool, true, false, All, List, [], ◌∷◌, ◌++◌, length, map, Option, Some, None, Result, Ok, Err}
+use Rattle.std.specs.Prelude.{◌≡◌, ◌≢◌, ◌⊎◌, ◌≤◌, ◌+◌, ◌^◌, ◌-◌, ⊤, ℕ, Bool, true, false, IsTrue, All, List, [], ◌∷◌, ◌++◌, length, map, Option, Some, None, Result, Ok, Err}
 use Rattle.sqlite.specs.Store.{Ghosts}
 use Rattle.sqlite.specs.Held.{Held, state}
 use Rattle.sqlite.specs.State.{State, HasCleanDisk, IsLive, Survives}
@@ -13,8 +13,10 @@ use Rattle.registry_rules.specs.declared.verdict.Reply.TheVariants.{Done}
 use Rattle.registry_rules.specs.declared.founding.Founding.{Founding}
 use Rattle.registry_rules.specs.History.{History, founded}
 use Rattle.registry_rules.specs.Run.{Legal, after, after_one, replies_to, reply_to}
+use Rattle.registry_schema.specs.Meta.{has_meta_table}
 use Rattle.registry_tables.specs.Rows.{Rows, newest}
 use Rattle.registry_tables.specs.Calls.{HasNoMeta}
+use Rattle.registry_tables.specs.Known.{IsKnown}
 use Rattle.registry_tables.specs.Raising.{CommitsLater, IsNamedOlder}
 use Rattle.registry_store.specs.declared.fault.Fault.{Fault}
 use Rattle.registry_store.specs.declared.fault.Fault.TheVariants as faults
@@ -106,6 +108,11 @@ foreign_in (Err (stop.Failure failure)) = foreign_by failure
 
 abbrev pub AreBlank : List (List ℕ) → Type 0
 AreBlank lines = All (λ line. entry_in line ≡ says.Blank) lines
+
+-- the lines with which a record begins: blank ones, and then its founding, if it has one
+abbrev pub AreBeginning : List (List ℕ) → Type 0
+AreBeginning lines = AreBlank lines
+    ⊎ ((blank : List (List ℕ)) × (line : List ℕ) × (founding : Founding) × (lines ≡ blank ++ line ∷ []) × AreBlank blank × (entry_in line ≡ says.Founding founding))
 
 -- a failure of reading a record, after so many lines: one read failed, or there are more lines than are counted; or memory ran out
 abbrev pub IsOfRecordInput : ℕ → ℕ → ℕ → Failure → Type 0
@@ -262,27 +269,35 @@ abbrev pub CommitsFirst : Founding → State → Trees → Type 0
 CommitsFirst founding old db = CommitsIfEmpty founding old db ⊎ CommitsIfOlder old db
 
 module _ {S : Type 0} (g : Ghosts S) where
-  -- the registry is the one that the connection shows, in any schema
+  -- The registry is the one that the connection shows, in any schema: over a clean disk the tables had the names of a schema, and
+  -- `meta` said its version. No transaction was open.
   pub record IsOpen (conn : Held S) (it : Registry S g) : Type 0 where
     pub is_new : IsNew it
+    pub idle : conn.in_transaction ≡ false
     pub survives : Survives (state g conn) (state_of it) (CommitsIfOlder (state g conn))
     pub opened : (version : ℕ) (h : History) → Legal h → IsFreshAt version (state g conn) h → HasCleanDisk (state_of it) → Represents it h
+    pub known : HasCleanDisk (state_of it) → IsKnown (state g conn).now
     pub clean : HasCleanDisk (state_of it) → HasCleanDisk (state g conn)
 
   -- The registry is the one that the connection shows, in any schema; and if it shows none, the registry was founded like this,
-  -- in a database without tables.
+  -- in a database without tables. No transaction was open.
   pub record IsFoundOrOpen (conn : Held S) (founding : Founding) (it : Registry S g) : Type 0 where
     pub is_new : IsNew it
+    pub idle : conn.in_transaction ≡ false
     pub survives : Survives (state g conn) (state_of it) (CommitsFirst founding (state g conn))
     pub empty : HasNoMeta (state g conn).now → (state g conn).now.schema ≡ no_schema
     pub opened : IsLive (state g conn) → (version : ℕ) (h : History) → Legal h → IsFreshAt version (state g conn) h → HasCleanDisk (state_of it) → Represents it h
     pub founds : HasNoMeta (state g conn).now → HasCleanDisk (state_of it) → Represents it (founded founding)
+    pub known : HasNoMeta (state g conn).now ⊎ (HasCleanDisk (state_of it) → IsKnown (state g conn).now)
     pub clean : HasCleanDisk (state_of it) → HasCleanDisk (state g conn)
 
   -- It could not be opened, for this failure, and at most this was committed: what the connection shows is left, in its schema or
-  -- a later one. Foreign only if it shows the rows of no legal history.
+  -- a later one. Foreign only if it shows the rows of no legal history. No transaction is left open, and nothing is done in one
+  -- that was open before.
   pub record IsLeft (Commits : Trees → Type 0) (conn : Held S) (failure : Failure) (last : Held S) : Type 0 where
     pub kind : IsOfOpening failure
+    pub idle : conn.in_transaction ≡ false → last.in_transaction ≡ false
+    pub busy : IsTrue conn.in_transaction → (failure ≡ Store) × (last ≡ conn)
     pub survives : Survives (state g conn) (state g last) Commits
     pub leaves : IsLive (state g conn) → (version : ℕ) (h : History) → Legal h → IsFreshAt version (state g conn) h → HasCleanDisk (state g last) → LeavesLater version (state g last) h
     pub clean : HasCleanDisk (state g last) → HasCleanDisk (state g conn)
@@ -293,9 +308,16 @@ module _ {S : Type 0} (g : Ghosts S) where
   abbrev pub IsLeftFound : Held S → Founding → Failure → Held S → Type 0
   IsLeftFound conn founding failure last = IsLeft (CommitsFirst founding (state g conn)) conn failure last
 
-  -- The registry was founded or opened, and the record replayed over it; or neither could be done.
-  abbrev pub IsReplayedOn : Founding → Option (List ℕ) → Option (List ℕ) → Unread → ℕ → ℕ → ℕ → Held S → Held S → Output → ExitStatus → Type 0
-  IsReplayedOn founding to_come now unread before failures failures_new conn last errors status =
-      ((it : Registry S g) × (after : Registry S g) × IsFoundOrOpen conn founding it × (last ≡ connection_of after)
-      × IsReplayed (Some founding) to_come now unread before failures failures_new it after errors status)
-      ⊎ ((failure : Failure) × IsLeftFound conn founding failure last × (status ≡ Failed) × Prints errors (failure_line failure) × (failures_new ≡ failures))
+  -- Ok: the registry was founded or opened, and the record replayed over it, and so it is left. Err: neither could be done, and the
+  -- connection is left. Foreign comes only where a registry might be: the database has a table meta.
+  abbrev pub IsReplayedOn : Founding → Option (List ℕ) → Option (List ℕ) → Unread → ℕ → ℕ → ℕ → Held S → Result (Registry S g) (Held S) → Output → ExitStatus → Type 0
+  IsReplayedOn founding to_come now unread before failures failures_new conn (Ok after) errors status =
+      (it : Registry S g) × IsFoundOrOpen conn founding it × IsReplayed (Some founding) to_come now unread before failures failures_new it after errors status
+  IsReplayedOn founding to_come now unread before failures failures_new conn (Err last) errors status =
+      (failure : Failure) × IsLeftFound conn founding failure last × (status ≡ Failed) × Prints errors (failure_line failure) × (failures_new ≡ failures)
+      × (failure ≡ Foreign → has_meta_table (state g conn).now.schema ≡ true)
+
+  -- the connection of what is left
+  abbrev pub connection_left : Result (Registry S g) (Held S) → Held S
+  connection_left (Ok after) = connection_of after
+  connection_left (Err last) = last

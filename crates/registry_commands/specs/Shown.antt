@@ -43,11 +43,10 @@ module _ {S : Type 0} {g : Ghosts S} where
   abbrev pub HidesNoForeign : Effect S g → Type 0
   HidesNoForeign did = did.ends.status ≡ Success → NotesForeign did.old did.new None
 
-  -- the list of the history is written, whole or in part, and the whole is the text of its document; or nothing is written,
-  -- after a failure
+  -- The list of the history is written, whole or in part, and the whole is the text of its document; and no call found the rows of
+  -- no history, if none had before. Or nothing is written, after a failure.
   pub record IsExported (did : Effect S g) (stamp : Option Moment) : Type 0 where
     pub left : IsUntouched did.old did.new
-    pub shown : ((doc : List TopEntry) × HoldsOfHistory did.old did.new (λ h. IsListing h doc) × IsTextOf (written doc stamp) doc × IsPrinted (written doc stamp) did.ends)
+    pub shown : ((doc : List TopEntry) × NotesForeign did.old did.new None × HoldsOfHistory did.old did.new (λ h. IsListing h doc) × IsTextOf (written doc stamp) doc × IsPrinted (written doc stamp) did.ends)
         ⊎ IsUnprinted (IsOfReading did.old did.new) did.ends
     pub poisoned : is_poisoned did.old ≡ true → ShowsNothing did
-    pub notes : HidesNoForeign did

@@ -1,10 +1,12 @@
 //! Acts on request lines over a registry, one after another.
 
-ghost use Rattle.std.specs.Prelude.{◌≡◌, ◌≤◌, ◌⊎◌, ℕ, List, true, false, length, drop, IfErr, None, Ok, Err, OnOk, OnErr};
+ghost use Rattle.std.specs.Prelude.{◌≡◌, ◌≤◌, ◌⊎◌, ℕ, All, List, true, false, length, drop, IfErr, None, Ok, Err, OnOk, OnErr};
 ghost use Rattle.sqlite.specs.State.{HasCleanDisk};
 ghost use Rattle.byte_streams.specs.Streams.{MayGive};
 ghost use Rattle.registry_rules.specs.History.{History};
-ghost use Rattle.registry_store.specs.Promise.{Endures, NotesForeign, is_poisoned, state_of};
+ghost use Rattle.table_laws.specs.Inside.{CommitsNothing};
+ghost use Rattle.registry_store.specs.Attempt.{AddsNoDeed};
+ghost use Rattle.registry_store.specs.Promise.{Endures, NotesForeign, Represents, is_poisoned, state_of};
 ghost use Rattle.registry_store.specs.Run.{HasAnsweredNone};
 ghost use Rattle.registry_commands.specs.Lines.{requests_in};
 ghost use Rattle.registry_commands.specs.Messages.{bad_line_text};
@@ -43,6 +45,7 @@ fn write_replies<S: Alter, W: Sink>(
     ensures kept { OnOk result (W.failures lines.new.output.now ≡ W.failures lines.old.output.now) }
     ensures goes_on { OnOk result (is_poisoned registry.new ≡ false) }
     ensures notes { OnOk result (NotesForeign registry.old registry.new None) }
+    ensures no_deed { (h : History) → Represents registry.old h → All (AddsNoDeed h) (drop answered requests.now) → HasCleanDisk (state_of registry.new) → CommitsNothing (state_of registry.old) (state_of registry.new) }
     ensures endures { Endures (state_of registry.old) (state_of registry.new) }
 {
     match registry.run_to(requests, answered, lines) {
@@ -71,6 +74,7 @@ fn answer_from<S: Alter, W: Sink>(
     ensures kept { OnOk result (W.failures output.new ≡ W.failures output.old) }
     ensures goes_on { OnOk result (is_poisoned registry.new ≡ false) }
     ensures notes { OnOk result (NotesForeign registry.old registry.new None) }
+    ensures no_deed { (h : History) → Represents registry.old h → All (AddsNoDeed h) (drop answered requests.now) → HasCleanDisk (state_of registry.new) → CommitsNothing (state_of registry.old) (state_of registry.new) }
     ensures endures { Endures (state_of registry.old) (state_of registry.new) }
 {
     let mut lines = ReplyLines { alloc, output };

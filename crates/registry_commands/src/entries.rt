@@ -22,7 +22,7 @@ pub enum LineRefusal {
     TooLong,
     /// It is neither a founding nor an accepted request.
     NoEntry(WireRefusal),
-    /// It is a founding, after the first line.
+    /// It is a founding where an accepted request was to come.
     LateFounding,
     /// It is a founding, and the registry was founded otherwise.
     OtherFounding,

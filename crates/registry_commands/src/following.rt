@@ -78,7 +78,8 @@ fn follow<S: Alter>(
 ///
 /// `Line` at the first line that is no accepted request and not blank, or is too long. `Reply` at
 /// the first one whose reply differs. `Failure` after a failure of the source, of the registry or
-/// of memory. The lines before were acted on, and got their replies.
+/// of memory: then the request of the next line may have been acted on. The lines before were acted
+/// on, and got their replies. After an error neither the source nor `unread` may be used any more.
 pub fn follow_lines<R: Source, S: Alter>(
     alloc: Global,
     source: &mut R,

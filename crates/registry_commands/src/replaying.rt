@@ -2,6 +2,7 @@
 
 ghost use Rattle.std.specs.Prelude.{◌≡◌, ◌≢◌, ◌⊎◌, IfErr, IfOk, Ok, Err, true, false, option_copied};
 ghost use Rattle.sqlite.specs.Held.{state};
+ghost use Rattle.registry_schema.specs.Meta.{has_meta_table};
 ghost use Rattle.registry_wire.specs.Record.{founding_line};
 ghost use Rattle.registry_commands.specs.Ends.{output_of};
 ghost use Rattle.registry_commands.specs.RecordLines.{ahead};
@@ -27,7 +28,8 @@ use usbnum_core::NoMemory;
 ///
 /// # Errors
 ///
-/// `Line` if it is no line of a record. `Failure` if the source failed, or out of memory.
+/// `Line` if it is no line of a record. `Failure` if the source failed, or out of memory. After
+/// either neither the source nor `unread` may be used any more.
 pub fn take_founding<R: Source>(
     alloc: Global,
     source: &mut R,
@@ -115,11 +117,13 @@ fn follow_record<R: Source, S: Alter>(
 /// that was passed, the registry must have been founded like this.
 ///
 /// The status is `Success` if all requests got the replies that their lines say. It is `Rejected`
-/// at the first line that is not an accepted request, is refused, or gets another reply, and if the
-/// registry was founded otherwise: the error output names the line, and says why. The lines before
-/// it were acted on, and the line itself if its request was accepted with another reply. The status
-/// is `Failed` after a failure of the source, the registry or memory, which the error output names.
-/// After that run it again over the same record: what was accepted is not acted on again.
+/// at the first line that is neither blank nor an accepted request, is too long, or gets another
+/// reply, and if the registry was founded otherwise: the error output names the line, and says why.
+/// The lines before it were acted on, and the line itself if its request was accepted with another
+/// reply. The status is `Failed` after a failure of the source, the registry or memory, also of
+/// memory for that text, which the error output names. After that run it again over the same
+/// record: what was accepted is not acted on again. After each status but `Success` neither the
+/// source nor `unread` may be used any more.
 pub fn replay<R: Source, S: Alter, E: Sink>(
     alloc: Global,
     source: &mut R,
@@ -159,6 +163,7 @@ fn found_or_open<S: Alter>(
 ) -> Result<Registry<S>, (Failure, Connection<S>)>
     ensures ok { IfOk result (IsFoundOrOpen S.Store conn founding.now) }
     ensures err { IfErr result (λ e. IsLeftFound S.Store conn founding.now e.0 e.1) }
+    ensures named { IfErr result (λ e. e.0 ≡ Failure.Foreign → has_meta_table (state S.Store conn).now.schema ≡ true) }
 {
     match Registry::found(alloc, conn, founding) {
         Ok(registry) => Ok(registry),
@@ -173,10 +178,11 @@ fn found_or_open<S: Alter>(
 }
 
 /// Replays a record that begins with this founding over a connection: founds the registry if there
-/// is none. Returns the exit status, as `replay` does, and the connection.
+/// is none. Returns the exit status, as `replay` does, and the registry.
 ///
 /// The status is also `Failed` if a registry could neither be founded nor opened, and then the error
-/// output says whether the store failed, memory ran out, or the store holds no registry.
+/// output says whether the store failed, memory ran out, or the store holds no registry. It then
+/// returns the connection in place of the registry.
 pub fn replay_on<R: Source, S: Alter, E: Sink>(
     alloc: Global,
     source: &mut R,
@@ -184,15 +190,15 @@ pub fn replay_on<R: Source, S: Alter, E: Sink>(
     founding: &Founding,
     conn: Connection<S>,
     errors: &mut E,
-) -> (ExitStatus, Connection<S>)
+) -> (ExitStatus, Result<Registry<S>, Connection<S>>)
     ensures { IsReplayedOn S.Store founding.now (ahead (R.remaining source.old) unread.old) (ahead (R.remaining source.new) unread.new) unread.new unread.old.lines (R.failures source.old) (R.failures source.new)
         conn result.1 (output_of E.Sink errors.old errors.new) result.0 }
 {
     match found_or_open(alloc, conn, founding) {
         Ok(mut registry) => {
             let status = replay(alloc, source, unread, Some(founding), &mut registry, errors);
-            (status, registry.into_connection())
+            (status, Ok(registry))
         }
-        Err((failure, conn)) => (fail(errors, failure), conn),
+        Err((failure, conn)) => (fail(errors, failure), Err(conn)),
     }
 }

@@ -64,7 +64,8 @@ fn reject_with<E: Sink>(errors: &mut E, text: Result<String, NoMemory>) -> ExitS
 }
 
 /// Prints why a replay ended early, and returns the exit status: `Rejected` if a line is refused or
-/// got another reply, which the text names, and `Failed` after a failure.
+/// got another reply, which the text names, and `Failed` after a failure, or if memory runs out for
+/// that text.
 pub fn tell_stop<E: Sink>(alloc: Global, errors: &mut E, stop: ReplayStop) -> ExitStatus
     ensures { TellsStop (Err stop) (output_of E.Sink errors.old errors.new) result }
 {

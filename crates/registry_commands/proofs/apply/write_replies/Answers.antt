@@ -51,6 +51,7 @@ returns-in-Err-Fault-clause-failure g c =
     rw c.failure_of.ensures (
       of_fault c.args.registry.now c.run_to.new.self (λ h. HasAnsweredNone c.args.registry.now h (drop c.args.answered c.args.requests.now)) fault
           (λ poisoned. c.in-Err-Fault.ensures.only_poisoned (ap Err (c.in-Err-Fault.field-0-is ∙ ap stop.Fault poisoned))) spent keeps
+          (rw c.in-Err-Fault.field-0-is at c.in-Err-Fault.ensures.notes)
           (λ taken. c.in-Err-Fault.ensures.never_taken (ap Err (c.in-Err-Fault.field-0-is ∙ ap stop.Fault taken))) kind,
       (not_of_output (g.W.Sink.failures old.output.now) (g.W.Sink.failures new.output.now) out.kept fault, λ _. (given.replies, out.gained)),
     )
@@ -73,7 +74,7 @@ returns-in-Err-Cut-clause-failure g c =
     let new = g.W.Sink.failures c.run_to.new.replies.output.now in
     let kept : g.W.Sink.failures given.middle.output.now ≡ old = (taken_lines g.W.Sink.contents g.W.Sink.failures c.args.lines.now given.middle given.replies given.taken).kept in
     let sound : is_poisoned c.run_to.new.self ≡ false = rw c.in-Err-Cut.field-0-is at c.in-Err-Cut.ensures.ends in (
-      of_reply c.args.registry.now c.run_to.new.self (λ h. HasAnsweredNone c.args.registry.now h (drop c.args.answered c.args.requests.now)) c.in-Err-Cut.failure sound cut.kind,
+      of_reply c.args.registry.now c.run_to.new.self (λ h. HasAnsweredNone c.args.registry.now h (drop c.args.answered c.args.requests.now)) c.in-Err-Cut.failure sound (rw c.in-Err-Cut.field-0-is at c.in-Err-Cut.ensures.notes) cut.kind,
       (
         subst (λ (n : ℕ). IsOfOutput n new c.in-Err-Cut.failure) kept cut.cause,
         λ other. (given.replies, none_cut g.W.Sink.contents g.W.Sink.failures c.args.lines.now given.middle c.run_to.new.replies given.replies given.last.0 c.in-Err-Cut.failure given.taken cut other),

@@ -8,9 +8,8 @@ use Rattle.registry_commands.proofs.exporting.export.Goals as goal
 pub returns-in-Ok : goal.returns-in-Ok
 returns-in-Ok g c = record {
   left = c.in-Ok.ensures.left;
-  shown = inl (c.in-Ok.document, c.in-Ok.ensures.answered, c.put_document.ensures.is_text, c.put_document.ensures.printed);
+  shown = inl (c.in-Ok.document, c.in-Ok.ensures.notes, c.in-Ok.ensures.answered, c.put_document.ensures.is_text, c.put_document.ensures.printed);
   poisoned = λ e. let failed = c.in-Ok.ensures.when_poisoned e in absurd (cc failed.0);
-  notes = λ _. c.in-Ok.ensures.notes;
 }
 
 pub returns-in-Err : goal.returns-in-Err
@@ -21,5 +20,4 @@ returns-in-Err g c = record {
       let failed = c.in-Err.ensures.when_poisoned e in
       let spent : c.in-Err.fault ≡ Poisoned = cc failed.0 in
       (c.fail.ensures.status, failed.1, refl, (c.failure_of.result, c.failure_of.ensures ∙ ap failure_of spent, c.fail.ensures.told));
-  notes = λ success. let failed = c.fail.ensures.status in absurd (cc (failed, success));
 }

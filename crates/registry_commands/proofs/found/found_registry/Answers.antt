@@ -10,6 +10,7 @@ returns-in-Err g c =
     record {
       survives = c.in-Err.ensures.survives;
       ends = inr (c.fail.ensures.status, (c.failure_of.result, rw c.failure_of.ensures of, c.fail.ensures.told));
+      idle = c.in-Err.ensures.idle;
       busy = λ inside. (c.fail.ensures.status, (c.in-Err.ensures.busy inside).1);
     }
 
@@ -17,5 +18,6 @@ pub returns-in-Ok : goal.returns-in-Ok
 returns-in-Ok g c = rw c.into_connection.ensures (record {
   survives = c.in-Ok.ensures.survives;
   ends = inl (refl, record { none_before = c.in-Ok.ensures.empty; rows = λ clean. (c.in-Ok.ensures.represents clean).at }, (keeps_same _, refl));
+  idle = λ _. c.in-Ok.registry.idle;
   busy = λ inside. absurd (c.in-Ok.ensures.busy inside);
 })

@@ -16,6 +16,7 @@ returns-in-Ok g c = record {
   ends = replied (effect c.args.registry.now c.act.new.self (ends_of g.W.Sink g.E.Sink c.args.output.now c.put_status.new.output c.args.errors.now c.put_status.new.errors c.put_status.result))
       c.args.request.now c.in-Ok.reply c.in-Ok.ensures.goes_on c.in-Ok.ensures.notes
       (λ h may clean. once c.args.registry.now c.act.new.self h c.args.request.now c.in-Ok.reply c.in-Ok.ensures.answered may clean) c.put_status.ensures;
+  no_deed = c.act.ensures.no_deed;
   endures = c.act.ensures.endures;
   poisoned = λ e. let failed = c.in-Ok.ensures.when_poisoned e in absurd (cc failed.0);
 }
@@ -38,7 +39,7 @@ returns-in-Err g c =
         told = (
           c.failure_of.result,
           rw c.failure_of.ensures (
-            of_fault it new (λ h. MayHaveBeenActedOn it h r) fault (λ e. c.in-Err.ensures.only_poisoned (ap Err e)) spent c.in-Err.ensures.keeps_fault
+            of_fault it new (λ h. MayHaveBeenActedOn it h r) fault (λ e. c.in-Err.ensures.only_poisoned (ap Err e)) spent c.in-Err.ensures.keeps_fault c.in-Err.ensures.notes
                 (λ e. c.in-Err.ensures.never_taken (ap Err e)) (λ h may clean. kind_of it new h r fault c.in-Err.ensures.kind may clean),
             not_of_output (g.W.Sink.failures c.args.output.now) (g.W.Sink.failures c.args.output.now) refl fault,
             λ _. refl,
@@ -46,6 +47,7 @@ returns-in-Err g c =
           c.fail.ensures.told,
         );
       });
+      no_deed = c.act.ensures.no_deed;
       endures = c.act.ensures.endures;
       poisoned = λ e.
           let failed = c.in-Err.ensures.when_poisoned e in

@@ -1,10 +1,10 @@
 use Rattle.std.proofs.Common.{◌≡◌, ◌∙◌, inl, inr, List, ℕ, [], length, sym, ap, subst, arith, refl}
 use Rattle.std.specs.Prelude.{Err, None}
-use Rattle.registry_store.proofs.IsQueryLemmas.{notes_then}
+use Rattle.registry_store.proofs.IsQueryLemmas.{notes_then, untouched_itself}
 use Rattle.registry_commands.specs.declared.messages.Failure.{Failure}
 use Rattle.registry_commands.specs.declared.messages.Failure.TheVariants.{Poisoned}
 use Rattle.registry_commands.specs.Failures.{IsOfOutput}
-use Rattle.registry_commands.proofs.RecordedLemmas.{all_written, none_written, of_later_record, part_written, piece_cut, piece_written, untouched_itself, untouched_then}
+use Rattle.registry_commands.proofs.RecordedLemmas.{all_written, none_written, of_later_record, part_written, piece_cut, piece_written, untouched_then}
 use Rattle.registry_commands.proofs.recording.put_requests.Goals as goal
 
 pub loop-count-init : goal.loop-count-init

@@ -3,7 +3,7 @@ use Rattle.sqlite.specs.Held.{state}
 use Rattle.sqlite.specs.State.{HasCleanDisk}
 use Rattle.registry_store.specs.Promise.{state_of}
 use Rattle.registry_commands.specs.Replayed.{CommitsFirst, CommitsIfEmpty}
-use Rattle.registry_commands.proofs.FoundOrOpenLemmas.{fresh_meta, left_found, left_there, survives_as}
+use Rattle.registry_commands.proofs.FoundOrOpenLemmas.{foreign_fault, fresh_meta, is_not, left_found, left_there, opened_there, survives_as}
 use Rattle.registry_commands.proofs.replaying.found_or_open.Goals as goal
 
 pub returns-in-Ok-clause-ok : goal.returns-in-Ok-clause-ok
@@ -13,12 +13,19 @@ returns-in-Ok-clause-ok g c =
     let was : HasCleanDisk (state_of c.in-Ok.registry) → HasCleanDisk conn = λ clean. omega (arith, c.in-Ok.ensures.survives.clean, clean) in
     record {
       is_new = c.in-Ok.ensures.is_new;
+      idle = is_not c.args.conn.in_transaction (λ inside. c.in-Ok.ensures.busy inside);
       survives = survives_as conn (state_of c.in-Ok.registry) (CommitsIfEmpty founding conn) (CommitsFirst founding conn) (λ db made. inl made) c.in-Ok.ensures.survives;
       empty = λ none. c.in-Ok.ensures.empty;
       opened = λ live version h legal fresh clean. absurd (true≢false (sym (fresh_meta version conn h live fresh (was clean)) ∙ c.in-Ok.ensures.fresh));
       founds = λ none clean. c.in-Ok.ensures.represents clean;
+      known = inl c.in-Ok.ensures.fresh;
       clean = was;
     }
+
+pub returns-in-Ok-open_there-clause-ok : goal.returns-in-Ok-open_there-clause-ok
+returns-in-Ok-open_there-clause-ok g c =
+    let taken = c.in-Err.ensures.taken c.in-Taken.is in
+    opened_there g.S.Store c.args.conn c.args.founding.now c.in-Err.conn taken.0 taken.1 c.in-Ok-open_there.registry c.in-Ok-open_there.ensures.ok
 
 pub returns-in-Err-open_there-clause-err : goal.returns-in-Err-open_there-clause-err
 returns-in-Err-open_there-clause-err g c =
@@ -27,4 +34,10 @@ returns-in-Err-open_there-clause-err g c =
 pub returns-in_default-clause-err : goal.returns-in_default-clause-err
 returns-in_default-clause-err g c =
     left_found g.S.Store c.args.conn c.args.founding.now c.in-Err.conn c.in-Err.fault c.failure_of.result c.failure_of.ensures c.in-Err.ensures.kind c.in_default.not-Taken
-    g.met.S.Store.settled (c.in-Err.ensures.untaken c.in_default.not-Taken) (λ inside. (c.in-Err.ensures.busy inside).1) c.in-Err.ensures.survives
+    g.met.S.Store.settled (c.in-Err.ensures.untaken c.in_default.not-Taken) c.in-Err.ensures.idle c.in-Err.ensures.busy c.in-Err.ensures.survives
+
+pub returns-in-Err-open_there-clause-named : goal.returns-in-Err-open_there-clause-named
+returns-in-Err-open_there-clause-named g c told = (c.in-Err.ensures.taken c.in-Taken.is).1
+
+pub returns-in_default-clause-named : goal.returns-in_default-clause-named
+returns-in_default-clause-named g c told = absurd (c.in-Err.ensures.kind.1 (foreign_fault c.in-Err.fault (sym c.failure_of.ensures ∙ told)))

@@ -9,9 +9,8 @@ use Rattle.registry_commands.proofs.reporting.report.Goals as goal
 pub returns-in-Ok : goal.returns-in-Ok
 returns-in-Ok g c = record {
   left = c.in-Ok.ensures.left;
-  shown = inl (string_bytes c.in-Ok.text, c.in-Ok.ensures.answered, rw (← c.as_bytes.ensures.value) c.print.ensures);
+  shown = inl (string_bytes c.in-Ok.text, c.in-Ok.ensures.notes, c.in-Ok.ensures.answered, rw (← c.as_bytes.ensures.value) c.print.ensures);
   poisoned = λ e. let failed = c.in-Ok.ensures.when_poisoned e in absurd (cc failed.0);
-  notes = λ _. c.in-Ok.ensures.notes;
 }
 
 pub returns-in-Err : goal.returns-in-Err
@@ -22,5 +21,4 @@ returns-in-Err g c = record {
       let failed = c.in-Err.ensures.when_poisoned e in
       let spent : c.in-Err.fault ≡ Poisoned = cc failed.0 in
       (c.fail.ensures.status, failed.1, refl, (c.failure_of.result, c.failure_of.ensures ∙ ap failure_of spent, c.fail.ensures.told));
-  notes = λ success. let failed = c.fail.ensures.status in absurd (cc (failed, success));
 }
