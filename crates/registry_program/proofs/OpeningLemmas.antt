@@ -44,11 +44,7 @@ foreign_fault faults.NoMemory told = absurd (cc told)
 foreign_fault faults.Taken told = absurd (cc told)
 foreign_fault faults.Poisoned told = absurd (cc told)
 
--- that of opening its store is one of them too
-pub of_store : (failure : Failure) → IsOfStore failure → IsOfOpening failure
-of_store failure is = elim is [ inl store ↦ subst IsOfOpening (sym store) tt | inr memory ↦ subst IsOfOpening (sym memory) tt ]
-
--- and it is not Foreign
+-- that of opening its store is not Foreign
 pub not_foreign : (failure : Failure) → IsOfStore failure → failure ≢ Foreign
 not_foreign failure is told = elim is [ inl store ↦ absurd (cc (store, told)) | inr memory ↦ absurd (cc (memory, told)) ]
 

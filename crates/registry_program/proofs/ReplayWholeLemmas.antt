@@ -5,6 +5,7 @@ use Rattle.std.proofs.Math.Logic.{∥∥₁_map, ∥∥₁_elim}
 use Rattle.sqlite_disk.specs.declared.Disk as disk
 use Rattle.sqlite_store.specs.declared.store.FileStore.{FileStore}
 use Rattle.sqlite.specs.Files.{HoldsDatabase, file_state, over_files}
+use Rattle.sqlite.specs.Held.{Held}
 use Rattle.sqlite.specs.State.{HasCleanDisk, IsLive}
 use Rattle.sqlite.specs.Store.{Ghosts}
 use Rattle.byte_streams.specs.declared.streams.Source as source
@@ -31,13 +32,12 @@ use Rattle.registry_commands.specs.Entries.{entry_in}
 use Rattle.registry_commands.specs.Failures.{Prints}
 use Rattle.registry_commands.specs.Messages.{failure_line}
 use Rattle.registry_commands.specs.RecordLines.{MayHaveLines, ahead, unread_of}
-use Rattle.registry_commands.specs.Replayed.{Begins, HasAllLines, HasReadBlank, HasReplayed, IsFoundOrOpen, IsLeftFound, IsReplayOf, IsReplayed, ThenReplays, after_lines}
+use Rattle.registry_commands.specs.Replayed.{AreBeginning, Begins, HasAllLines, HasReadBlank, HasReplayed, IsFoundOrOpen, IsLeftFound, IsReplayOf, IsReplayed, IsReplayedOn, ThenReplays, after_lines, connection_left}
 use Rattle.registry_commands.specs.Stops.{TellsStop}
 use Rattle.registry_commands.proofs.RecordLineLemmas.{may_have}
 use Rattle.registry_program.specs.declared.host.Host as host
 use Rattle.registry_program.specs.Outputs.{earlier}
 use Rattle.registry_program.specs.Replaying.{BeginsReplay, IsReplayedIn, ReplaysFrom, ReplaysLines, ReplaysOver, ReplaysRecord}
-use Rattle.registry_program.specs.Stores.{ClosesStore}
 use Rattle.registry_program.specs.Whole.{IsAfterRecord, IsNear, IsReplayedTo, IsUnreplayed, IsUsed, ReplaysWholly, ReplaysWhollyFrom}
 use Rattle.registry_program.proofs.LeavesLemmas.{LeavesSome, leaves_itself, same_of_either}
 use Rattle.registry_program.proofs.OpeningLemmas.{shows_held}
@@ -191,7 +191,7 @@ module _ {S : Type 0} {g : Ghosts S} where
 -- ---- what the files hold
 
 module _ {H F I : Type 0} (m : host.Ghosts H F I) (d : disk.Ghosts F) where
-  module _ {R : Type 0} (r : source.Ghosts R) (source middle source_new : R) (begun : Unread) (blank : List (List ℕ)) where
+  module _ {R : Type 0} (r : source.Ghosts R) (source middle source_new : R) (begun : Unread) (blank : List (List ℕ)) (begins : AreBeginning blank) where
     over_whole : (old new : H) (path : List ℕ) (ends : Ends) → ((lines : List (List ℕ)) → MayHaveLines (ahead (r.remaining middle) begun) lines → MayHaveLines (r.remaining source) (blank ++ lines))
         → ReplaysOver m d r middle source_new begun old new path ends → ReplaysWhollyFrom m d r source old new path ends
     over_whole old new path ends passes is =
@@ -200,12 +200,10 @@ module _ {H F I : Type 0} (m : host.Ghosts H F I) (d : disk.Ghosts F) where
         let told = follows None _ _ _ _ _ _ over.it over.after _ over.before over.does.3 in
         let on = carried m d old new path ends Does over same told.was_clean (IsAfterRecord told.lines ends.status)
         (λ h stands clean. subst (λ (status : ExitStatus). LeavesSome over.after (IsAfterRecord told.lines status h)) (sym same) (told.leaves h stands clean)) in
-        record { before = blank; lines = told.lines; come = passes told.lines told.come; files = on.files; used = on.used; holds = on.holds }) (elim is [ inl not ↦ inl (not.0, not.1, not.2) | inr over ↦ inr over ])) [
+        record { before = blank; begins = begins; lines = told.lines; come = passes told.lines told.come; files = on.files; used = on.used; holds = on.holds }) (elim is [ inl not ↦ inl (not.0, not.1, not.2) | inr over ↦ inr over ])) [
           | inl not ↦ inr (inl (not.0, inl not.1, not.2))
           | inr more ↦ elim more [
-            | inl failed ↦
-                let over = failed.0 in
-                inr (inr (inl (connection_of over.after, over.closes.files, over.errors, subst (λ (b : ExitStatus). ClosesStore m d (connection_of over.after) over.closes.files over.errors ends.errors.new b ends.status) failed.1 over.closes.closed, failed.2)))
+            | inl failed ↦ inr (inr (inl (middle, source_new, begun, inl failed)))
             | inr done ↦ inr (inr (inr (inr (false, done))))
           ]
         ]
@@ -214,6 +212,9 @@ module _ {H F I : Type 0} (m : host.Ghosts H F I) (d : disk.Ghosts F) where
 
     module _ (founding : Founding) (old new : H) (path : List ℕ) (ends : Ends) (passes : (lines : List (List ℕ)) → MayHaveLines (ahead (r.remaining middle) begun) lines → MayHaveLines (r.remaining source) (blank ++ lines))
         (on : IsReplayedIn m d r founding middle source_new begun old new path ends) where
+      abbrev last : Held (FileStore F d)
+      last = connection_left over_files on.left
+
       used_in : IsUsed m d old new path true on.closes.files
       used_in = record { opened = on.opened; first = on.connected.files; opens = on.connected.opens; done = on.opened; lets_go = on.closes.lets_go }
 
@@ -230,32 +231,33 @@ module _ {H F I : Type 0} (m : host.Ghosts H F I) (d : disk.Ghosts F) where
                 (λ _. (it.0.0.is_open, it.0.0.clean, subst (λ db. Rows found.4 db found.2) (sym (it.1.holds found.0 found.1)) found.6)),
           ))
 
-      replayed : ends.status ≡ on.before → (it after : Registry (FileStore F d) over_files) → IsFoundOrOpen over_files on.conn founding it → on.last ≡ connection_of after
+      replayed : ends.status ≡ on.before → (it after : Registry (FileStore F d) over_files) → IsFoundOrOpen over_files on.conn founding it → last ≡ connection_of after
           → IsReplayed (Some founding) (ahead (r.remaining middle) begun) (ahead (r.remaining source_new) on.ended) on.ended begun.lines (r.failures middle) (r.failures source_new) it after (earlier ends on.errors on.before).errors on.before
           → IsReplayedTo m d r source old new path true ends
-      replayed same it after opened last did =
+      replayed same it after opened is_of did =
           let told = follows (Some founding) _ _ _ _ _ _ it after _ on.before did in
           record {
             before = blank;
+            begins = begins;
             lines = told.lines;
             come = passes told.lines told.come;
             files = on.closes.files;
             used = used_in;
             holds = λ h legal _ from held honest.
-                let clean_last : HasCleanDisk (file_state on.last) = closed_clean on.last on.closes.files on.closes.closed.closed honest in
-                let clean : HasCleanDisk (state_of after) = subst (λ c. HasCleanDisk (file_state c)) last clean_last in
+                let clean_last : HasCleanDisk (file_state last) = closed_clean last on.closes.files on.closes.closed.closed honest in
+                let clean : HasCleanDisk (state_of after) = subst (λ c. HasCleanDisk (file_state c)) is_of clean_last in
                 let was = told.was_clean clean in
                 ∥∥₁_map (shown h legal from held (opened.clean was)) (λ fresh.
                 let left = told.leaves h (opened.opened fresh.2 fresh.0 h legal fresh.3 was) clean in
-                let leaves : Leaves newest (file_state on.last) (IsEither left.0 left.1) = subst (λ c. Leaves newest (file_state c) (IsEither left.0 left.1)) (sym last) left.3 in (
+                let leaves : Leaves newest (file_state last) (IsEither left.0 left.1) = subst (λ c. Leaves newest (file_state c) (IsEither left.0 left.1)) (sym is_of) left.3 in (
                   left.0,
                   left.1,
                   subst (λ (status : ExitStatus). IsAfterRecord told.lines status h left.0 left.1) (sym same) left.2,
-                  on.closes.closed.holds same newest left.0 left.1 (in_newest (file_state on.last) (IsEither left.0 left.1) (λ _. leaves)) honest,
+                  on.closes.closed.holds same newest left.0 left.1 (in_newest (file_state last) (IsEither left.0 left.1) (λ _. leaves)) honest,
                 ));
           }
 
-      unreplayed : ends.status ≡ on.before → on.before ≡ Failed → (failure : Failure) → IsLeftFound over_files on.conn founding failure on.last
+      unreplayed : ends.status ≡ on.before → on.before ≡ Failed → (failure : Failure) → IsLeftFound over_files on.conn founding failure last
           → Prints (earlier ends on.errors on.before).errors (failure_line failure) → IsUnreplayed m d old new path ends
       unreplayed same failed failure left prints = record {
         files = on.closes.files;
@@ -269,25 +271,32 @@ module _ {H F I : Type 0} (m : host.Ghosts H F I) (d : disk.Ghosts F) where
               (sym (on.closes.closed.kept (λ success. absurd (cc (failed, success)))).1) prints,
         );
         foreign = λ told honest version db h held legal rows.
-            let clean : HasCleanDisk (file_state on.last) = closed_clean on.last on.closes.files on.closes.closed.closed honest in
+            let clean : HasCleanDisk (file_state last) = closed_clean last on.closes.files on.closes.closed.closed honest in
             let found = subst (λ i. HoldsDatabase i db) (sym on.connected.opens.found) held in
             left.foreign told clean version h legal (shows_held d on.connected.files on.conn on.connected.connected (left.clean clean) version db h found rows);
         holds = λ h legal from held honest.
-            let clean : HasCleanDisk (file_state on.last) = closed_clean on.last on.closes.files on.closes.closed.closed honest in
-            let there = ∥∥₁_map (shown h legal from held (left.clean clean)) (λ fresh. later_from from fresh.0 (file_state on.last) h h h (inl refl) fresh.1 (left.leaves fresh.2 fresh.0 h legal fresh.3 clean)) in
+            let clean : HasCleanDisk (file_state last) = closed_clean last on.closes.files on.closes.closed.closed honest in
+            let there = ∥∥₁_map (shown h legal from held (left.clean clean)) (λ fresh. later_from from fresh.0 (file_state last) h h h (inl refl) fresh.1 (left.leaves fresh.2 fresh.0 h legal fresh.3 clean)) in
             record {
               now = ∥∥₁_elim there squash₁ (λ all. (on.closes.closed.holds same from h h (λ _. all) honest).now);
               crash = λ image may. ∥∥₁_elim there squash₁ (λ all. (on.closes.closed.holds same from h h (λ _. all) honest).crash image may);
             };
       }
 
+      -- what was replayed is carried into the files, unless closing them failed
+      done : ends.status ≡ on.before → (left : Result (Registry (FileStore F d) over_files) (Held (FileStore F d))) → on.left ≡ left
+          → IsReplayedOn over_files founding (ahead (r.remaining middle) begun) (ahead (r.remaining source_new) on.ended) on.ended begun.lines (r.failures middle) (r.failures source_new)
+          on.conn left (earlier ends on.errors on.before).errors on.before
+          → ReplaysWhollyFrom m d r source old new path ends
+      done same (Ok after) is did = inr (inr (inr (inr (true, replayed same did.0 after did.1 (ap (connection_left over_files) is) did.2))))
+      done same (Err conn) is not =
+          let held : last ≡ conn = ap (connection_left over_files) is in
+          inr (inr (inr (inl (unreplayed same not.2 not.0 (subst (IsLeftFound over_files on.conn founding not.0) (sym held) not.1) not.3))))
+
       in_whole : ReplaysWhollyFrom m d r source old new path ends
-      in_whole = elim (kept_unless_failed m d on.last on.closes.files on.errors ends.errors.new on.before ends.status on.closes.closed) [
-        | inl failed ↦ inr (inr (inl (on.last, on.closes.files, on.errors, subst (λ (b : ExitStatus). ClosesStore m d on.last on.closes.files on.errors ends.errors.new b ends.status) failed.0 on.closes.closed, failed.1)))
-        | inr same ↦ elim on.replays [
-          | inl did ↦ inr (inr (inr (inr (true, replayed same did.0 did.1 did.2 did.3 did.4))))
-          | inr not ↦ inr (inr (inr (inl (unreplayed same not.2 not.0 not.1 not.3))))
-        ]
+      in_whole = elim (kept_unless_failed m d last on.closes.files on.errors ends.errors.new on.before ends.status on.closes.closed) [
+        | inl failed ↦ inr (inr (inl (middle, source_new, begun, inr (founding, on, failed.0, failed.1))))
+        | inr same ↦ done same on.left refl on.replays
       ]
 
   module _ {R : Type 0} (r : source.Ghosts R) (source source_new : R) (old new : H) (path : List ℕ) (ends : Ends) where
@@ -298,9 +307,9 @@ module _ {H F I : Type 0} (m : host.Ghosts H F I) (d : disk.Ghosts F) where
             → BeginsReplay m d r first is.middle source_new is.begun old new path ends → ReplaysWhollyFrom m d r source old new path ends
         go (Ok (Some founding)) begins goes_on = elim goes_on [
           | inl not ↦ inr (inl (not.0, inr not.1, not.2))
-          | inr on ↦ in_whole r source is.middle source_new is.begun (begins.0 ++ begins.1 ∷ []) founding old new path ends begins.4 on
+          | inr on ↦ in_whole r source is.middle source_new is.begun (begins.0 ++ begins.1 ∷ []) (inr (begins.0, begins.1, founding, refl, begins.2, begins.3)) founding old new path ends begins.4 on
         ]
-        go (Ok None) begins goes_on = over_whole r source is.middle source_new is.begun begins.0 old new path ends begins.2 goes_on
+        go (Ok None) begins goes_on = over_whole r source is.middle source_new is.begun begins.0 (inl begins.1) old new path ends begins.2 goes_on
         go (Err why) begins goes_on = inl goes_on.0
 
   pub replays_wholly : (s : source.Ghosts I) {IN : Type 0} (i : source.Ghosts IN) (input input_new : IN) (old new : H) (path file : List ℕ) (ends : Ends)

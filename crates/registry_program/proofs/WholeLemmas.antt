@@ -116,7 +116,7 @@ module _ {H F I : Type 0} (m : host.Ghosts H F I) (d : disk.Ghosts F) where
   list_whole old new path stamp ends = show_whole old new path ends (WritesList stamp) _ (λ over. let is = over.does.1 in (
     is.left,
     λ h stands clean success. elim is.shown [
-      | inl all ↦ (all.0, all.1 h stands clean, all.2, elim all.3 [ inl whole ↦ whole.1 | inr cut ↦ absurd (cc (cut.0, success)) ])
+      | inl all ↦ (all.0, all.2 h stands clean, all.3, elim all.4 [ inl whole ↦ whole.1 | inr cut ↦ absurd (cc (cut.0, success)) ])
       | inr none ↦ absurd (cc (none.0, success))
     ],
   ))
@@ -125,7 +125,7 @@ module _ {H F I : Type 0} (m : host.Ghosts H F I) (d : disk.Ghosts F) where
   report_whole old new path name ends = show_whole old new path ends (WritesReport name) _ (λ over. let is = over.does.1 in (
     is.left,
     λ h stands clean success. elim is.shown [
-      | inl all ↦ (all.0, all.1 h stands clean, elim all.2 [ inl whole ↦ whole.1 | inr cut ↦ absurd (cc (cut.0, success)) ])
+      | inl all ↦ (all.0, all.2 h stands clean, elim all.3 [ inl whole ↦ whole.1 | inr cut ↦ absurd (cc (cut.0, success)) ])
       | inr none ↦ absurd (cc (none.0, success))
     ],
   ))

@@ -23,6 +23,7 @@ use Rattle.registry_store.specs.Promise.{IsNew, Represents, state_of}
 use Rattle.registry_store.specs.Files.{AreClosed, FilesHoldEither, HoldEither, IsEither}
 use Rattle.registry_commands.specs.declared.messages.Failure.{Failure}
 use Rattle.registry_commands.specs.declared.messages.Failure.TheVariants.{File, Foreign, Memory, Store}
+use Rattle.registry_commands.specs.Failures.{IsOfOpening, IsOfStore}
 
 -- a failure to open the files of a store: File only if it might not be made
 abbrev pub IsOfFiles : Bool → Failure → Type 0
@@ -82,5 +83,7 @@ module _ {D : Type 0} (g : Ghosts D) where
   abbrev pub HeldNoneIfForeign : Failure → Files D → Files D → Type 0
   HeldNoneIfForeign failure files left = failure ≡ Foreign → AreClean g left.log left.db → HoldsNoHistory (image_of g files)
 
-  abbrev pub AreLeft : Files D → Files D → Type 0
-  AreLeft files left = IsLeftUnopened files left ⊎ IsLeftUnread files left
+  -- What an opening that failed for this left of the files: the store could not be opened, and this is Store or Memory; or its
+  -- registry could not, and this may be Foreign too.
+  abbrev pub AreLeft : Failure → Files D → Files D → Type 0
+  AreLeft failure files left = (IsOfStore failure × IsLeftUnopened files left) ⊎ (IsOfOpening failure × IsLeftUnread files left)

@@ -17,11 +17,11 @@ use Rattle.registry_commands.specs.declared.status.ExitStatus.{ExitStatus}
 use Rattle.registry_commands.specs.declared.unread.Unread.{Unread}
 use Rattle.registry_commands.specs.Ends.{Ends, Sunk}
 use Rattle.registry_commands.specs.RecordLines.{ahead}
-use Rattle.registry_commands.specs.Replayed.{Begins, HasAllLines, HasReadBlank, IsReplayed, IsReplayedOn}
+use Rattle.registry_commands.specs.Replayed.{Begins, HasAllLines, HasReadBlank, IsReplayed, IsReplayedOn, connection_left}
 use Rattle.registry_commands.specs.Stops.{TellsStop}
 use Rattle.registry_program.specs.declared.host.Host as host
 use Rattle.registry_program.specs.Outputs.{IsFailure, earlier}
-use Rattle.registry_program.specs.Stores.{Closes, IsConnected, IsMissed, IsRunOver, IsUnconnected}
+use Rattle.registry_program.specs.Stores.{Closes, IsConnected, IsMissed, IsRunOver, IsUnconnected, TheRegistry}
 
 module _ {R : Type 0} (r : source.Ghosts R) where
   -- the lines of the record that were to come were replayed over a registry, and the output took nothing
@@ -43,14 +43,14 @@ module _ {H F I : Type 0} (m : host.Ghosts H F I) (d : disk.Ghosts F) where
       pub opened : H
       pub conn : Held (FileStore F d)
       pub connected : IsConnected m d old opened path conn
-      pub last : Held (FileStore F d)
+      pub left : Result (TheRegistry m d) (Held (FileStore F d))
       pub errors : Sunk
       pub before : ExitStatus
       pub ended : Unread
       pub replays : IsReplayedOn over_files founding (ahead (r.remaining source) begun) (ahead (r.remaining source_new) ended) ended begun.lines (r.failures source) (r.failures source_new)
-          conn last (earlier ends errors before).errors before
+          conn left (earlier ends errors before).errors before
       pub silent : ends.out.new ≡ ends.out.old
-      pub closes : Closes m d opened new last errors ends.errors.new before ends.status
+      pub closes : Closes m d opened new (connection_left over_files left) errors ends.errors.new before ends.status
 
     abbrev pub ReplaysIn : Founding → R → R → Unread → H → H → List ℕ → Ends → Type 0
     ReplaysIn founding source source_new begun old new path ends =

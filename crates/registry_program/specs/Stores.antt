@@ -16,7 +16,7 @@ use Rattle.registry_commands.specs.declared.messages.Failure.{Failure}
 use Rattle.registry_commands.specs.declared.status.ExitStatus.{ExitStatus}
 use Rattle.registry_commands.specs.declared.status.ExitStatus.TheVariants.{Success, Failed}
 use Rattle.registry_commands.specs.Ends.{Ends, Sunk}
-use Rattle.registry_commands.specs.Failures.{IsOfClosing, IsOfOpening, IsOfStore, PrintsFailure}
+use Rattle.registry_commands.specs.Failures.{IsOfClosing, IsOfStore, PrintsFailure}
 use Rattle.registry_program.specs.declared.host.Host as host
 use Rattle.registry_program.specs.Opening.{AreLeft, HeldNoneIfForeign, IsConnectedTo, IsLeftUnopened, IsOfFiles, OpensFiles}
 use Rattle.registry_program.specs.Outputs.{IsFailure, earlier}
@@ -45,11 +45,11 @@ module _ {H F I : Type 0} (m : host.Ghosts H F I) (d : disk.Ghosts F) where
     pub opens : Opens old new path false files
     pub opens_files : OpensFiles d files it
 
-  -- it could not be opened: there is none, or its files hold no registry that can be read, and none at all if this is Foreign
+  -- It could not be opened: there is none, or its files hold no registry that can be read, and none at all if this is Foreign.
   abbrev pub IsMissed : H → H → List ℕ → Failure → Type 0
   IsMissed old new path failure =
       (m.misses old new path false failure × IsOfFiles false failure)
-      ⊎ (IsOfOpening failure × IsClosedUndone old new path false (λ files left. AreLeft d files left × HeldNoneIfForeign d failure files left))
+      ⊎ IsClosedUndone old new path false (λ files left. AreLeft d failure files left × HeldNoneIfForeign d failure files left)
 
   -- the store at a path was opened, or made, and this is the connection to it
   pub record IsConnected (old new : H) (path : List ℕ) (conn : Held (FileStore F d)) : Type 0 where

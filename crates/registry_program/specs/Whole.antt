@@ -5,8 +5,6 @@ use Rattle.std.specs.Io.KnownBytes.{Appends, Keeps}
 use Rattle.std.specs.Str.{bytes_eq}
 use Rattle.sqlite_disk.specs.declared.Disk as disk
 use Rattle.sqlite_disk.specs.declared.Files.{Files}
-use Rattle.sqlite_store.specs.declared.store.FileStore.{FileStore}
-use Rattle.sqlite.specs.Held.{Held}
 use Rattle.sqlite.specs.WalReads.{AreClean}
 use Rattle.byte_streams.specs.declared.streams.Sink as sink
 use Rattle.byte_streams.specs.declared.streams.Source as source
@@ -38,8 +36,9 @@ use Rattle.registry_commands.specs.declared.messages.Failure.TheVariants.{Foreig
 use Rattle.registry_reports.specs.declared.kinds.ReportKind.{ReportKind}
 use Rattle.registry_commands.specs.Apply.{lines_between}
 use Rattle.registry_commands.specs.declared.status.ExitStatus.{ExitStatus}
+use Rattle.registry_commands.specs.declared.unread.Unread.{Unread}
 use Rattle.registry_commands.specs.declared.status.ExitStatus.TheVariants.{Success, Failed}
-use Rattle.registry_commands.specs.Ends.{Ends, Receives, Output, Sunk}
+use Rattle.registry_commands.specs.Ends.{Ends, Receives, Output}
 use Rattle.registry_commands.specs.Failures.{IsOfOpening}
 use Rattle.registry_commands.specs.Imports.{AsksFor, request_of_import, exit_status_of}
 use Rattle.registry_commands.specs.Lines.{requests_in}
@@ -47,7 +46,7 @@ use Rattle.registry_commands.specs.declared.entries.Entry.TheVariants as says
 use Rattle.registry_commands.specs.Entries.{FirstSays}
 use Rattle.registry_commands.specs.Messages.{reply_line}
 use Rattle.registry_commands.specs.RecordLines.{MayHaveLines}
-use Rattle.registry_commands.specs.Replayed.{GetTheirReplies, after_lines}
+use Rattle.registry_commands.specs.Replayed.{AreBeginning, GetTheirReplies, after_lines}
 use Rattle.registry_commands.specs.Recorded.{record_text}
 use Rattle.registry_reports.specs.Kinds.{report_named}
 use Rattle.registry_views.specs.Reports.{IsReport}
@@ -57,8 +56,9 @@ use Rattle.registry_program.specs.declared.host.Host as host
 use Rattle.registry_program.specs.Commands.{ActsOnFile, ImportsFile, IsStampOf, WritesList, WritesRecord, WritesReport}
 use Rattle.registry_program.specs.Opening.{HoldsNoHistory}
 use Rattle.registry_program.specs.Outputs.{IsFailure, IsRejection}
+use Rattle.registry_program.specs.Replaying.{IsReplayedIn, ReplaysLines}
 use Rattle.registry_program.specs.Serving.{ServesOn, limit_of}
-use Rattle.registry_program.specs.Stores.{ClosesStore, IsMissed, IsRunOver, IsUnconnected, Opens, TheRegistry}
+use Rattle.registry_program.specs.Stores.{IsMissed, IsRunOver, IsUnconnected, Opens, TheRegistry}
 
 -- ---- what a command makes of the history
 
@@ -241,15 +241,23 @@ module _ {H F I : Type 0} (m : host.Ghosts H F I) (d : disk.Ghosts F) where
     pub holds : (h : History) → Legal h → (from : ℕ) → FilesHoldEither from (m.holds old path) h h → AreClean d files.log files.db → HoldEither d from files h h
 
   module _ {R : Type 0} (r : source.Ghosts R) where
-    -- Lines of the record came after some before them; `performs` says that these are blank or its founding. The store at the path
-    -- was used, and for each history that its files held the lines were replayed over it.
+    -- The record began with some lines, and others came after them. The store at the path was used, and for each history that its
+    -- files held the other lines were replayed over it.
     pub record IsReplayedTo (source : R) (old new : H) (path : List ℕ) (may_make : Bool) (ends : Ends) : Type 0 where
       pub before : List (List ℕ)
+      pub begins : AreBeginning before
       pub lines : List (List ℕ)
       pub come : MayHaveLines (r.remaining source) (before ++ lines)
       pub files : Files F
       pub used : IsUsed old new path may_make files
       pub holds : (h : History) → LeadsFilesTo old path files h h (IsAfterRecord lines ends.status h)
+
+    -- the lines were replayed with the status Success, and closing the store then failed
+    abbrev pub EndsReplayUnclosed : H → H → List ℕ → Ends → Type 0
+    EndsReplayUnclosed old new path ends =
+        (middle : R) × (last : R) × (begun : Unread)
+        × (EndsUnclosed old new path ends (ReplaysLines r middle last begun)
+        ⊎ ((founding : Founding) × (on : IsReplayedIn m d r founding middle last begun old new path ends) × (on.before ≡ Success) × (ends.status ≡ Failed)))
 
     -- No store was opened, since the beginning of the record is refused or could not be read; or the store could not be opened, or
     -- not be closed after the status Success; or the lines were replayed.
@@ -257,7 +265,7 @@ module _ {H F I : Type 0} (m : host.Ghosts H F I) (d : disk.Ghosts F) where
     ReplaysWhollyFrom source old new path ends =
         (new ≡ old)
         ⊎ ((failure : Failure) × (IsMissed m d old new path failure ⊎ IsUnconnected m d old new path failure) × IsFailure failure ends)
-        ⊎ ((conn : Held (FileStore F d)) × (files : Files F) × (errors : Sunk) × ClosesStore m d conn files errors ends.errors.new Success ends.status × (ends.status ≡ Failed))
+        ⊎ EndsReplayUnclosed old new path ends
         ⊎ IsUnreplayed old new path ends
         ⊎ ((may_make : Bool) × IsReplayedTo source old new path may_make ends)
 

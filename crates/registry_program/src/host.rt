@@ -72,8 +72,8 @@ pub trait Host {
     ///
     /// # Errors
     ///
-    /// `File` if there is no store and none may be made; otherwise `Memory` when out of memory, and
-    /// `Store` if the files cannot be opened or made.
+    /// `File` if there is no store, or it cannot be looked for, and none may be made; otherwise
+    /// `Memory` when out of memory, and `Store` if the files cannot be opened or made.
     fn open_store(
         &mut self,
         path: &str,

@@ -1,4 +1,4 @@
-//! An error output that keeps the beginning of its last line.
+//! An error output that keeps the beginning of its last line, to say the cause of a fault.
 
 ghost use Rattle.std.specs.Prelude.{◌≡◌};
 
@@ -10,7 +10,7 @@ const MOST: usize = 32;
 
 /// An error output whose last line is known.
 pub trait LastLine {
-    /// Returns the beginning of the last line, without its line feed.
+    /// Returns the beginning of the last line, without its line feed. No clause says which bytes.
     fn last_line(&self) -> &[u8];
 }
 

@@ -50,7 +50,8 @@ fn open_on<D: Disk + Drop>(
 /// # Errors
 ///
 /// The failure of opening the store or the registry, with what is left of the files: `Foreign` only
-/// if they hold no registry. If the registry cannot be opened, `leave_store` gives the files back.
+/// if the store could be opened, and holds no registry if these files read back what was written.
+/// Then `leave_store` gives the files back; no clause says so.
 pub fn open_files<D: Disk + Drop>(
     alloc: Global,
     files: Files<D>,
@@ -58,7 +59,7 @@ pub fn open_files<D: Disk + Drop>(
 ) -> Result<Registry<FileStore<D>>, (Failure, Files<D>)>
     requires { IsTrue (D.Disk.is_usable files.log) × IsTrue (D.Disk.is_usable files.db) }
     ensures ok { IfOk result (OpensFiles D.Disk files) }
-    ensures err { IfErr result (λ e. IsOfOpening e.0 × AreLeft D.Disk files e.1) }
+    ensures err { IfErr result (λ e. AreLeft D.Disk e.0 files e.1) }
     ensures foreign { IfErr result (λ e. HeldNoneIfForeign D.Disk e.0 files e.1) }
 {
     match connect_to(alloc, files, options) {

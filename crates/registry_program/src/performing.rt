@@ -96,8 +96,8 @@ fn explain_if<H: Host, E: Sink + LastLine>(
 /// Does what the command asks for, over a machine and the standard streams, and returns the exit
 /// status. The contract says of each command which files it opens, in which order, what it does
 /// over them, and what the outputs gain. If the command fails or is refused and `verbose` is true,
-/// the error output may then get one more line, which says the cause. It may also get one after a
-/// founding whose file has keys that are ignored.
+/// the error output may then get one more line, for the cause. It may also get one after a founding,
+/// for keys that are ignored. What either says is only tested.
 pub fn perform<H: Host + Connections, R: Source, W: Sink, E: Sink + LastLine>(
     alloc: Global,
     host: &mut H,

@@ -1,15 +1,21 @@
 //! The command that replays a record.
 
 ghost use Rattle.std.specs.Prelude.{◌≡◌, ◌≢◌, ◌⊎◌, codes};
+ghost use Rattle.sqlite.specs.Files.{over_files};
+ghost use Rattle.registry_commands.specs.Ends.{sunk};
 ghost use Rattle.registry_commands.specs.RecordLines.{ahead};
+ghost use Rattle.registry_commands.specs.Replayed.{connection_left};
 ghost use Rattle.registry_program.specs.Outputs.{silent_ends};
 ghost use Rattle.registry_program.specs.Replaying.{ReplaysFrom, ReplaysIn, ReplaysOver, ReplaysRecord};
+ghost use Rattle.registry_program.specs.Stores.{Closes};
 
 use crate::host::Host;
 use crate::stores::{close_connection, close_registry, connect, open_registry};
 use byte_streams::{Sink, Source};
 use registry_commands::{ExitStatus, Unread, fail, replay, replay_on, take_founding, tell_stop};
 use registry_rules::Founding;
+use registry_store::Registry;
+use sqlite::{Connection, FileStore};
 use std::alloc::Global;
 
 /// Replays the lines of a record that follow over the registry in a store, which must exist, and
@@ -33,6 +39,21 @@ fn replay_over<H: Host, R: Source, E: Sink>(
     close_registry(host, registry, errors, status)
 }
 
+/// Closes the store of the registry that a replay left, or of the connection in which there is none.
+fn close_left<H: Host, E: Sink>(
+    host: &mut H,
+    left: Result<Registry<FileStore<H::File>>, Connection<FileStore<H::File>>>,
+    errors: &mut E,
+    status: ExitStatus,
+) -> ExitStatus
+    ensures { Closes H.Host H.File.Disk host.old host.new (connection_left over_files left) (sunk E.Sink errors.old) (sunk E.Sink errors.new) status result }
+{
+    match left {
+        Ok(registry) => close_registry(host, registry, errors, status),
+        Err(conn) => close_connection(host, conn, errors, status),
+    }
+}
+
 /// Replays the lines that follow a founding in a store, which is made if there is none, and returns
 /// the exit status.
 fn replay_in<H: Host, R: Source, E: Sink>(
@@ -51,8 +72,8 @@ fn replay_in<H: Host, R: Source, E: Sink>(
         Ok(conn) => conn,
         Err(failure) => return fail(errors, failure),
     };
-    let (status, conn) = replay_on(alloc, source, unread, founding, conn, errors);
-    close_connection(host, conn, errors, status)
+    let (status, left) = replay_on(alloc, source, unread, founding, conn, errors);
+    close_left(host, left, errors, status)
 }
 
 /// Replays the record that a source gives in a store, and returns the exit status.

@@ -115,7 +115,7 @@ fn answer<W: Sink, E: Sink>(
 /// Does what the arguments ask for, over a machine and the standard streams, and returns the exit
 /// status. The first argument is the program's own name. If the arguments are a command, the
 /// contract says of it what that of `perform` says, unless memory does not suffice for them. Causes
-/// are said with `--verbose` and to a terminal.
+/// may be said with `--verbose`, or if the error output is a terminal.
 pub fn run_over<H: Host + Connections, R: Source, W: Sink, E: Sink + LastLine>(
     alloc: Global,
     host: &mut H,

@@ -17,7 +17,8 @@ use std::alloc::Global;
 ///
 /// # Errors
 ///
-/// `File` if there is no store; otherwise the failure of opening its files or the registry.
+/// `File` if there is no store, or it cannot be looked for; otherwise the failure of opening its
+/// files or the registry.
 pub fn open_registry<H: Host>(
     alloc: Global,
     host: &mut H,

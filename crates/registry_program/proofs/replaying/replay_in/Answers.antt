@@ -7,11 +7,11 @@ returns g c out = inr (record {
   opened = c.connect.new.host;
   conn = c.in-Ok.conn;
   connected = c.in-Ok.ensures.ok;
-  last = c.replay_on-status.result.1;
+  left = c.replay_on-status.result.1;
   errors = sunk g.E.Sink c.replay_on-status.new.errors;
   before = c.replay_on-status.result.0;
   ended = c.replay_on-status.new.unread;
   replays = c.replay_on-status.ensures;
   silent = refl;
-  closes = c.close_connection.ensures;
+  closes = c.close_left.ensures;
 })

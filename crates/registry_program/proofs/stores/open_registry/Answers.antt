@@ -12,14 +12,11 @@ pub returns-in-Err-clause-err : goal.returns-in-Err-clause-err
 returns-in-Err-clause-err g c = inl (c.in-Err.ensures.missed, c.in-Err.ensures.kind)
 
 pub returns-in-Err-open_files-clause-err : goal.returns-in-Err-open_files-clause-err
-returns-in-Err-open_files-clause-err g c = inr (
-  c.in-Err-open_files.ensures.err.0,
-  record {
-    opened = c.open_store.new.self;
-    files = c.in-Ok.store.0;
-    opens = record { opens = c.in-Ok.ensures.opened; found = c.in-Ok.ensures.found };
-    left = c.in-Err-open_files.files;
-    is_left = (c.in-Err-open_files.ensures.err.1, c.in-Err-open_files.ensures.foreign);
-    lets_go = c.let_go.ensures;
-  },
-)
+returns-in-Err-open_files-clause-err g c = inr (record {
+  opened = c.open_store.new.self;
+  files = c.in-Ok.store.0;
+  opens = record { opens = c.in-Ok.ensures.opened; found = c.in-Ok.ensures.found };
+  left = c.in-Err-open_files.files;
+  is_left = (c.in-Err-open_files.ensures.err, c.in-Err-open_files.ensures.foreign);
+  lets_go = c.let_go.ensures;
+})
