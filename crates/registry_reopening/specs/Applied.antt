@@ -12,12 +12,12 @@ use Rattle.registry_store.specs.declared.registry.Registry.{Registry}
 use Rattle.registry_store.specs.Promise.{Represents, state_of}
 use Rattle.registry_store.specs.Run.{HasAnswered, HasAnsweredNone}
 use Rattle.registry_commands.specs.declared.lines.BadLine.{BadLine}
-use Rattle.registry_commands.specs.declared.messages.Failure.{Failure}
 use Rattle.registry_commands.specs.declared.status.ExitStatus.{ExitStatus}
 use Rattle.registry_commands.specs.declared.status.ExitStatus.TheVariants.{Success, Failed}
 use Rattle.registry_commands.specs.Ends.{Ends, ReceivesNothing, Output, effect, output_of}
-use Rattle.registry_commands.specs.Failures.{IsOfStore, PrintsFailure}
-use Rattle.registry_commands.specs.Apply.{IsApplied, lines_between}
+use Rattle.registry_commands.specs.Failures.{IsOfInput, IsOfStore, IsTooLong, PrintsFailure, TellsFailedReads}
+use Rattle.registry_commands.specs.Apply.{IsApplied, IsUnread, lines_between}
+use Rattle.registry_commands.specs.Lines.{requests_in}
 
 -- Closing a store leaves the status and the error output as they were; or, if the status was Success, it fails, and the error
 -- output says why.
@@ -26,9 +26,13 @@ EndsClosing s acted errors errors_new status =
     ((status ≡ acted) × (errors_new ≡ errors)) ⊎ ((acted ≡ Success) × (status ≡ Failed) × PrintsFailure IsOfStore (output_of s errors errors_new))
 
 module _ {S : Type 0} {g : Ghosts S} where
-  -- The requests were acted on over the first registry as `IsApplied` says, which left some registry, and ended so.
-  abbrev pub IsAppliedOver : (Failure → Type 0) → Registry S g → Result (List Request) BadLine → ℕ → Ends → Type 0
-  IsAppliedOver OfInput first read a ends = (last : Registry S g) × IsApplied OfInput (effect first last ends) read a
+  -- The requests of these bytes were acted on over the first registry as `apply_lines` says, which left some registry, and
+  -- ended so. The reads of the input had failed so often before, and so often after that.
+  pub record IsAppliedOver (failures failures_new : ℕ) (bytes : List ℕ) (first : Registry S g) (a : ℕ) (ends : Ends) : Type 0 where
+    pub last : Registry S g
+    pub applied : IsApplied (IsOfInput failures failures_new bytes) (effect first last ends) (requests_in bytes) a
+    pub long : IsTooLong bytes → (ends.status ≡ Failed) × IsUnread (IsOfInput failures failures_new bytes) (effect first last ends)
+    pub tells : TellsFailedReads (ends.status ≡ Failed) ends.errors failures failures_new bytes
 
   -- Nothing was acted on and no reply was written: the opened registry represents the history that the first one did.
   abbrev pub IsReopenedAsBefore : Registry S g → Registry S g → Output → Type 0

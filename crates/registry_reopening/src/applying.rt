@@ -3,7 +3,6 @@
 ghost use Rattle.std.specs.Prelude.{ℕ, List, IfSome};
 ghost use Rattle.byte_streams.specs.Streams.{MayGive};
 ghost use Rattle.registry_commands.specs.Ends.{ends_of};
-ghost use Rattle.registry_commands.specs.Failures.{IsOfInput};
 ghost use Rattle.registry_commands.specs.Lines.{requests_in};
 ghost use Rattle.registry_reopening.specs.Applied.{EndsClosing, IsAppliedOver, IsReopenedAfterLines};
 
@@ -33,7 +32,7 @@ pub fn apply_and_open<R: Source, D: Disk + Drop, W: Sink, E: Sink>(
 ) -> (ExitStatus, Option<Registry<FileStore<D>>>)
     ensures { (bytes : List ℕ) × MayGive (R.remaining source.old) bytes
         × ((acted : ExitStatus) × (middle : E)
-        × IsAppliedOver (IsOfInput (R.failures source.old) (R.failures source.new) bytes) first (requests_in bytes) answered (ends_of W.Sink E.Sink output.old output.new errors.old middle acted)
+        × IsAppliedOver (R.failures source.old) (R.failures source.new) bytes first answered (ends_of W.Sink E.Sink output.old output.new errors.old middle acted)
         × EndsClosing E.Sink acted middle errors.new result.0)
         × IfSome result.1 (IsReopenedAfterLines first (requests_in bytes) answered (ends_of W.Sink E.Sink output.old output.new errors.old errors.new result.0)) }
 {
@@ -60,7 +59,7 @@ pub fn apply_and_crash<R: Source, D: Crash + Drop, W: Sink, E: Sink>(
     options: Options,
 ) -> (ExitStatus, Option<Registry<FileStore<D>>>)
     ensures { (bytes : List ℕ) × MayGive (R.remaining source.old) bytes
-        × IsAppliedOver (IsOfInput (R.failures source.old) (R.failures source.new) bytes) first (requests_in bytes) answered (ends_of W.Sink E.Sink output.old output.new errors.old errors.new result.0)
+        × IsAppliedOver (R.failures source.old) (R.failures source.new) bytes first answered (ends_of W.Sink E.Sink output.old output.new errors.old errors.new result.0)
         × IfSome result.1 (IsReopenedAfterLines first (requests_in bytes) answered (ends_of W.Sink E.Sink output.old output.new errors.old errors.new result.0)) }
 {
     let mut registry = first;

@@ -1,6 +1,6 @@
 //! A registry that is abandoned, and the one that is opened in its files.
 
-ghost use Rattle.std.specs.Prelude.{◌≡◌, ℕ, IsTrue, None, IfSome, IfOk, IfErr, IsErrAnd};
+ghost use Rattle.std.specs.Prelude.{◌≡◌, ◌⊎◌, ℕ, IsTrue, None, IfSome, IfOk, IfErr, IsErrAnd, MatchResult};
 ghost use Rattle.sqlite.specs.State.{HasCleanDisk};
 ghost use Rattle.sqlite.specs.View.{IsClean};
 ghost use Rattle.sqlite.specs.Files.{file_state, image_of, IsOpened};
@@ -10,9 +10,12 @@ ghost use Rattle.sqlite.specs.Start.{FindsIn};
 ghost use Rattle.sqlite.specs.WalReads.{AreClean};
 ghost use Rattle.registry_rules.specs.History.{History};
 ghost use Rattle.registry_rules.specs.Run.{Legal};
+ghost use Rattle.table_laws.specs.Inside.{CommitsNothing};
+ghost use Rattle.registry_tables.specs.Known.{IsKnown};
+ghost use Rattle.registry_tables.specs.Raising.{IsNamedOlder};
 ghost use Rattle.registry_tables.specs.Rows.{newest};
 ghost use Rattle.registry_store.specs.Promise.{Represents, Leaves, LeavesFrom, state_of, connection_of};
-ghost use Rattle.registry_store.specs.Files.{IsEither, HoldEither, FilesHoldEither};
+ghost use Rattle.registry_store.specs.Files.{AreClosed, IsEither, HoldEither, FilesHoldEither};
 
 use registry_store::{Registry, leave_store};
 use sqlite::{Connection, FileStore, Files, Options};
@@ -33,6 +36,7 @@ pub fn abandon<D: Disk + Drop>(registry: Registry<FileStore<D>>) -> FileStore<D>
 
 /// Returns the files of an abandoned registry, as `leave_store` does.
 pub fn leave<D: Disk + Drop>(registry: Registry<FileStore<D>>) -> Files<D>
+    ensures closed { AreClosed (connection_of registry) result }
     ensures clean { AreClean D.Disk result.log result.db → HasCleanDisk (state_of registry) }
     ensures holds { (h next : History) → (HasCleanDisk (state_of registry) → Leaves newest (state_of registry) (IsEither h next))
         → AreClean D.Disk result.log result.db → HoldEither D.Disk newest result h next }
@@ -46,6 +50,7 @@ pub fn open_on<D: Disk + Drop>(
     conn: Connection<FileStore<D>>,
 ) -> Option<Registry<FileStore<D>>>
     ensures clean { IfSome result (λ it. HasCleanDisk (state_of it) → HasCleanDisk (file_state conn)) }
+    ensures known { IfSome result (λ it. HasCleanDisk (state_of it) → IsKnown (file_state conn).now) }
     ensures busy { IsTrue conn.in_transaction → result ≡ None }
     ensures represents { (from : ℕ) (image : Image) (h next : History) → Legal h → Legal next
         → (HasCleanDisk (file_state conn) → IsOpened conn × FindsIn image (file_state conn) × FilesHoldEither from image h next)
@@ -67,6 +72,10 @@ pub fn open_on_or_return<D: Disk + Drop>(
     ensures clean { IfOk result (λ it. HasCleanDisk (state_of it) → HasCleanDisk (file_state conn)) }
     ensures busy { IsTrue conn.in_transaction → IsErrAnd result (λ left. left ≡ conn) }
     ensures returned { IfErr result (λ left. HasCleanDisk (file_state left) → HasCleanDisk (file_state conn)) }
+    ensures known { IfOk result (λ it. HasCleanDisk (state_of it) → IsKnown (file_state conn).now) }
+    ensures untouched { IsNamedOlder (file_state conn) ⊎ MatchResult result
+        (λ it. CommitsNothing (file_state conn) (state_of it))
+        (λ left. CommitsNothing (file_state conn) (file_state left)) }
     ensures represents { (from : ℕ) (image : Image) (h next : History) → Legal h → Legal next
         → (HasCleanDisk (file_state conn) → IsOpened conn × FindsIn image (file_state conn) × FilesHoldEither from image h next)
         → IfOk result (λ it. HasCleanDisk (state_of it) → ∥ ((x : History) × IsEither h next x × Represents it x) ∥₁) }

@@ -29,8 +29,9 @@ fn let_go<D: Disk + Drop>(registry: Registry<FileStore<D>>) {
 ///
 /// If the first registry represents a history, and the disks of the returned one are clean, the
 /// replies and the tables are those of a run without faults, however often that happens. If it does
-/// not finish, it returns the replies so far. That these are a prefix of that run's replies is
-/// promised only for disks that always read back what was written, as disks in memory do.
+/// not finish, it returns the replies so far, without those of its last run if memory runs out for
+/// them. That these are a prefix of that run's replies is promised only for disks that always read
+/// back what was written, as disks in memory do.
 pub fn run_through<D: Crash + Drop>(
     alloc: Global,
     first: Registry<FileStore<D>>,
@@ -75,7 +76,7 @@ pub fn run_through<D: Crash + Drop>(
 
 /// Crashes both disks of a connection, for example one that `Registry::open` returned with a fault,
 /// opens the registry again and acts on the requests, with a crash of both after each fault of
-/// either, as `run_through` does.
+/// either, as `run_through` does. Returns `None` if it does not finish.
 ///
 /// The replies and the tables are those of a run without faults over the history that the store
 /// held, in whatever schema.
@@ -98,7 +99,7 @@ pub fn crash_and_run_through<D: Crash + Drop>(
 }
 
 /// Founds a registry over two new disks in memory, and acts on the requests there, with a crash of
-/// both after each fault.
+/// both after each fault, for at most `stops` runs. Returns `None` if it does not finish.
 ///
 /// The contract assumes nothing of the disks: the result is what the rules say, and the disks are
 /// clean.

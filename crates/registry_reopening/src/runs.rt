@@ -4,7 +4,7 @@ ghost use Rattle.std.specs.Prelude.{◌≡◌, ◌≢◌, ◌≤◌, ◌⊎◌, 
 ghost use Rattle.sqlite.specs.State.{HasCleanDisk};
 ghost use Rattle.registry_rules.specs.History.{History};
 ghost use Rattle.registry_rules.specs.Run.{Legal, after};
-ghost use Rattle.registry_store.specs.Promise.{Endures, is_poisoned, poisoned_by, state_of};
+ghost use Rattle.registry_store.specs.Promise.{Endures, NotesForeign, is_poisoned, poisoned_by, state_of};
 ghost use Rattle.registry_store.specs.Run.{HasAnsweredNone, NameOneOrganisation};
 ghost use Rattle.registry_reopening.specs.Runs.{EndsRun};
 
@@ -44,6 +44,7 @@ pub fn run_from<S: Alter>(
     ensures ends { IfSome result.fault (λ fault. (is_poisoned registry.new ≡ true) ⊎ ((fault ≡ Fault.NoMemory) × (result.replies.items ≡ []) × (registry.new ≡ registry.old))) }
     ensures keeps_fault { is_poisoned registry.old ≡ false → IfSome result.fault (λ fault. (poisoned_by registry.new ≡ Some fault) ⊎ ((fault ≡ Fault.NoMemory) × (result.replies.items ≡ []) × (registry.new ≡ registry.old))) }
     ensures goes_on { result.fault ≡ None → is_poisoned registry.new ≡ false }
+    ensures notes { NotesForeign registry.old registry.new result.fault }
 
     // A law of histories, for the one after the run: no number has two owners.
     ensures one_owner { (h : History) → Legal h → NameOneOrganisation (after h requests.now) }

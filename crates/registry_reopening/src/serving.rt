@@ -13,8 +13,8 @@ use std::alloc::Global;
 
 /// Serves connections as `serve_all` does, crashes both disks, and opens the registry again.
 ///
-/// The opened registry represents the history after the messages of all connections, or, if the
-/// registry had a fault at the last one, perhaps of all but that one. So it holds each message
+/// The opened registry represents the history after the messages of all connections that were acted
+/// on, or, if the registry had a fault at the last one, perhaps of all but that one. So it holds each message
 /// whose response was written whole with a status other than 503. Returns no registry if opening
 /// fails.
 pub fn serve_and_crash<C: Connections, D: Crash + Drop>(

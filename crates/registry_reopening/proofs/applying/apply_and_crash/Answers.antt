@@ -12,7 +12,7 @@ returns g c =
     let ends = ends_of g.W.Sink g.E.Sink c.args.output.now run.new.output c.args.errors.now run.new.errors run.result in (
       bytes,
       run.ensures.1,
-      (run.new.registry, run.ensures.2),
+      record { last = run.new.registry; applied = run.ensures.2; long = run.ensures.3; tells = run.ensures.4 },
       if_reopened OfInput c.args.first run.new.registry (requests_in bytes) c.args.answered ends ends.errors run.ensures.2
           c.crash_and_open.result c.crash_and_open.ensures.represents c.crash_and_open.ensures.clean,
     )

@@ -28,7 +28,7 @@ returns g c =
     let same : close.result.0 ≡ run.result = differs_false the_type (search rules) _ _ (sym c.if-ne.ensures) in (
       bytes,
       run.ensures.1,
-      (run.result, run.new.errors, (run.new.registry, run.ensures.2), subst (λ (status : ExitStatus). EndsClosing g.E.Sink run.result run.new.errors close.new.errors status) same (closing_ends g.E.Sink (IsUncopied c.into_connection.result close.result.1) run.new.errors close.new.errors run.result close.result.0 close.ensures.kept close.ensures.well)),
+      (run.result, run.new.errors, record { last = run.new.registry; applied = run.ensures.2; long = run.ensures.3; tells = run.ensures.4 }, subst (λ (status : ExitStatus). EndsClosing g.E.Sink run.result run.new.errors close.new.errors status) same (closing_ends g.E.Sink (IsUncopied c.into_connection.result close.result.1) run.new.errors close.new.errors run.result close.result.0 close.ensures.kept close.ensures.well)),
       if_reopened OfInput c.args.first run.new.registry (requests_in bytes) c.args.answered ends (output_of g.E.Sink c.args.errors.now close.new.errors) run.ensures.2
           c.open_files.result
           (λ h next legal legal_next leaves.
@@ -44,7 +44,7 @@ returns-then-ne g c =
     let close = c.close_store-closed in (
       run.ensures.0,
       run.ensures.1,
-      (run.result, run.new.errors, (run.new.registry, run.ensures.2), closing_ends g.E.Sink (IsUncopied c.into_connection.result close.result.1) run.new.errors close.new.errors run.result close.result.0 close.ensures.kept close.ensures.well),
+      (run.result, run.new.errors, record { last = run.new.registry; applied = run.ensures.2; long = run.ensures.3; tells = run.ensures.4 }, closing_ends g.E.Sink (IsUncopied c.into_connection.result close.result.1) run.new.errors close.new.errors run.result close.result.0 close.ensures.kept close.ensures.well),
       tt,
     )
 
@@ -55,7 +55,7 @@ returns-then-not-may_be_used g c =
     let same : close.result.0 ≡ run.result = differs_false the_type (search rules) _ _ (sym c.if-ne.ensures) in (
       run.ensures.0,
       run.ensures.1,
-      (run.result, run.new.errors, (run.new.registry, run.ensures.2), subst (λ (status : ExitStatus). EndsClosing g.E.Sink run.result run.new.errors close.new.errors status) same (closing_ends g.E.Sink (IsUncopied c.into_connection.result close.result.1) run.new.errors close.new.errors run.result close.result.0 close.ensures.kept close.ensures.well)),
+      (run.result, run.new.errors, record { last = run.new.registry; applied = run.ensures.2; long = run.ensures.3; tells = run.ensures.4 }, subst (λ (status : ExitStatus). EndsClosing g.E.Sink run.result run.new.errors close.new.errors status) same (closing_ends g.E.Sink (IsUncopied c.into_connection.result close.result.1) run.new.errors close.new.errors run.result close.result.0 close.ensures.kept close.ensures.well)),
       tt,
     )
 
