@@ -70,13 +70,13 @@ fn drain<P: Peer>(peer: &mut P) -> Result<(), Broken>
 }
 
 /// Does what is to be done before a connection is closed whose response had this status, or whose peer
-/// failed: if the message may have left bytes unread, ends the response and reads them, until two
-/// seconds have passed or 16 MiB have come.
+/// failed: if the message may have left bytes unread, ends the response and reads them, until the
+/// peer ends, a call fails, two seconds have passed or 16 MiB have come.
 pub fn close<P: Peer>(peer: &mut P, status: Option<u16>)
     ensures { IsClosed P.Peer peer.old peer.new status }
 {
     if let Some(status) = status {
-        // A message with status 200 was read to its end, so its peer has no more to send.
+        // A message with status 200 was read to its end, so what its peer still sends came behind it.
         if status != 200 || has_more(peer) {
             let _ = drain(peer);
         }

@@ -65,7 +65,7 @@ fn apply<'a>(alloc: Global) -> Result<Command<'a>, AllocError>
         "apply",
         "Run the request lines of a file over a registry",
         "After an interrupted run, count the reply lines that were printed and run the same file \
-         again with that count: no request is acted on twice.\n\nExample:\n  usbreg found numbers.db \
+         again with that count: no request takes effect twice.\n\nExample:\n  usbreg found numbers.db \
          examples/founding.toml\n  usbreg apply numbers.db examples/first.jsonl\n  usbreg apply \
          numbers.db examples/first.jsonl --answered 3",
     );

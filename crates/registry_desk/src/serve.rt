@@ -130,11 +130,12 @@ pub(crate) fn serve_message<R: Source, W: Sink, S: Alter>(
 ///
 /// Returns `Broken` only if the source failed in this call, before the message was complete: then
 /// nothing is written and nothing was acted on. If the sink failed, a prefix of the response was
-/// written, and an order may have been acted on; sent again under its key it gets the same reply.
+/// written, and an order may have been acted on: if it was accepted, it gets the same reply when it is
+/// sent again under its key.
 ///
-/// A message needs at most 8,192 bytes of memory for its head, and an order in JSON at most 16,384
-/// for its body besides the request itself; an imported list needs the memory of its document.
-/// Refusals 30 and 31 need none.
+/// Keeps at most 8,192 bytes of the head of a message, and 16,384 of the body of an order in JSON,
+/// besides the request itself; an imported list needs the memory of its document. Refusals 30 and 31
+/// need none.
 pub fn serve_one<R: Source, W: Sink, S: Alter>(
     alloc: Global,
     source: &mut R,

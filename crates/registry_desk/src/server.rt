@@ -133,8 +133,9 @@ fn serve_beside<C: Connections, S: Alter>(
 /// Opens the next connection, serves its message, and closes it.
 ///
 /// Returns `ServerStop::Registry` if the registry had a fault, whether the response was written
-/// or the peer was gone. A peer's fault is not an error, and neither is a 503 because memory ran
-/// out, at a query or outside the registry, unless the registry is poisoned.
+/// or the peer was gone; of a query for which the store failed this is in no clause. A peer's fault
+/// is not an error, and neither is a 503 because memory ran out, at a query or outside the registry,
+/// unless the registry is poisoned.
 pub fn serve_next<C: Connections, S: Alter>(
     alloc: Global,
     connections: &mut C,
@@ -157,20 +158,21 @@ pub fn serve_next<C: Connections, S: Alter>(
 
 /// Serves at most `count` connections, one after another, up to the first fault of the registry.
 ///
-/// Over a registry that represents a history, each message gets its response over the history
-/// before it, or refusal 30 or 31, and the registry then represents the history after all messages
-/// that it acted on, in order. A crash leaves the history after these, or, if the registry had a
+/// Over a registry that represents a history, and a clean disk, what is written for each message is
+/// its response over the history before it, or refusal 30 or 31, or a prefix if the peer failed.
+/// Without a fault the registry then represents the history after all messages that it acted on, in
+/// order. A crash leaves the history after these, or, if the registry had a
 /// fault at the last connection, perhaps after all but that one. So it holds each message whose
 /// response was written whole with a status other than 503.
 ///
 /// The last list and the last report of each kind are cached in memory, and written again until an
-/// order comes.
+/// order, a fault or a lack of memory comes.
 ///
-/// If `act` or a query finds the rows of no history, whatever the store holds, the message gets
-/// refusal 30 and no response of its own, and ends the server.
+/// If `act` or a query finds the rows of no history, and no call found them before, the message gets
+/// refusal 30 and no response of its own, and ends the server, whatever the store holds.
 ///
-/// A poisoned registry is not changed: the first message that is not refused by itself gets refusal
-/// 30, or 31 if memory runs out before it is read, and ends the server.
+/// A poisoned registry is not changed: the first message that is not refused by itself, or for which
+/// memory runs out before it is read, gets refusal 30 or 31, and ends the server.
 pub fn serve_all<C: Connections, S: Alter>(
     alloc: Global,
     connections: &mut C,

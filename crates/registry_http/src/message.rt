@@ -220,15 +220,15 @@ fn read_after_head<R: Source>(
 }
 
 /// Reads one message to a registry with this founding vendor. Returns a query or a request, or
-/// `Refused` with the refusal of the first fault. The first message makes the table of the served
-/// paths.
+/// `Refused` with the refusal of the first fault. The first message with a whole head makes the table
+/// of the served paths, if memory suffices.
 ///
-/// Reads only while the message is incomplete: bytes that follow can complete its head within 8,192
-/// bytes, or its head is that of an order whose body is not complete. So it never waits for a peer
-/// that has sent its whole message.
+/// Reads only while the message is incomplete: fewer than 8,192 bytes came, and bytes that follow may
+/// complete its head, its number of fields and the bytes of its target aside; or its head is that of
+/// an order whose body is not complete. So it never waits for a peer that has sent its whole message.
 ///
-/// A message needs at most 8,192 bytes of memory for its head and 16,384 for the body of an order
-/// in JSON, besides the request itself. An imported list is read in pieces and needs the memory of
+/// Keeps at most 8,192 bytes of the head of a message and 16,384 of the body of an order in JSON,
+/// besides the request itself. An imported list is read in pieces and needs the memory of
 /// its document.
 ///
 /// Returns `Broken` only if the source failed during this call, before the message was complete, and

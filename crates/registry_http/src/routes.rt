@@ -188,7 +188,7 @@ pub(crate) fn route_of(
     }
 }
 
-/// The table of the served paths. It is made once, for the first message.
+/// The table of the served paths. The first message with a whole head makes it.
 #[derive(Drop)]
 pub struct Routes {
     router: Option<Router<Template>>,
@@ -206,7 +206,7 @@ impl Model for Routes {
 }
 
 impl Routes {
-    /// Makes an empty table, which the first message fills.
+    /// Makes an empty table, which the first message with a whole head fills.
     pub fn new() -> Routes {
         Routes { router: None }
     }

@@ -25,7 +25,7 @@ impl FromRow for Span {
     }
 }
 
-/// Inserts the span.
+/// Inserts the span, or replaces the one with the same first number.
 pub fn put_fixed<S: Alter>(tx: &mut Transaction<'_, S>, span: Span) -> Result<(), TableFault>
     ensures writes { Writes S.Store tx.old.conn tx.new.conn result (Changes (λ t. record t { fixed = insert_by fixed_key t.fixed span })) }
 {

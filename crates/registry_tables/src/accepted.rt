@@ -70,9 +70,9 @@ fn read_accepted<S: Alter>(
 ///
 /// # Errors
 ///
-/// `TableFault::Foreign` only if the tables hold the rows of no history, `TableFault::NoMemory` if
-/// out of memory for the rows or the list, `TableFault::Store` if the store refuses or fails, or if
-/// a row has the canonical form of no order.
+/// `TableFault::Foreign` only if the tables hold the rows of no history in the newest schema,
+/// `TableFault::NoMemory` if out of memory for the rows or the list, `TableFault::Store` if the
+/// store refuses or fails, or if a row has the canonical form of no order.
 pub fn accepted_after<S: Alter>(
     alloc: Global,
     conn: &mut Connection<S>,

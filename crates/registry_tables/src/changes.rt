@@ -45,8 +45,9 @@ fn make<S: Alter>(
 ///
 /// # Errors
 ///
-/// `TableFault::NoMemory` if out of memory, `TableFault::Store` if the store refuses or fails;
-/// never `TableFault::Foreign`. Some of the changes may be made then, so roll the transaction back.
+/// `TableFault::NoMemory` if out of memory, `TableFault::Store` if the store refuses or fails, or if
+/// a row that is to be changed stores no value; never `TableFault::Foreign`. Some of the changes may
+/// be made then, so roll the transaction back.
 pub fn store<S: Alter>(
     alloc: Global,
     tx: &mut Transaction<'_, S>,

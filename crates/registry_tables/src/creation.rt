@@ -40,7 +40,7 @@ fn create_in_empty<S: Alter>(
 ///
 /// # Errors
 ///
-/// If the database has any table or view it fails, and commits nothing. `TableFault::NoMemory` if
+/// If the database has any table, index or view it fails, and commits nothing. `TableFault::NoMemory` if
 /// the store is out of memory, and `TableFault::Store` if it refuses or fails; a crash then leaves
 /// what it could before, or all of it. Never `TableFault::Foreign`.
 pub fn create<S: Alter>(conn: &mut Connection<S>, founding: &Founding) -> Result<(), TableFault>

@@ -80,8 +80,9 @@ fn read_first_licences<S: Alter>(
 ///
 /// # Errors
 ///
-/// `TableFault::Foreign` only if the tables hold the rows of no history, `TableFault::NoMemory` if
-/// out of memory for the rows or the list, `TableFault::Store` if the store refuses or fails.
+/// `TableFault::Foreign` only if the tables hold the rows of no history in the newest schema,
+/// `TableFault::NoMemory` if out of memory for the rows or the list, `TableFault::Store` if the
+/// store refuses or fails, or if later deeds allow all licences, which no history has.
 pub fn first_licences<S: Alter>(
     alloc: Global,
     conn: &mut Connection<S>,

@@ -16,8 +16,9 @@ use usbnum_core::Number;
 ///
 /// # Errors
 ///
-/// `TableFault::Foreign` only if the tables hold the rows of no history, `TableFault::NoMemory` if
-/// out of memory for the rows or the list, `TableFault::Store` if the store refuses or fails.
+/// `TableFault::Foreign` only if the tables hold the rows of no history in the newest schema,
+/// `TableFault::NoMemory` if out of memory for the rows or the list, `TableFault::Store` if the
+/// store refuses or fails.
 pub fn list_orgs<S: Alter>(alloc: Global, conn: &mut Connection<S>) -> Result<Vec<Org>, TableFault>
     requires { conn.old.in_transaction ≡ false }
     ensures idle { conn.new.in_transaction ≡ false }
@@ -34,8 +35,9 @@ pub fn list_orgs<S: Alter>(alloc: Global, conn: &mut Connection<S>) -> Result<Ve
 ///
 /// # Errors
 ///
-/// `TableFault::Foreign` only if the tables hold the rows of no history, `TableFault::NoMemory` if
-/// out of memory for the rows or the list, `TableFault::Store` if the store refuses or fails.
+/// `TableFault::Foreign` only if the tables hold the rows of no history in the newest schema,
+/// `TableFault::NoMemory` if out of memory for the rows or the list, `TableFault::Store` if the
+/// store refuses or fails.
 pub fn list_petitions<S: Alter>(
     alloc: Global,
     conn: &mut Connection<S>,
@@ -55,8 +57,9 @@ pub fn list_petitions<S: Alter>(
 ///
 /// # Errors
 ///
-/// `TableFault::Foreign` only if the tables hold the rows of no history, `TableFault::NoMemory` if
-/// out of memory for the rows or the list, `TableFault::Store` if the store refuses or fails.
+/// `TableFault::Foreign` only if the tables hold the rows of no history in the newest schema,
+/// `TableFault::NoMemory` if out of memory for the rows or the list, `TableFault::Store` if the
+/// store refuses or fails.
 pub fn list_numbers<S: Alter>(
     alloc: Global,
     conn: &mut Connection<S>,
@@ -76,8 +79,9 @@ pub fn list_numbers<S: Alter>(
 ///
 /// # Errors
 ///
-/// `TableFault::Foreign` only if the tables hold the rows of no history, `TableFault::NoMemory` if
-/// out of memory for the rows or the list, `TableFault::Store` if the store refuses or fails.
+/// `TableFault::Foreign` only if the tables hold the rows of no history in the newest schema,
+/// `TableFault::NoMemory` if out of memory for the rows or the list, `TableFault::Store` if the
+/// store refuses or fails.
 pub fn list_vendors<S: Alter>(
     alloc: Global,
     conn: &mut Connection<S>,
