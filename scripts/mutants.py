@@ -12,9 +12,9 @@ What is not refused beside others is tried again alone.
 
 Usage: scripts/mutants.py [--jobs N] [--edits FOLDER] [NAME | NAME/EDIT ..], by default all of mutants/, or of FOLDER.
 Run `rt ci` on the same files first: the script takes it that each crate is proved as it stands, and checks over the
-libraries that the run left. The first check of a crate proves what its edits leave, unless `rt check` kept that; later
-checks take it from there, and check the functions of their edits alone. The last line counts the edits, and the exit
-status is 0 if all were refused. With --self-test it tries edits of a small crate that it writes."""
+libraries that the run left. The first check of a crate proves what its edits leave, unless `rt check` kept that. Each
+later check begins with what the last one kept, and checks the functions of its edits alone. The last line counts the
+edits, and the exit status is 0 if all were refused. With --self-test it tries edits of a small crate that it writes."""
 
 import argparse
 import concurrent.futures
@@ -25,6 +25,7 @@ import shutil
 import subprocess
 import sys
 import tempfile
+import threading
 import time
 from pathlib import Path
 
@@ -54,10 +55,18 @@ class Crate:
 
     def __init__(self, top, name):
         self.name, self.folder = name, f"{top}/crates/{name}"
-        self.own, self.of_kit, self.kept = [], ["std"], f"{self.folder}/out/incremental"
+        self.own, self.of_kit = [], ["std"]
+        self.kept, self.lock = f"{self.folder}/out/incremental", threading.Lock()
         self.checked = []  # the functions that its first check named
         files = sorted(Path(self.folder, "src").rglob("*.rt"))
         self.texts = {str(it.relative_to(self.folder)): it.read_text("utf-8") for it in files}
+
+    def keep(self, folder):
+        """Takes what a check proved, in this folder, in the place of what was kept."""
+        with self.lock:
+            if os.path.isdir(folder):
+                shutil.rmtree(self.kept, ignore_errors=True)
+                shutil.move(folder, self.kept)
 
     def below(self):
         """Returns the repository's libraries below it, by name."""
@@ -212,19 +221,18 @@ def check(crate, edits):
         for part in ("src", "specs", "proofs"):
             if os.path.isdir(f"{crate.folder}/{part}"):
                 shutil.copytree(f"{crate.folder}/{part}", f"{room}/{part}")
-        is_first = not os.path.isdir(crate.kept)
-        if not is_first:
-            shutil.copytree(crate.kept, f"{room}/kept", copy_function=link)
+        with crate.lock:
+            if os.path.isdir(crate.kept):
+                shutil.copytree(crate.kept, f"{room}/kept", copy_function=link)
         changed = {place: text for edit in edits for place, text in edit.lines.items()}
         for path in {path for path, _ in changed}:
             lines = enumerate(crate.texts[path].split("\n"), 1)
             Path(room, path).write_text("\n".join(changed.get((path, at), text) for at, text in lines), "utf-8")
         words = [f"{KIT}/bin/rattle", "check", *crate.flags(), "--incremental", f"{room}/kept", *only(crate, edits)]
         said = subprocess.run(words, cwd=room, check=False, **HEARD).stdout
-        if is_first and VERDICT.search(said):
-            shutil.move(f"{room}/kept", crate.kept)
         if ENDED.search(said):
             crate.checked = crate.checked or [name for name, _ in VERDICT.findall(said)]
+            crate.keep(f"{room}/kept")
         return said
 
 
@@ -288,8 +296,9 @@ def try_all(top, edits, names, jobs):
                     good.append(Edit(name, file.read_text("utf-8"), crate))
                 except ValueError as why:
                     found[name] = f"a bad edit: {why}"
-            if not os.path.isdir(crate.kept):
-                crate.kept = f"{room}/{crate.name}"
+            kept, crate.kept = crate.kept, f"{room}/{crate.name}"
+            if os.path.isdir(kept):
+                shutil.copytree(kept, crate.kept, copy_function=link)
             if good:
                 rounds = rounds_of(good)
                 first[pool.submit(try_round, crate, rounds[0])] = crate, rounds[1:]
