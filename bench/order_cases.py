@@ -251,11 +251,16 @@ def queries():
     def after_an_order(path):
         return lambda o, run: (o.send(o.order(KEEPER, "amend-org", org="o1", title="Workshop", site=SITE)), get(path))[1]
 
+    def after_a_refused_order(path):
+        return lambda o, run: (o.send(get(path), o.order(STRANGER, "amend-org", org="o1", title="Workshop", site=SITE)), get(path))[1]
+
     for path in (f"/numbers/{FULL}/0001", "/numbers/0001", "/orgs/o1", "/orgs/absent", "/petitions/1", "/petitions/999999", "/founding", "/none"):
         yield Case(f"GET {path}", "", 24 if path == "/none" else 4 if path == "/orgs/absent" else 6 if path == "/petitions/999999" else "found", asked(path))
     whole = ("/list", *(f"/reports/{it}" for it in REPORTS))
     for path in whole:
         yield Case(f"GET {path}", "", "as before", lambda o, run, path=path: (o.send(get(path)), get(path))[1])
+    for path in whole:
+        yield Case(f"GET {path}", "", "after a refused order", after_a_refused_order(path))
     for path in whole:
         yield Case(f"GET {path}", "", "after an order", after_an_order(path))
     yield Case("GET /history/{n}, the first page", "", "found", asked("/history/0"))

@@ -3,21 +3,24 @@
 
 Only the ports are others. The server gets the name that nginx has authenticated, whatever name the client sends; no
 order passes without one, nor one of a name that is no slug, nor a list of who is no curator. Bodies of the greatest sizes
-pass, and greater ones do not. Clients that stop in the middle, even 600 of them, keep nobody waiting, of 240 clients at
-once all are served or refused at once, and 100 wait for a server that is busy. A maker that floods the registry, and an
-address that does, are refused, and the orders of others pass; who doesn't know a password uses up nobody's orders, and the
-addresses of one network of IPv6 count as one.
+pass, and greater ones do not. Clients that stop in the middle, even 600 of them, keep nobody waiting, and of 240 clients at
+once all are served or refused at once. A maker or a curator that floods the registry, and an address that does, are refused,
+and the orders of others pass; who doesn't know a password uses up nobody's orders, and the addresses of one network of IPv6
+count as one.
 
-Then another user's order comes in time while floods of what is refused and of long queries go on, and refusals add nothing
-to the logs (`lib/floods.py`; docs/contracts.md has the numbers).
+Then another user's order comes in time beside each flood of `lib/floods.py`: orders and lists that are refused, a curator's
+orders and lists from many addresses, long queries and pages of the record without end, passwords, more reads than the server
+can have, and a storm of all. Refusals add nothing to the logs, nor do half handshakes and half heads. Messages that come while
+the server is down for a moment wait for it. docs/contracts.md has the numbers. contrib/follow and contrib/publish-list refuse
+what is no record and no list of a registry (`lib/upstreams.py`).
 
 The proxy has the list as a file and a compressed one, by contrib/publish-list, and before that it keeps it as it does
 the reports, also while the server is down. What it refuses itself is JSON, also without TLS where there is TLS. Its log
 has the name and the key of each order, and keeps them by contrib/usbreg.logrotate. The history can be kept to some
 addresses. With the configuration of Debian's package around it, it serves the same.
 
-Usage: scripts/serve_behind_nginx.py [PROGRAM [NUMBERS]], by default the one that `make` builds, and 56000 numbers. If
-nginx is not installed it says that it was skipped, and likewise for what needs `logrotate` or `openssl`. The exit status
+Usage: scripts/serve_behind_nginx.py [--planted] [PROGRAM [NUMBERS]], by default the one that `make` builds, and 56000 numbers.
+With --planted it takes the limit of each flood out of the configuration, one by one, and checks that this is noticed. If nginx is not installed it says that it was skipped, and likewise for what needs `logrotate` or `openssl`. The exit status
 is 0 if all of this holds."""
 
 import collections
@@ -25,26 +28,29 @@ import concurrent.futures
 import gzip
 import os
 import re
-import select
 import shutil
-import signal
 import subprocess
 import sys
 import time
 from email.utils import formatdate
+from types import SimpleNamespace
 
-from lib.floods import filled, floods
-from lib.proxy import CURATOR, DEBIAN, NO_CURATOR, NO_SLUG, ByField, Gate, Guarded, Packaged, Recipe, by_proxy, closing, connected, refusal, shell, signed, told
-from lib.serving import HOST, PATIENCE, command, get, message, post, read_to_end, serving
+from lib.attackers import Sending
+from lib.flooded import Stage, filled, half_messages
+from lib.floods import FLOODS, READS, is_noticed, least
+from lib.proxy import CURATOR, DEBIAN, NO_CURATOR, NO_SLUG, ByField, Gate, Guarded, Packaged, Recipe, Small, by_proxy, closing, connected, refusal, shell, signed, told
+from lib.serving import HOST, PATIENCE, command, free_port, get, message, post, serving
+from lib.upstreams import follow_bad_registries, publish_bad_lists
 from lib.usbreg import CONTRIB, content, folder, found, program, same, write
 from talk_to_the_desk import ENROL, LIST, ORDER, ask, asked
 
 FOUNDING = f'vendor = "1209"\nname = "Shared products"\ncurators = ["{CURATOR}"]\nlicences = ["MIT"]\nfixed = ["0001-0010"]\n'
-# The clients that stop in the middle of a head, and those that ask at once, each from one of several addresses; and how
-# many of these reach the server at the same time.
-HALF, MANY, ALL = 600, 240, 100
-# The seconds that a report is kept, and one more.
-KEPT = 11
+# The clients that stop in the middle of a head, and those that ask at once, each from one of several addresses.
+HALF, MANY = 600, 240
+# The passwords that an address sends at once, of which so many are checked or wait.
+GUESSES, CHECKED = 60, 31
+# The seconds that a report is kept, and one more; and those that a message waits for a server that is down.
+KEPT, WAITED = 11, 15
 # The numbers of the registry that is flooded.
 NUMBERS = 56000
 
@@ -120,24 +126,39 @@ def many_clients(gate):
 
     with concurrent.futures.ThreadPoolExecutor(MANY) as pool:
         statuses = collections.Counter(pool.map(asks, range(MANY)))
-    if not statuses[200] >= ALL or set(statuses) - {200, 503}:
+    if not statuses[200] >= READS or set(statuses) - {200, 503}:
         sys.exit(f"{MANY} clients at once get {statuses}")
 
 
-def clients_of_a_busy_server(gate, server):
-    """Checks that a server that is busy, here one that is stopped, has so many clients that wait, and no more."""
-    server.process.send_signal(signal.SIGSTOP)
-    clients = [connected(gate.port, f"127.0.3.{number + 1}") for number in range(ALL + 20)]
-    for client in clients:
-        client.sendall(closing(get("/numbers/0012")))
-    until = time.monotonic() + 5
-    while len(select.select(clients, [], [], 0.1)[0]) < 20 and time.monotonic() < until:
-        pass
-    server.process.send_signal(signal.SIGCONT)
-    statuses = collections.Counter(int(read_to_end(client).split()[1]) for client in clients)
-    for client in clients:
-        client.close()
-    same("clients of a busy server", sorted(statuses.items()), [(200, ALL), (503, 20)])
+def odd_messages(gate):
+    """Checks that what nginx refuses by itself is refused in JSON, and that a path without its end has no page of nginx."""
+    head = get("/numbers/0012")
+    for what, sent, status in (
+        ("an unknown coding", head.replace(b"\r\nhost", b"\r\ntransfer-encoding: xchunked\r\nhost"), 501), ("a long path", get("/" + "a" * 9000), 414),
+        ("another version", head.replace(b"HTTP/1.1", b"HTTP/3.0"), 505), ("a trace", message("TRACE", "/list"), 405), ("no host", head.replace(b"\r\nhost", b"\r\nx"), 400),
+        ("a page that changed", message("GET", "/web/index.html", if_match='"x"'), 412), ("an order to the page", message("POST", "/web/index.html", b""), 405),
+        ("a path above all", get("/../x"), 400),
+    ):
+        gate.gives(what, sent, *by_proxy(status), has=("content-type: application/json",))
+    for path in ("/imports", "/reports", "/history", "/web"):
+        gate.gives(path, get(path), *refusal(24))
+
+
+def tried_at_once(gate, sent, address):
+    """Sends a message many times at once from an address, and returns how often each status comes within a second, 0 for those
+    that still wait."""
+    sending, until = Sending(gate.port), time.monotonic() + 1
+    for _ in range(GUESSES):
+        sending.begin(address, closing(sent))
+    while time.monotonic() < until:
+        sending.go_on()
+    return sending.close()
+
+
+def has_few_guesses(what, statuses):
+    """Checks that of the passwords of an address some were checked, some wait, and the others are refused."""
+    if set(statuses) - {0, 401, 429} or not 0 < statuses[401] <= CHECKED or statuses[429] < GUESSES - CHECKED - 2:
+        sys.exit(f"{what} get {statuses}")
 
 
 def orders_without_end(gate):
@@ -151,7 +172,7 @@ def orders_without_end(gate):
         status, _, lines = gate.ask(signed(name, command(ask("w"))), address)
         same(what, (status, f"retry-after: {seconds}" in lines), (429, True))
 
-    replies = [enrol("mallory", number, f"127.0.2.{number % 8 + 1}") for number in range(120)]
+    replies = [enrol("mallory", number, f"127.0.2.{number + 1}") for number in range(120)]
     accepted = sum(status == 200 for status, _ in replies)
     if {*replies[accepted:]} != {by_proxy(429)} or not 60 <= accepted <= 62:
         sys.exit(f"of 120 orders of one maker {accepted} were accepted, then {replies[accepted:][:3]}")
@@ -159,22 +180,33 @@ def orders_without_end(gate):
     # a field that the second server reads
     for _ in range(100):
         gate.ask(get("/numbers/0012").replace(b"\r\n", b"\r\nusbreg-maker: bob\r\n", 1), "127.0.0.8")
-    guesses = [enrol("bob", number, "127.0.0.4", "wrong")[0] for number in range(200)]
-    if {*guesses} != {401, 429}:
-        sys.exit(f"wrong passwords of one address get {set(guesses)}")
-    same("an address that has sent too many", enrol("bob", 2, "127.0.0.4"), by_proxy(429))
-    waits("the time of an address", "bob", "127.0.0.4", 1)
+    wrong = signed("bob", command(ENROL), "wrong")
+    has_few_guesses("wrong passwords of one address", tried_at_once(gate, wrong, "127.0.0.4"))
+    with concurrent.futures.ThreadPoolExecutor(GUESSES) as pool:
+        answers = list(pool.map(lambda _: gate.ask(wrong, "127.0.0.4"), range(GUESSES)))
+    same("an address that has sent too many", {it[:2] for it in answers if "retry-after: 1" in it[2]}, {by_proxy(429)})
     same("another maker's order", enrol("bob", 1, HOST), (200, told("enrolled bob1")))
+    grants = [gate.ask(signed(CURATOR, command(asked(f"c{it}", "grant", CURATOR, petition=99))), f"127.0.9.{it + 1}") for it in range(220)]
+    passed = sum(it[:2] == refusal(6) for it in grants)
+    if {it[:2] for it in grants[passed:]} != {by_proxy(429)} or not 201 <= passed <= 215 or "retry-after: 6" not in grants[-1][2]:
+        sys.exit(f"of 220 orders of a curator {passed} were passed on, then {grants[passed:][:3]}")
+    lists = [gate.ask(signed(CURATOR, post("", f"l{it}", b"1209  x\n", "/imports/acme")), f"127.0.10.{it + 1}") for it in range(6)]
+    same("lists of a curator", ([it[0] for it in lists], "retry-after: 60" in lists[-1][2]), ([200] * 4 + [429] * 2, True))
 
 
 def networks(gate):
     """Checks that all addresses of a client of IPv6 count as one, and those of another network do not."""
     def guess(address):
-        return gate.ask(signed("bob", command(ENROL), "wrong").replace(b"\r\n", f"\r\nx-address: {address}\r\n".encode(), 1))[0]
+        return signed("bob", command(ENROL), "wrong").replace(b"\r\n", f"\r\nx-address: {address}\r\n".encode(), 1)
 
-    same("guesses of one network", sorted({guess(f"2001:db8:1:2:{number:x}::1") for number in range(1, 200)}), [401, 429])
+    sending, until = Sending(gate.port), time.monotonic() + 1
+    for number in range(GUESSES):
+        sending.begin(HOST, closing(guess(f"2001:db8:1:2:{number + 1:x}::1")))
+    while time.monotonic() < until:
+        sending.go_on()
+    has_few_guesses("guesses of one network", sending.close())
     for other in ("2001:db8:1:3::1", "2001:db8:1::1", "127.0.0.5"):
-        same(f"a guess of {other}", guess(other), 401)
+        same(f"a guess of {other}", gate.ask(guess(other))[0], 401)
 
 
 def what_is_kept(gate, server, census, began):
@@ -190,7 +222,10 @@ def what_is_kept(gate, server, census, began):
     same("the head of the list", (status, body), (200, b""))
     server.kill()
     gate.gives("the list without the server", get("/list"), 200, listed)
+    killed = time.monotonic()
     gate.gives("a number without the server", get("/numbers/0011"), *by_proxy(502))
+    if not WAITED - 5 < time.monotonic() - killed < WAITED + 10:
+        sys.exit(f"a message waits {time.monotonic() - killed:.1f} s for a server that is down")
     time.sleep(max(0, began + KEPT - time.monotonic()))
     status, body, lines = gate.ask(get("/reports/census"))
     if (status, body) != (200, census) or "cache-status: stale" not in lines:
@@ -200,11 +235,11 @@ def what_is_kept(gate, server, census, began):
 def logged(recipe):
     """Checks that the log says who ordered what, and has nothing else. nginx writes a line once the response is gone."""
     until = time.monotonic() + 5
-    while not re.search(r'^\S+T\S+ 127\.0\.0\.1 "ann" "k2" "POST /commands HTTP/1\.1" 200 ', recipe.log(), re.MULTILINE):
+    while not re.search(r'^\S+T\S+ 127\.0\.0\.1 "ann" "k2" "POST /commands" 200 ', recipe.log(), re.MULTILINE):
         if time.monotonic() > until:
             sys.exit(f"the log has no order of ann: {recipe.log()[:2000]}")
         time.sleep(0.01)
-    others = [it for it in recipe.log().splitlines() if not re.search(r'^\S+ \S+ "(ann|bob|curator-1)" "\w+" "POST /+(commands|imports)', it) or " 429 " in it]
+    others = [it for it in recipe.log().splitlines() if not re.search(r'^\S+ \S+ "(ann|bob|curator-1)" "\w+" "(POST /(commands|imports/acme)|-)" ', it) or " 429 " in it]
     same("other lines of the log", others, [])
 
 
@@ -294,21 +329,41 @@ def in_debians(recipe):
     logged(recipe)
 
 
+def floods(stage):
+    """Returns the figures of all floods, in words."""
+    return ";\n".join(f"  {least(it, stage)}" for it in FLOODS)
+
+
+def planted(stage):
+    """Checks that each flood is noticed if its limit is taken away."""
+    for it in FLOODS:
+        if it.planted:
+            noticed = is_noticed(it, stage)
+            print(f"{it.run.__name__}: {noticed or 'NOT NOTICED'}", flush=True)
+            if not noticed:
+                sys.exit(1)
+
+
 def main():
-    usbreg = program(*sys.argv[1:2])
-    numbers = int(sys.argv[2]) if len(sys.argv) > 2 else NUMBERS
+    words = [it for it in sys.argv[1:] if it != "--planted"]
+    usbreg = program(*words[:1])
+    numbers = int(words[1]) if len(words) > 1 else NUMBERS
     if not shutil.which("nginx"):
         print("SKIPPED: nginx is not installed, so contrib/nginx.conf was not run")
         return
     with folder() as room:
         store = found(usbreg, f"{room}/store.db", write(f"{room}/founding.toml", FOUNDING))
         full = filled(found(usbreg, f"{room}/full.db", f"{room}/founding.toml"), numbers)
+        if "--planted" in sys.argv:
+            server = SimpleNamespace(port=free_port())
+            with Stage(usbreg, full, Recipe(room, server), server.port) as stage:
+                planted(stage)
+            return
         with serving(usbreg, store).up() as server, Recipe(room, server) as recipe:
             gate = Gate(recipe.port)
             began, census = time.monotonic(), gate.ask(get("/reports/census"))[1]
-            for cases in (names, sizes, slow_clients, many_clients):
+            for cases in (names, sizes, odd_messages, slow_clients, many_clients):
                 cases(gate)
-            clients_of_a_busy_server(gate, server)
             logged(recipe)
             rotated(gate, recipe)
             what_is_kept(gate, server, census, began)
@@ -316,17 +371,22 @@ def main():
             a_list_as_a_file(gate, recipe, server)
         with serving(usbreg, store, port=server.port).up(), recipe:
             orders_without_end(gate)
-        with serving(usbreg, full, port=server.port).up(), recipe:
-            flooded = floods(gate, recipe)
-        for kind, cases in ((ByField, lambda proxy: networks(Gate(proxy.port))), (Guarded, guarded), (Packaged, in_debians)):
+        with Stage(usbreg, full, recipe, server.port) as stage:
+            flooded = floods(stage)
+        for kind, cases in ((ByField, lambda proxy: networks(Gate(proxy.port))), (Guarded, guarded), (Small, half_messages), (Packaged, in_debians)):
             shutil.rmtree(recipe.folder)
-            if kind is Guarded and not shutil.which("openssl"):
+            if issubclass(kind, Guarded) and not shutil.which("openssl"):
                 print("SKIPPED: openssl is not installed, so contrib/nginx.conf was not run with TLS")
             elif kind is not Packaged or os.path.exists(DEBIAN):
                 with serving(usbreg, store).up() as server, kind(room, server) as recipe:
                     cases(recipe)
-    print("contrib/nginx.conf: names, sizes, slow and many clients, floods, the list, the reports and the log are as they should be;")
-    print(flooded)
+        for it in ("curl", "gzip"):
+            if not shutil.which(it):
+                sys.exit(f"{it} is not installed")
+        publish_bad_lists(room)
+        refused = follow_bad_registries(usbreg, room)
+    print("contrib/nginx.conf: names, sizes, slow and many clients, the list, the reports and the log are as they should be; another")
+    print(f"user's order takes at most, and more of each flood:\n{flooded};\n{refused} registries that are none were not followed")
 
 
 if __name__ == "__main__":

@@ -1,148 +1,296 @@
-"""Floods of messages that are refused, and of the longest queries, through the proxy of contrib/nginx.conf to a registry with
-many numbers: another user's order must come soon, and the logs must not grow."""
+"""Floods of messages through the proxy of contrib/nginx.conf to a registry with many numbers: another user's order must come
+soon, no limit may be used up for others, and the logs must not grow. Each flood has the lines by which a configuration
+without its limit differs, so that `serve_behind_nginx.py --planted` can show that it is noticed."""
 
 import collections
 import concurrent.futures
 import re
-import select
-import sys
-import threading
+import signal
 import time
+from typing import NamedTuple
 
-from lib.proxy import CURATOR, NO_CURATOR, by_proxy, closing, connected, parts, refusal, signed, told
-from lib.serving import command, get, post, read_to_end
-from lib.usbreg import REPORTS, put_rows
+from lib.attackers import Attackers, Sending, once, without_end
+from lib.flooded import ACCEPTED, FIRST, STORM, Missed, enrol, need
+from lib.proxy import CURATOR, NO_CURATOR, by_proxy, closing, connected, refusal, signed
+from lib.serving import command, get, message, post, read_to_end
+from lib.usbreg import REPORTS, content, write
 
-# The least number of the registry; the messages at once; the seconds in which another user's order must come; the bytes of
-# a list; and the seconds of a storm.
-FIRST, AT_ONCE, SOON, LONG, STORM = 0x2000, 60, 0.5, 2_800_000, 2
-# How many accepted requests the registry has, and the canonical form of each.
-ACCEPTED, AMENDED = 10_000, b"amend-org\tfull\tFull\thttps://full.example/"
-
-
-def filled(store, numbers):
-    """Puts an organisation with so many numbers, and some accepted requests, into a closed store, and returns its path."""
-    return put_rows(store, (
-        ("INSERT INTO orgs VALUES (?, 'Full', 'https://full.example/', 'mallory')", [("full",)]),
-        ("INSERT INTO entries3 VALUES (0x1209, ?, 'full', 1, ?, NULL, NULL, NULL)", ((it, f"Device {it}") for it in range(FIRST, FIRST + numbers))),
-        ("INSERT INTO kept VALUES ('mallory', ?, ?, 'amended organisation full')", ((f"a{it}", AMENDED) for it in range(ACCEPTED))),
-    ))
-
-
-def enrol(org):
-    return {"caller": "", "key": org, "order": "enrol", "org": org, "title": "Bob", "site": "https://bob.example/"}
-
-
-class Others:
-    """The orders of another user, which must come soon whatever goes on."""
-
-    def __init__(self, gate):
-        self.gate, self.count = gate, 0
-
-    def order(self, what):
-        """Returns the seconds that an order takes."""
-        self.count += 1
-        sent = command(enrol(f"bobs{self.count}"))
-        began = time.monotonic()
-        self.gate.gives(f"an order beside {what}", signed("bob", sent), 200, told(f"enrolled bobs{self.count}"), "127.0.0.6")
-        took = time.monotonic() - began
-        if took > SOON:
-            sys.exit(f"beside {what} another user's order takes {took:.2f} s")
-        return took
+# The messages at once, and the bytes of a list.
+AT_ONCE, LONG = 60, 2_800_000
+# The addresses that send passwords at the same time, and how many each sends. An address is let through so many at once, and
+# so many more a second.
+ADDRESSES, EACH, BURST, RATE = 100, 50, 4, 2
+# What a curator may order and import at once, and the addresses that use the name.
+ORDERS, LISTS, CURATORS_ADDRESSES = 200, 4, 40
+# The messages that come while the server is down.
+DOWN = 40
+# The reads at the same time, and the seconds in which another reader's page of the record must come.
+READS, PAGE = 40, 3
+# The bytes of a line of the log, and how often a flood is tried, since another process may have the machine meanwhile.
+LINE, TRIES = 260, 3
+SECOND_MACHINE = "127.0.0.10"
+MAKERS = ("ann", "bob", "mallory")
 
 
-def refused_spans(gate, others):
-    """Sends refused orders over all numbers, all at once, and an order of another user right after."""
-    clients = [connected(gate.port, f"127.0.4.{number % 4 + 1}") for number in range(AT_ONCE)]
-    for number, client in enumerate(clients):
-        client.sendall(closing(signed("mallory", command({"caller": "", "key": f"r{number}", "order": "reserve", "first": "0011", "last": "ffff"}))))
-    took = others.order(f"{AT_ONCE} refused orders over all numbers")
-    statuses = collections.Counter(parts(read_to_end(client))[:2] for client in clients)
-    if statuses != {refusal(2): AT_ONCE}:
-        sys.exit(f"{AT_ONCE} refused orders over all numbers get {statuses}")
-    for client in clients:
-        client.close()
-    return took
+def addresses(part, count):
+    return [f"127.{part}.{it // 250 + 1}.{it % 250 + 1}" for it in range(count)]
 
 
-def refused_lists(gate, others):
-    """Sends long lists of who may not send one, all at once, and orders of another user meanwhile."""
+def from_each(places, messages):
+    """Returns the messages, each with an address, which take turns."""
+    return [(places[at % len(places)], closing(it)) for at, it in enumerate(messages)]
+
+
+# The floods. Each returns its figure in words.
+
+
+def alone(stage):
+    return f"{min(stage.others.order('nothing') for _ in range(3)):.3f} s"
+
+
+def refused_spans(stage):
+    """Refused orders over all numbers, all at once, and an order of another user right after."""
+    sent = [signed("mallory", command({"caller": "", "key": f"r{it}", "order": "reserve", "first": "0011", "last": "ffff"})) for it in range(AT_ONCE)]
+    with Attackers(stage.gate.port, once(from_each(addresses(4, 10), sent))) as attackers:
+        took = stage.others.meanwhile(f"{AT_ONCE} refused orders over all numbers", 1)
+        attackers.wait()
+    need(set(attackers.counts) <= {refusal(2)[0], 503} and attackers.counts[refusal(2)[0]] >= AT_ONCE // 6, f"{AT_ONCE} refused orders over all numbers get {attackers.counts}")
+    return f"{took:.3f} s beside {AT_ONCE} refused orders"
+
+
+def refused_lists(stage):
+    """Long lists of who may not send one, all at once, and orders of another user meanwhile."""
     lines = b"1209  x\n" + b"".join(b"\t%04x  Device\n" % it for it in range(FIRST, FIRST + 8192, 2))
     long = post("", "l1", lines.ljust(LONG, b"\n"), "/imports/acme")
-
-    def sends(number):
-        refused_one = signed(*(("mallory", long) if number % 2 else (CURATOR, long, "wrong")))
-        return gate.ask(refused_one, f"127.0.5.{number % 4 + 1}")[:2]
-
-    with concurrent.futures.ThreadPoolExecutor(AT_ONCE) as pool:
-        sent = [pool.submit(sends, number) for number in range(AT_ONCE)]
-        took = others.order(f"{AT_ONCE} refused lists")
-        statuses = collections.Counter(it.result() for it in sent)
-    if statuses != {by_proxy(403, NO_CURATOR): AT_ONCE // 2, by_proxy(401): AT_ONCE // 2}:
-        sys.exit(f"{AT_ONCE} refused lists get {statuses}")
-    return took
+    sent = [signed("mallory", long), signed(CURATOR, long, "wrong")] * (AT_ONCE // 2)
+    with Attackers(stage.gate.port, once(from_each(addresses(5, 4), sent))) as attackers:
+        took = stage.others.meanwhile(f"{AT_ONCE} refused lists", 1)
+        attackers.wait()
+    wanted = {by_proxy(403, NO_CURATOR)[0]: AT_ONCE // 2, by_proxy(401)[0]: AT_ONCE // 2}
+    need(attackers.counts == wanted, f"{AT_ONCE} refused lists get {attackers.counts}")
+    return f"{took:.3f} s beside {AT_ONCE} refused lists"
 
 
-def long_queries(gate, others):
-    """Asks for each report and for many pages near the end of the record, all at once, and sends orders of another user for a
-    while. Returns how long these take at most, and how many queries were answered meanwhile."""
+def long_queries(stage):
+    """Each report and many pages near the end of the record, all at once."""
     paths = [f"/reports/{it}" for it in REPORTS] + [f"/history/{ACCEPTED - 1000 - number}" for number in range(AT_ONCE)]
-    clients = [connected(gate.port, f"127.0.7.{number % 4 + 1}") for number in range(len(paths))]
-    for client, path in zip(clients, paths):
-        client.sendall(closing(get(path)))
-    took = meanwhile(others, f"{len(paths)} long queries")
-    statuses = collections.Counter(parts(read_to_end(client))[0] for client in select.select(clients, [], [], 0)[0])
-    if set(statuses) - {200, 429} or not statuses[200] >= len(REPORTS):
-        sys.exit(f"{len(paths)} long queries get {statuses}")
-    for client in clients:
-        client.close()
-    return took, statuses[200]
+    with Attackers(stage.gate.port, once(from_each(addresses(7, 20), map(get, paths)))) as attackers:
+        took = stage.others.meanwhile(f"{len(paths)} long queries")
+    answered = attackers.counts[200]
+    need(not set(attackers.counts) - {0, 200, 429} and answered >= len(REPORTS), f"{len(paths)} long queries get {attackers.counts}")
+    return f"{took:.3f} s beside {answered} long queries"
 
 
-def meanwhile(others, what):
-    """Sends orders of another user for the seconds of a storm, and returns how long one takes at most."""
-    until, took = time.monotonic() + STORM, 0
-    while time.monotonic() < until:
-        took = max(took, others.order(what))
-        time.sleep(0.2)
-    return took
+def record_for_all(stage):
+    """Two addresses ask for pages of the record, first as many as they can at once, and for what has no such path, without end.
+    Another reader gets his pages soon, and fresh reports, and the second machine has no limit."""
+    gate, slowest, reports = stage.gate, 0, set()
+    pages = [f"/history/{it}" for it in range(AT_ONCE)]
+    paths = [*pages, *(f"/{it}/x{number}" for it in ("history", "reports", "list") for number in range(AT_ONCE))]
+    held = Sending(gate.port)
+    for it in from_each(addresses(8, 2), map(get, pages)):
+        held.begin(*it)
+
+    def reads():
+        nonlocal slowest
+        began = time.monotonic()
+        status = gate.ask(get("/history/9000"), stage.others.address())[0]
+        slowest = max(slowest, time.monotonic() - began)
+        need(status == 200 and slowest <= PAGE, f"beside pages without end another reader's page gets {status} after {slowest:.2f} s")
+        status, _, lines = gate.ask(get("/reports/holders"), stage.others.address())
+        reports.add((status, "cache-status: stale" in lines))
+
+    reads()
+    with Attackers(gate.port, without_end(from_each(addresses(8, 2), map(get, paths)), AT_ONCE)):
+        took = stage.others.meanwhile("pages without end", STORM, reads)
+        began = time.monotonic()
+        machine = collections.Counter(gate.ask(get(f"/history/{it}"), SECOND_MACHINE)[0] for it in range(30))
+        caught_up = time.monotonic() - began
+    held.close()
+    need(machine == {200: 30}, f"beside pages without end the second machine gets {machine}")
+    need(reports == {(200, False)}, f"beside pages without end reports are (status, stale): {reports}")
+    return f"{took:.3f} s beside pages without end (a page for another reader {slowest:.2f} s, 30 for the second machine {caught_up:.2f} s)"
 
 
-def storm(gate, recipe, others):
-    """Sends messages without end from an address, most of which a limit refuses, and orders of another user meanwhile.
-    Returns how long these take at most, how many messages were refused, and by how many bytes the logs grew."""
-    ended, count = threading.Event(), collections.Counter()
+def curators(stage):
+    """A curator's name from many addresses: orders, and lists that take numbers."""
+    places, began, before = addresses(9, CURATORS_ADDRESSES), time.monotonic(), len(stage.recipe.log())
+    orders = [signed(CURATOR, command(enrol(f"bad{it}"))) for it in range(10 * CURATORS_ADDRESSES)]
+    lists = [signed(CURATOR, post("", f"bad-list{it}", b"1209  x\n\t%04x  x\n" % (0x100 + it) + b"#\n" * 2_000_000, "/imports/full")) for it in range(CURATORS_ADDRESSES // 2)]
+    with Attackers(stage.gate.port, once(from_each(places, orders)), once(from_each(addresses(10, CURATORS_ADDRESSES), lists))) as attackers:
+        took = stage.others.meanwhile("a curator's orders and lists")
+        attackers.wait()
+    more = (time.monotonic() - began) / 6 + 1
+    made, taken = (len(re.findall(rf'"{CURATOR}" "[^"]*" "POST /{it}[^"]*" 200 ', stage.recipe.log()[before:])) for it in ("commands", "imports"))
+    need(0 < made <= ORDERS + more, f"of {len(orders)} orders of a curator {made} were accepted")
+    need(0 < taken <= LISTS + more / 10, f"of {len(lists)} lists of a curator {taken} were taken")
+    return f"{took:.3f} s beside a curator's orders and lists from {CURATORS_ADDRESSES} addresses ({made} of {len(orders)} and {taken} of {len(lists)} were accepted)"
 
+
+def passwords(stage):
+    """Wrong and right passwords from many addresses at once."""
+    wrong, right = (signed("mallory", command(enrol("x")), it) for it in ("wrong", None))
+    places, began = addresses(11, ADDRESSES), time.monotonic()
+    sent = from_each(places, [wrong, right] * (ADDRESSES * EACH // 2))
+    # each address has its messages one after another, wrong ones in the first half of all addresses
+    sent.sort()
+    with Attackers(stage.gate.port, once(sent[::2], STORM), once(sent[1::2], STORM)) as attackers:
+        took = stage.others.meanwhile("passwords from many addresses", STORM)
+        attackers.wait()
+    checked = sum(attackers.counts[it] for it in attackers.counts if it not in (0, 503)) - attackers.counts[429]
+    most = ADDRESSES * (BURST + RATE * (time.monotonic() - began))
+    need(0 < checked <= most, f"of {len(sent)} passwords {checked} were checked, and may be {most:.0f}: {attackers.counts}")
+    return f"{took:.3f} s beside {len(sent)} passwords from {ADDRESSES} addresses ({checked} were checked)"
+
+
+def reads_and_orders(stage):
+    """More reads at the same time than the server may have, while it is busy, here stopped; then orders."""
+    stage.server.process.send_signal(signal.SIGSTOP)
+    reads = [connected(stage.gate.port, f"127.0.3.{it + 1}") for it in range(2 * READS + 40)]
+    for it in reads:
+        it.sendall(closing(get("/numbers/0012")))
+    until = time.monotonic() + 5
+    refused = 0
+    try:
+        orders = []
+        while refused < READS and time.monotonic() < until:
+            time.sleep(0.2)
+            refused = sum(is_answered(it) for it in reads)
+        for number in range(25):
+            orders.append(connected(stage.gate.port, f"127.0.14.{number + 1}"))
+            orders[-1].sendall(closing(signed(MAKERS[number % 3], command(enrol(f"beside-reads{number}-{stage.others.count}")))))
+        time.sleep(0.5)
+    finally:
+        stage.server.process.send_signal(signal.SIGCONT)
+    got, read = ([int(read_to_end(it).split()[1]) for it in those] for those in (orders, reads))
+    stage.others.count += 1
+    need(got == [200] * 25, f"beside {len(reads)} reads {got.count(503)} of 25 orders get 503, the reads {collections.Counter(read)}")
+    need(collections.Counter(read) == {200: READS, 503: READS + 40}, f"{len(reads)} reads of a busy server get {collections.Counter(read)}")
+    return f"0 of 25 orders refused beside {len(reads)} reads"
+
+
+def is_answered(connection):
+    connection.settimeout(0)
+    try:
+        return bool(connection.recv(1, 2))
+    except BlockingIOError:
+        return False
+    finally:
+        connection.settimeout(60)
+
+
+def long_words(stage):
+    """Orders of a maker with a long key, a long query and a long method."""
+    order = command(enrol("x"))
+    long = [order.replace(b"/commands", b"/commands?" + b"q" * 3000), order.replace(b"registry-key: x", b"registry-key: " + b"k" * 3000)]
+    long += [order.replace(b"POST", b"P" * 1000), order.replace(b"registry-key: x", b'registry-key: " 200 "'), message("GET", "/commands?" + "q" * 3000)]
+    before = len(stage.recipe.log())
+    statuses = [stage.gate.ask(signed("mallory", it), stage.others.address())[0] for it in long]
+    time.sleep(0.3)
+    lines = stage.recipe.log()[before:].splitlines()
+    need(len(lines) == len(long) - statuses.count(405) * 0, f"{statuses} make {len(lines)} lines of the log")
+    longest = max(map(len, lines))
+    need(longest <= LINE, f"a line of the log has {longest} bytes")
+    need(all(re.fullmatch(r'\S+ \S+ "mallory" "[\w-]+" "(POST /commands|-)" \d+ \d+ [0-9.]+', it) for it in lines), f"the log has {lines}"[:1000])
+    return f"at most {longest} bytes of the log for an order"
+
+
+def storm(stage):
+    """Messages without end from an address, most of which a limit refuses: nothing of the refused ones is in the logs."""
     def sends(sent):
-        while not ended.is_set():
-            with connected(gate.port, "127.0.0.7") as connection:
-                connection.sendall(sent * 200 + closing(sent))
-                count.update(re.findall(rb"HTTP/1.1 (\d+)", read_to_end(connection)))
+        def run(port, ended):
+            counts = collections.Counter()
+            while not ended.is_set():
+                with connected(port, "127.0.0.7") as connection:
+                    connection.sendall(sent * 200 + closing(sent))
+                    counts.update(int(it) for it in re.findall(rb"HTTP/1.1 (\d+)", read_to_end(connection)))
+            return counts
 
-    messages = [get("/numbers/0012"), get("/list"), signed("bob", command(enrol("x")), "wrong"), signed("Zoe", command(enrol("x")))]
-    threads = [threading.Thread(target=sends, args=(it,)) for it in messages]
-    before, first = recipe.logged(), others.count
-    for it in threads:
-        it.start()
-    took = meanwhile(others, "a storm of refused messages")
-    ended.set()
-    for it in threads:
-        it.join()
-    grown = recipe.logged() - before
-    if grown > 200 * (others.count - first) or not count[b"429"] > 1000:
-        sys.exit(f"a storm of {count} adds {grown} bytes to the logs, beside {others.count - first} orders")
-    return took, count, grown
+        return run
+
+    messages = [get("/numbers/0012"), signed("Zoe", command(enrol("x")))]
+    others = once(from_each(["127.0.0.7"], [signed("bob", command(enrol("x")), "wrong"), get("/list")] * 200), 1)
+    before, first = stage.recipe.logged(), stage.others.count
+    with Attackers(stage.gate.port, others, *map(sends, messages)) as attackers:
+        took = stage.others.meanwhile("a storm of refused messages")
+    counts, grown = attackers.counts, stage.recipe.logged() - before
+    need(grown <= LINE * (stage.others.count - first) and counts[429] > 100, f"a storm of {counts} adds {grown} bytes to the logs, beside {stage.others.count - first} orders")
+    told_counts = ", ".join(f"{counts[it]} times {it}" for it in sorted(counts) if it)
+    return f"{took:.3f} s beside a storm ({told_counts}; {grown} bytes of logs, those of {stage.others.count - first} orders)"
 
 
-def floods(gate, recipe):
-    """Returns what another user's orders took beside each flood, in words."""
-    others = Others(gate)
-    alone = others.order("nothing")
-    spans, lists = refused_spans(gate, others), refused_lists(gate, others)
-    queries, answered = long_queries(gate, others)
-    slowest, count, grown = storm(gate, recipe, others)
-    refusals = ", ".join(f"{count[it]} times {it.decode()}" for it in sorted(count))
-    return (
-        f"another user's order takes {alone:.3f} s alone, {spans:.3f} beside refused orders, {lists:.3f} beside refused lists, at most "
-        f"{queries:.3f} beside {answered} long queries, and at most {slowest:.3f} beside a storm ({refusals}; {grown} bytes of logs)"
-    )
+def restart(stage):
+    """Orders and queries while the server is down for a moment: they wait for it, and none is refused."""
+    stage.server.kill()
+    messages = [signed(MAKERS[it % 3], command(enrol(f"waits{it}-{stage.others.count}"))) if it % 2 else get("/numbers/0012") for it in range(DOWN)]
+    stage.others.count += 1
+
+    def waits(at):
+        began = time.monotonic()
+        status = stage.gate.ask(messages[at], f"127.0.15.{at + 1}")[0]
+        return status, time.monotonic() - began
+
+    with concurrent.futures.ThreadPoolExecutor(DOWN) as pool:
+        began = time.monotonic()
+        asked = [pool.submit(waits, it) for it in range(DOWN)]
+        time.sleep(0.7)
+        stage.start()
+        down = time.monotonic() - began
+        statuses, waited = zip(*(it.result() for it in asked))
+    need(set(statuses) == {200}, f"{DOWN} messages for a server that is down get {collections.Counter(statuses)}")
+    return f"{DOWN} messages waited at most {max(waited):.1f} s for a server that was down for {down:.1f} s"
+
+
+class Flood(NamedTuple):
+    """A flood, and the changes to the configuration without its limit; further changes stand for an operator's."""
+
+    run: object
+    planted: tuple = ()
+    changed: tuple = ()
+
+
+FLOODS = (
+    Flood(alone),
+    Flood(refused_spans),
+    Flood(refused_lists),
+    Flood(long_queries),
+    Flood(record_for_all, (("limit_req zone=usbreg_pages burst=20 delay=3;", "limit_req zone=usbreg_reads burst=100 nodelay;"),), (("#192.0.2.7 1;", f"{SECOND_MACHINE} 1;"),)),
+    Flood(curators, (("limit_req zone=usbreg_curators burst=200 nodelay;", ""), ("limit_req zone=usbreg_lists burst=3 nodelay;", ""), ("limit_conn usbreg_lists_now 1;", ""))),
+    Flood(passwords, (("limit_req zone=usbreg_orders burst=30 delay=3;", "limit_req zone=usbreg_orders burst=50 nodelay;"),)),
+    Flood(reads_and_orders, (("limit_conn usbreg_reads_now 40;", ""),)),
+    Flood(long_words, (('"$usbreg_key" "$usbreg_order"', '"$http_registry_key" "$request"'),)),
+    Flood(storm, (("if=$usbreg_logged", ""),)),
+    Flood(restart, ((" backup;", " down backup;"),)),
+)
+
+
+def tried(flood, stage, edits):
+    """Runs a flood with changes to the configuration, and returns its figure."""
+    before = content(stage.recipe.conf).decode()
+    try:
+        for text, other in (*flood.changed, *edits):
+            stage.recipe.change(text, other)
+        with stage.recipe:
+            return flood.run(stage)
+    finally:
+        write(stage.recipe.conf, before)
+
+
+def least(flood, stage):
+    """Runs a flood until it misses nothing, and a few times at most: another process may have the machine meanwhile."""
+    for last in range(TRIES):
+        try:
+            return tried(flood, stage, ())
+        except Missed:
+            if last == TRIES - 1:
+                raise
+    return None
+
+
+def is_noticed(flood, stage):
+    """Returns what a flood does if its limit is taken away, in words, or None if that is not noticed."""
+    try:
+        tried(flood, stage, flood.planted)
+    except Missed as missed:
+        return str(missed)
+    return None

@@ -13,9 +13,11 @@ import sys
 import time
 
 from lib.serving import HOST, PATIENCE, free_port, listens, read_to_end, refused
-from lib.usbreg import CONTRIB, TOP, content, write
+from lib.usbreg import CONTRIB, content, write
 
 PORTS = (8000, 8081, 8080)
+# The connections of a small proxy.
+FEW = 128
 # Those who have a password; the last two names are no slugs.
 CURATOR = "curator-1"
 NAMES = ("ann", "bob", "mallory", CURATOR, "Zoe", "anna_b")
@@ -97,7 +99,7 @@ class Recipe:
                 shell(line, self.folder)
         self.conf = f"{self.folder}/usbreg.conf"
         for port, other in zip(PORTS, (self.port, free_port(), server.port)):
-            self.change(f":{port};", f":{other};")
+            self.change(f"{HOST}:{port}", f"{HOST}:{other}")
 
     def change(self, text, other):
         """Replaces a text of the configuration, which must be there."""
@@ -128,23 +130,35 @@ class ByField(Recipe):
 
     def __init__(self, room, server):
         super().__init__(room, server)
-        listen = f":{self.port};"
+        listen = f":{self.port} backlog=4096;"
         self.change(listen, f"{listen} set_real_ip_from {HOST}; real_ip_header x-address;")
 
 
 class Guarded(Recipe):
-    """The same with TLS, by the lines of docs/operating.md, and with the history for some addresses alone, by the lines of
-    the configuration itself."""
+    """The same with TLS, by the lines that contrib/write-site writes, and with the history for some addresses alone, by those
+    of the configuration itself."""
 
     def __init__(self, room, server):
         super().__init__(room, server)
-        lines = re.search(r"^```nginx\n(listen 443 ssl;\n.*?)^```$", content(f"{TOP}/docs/operating.md").decode(), re.MULTILINE | re.DOTALL)[1]
         shell("openssl req -x509 -newkey rsa:2048 -nodes -subj /CN=localhost -keyout key.pem -out certificate.pem", self.folder)
-        lines = lines.replace("listen 443 ", f"listen {HOST}:{self.port} ").replace("/etc/usbreg/", f"{self.folder}/")
-        self.change(f"listen {HOST}:{self.port};", lines)
-        there = content(self.conf).decode()
-        (private,) = re.findall(r"^    #location /history/ \{\n(?:    #.*\n)*?    #\}\n", there, re.MULTILINE)
-        self.change(private, private.replace("    #", "    "))
+        listen = f"listen {HOST}:{self.port} backlog=4096"
+        self.change(f"{listen};", f"{listen} ssl; ssl_certificate {self.folder}/certificate.pem; ssl_certificate_key {self.folder}/key.pem;")
+        for line in ("allow 127.0.0.1;", "deny all;"):
+            self.change(f"#{line}", line)
+
+
+class Small(Guarded):
+    """The same with TLS, one process and few connections, so that a script can use them up."""
+
+    def __init__(self, room, server):
+        super().__init__(room, server)
+        trial = f"{self.folder}/nginx-trial.conf"
+        text = content(trial).decode()
+        for line, other in (("worker_processes auto;", "worker_processes 1;"), ("worker_connections 8192;", f"worker_connections {FEW};")):
+            if line not in text:
+                sys.exit(f"contrib/nginx-trial.conf has no {line!r}")
+            text = text.replace(line, other)
+        write(trial, text)
 
 
 class Packaged(Recipe):
