@@ -9,12 +9,14 @@ script skipped. The exit status is 0 if all of this holds. Each option does some
 
   --pictures FOLDER  takes pictures of the main views
   --many             times the table and the search over all 65,535 numbers, and compares the times with the limits
-  --planted [WORDS]  puts bugs into the page, those whose names have the words, and names the part that catches each"""
+  --planted [WORDS]  puts bugs into the page, those whose names have the words, and sees that a part notices each"""
 
 import argparse
 import json
 import os
+import shutil
 import statistics
+import subprocess
 import sys
 import time
 
@@ -24,21 +26,23 @@ from lib.planted import PLANTED
 from lib.proxy import Recipe
 from lib.serving import HOST
 from lib.staging import BEFORE, CURATOR, Stage
-from lib.usbreg import done, folder, program, write
+from lib.usbreg import TOP, content, copy, done, folder, program, write
 
-# The seconds that a person waits for what the page should show.
-PATIENCE = 30
+# The seconds that a person waits for what the page should show, and for what a bug may keep from being shown.
+PATIENCE, HASTE = 30, 10
 # The milliseconds until the table of all numbers stands there, and until a search is on the screen.
 TABLE, SEARCH = 1000, 100
 # A store takes lists of so many devices.
 LIST = 8190
 
 
-def tell(usbreg, edits=()):
-    """Tells the story, and returns the name of the part that failed and why; None if all parts passed."""
-    with folder() as room, Stage(usbreg, room, Recipe, edits) as stage, Browser(room) as browser:
+def tell(usbreg, keep=lambda part, stage: None):
+    """Tells the story, and calls `keep` before each part. Returns the name of the part that failed and why; None if all
+    parts passed."""
+    with folder() as room, Stage(usbreg, room, Recipe) as stage, Browser(room) as browser:
         page = Page(browser, f"http://{HOST}:{stage.recipe.port}/", PATIENCE)
-        for part in STORY:
+        for part, _ in STORY:
+            keep(part.__name__, stage)
             began = time.monotonic()
             try:
                 part(page, stage)
@@ -48,15 +52,86 @@ def tell(usbreg, edits=()):
     return None
 
 
+def read_in_node(folder_of_page=f"{TOP}/web"):
+    """Tests what of the page needs no browser. Returns what failed, or nothing."""
+    with folder() as room:
+        shutil.copytree(folder_of_page, f"{room}/web")
+        write(f"{room}/web/package.json", '{"type": "module"}')
+        words = ["node", "--test", "--test-reporter=tap", f"{TOP}/scripts/lib/page_tables.test.mjs"]
+        ran = subprocess.run(words, env={**os.environ, "WEB": f"{room}/web", "TOP": TOP}, capture_output=True, text=True, check=False)
+    failed = [it for it in ran.stdout.splitlines() if it.startswith("not ok")]
+    return "\n".join(failed) or (ran.stderr if ran.returncode else "")
+
+
+class Planting:
+    """Parts of the story, each by itself from the store that it begins with, over a page with a bug. One browser is used
+    for all; each stage has a port of its own, so the browser keeps nothing from the one before."""
+
+    def __init__(self, usbreg, room, browser):
+        self.usbreg, self.room, self.browser, self.count = usbreg, room, browser, 0
+        self.parts = {part.__name__: (part, who) for part, who in STORY}
+
+    def keep(self, part, stage):
+        copy(stage.store, f"{self.room}/{part}.db")
+
+    def act(self, name, edits=()):
+        """Returns why the part failed, or nothing."""
+        self.count += 1
+        room = f"{self.room}/{self.count}"
+        os.mkdir(room)
+        part, who = self.parts[name]
+        with Stage(self.usbreg, room, Recipe, edits, store=f"{self.room}/{name}.db") as stage:
+            page = Page(self.browser, f"http://{HOST}:{stage.recipe.port}/", HASTE)
+            self.in_new_window()
+            try:
+                if who:
+                    page.load()
+                    page.sign_in(who)
+                part(page, stage)
+            except (SystemExit, Exception) as why:
+                return str(why).splitlines()[0][:100]
+        return ""
+
+    def in_new_window(self):
+        """Goes on in a new window, and closes those before."""
+        driver = self.browser.driver
+        before = driver.window_handles
+        driver.switch_to.new_window("tab")
+        new = driver.current_window_handle
+        for it in before:
+            driver.switch_to.window(it)
+            driver.close()
+        driver.switch_to.window(new)
+
+
+def missed(planting, edits):
+    """Returns whether a bug is not noticed, and says what noticed it."""
+    what, catcher, *changes = edits
+    if catcher == "node":
+        with folder() as room:
+            shutil.copytree(f"{TOP}/web", f"{room}/web")
+            for file, old, new in changes:
+                write(f"{room}/web/{file}", content(f"{room}/web/{file}").decode().replace(old, new))
+            why = read_in_node(f"{room}/web")
+    else:
+        why = planting.act(catcher, changes)
+    print(f"{what}: {f'noticed by {catcher}: {why}' if why else 'NOT NOTICED'}", flush=True)
+    return not why
+
+
 def plant(usbreg, some):
     """Puts each bug into the page by itself, of those whose name has these words."""
-    others = []
-    for what, catcher, *edits in PLANTED:
-        if some in what:
-            name, why = tell(usbreg, edits) or ("nobody", "")
-            print(f"{what}: caught by {name}: {str(why)[:100]}", flush=True)
-            others += [f"{what}: caught by {name}, not by {catcher}"] * (name != catcher)
-    sys.exit("\n".join(others) or None)
+    bugs = [it for it in PLANTED if some in it[0]]
+    with folder() as room, Browser(room) as browser:
+        planting = Planting(usbreg, room, browser)
+        if failed := tell(usbreg, planting.keep):
+            sys.exit(f"{failed[0]}: {failed[1]}")
+        for name in dict.fromkeys(it[1] for it in bugs if it[1] != "node"):
+            if why := planting.act(name):
+                sys.exit(f"{name} by itself, without a bug: {why}")
+        left = [it[0] for it in bugs if missed(planting, it)]
+    print(f"{len(bugs) - len(left)} of {len(bugs)} bugs noticed")
+    sys.exit("\n".join(left) or None)
 
 
 def imported(usbreg, store, room, org, pids, title):
@@ -93,6 +168,7 @@ def picture(usbreg, into):
             page.load()
             for name, view, width, dark in (("numbers", "numbers", 1100, False), ("map", "map?at=3000", 1100, True), ("number", "number/1209/0011", 1100, False)):
                 page.open(view)
+                page.until(lambda: "is read …" not in page.text(), "the record")
                 page.picture(f"{into}/web-{name}.png", width, dark, 900)
             page.sign_in("ann")
             page.open("do/ask?number=0033")
@@ -151,6 +227,8 @@ def main():
         time_many(usbreg)
     elif given.planted is not None:
         plant(usbreg, given.planted)
+    elif failed := shutil.which("node") and read_in_node():
+        sys.exit(failed)
     elif failed := tell(usbreg):
         sys.exit(f"{failed[0]}: {failed[1]}")
     else:

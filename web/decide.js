@@ -1,72 +1,197 @@
-// The curator's queue: each open petition with what one needs to know to decide on it.
+// The curator's queue: the open petitions, each with what one needs to know to decide on it.
 
+import { confirmed } from './dialogs.js';
 import {
-  button, choices, confirmed, counted, facts, h, note, numberLink, orderLink, orgLink, outside, state, written,
+  addressOf, button, choices, counted, facts, fault, h, note, orderLink, orgLink, paged, petitionLink, searchBar,
+  searchBox, select, written,
 } from './elements.js';
-import { check } from './orders.js';
-import { STATES, isCurator, known, loaded, openPetitions, orgNow, petitionNow } from './registry.js';
+import { isCurator, known, loaded, noteClosed, openPetitions, petitionNow } from './registry.js';
 import { me } from './session.js';
-import { order, placeForAnswer } from './acting.js';
-import { numbersTable } from './makers.js';
+import { Decision } from './decision.js';
+import { aboutPetition, numbersTable, standingOf, termsOf, vendorChoice, wishNow } from './pieces.js';
+import { follow } from './record.js';
+import { wordsIn } from './numbers.js';
 
 const PER_PAGE = 20;
 const OTHERS = 8;
+const SORTS = [
+  ['', 'oldest first', (a, b) => a.id - b.id], ['new', 'newest first', (a, b) => b.id - a.id],
+  ['org', 'organisation', (a, b) => a.org.localeCompare(b.org) || a.id - b.id],
+  ['number', 'wanted number', (a, b) => keyOf(a).localeCompare(keyOf(b)) || a.id - b.id],
+];
+const keyOf = it => `${it.vid}:${it.want ?? 'any'}`;
+const KEYS = 'Keys: j and k go to the next petition and to the one before, g grants, d declines, x chooses.';
 
-// The number that a petition wants, with what it is now.
-function wish(petition) {
-  if (!petition.want) return [`any number of ${petition.vid}`];
-  const vendor = known.vendors.get(petition.vid), pid = parseInt(petition.want, 16), owner = vendor.owners[pid];
-  return [numberLink(petition.vid, petition.want), ', now ', state(STATES[vendor.states[pid]]), ...(owner ? [' by ', orgLink(owner)] : [])];
+// What speaks against a wanted number: that it is not free, and who else wants it.
+function warnings(petition, open) {
+  if (!petition.want) return [];
+  const { state, owner } = standingOf(petition.vid, petition.want), parts = [];
+  const isOwn = state === 'returned' && owner === petition.org;
+  if (state !== 'free' && !isOwn) parts.push(fault(`${keyOf(petition)} is not free: it is ${state}.`));
+  const others = open.filter(it => it.id !== petition.id && keyOf(it) === keyOf(petition));
+  const named = others.map((it, at) => [at ? ', ' : '', petitionLink(it.id), ' of ', it.org]);
+  if (others.length) parts.push(fault('Also wanted by ', named, '.'));
+  return parts;
 }
 
-const summary = petition => facts(
-  ['Petition', String(petition.id)], ['Organisation', petition.org], ['Title', written(petition.title)], ['Wants', wish(petition)]);
+// A petition of the queue. Its terms are asked for one by one, since no report has them.
+class Card {
+  constructor(listed, queue) {
+    Object.assign(this, { listed, queue, decision: null });
+    const { id } = listed, waiting = note('It is read …');
+    this.box = h('input', { type: 'checkbox', 'aria-label': `Choose petition ${id}`, onchange: () => queue.choose() });
+    this.end = h('p', { class: 'soft' });
+    this.element = h('article', { class: 'card', 'aria-label': `Petition ${id}`, tabindex: -1 },
+      h('h2', {}, this.box, ' ', h('a', { href: `#/petition/${id}` }, `Petition ${id}`), ': ', written(listed.title)),
+      warnings(listed, queue.open), waiting, this.end);
+    this.fill(waiting).catch(why => waiting.replaceWith(fault(why.message)));
+  }
 
-// Asks for the number to grant, where the petition leaves it open.
-function numberInput() {
-  const input = h('input', { name: 'number', class: 'short', autocomplete: 'off' });
-  input.addEventListener('input', () => input.setCustomValidity(input.value && check('id', input.value)));
-  return input;
-}
-
-// The buttons that decide on a petition, for curators alone.
-export function decision(petition) {
-  if (!isCurator(me()?.name)) return null;
-  const place = placeForAnswer(), { id } = petition;
-  const decide = async (kind, words, parts, more = () => ({})) => {
-    if (!await confirmed(`${words} petition ${id}?`, [summary(petition), ...parts], words)) return;
-    for (const it of buttons.children) it.disabled = true;
-    const got = await order({ order: kind, petition: id, ...more() }, place);
-    if (got.done != null) buttons.remove();
-    else for (const it of buttons.children) it.disabled = false;
-  };
-  const grant = () => {
-    const input = numberInput(), label = h('label', {}, 'Number (empty: the least free one) ', input);
-    return decide('grant', 'Grant', petition.want ? [] : [h('p', {}, label)], () => input.value ? { number: input.value } : {});
-  };
-  const decline = () => decide('decline', 'Decline', [note('The registry keeps no reason: write to the maker.')]);
-  const buttons = h('div', { class: 'buttons' },
-    button('Grant', grant, { class: 'main', 'aria-label': `Grant petition ${id}` }),
-    button('Decline', decline, { 'aria-label': `Decline petition ${id}` }));
-  return h('div', { class: 'decision' }, buttons, place);
-}
-
-// A petition of the queue. Its terms and its keeper are asked for one by one, since no report has them.
-function card(listed) {
-  const waiting = note('It is read …');
-  const heading = h('h2', {}, h('a', { href: `#/petition/${listed.id}` }, `Petition ${listed.id}`), ': ', written(listed.title));
-  const fill = async () => {
-    const petition = await petitionNow(listed.id), owner = await orgNow(petition.org);
-    const about = facts(['Wants', wish(petition)], ['Licence', written(petition.licence)],
-      ['Web page', outside(petition.site)], ['Source', outside(petition.source)],
-      ['Organisation', [written(owner.title), ' (', orgLink(petition.org), ')']],
-      ['Its web page', outside(owner.site)], ['Keeper', owner.keeper]);
-    waiting.replaceWith(h('div', { class: 'both' },
-      h('div', {}, about, petition.state === 'open' ? decision(petition) : note(`It is ${petition.state}.`)),
+  async fill(waiting) {
+    const petition = await petitionNow(this.listed.id), owner = known.orgs.get(petition.org);
+    const about = facts(['Wants', wishNow(petition)], ...termsOf(petition),
+      ['Organisation', [owner && written(owner.title), ' (', orgLink(petition.org), ')']], ['Keeper', owner?.keeper]);
+    this.decision = new Decision(petition, {
+      ended: () => this.queue.ended(this), refused: refusal => this.refused(refusal),
+    });
+    waiting.replaceWith(h('div', { class: 'both' }, h('div', {}, about, this.decision.element),
       h('div', {}, h('h3', {}, 'Its other numbers'), numbersTable(petition.org, OTHERS))));
-  };
-  fill().catch(fault => waiting.replaceWith(h('p', { class: 'fault' }, fault.message)));
-  return h('article', { class: 'card', 'aria-label': `Petition ${listed.id}` }, heading, waiting);
+    if (petition.state !== 'open') this.close(petition.state);
+    else if (document.activeElement === this.element) this.focus();
+  }
+
+  // The petition was closed by somebody else.
+  close(state, by) {
+    this.end.textContent = by ? `It was ${state} by ${by}.` : `It is ${state}.`;
+    this.decision?.end();
+    this.queue.ended(this, false);
+  }
+
+  async refused({ refused }) {
+    if (refused !== 7) return;
+    const { state } = await petitionNow(this.listed.id);
+    this.close(state);
+  }
+
+  // Chooses the card: its first button, once that is there.
+  focus() {
+    (this.decision?.isOpen ? this.decision.first : this.element).focus();
+    this.element.scrollIntoView({ block: 'nearest' });
+  }
+}
+
+const ENDS = { grant: 'granted', decline: 'declined', withdraw: 'withdrawn' };
+
+class Queue {
+  constructor(open, { q = '', vendor = '', sort = '', page = '1' }) {
+    Object.assign(this, { open, vendor, page: Number(page), cards: [], closed: new Set() });
+    this.query = searchBox(q, () => this.filter());
+    const sorts = SORTS.map(([value, words]) => [value, words]);
+    this.sort = select({ id: 'sort', onchange: () => this.filter() }, sorts, sort);
+    this.count = h('p', { role: 'status', id: 'count' });
+    this.list = h('div', { class: 'cards', onkeydown: event => this.pressed(event) });
+    this.links = h('div');
+    this.chosen = h('div', { class: 'buttons', id: 'chosen', hidden: true });
+    this.show();
+  }
+
+  address(page) {
+    const { query, sort, vendor } = this;
+    return addressOf('decide', { q: query.value, vendor, sort: sort.value, page: page > 1 ? page : '' });
+  }
+
+  filter(vendor = this.vendor) {
+    Object.assign(this, { vendor, page: 1 });
+    history.replaceState(null, '', this.address(1));
+    this.show();
+  }
+
+  // The petitions that pass the filter, sorted.
+  found() {
+    const words = wordsIn(this.query.value), [, , order] = SORTS.find(([it]) => it === this.sort.value) ?? SORTS[0];
+    const text = it => `${keyOf(it)} ${it.org} ${known.orgs.get(it.org)?.title ?? ''} ${it.title}`.toLowerCase();
+    return this.open.filter(it => !this.closed.has(it.id) && (!this.vendor || it.vid === this.vendor)
+      && words.every(word => text(it).includes(word))).sort(order);
+  }
+
+  show() {
+    const found = this.found();
+    const { shown, words, links } = paged(found, this.page, PER_PAGE, page => this.address(page));
+    this.cards = shown.map(it => new Card(it, this));
+    this.list.replaceChildren(...this.cards.map(it => it.element));
+    this.links.replaceChildren(links || '');
+    this.part = { words, isAll: found.length === this.open.length - this.closed.size };
+    this.tell();
+    this.choose();
+  }
+
+  tell() {
+    const open = this.open.length - this.closed.size, { words, isAll } = this.part;
+    const decided = this.closed.size ? `; ${counted(this.closed.size, 'petition')} closed since` : '';
+    const told = isAll ? '' : `; ${this.found().length} found`;
+    this.count.textContent = `${counted(open, 'open petition')}${told}${words}${decided}.`;
+  }
+
+  // A card's petition is closed: the count follows, and after one's own decision the next one gets the focus.
+  ended(card, isOwn = true) {
+    this.closed.add(card.listed.id);
+    card.box.checked = false;
+    card.box.disabled = true;
+    this.tell();
+    this.choose();
+    if (isOwn && !this.isMany) this.step(card, 1)?.focus();
+  }
+
+  // The next open card, or the one before.
+  step(card, way) {
+    const open = it => !this.closed.has(it.listed.id), at = this.cards.indexOf(card);
+    return way > 0 ? this.cards.slice(at + 1).find(open) : this.cards.slice(0, Math.max(at, 0)).findLast(open);
+  }
+
+  pressed(event) {
+    if (event.ctrlKey || event.metaKey || event.altKey) return;
+    const card = this.cards.find(it => it.element.contains(event.target)), { decision } = card ?? {};
+    const acts = {
+      j: () => this.step(card, 1)?.focus(), k: () => this.step(card, -1)?.focus(), x: () => card.box.click(),
+      g: () => decision?.isOpen && decision.grant(), d: () => decision?.isOpen && decision.decline(),
+    };
+    if (!card || !Object.hasOwn(acts, event.key)) return;
+    event.preventDefault();
+    acts[event.key]();
+  }
+
+  // The row of buttons for all that are chosen.
+  choose() {
+    const chosen = this.cards.filter(it => it.box.checked), words = counted(chosen.length, 'petition');
+    this.chosen.hidden = chosen.length === 0;
+    this.chosen.replaceChildren(`${words} chosen:`,
+      button('Grant them', () => this.decideAll('grant', `Grant ${words}?`, chosen)),
+      button('Decline them', () => this.decideAll('decline', `Decline ${words}?`, chosen)));
+  }
+
+  // Decides on several, each by an order of its own, whose answer stands at its petition.
+  async decideAll(kind, question, chosen) {
+    const ready = chosen.filter(it => it.decision?.isOpen);
+    const list = h('div', { class: 'list' }, ready.map(it => aboutPetition(it.decision.petition)));
+    if (!await confirmed(question, list, kind === 'grant' ? 'Grant them' : 'Decline them')) return;
+    this.isMany = true;
+    for (const it of ready) if (it.decision.isOpen) await it.decision.send(kind);
+    this.isMany = false;
+    this.count.scrollIntoView();
+  }
+
+  // What somebody else decided, as the record tells.
+  heard({ order, petition, caller }) {
+    if (!ENDS[order]) return;
+    noteClosed(petition);
+    if (this.closed.has(petition) || !this.open.some(it => it.id === petition)) return;
+    const card = this.cards.find(it => it.listed.id === petition);
+    if (card) card.close(ENDS[order], caller);
+    else {
+      this.closed.add(petition);
+      this.tell();
+    }
+  }
 }
 
 const OTHER_ORDERS = [
@@ -74,21 +199,18 @@ const OTHER_ORDERS = [
   orderLink('add-licence', 'Allow a licence'), orderLink('add-vendor', 'Add a vendor'),
 ];
 
-export async function decideView() {
+export async function decideView(_, given) {
   await loaded();
   if (!isCurator(me()?.name)) return ['Decide', h('p', {}, 'This page is for curators. Sign in as one.')];
-  const open = await openPetitions(), cards = h('div', { class: 'cards' }), count = h('p', { role: 'status', id: 'count' });
-  let page = 0;
-  const show = () => {
-    const first = page * PER_PAGE, shown = open.slice(first, first + PER_PAGE);
-    const part = open.length > PER_PAGE ? `; ${first + 1} to ${first + shown.length} shown` : '';
-    count.textContent = `${counted(open.length, 'open petition')}, oldest first${part}.`;
-    cards.replaceChildren(...shown.map(card));
-    back.disabled = page === 0;
-    on.disabled = first + PER_PAGE >= open.length;
-  };
-  const leaf = step => () => { page += step; show(); count.scrollIntoView(); };
-  const back = button('Previous', leaf(-1)), on = button('Next', leaf(1));
-  show();
-  return ['Decide', choices(...OTHER_ORDERS), count, cards, open.length > PER_PAGE && h('div', { class: 'buttons' }, back, on)];
+  const queue = new Queue(await openPetitions(), given);
+  const isWanted = () => queue.list.isConnected || !queue.wasShown;
+  follow(isWanted, it => queue.heard(it)).catch(() => { /* a view asks again */ });
+  setTimeout(() => { queue.wasShown = true; }, 1000);
+  return [
+    'Decide', choices(...OTHER_ORDERS), searchBar(
+      vendorChoice(given.vendor ?? '', it => queue.filter(it), [['', 'all']]),
+      h('label', { class: 'wide' }, 'Filter by number, title or organisation', queue.query),
+      h('label', {}, 'Sort', queue.sort)),
+    queue.count, note(KEYS), queue.chosen, queue.list, queue.links,
+  ];
 }

@@ -1,134 +1,74 @@
 // The form of an order, made from the table of orders.
 
-import { button, confirmed, facts, h, note, orderLink, orgLink, soft, state, written } from './elements.js';
-import { check, fieldsIn, orderOf, ORDERS, wrongIn } from './orders.js';
+import { confirmed } from './dialogs.js';
+import { button, facts, fault, h, note, orderLink, soft, written } from './elements.js';
+import { draftOf, dropDraft, keepDraft, nameOf } from './drafts.js';
+import { fieldsIn, orderOf, ORDERS } from './orders.js';
 import { fieldsOf, inWords } from './reading.js';
-import { foundingVendor, hex, isCurator, known, loaded, numberNow, orgNow, orgsKeptBy, STATES } from './registry.js';
+import { foundingVendor, founded, isCurator, known, loaded, numberNow, orgNow, orgsKeptBy } from './registry.js';
 import { me } from './session.js';
 import { order, placeForAnswer } from './acting.js';
-
-// The values that a field may have, or null if it is free.
-const CHOICES = {
-  orgs: () => me() && orgsKeptBy(me().name).length ? orgsKeptBy(me().name).map(it => [it, it]) : null,
-  licences: () => known.founding.licences.map(it => [it, it]),
-  vendors: () => [...known.vendors.values()].map(it => [it.vid, `${it.vid} ${it.name}`]),
-};
-
-function optionsOf(choices, value) {
-  const none = !value && choices.length > 1 && h('option', { value: '' }, 'Choose one');
-  return [none, choices.map(([it, text]) => h('option', { value: it, selected: it === value }, text))];
-}
-
-// A field of a form: its input, its hint, and what is wrong with it.
-class Field {
-  constructor(field, value) {
-    this.field = field;
-    const { name, kind, from, optional } = field, choices = CHOICES[from]?.();
-    const attributes = {
-      id: `f-${name}`, name, 'aria-describedby': `h-${name} e-${name}`, 'aria-required': String(!optional),
-      autocomplete: 'off', class: ['id', 'petition'].includes(kind) && !choices ? 'short' : null, oninput: () => this.typed(),
-    };
-    this.input = choices
-      ? h('select', attributes, optionsOf(choices, value))
-      : h('input', { ...attributes, value, spellcheck: String(kind === 'title'), autocapitalize: 'none' });
-    this.hint = h('small', { id: `h-${name}` }, field.hint);
-    this.fault = h('small', { id: `e-${name}`, class: 'fault' });
-    this.more = h('div', { class: 'more' });
-    const label = h('label', { for: `f-${name}` }, field.label, optional && !choices && soft(' (may be empty)'));
-    this.element = h('div', { class: 'field' }, label, this.input, this.hint, this.fault, this.more);
-  }
-
-  // A link and four digits may have been copied with blanks around them.
-  get text() {
-    return this.field.kind === 'title' ? this.input.value : this.input.value.trim();
-  }
-
-  blame(words) {
-    this.fault.textContent = words;
-    this.input.setAttribute('aria-invalid', String(words !== ''));
-    return words === '';
-  }
-
-  isRight() {
-    return this.blame(wrongIn(this.field, this.text));
-  }
-
-  // What is empty is only blamed when the form is sent.
-  typed() {
-    if (this.text === '') this.blame('');
-    else if (this.isRight() && this.field.kind === 'link') this.hint.replaceChildren('Kept as ', written(new URL(this.text).href), '.');
-  }
-}
-
-// Below the field of the number that is asked for: what it is now, and free ones to take.
-const SOME = 8;
-class FreeNumbers {
-  constructor(number, vendor) {
-    Object.assign(this, { number, vendor, after: 0 });
-    for (const it of [number, vendor]) it?.input.addEventListener('input', () => { this.after = 0; this.show(); });
-    this.show();
-  }
-
-  get vid() {
-    return this.vendor?.text || foundingVendor();
-  }
-
-  show() {
-    const typed = this.number.text.toLowerCase(), numbers = known.vendors.get(this.vid), isWhole = check('id', typed) === '';
-    const free = numbers.free(isWhole ? '' : typed, this.after + SOME).slice(this.after);
-    const taken = pid => button(hex(pid), () => this.take(hex(pid)), { class: 'code' });
-    const more = button('Others', () => { this.after += SOME; this.show(); });
-    this.number.more.replaceChildren(
-      isWhole ? h('p', { id: 'its-state', role: 'status' }, this.told(numbers, parseInt(typed, 16))) : '',
-      h('div', { class: 'buttons free', role: 'group', 'aria-label': 'Free numbers' },
-        soft(free.length ? 'Free:' : 'No other number is free.'), free.map(taken), free.length === SOME && more));
-  }
-
-  take(digits) {
-    this.number.input.value = digits;
-    this.number.isRight();
-    this.show();
-    this.number.input.focus();
-  }
-
-  told(numbers, pid) {
-    const owner = numbers.owners[pid];
-    return [hex(pid), ' is ', state(STATES[numbers.states[pid]]), owner && [' and belongs to ', orgLink(owner)], '.'];
-  }
-}
+import { about } from './pieces.js';
+import { Field, FreeNumbers } from './fields.js';
 
 // What is there already, for an order that changes it.
 async function whatIsThere(kind, given) {
-  const values = Object.fromEntries(given);
-  if (kind === 'amend-org' && given.has('org')) return { ...await orgNow(given.get('org')), ...values };
-  if (kind === 'amend' && given.has('number')) return { ...await numberNow(values.vendor ?? foundingVendor(), values.number), ...values };
-  return values;
+  if (kind === 'amend-org' && given.org) return { ...await orgNow(given.org), ...given };
+  if (kind !== 'amend' || !given.number) return given;
+  return { ...await numberNow(given.vendor ?? foundingVendor(), given.number), ...given };
 }
 
 // What to do next, after an order was accepted.
 function next(kind, body) {
+  const mine = h('a', { href: '#/me' }, 'your page');
   if (kind === 'enrol') return orderLink('ask', 'Ask for a number for it', { org: body.org });
-  if (kind === 'ask') return ['A curator decides on it. It stands on ', h('a', { href: '#/me' }, 'your page'), ' until then.'];
-  return h('a', { href: '#/me' }, 'Your page');
+  if (kind !== 'ask') return h('a', { href: '#/me' }, 'Your page');
+  return ['A curator decides on it. It stands on ', mine, ' until then. ',
+    orderLink('ask', 'Ask for another number', { org: body.org })];
 }
 
 class OrderForm {
-  constructor(kind, values) {
-    this.kind = kind;
-    this.words = ORDERS[kind].words;
-    const isNeeded = it => it.from !== 'vendors' || known.vendors.size > 1;
-    const valueOf = it => values[it.name] ?? (it.from === 'vendors' ? foundingVendor() : '');
+  constructor(kind, values, given) {
+    Object.assign(this, { kind, words: ORDERS[kind].words, name: nameOf(kind, given) });
+    const draft = draftOf(this.name), isNeeded = it => it.from !== 'vendors' || known.vendors.size > 1;
+    const firstOf = it => it.from === 'vendors' ? foundingVendor() : '';
+    const valueOf = it => given[it.name] ?? draft?.[it.name] ?? values[it.name] ?? firstOf(it);
     this.fields = ORDERS[kind].fields.filter(isNeeded).map(it => new Field(it, valueOf(it)));
     this.answer = placeForAnswer();
     this.send = h('button', { class: 'main' }, this.words);
-    this.element = h('form', { class: 'order', novalidate: true, onsubmit: event => this.submit(event) },
-      this.fields.map(it => it.element), this.send, this.answer);
+    this.begun = draft ? this.aboutDraft() : null;
+    this.element = h('form', {
+      class: 'order', novalidate: true, onsubmit: event => this.submit(event), oninput: event => this.typed(event),
+    }, this.begun, this.fields.map(it => it.element), this.send, this.answer);
     const wanted = this.field('number');
     if (wanted?.field.from === 'free') this.offered = new FreeNumbers(wanted, this.field('vendor'));
   }
 
+  aboutDraft() {
+    const anew = button('Throw it away', () => {
+      dropDraft(this.name);
+      dispatchEvent(new Event('hashchange'));
+    });
+    return h('p', { class: 'note', id: 'begun' }, 'You began this form earlier. ', anew);
+  }
+
   field(name) {
     return this.fields.find(it => it.field.name === name);
+  }
+
+  // A number that names its vendor chooses it.
+  typed(event) {
+    const named = this.fields.find(it => it.input === event.target)?.namedVendor, vendor = this.field('vendor');
+    if (named && vendor?.field.from && known.vendors.has(named) && vendor.input.value !== named) {
+      vendor.input.value = named;
+      this.offered?.show();
+    }
+    keepDraft(this.name, this.written());
+  }
+
+  // What is written in each field, as it is written.
+  written() {
+    return Object.fromEntries(this.fields.map(it => [it.field.name, it.input.value]));
   }
 
   // The founding vendor is that of an order that names none.
@@ -142,17 +82,47 @@ class OrderForm {
     for (const it of this.element.elements) it.disabled = isDisabled;
   }
 
+  // Whether a field is right. A number that names its vendor is one of the vendor of the form.
+  isRight(it) {
+    if (!it.isRight()) return false;
+    const chosen = this.field('vendor')?.text || foundingVendor(), named = it.namedVendor;
+    return !named || named === chosen || it.blame(`This is a number of vendor ${named}, and not of ${chosen}.`);
+  }
+
+  // Asks before an order that cannot be taken back. The question says what the registry says now; the fields alone, if
+  // the order is about nothing that is there, or if that cannot be read.
+  async isSure(body) {
+    const { sure } = ORDERS[this.kind];
+    if (!sure) return true;
+    const fields = facts(...fieldsIn(body).map(([name, value]) => [name, written(value)]));
+    const told = await about(body).catch(why => {
+      if (why.body?.refused) throw why;
+      return [fields, fault(why.message)];
+    });
+    return confirmed(sure, told ?? fields, this.words);
+  }
+
   async submit(event) {
     event.preventDefault();
-    const wrong = this.fields.filter(it => !it.isRight());
+    const wrong = this.fields.filter(it => !this.isRight(it));
     if (wrong.length) return wrong[0].input.focus();
-    const body = this.body(), { sure } = ORDERS[this.kind];
-    if (sure && !await confirmed(sure, facts(...fieldsIn(body).map(([name, value]) => [name, written(value)])), this.words)) return null;
+    const body = this.body();
+    try {
+      if (!await this.isSure(body)) return null;
+    } catch (why) { return this.refused(why.body); }
+    return this.sent(body);
+  }
+
+  // A draft ends once it is sent; a refused one is begun again.
+  async sent(body) {
+    const texts = this.written();
     this.disable(true);
+    dropDraft(this.name);
     const got = await order(body, this.answer);
     if (got.done != null) return this.finish(body);
     this.disable(false);
-    return got.refusal ? this.refused(got.refusal) : this.send.focus();
+    if (!got.key) keepDraft(this.name, texts);
+    return got.refusal ? this.refused(got.refusal) : this.element.isConnected && this.send.focus();
   }
 
   // A refusal in words, beside the field that it is about.
@@ -167,25 +137,30 @@ class OrderForm {
   finish(body) {
     const after = h('p', { tabindex: -1 }, next(this.kind, body));
     this.send.remove();
+    this.begun?.remove();
     this.answer.after(after);
     after.focus();
   }
 }
 
+// Whether the form has choices among all numbers and organisations.
+const needsAll = kind => ORDERS[kind].fields.some(it => it.from === 'free' || it.from === 'orgs');
+
 // The view of an order's form, or of all orders.
-export async function orderView([kind], given) {
+export async function orderView({ order: kind }, given) {
+  await founded();
   if (!kind) return allOrders();
-  if (!Object.hasOwn(ORDERS, kind)) return null;
-  await loaded();
-  if (ORDERS[kind].isCurators && !isCurator(me()?.name)) return [ORDERS[kind].words, h('p', {}, 'This order is for curators. Sign in as one.')];
-  const form = new OrderForm(kind, await whatIsThere(kind, given));
+  if (needsAll(kind)) await loaded();
+  const { words, told, isCurators } = ORDERS[kind];
+  if (isCurators && !isCurator(me()?.name)) return [words, h('p', {}, 'This order is for curators. Sign in as one.')];
+  if (given.vendor && kind !== 'add-vendor' && !known.vendors.has(given.vendor)) return null;
+  const form = new OrderForm(kind, await whatIsThere(kind, given), given);
   const isFirst = kind === 'ask' && me() && orgsKeptBy(me().name).length === 0;
-  return [ORDERS[kind].words, note(ORDERS[kind].told),
+  return [words, note(told),
     isFirst && h('p', {}, 'You keep no organisation yet: ', orderLink('enrol', 'enrol one first'), '.'), form.element];
 }
 
-async function allOrders() {
-  await loaded();
+function allOrders() {
   const of = isCurators => h('ul', {}, Object.entries(ORDERS).filter(([, it]) => Boolean(it.isCurators) === isCurators)
     .map(([kind, it]) => h('li', {}, orderLink(kind, it.words), ': ', soft(it.told))));
   return ['All orders', of(false), isCurator(me()?.name) && [h('h2', {}, 'For curators'), of(true)]];

@@ -1,8 +1,10 @@
-// The promise of the key: an order and its key are kept in the browser before the first try, and until a whole response
-// other than 503 came. Until then the same bytes go again under the same key, so the order takes effect at most once.
+// The promise of the key: an order and its key are kept in the browser before the first try, and until a whole
+// response other than 503 came. Until then the same bytes go again under the same key, so the order takes effect at
+// most once.
 
+import { pause } from './asking.js';
 import { inWords, jsonOr } from './reading.js';
-import { signIn, me, signOut } from './session.js';
+import { me, signIn, signOut } from './session.js';
 
 const PREFIX = 'usbreg-order-';
 // The milliseconds before each try.
@@ -10,13 +12,16 @@ const WAITS = [0, 500, 1000, 2000, 4000, 8000, 8000];
 // A wait that the proxy names is waited for if it has at most so many seconds.
 const PATIENCE = 10;
 const UNSAFE = 'Sending … This browser cannot keep the order: leave the page open until there is an answer.';
-const pause = time => new Promise(done => setTimeout(done, time));
 
-// The orders without an answer, of all windows; and those that this browser could not keep, which last as long as the page.
+// The orders without an answer, of all windows; and those that this browser could not keep, which last as long as the
+// page. `doubts` counts the tries of an order that may have been acted on.
 const inMemory = new Map();
 
 function stored(name) {
-  try { return jsonOr(localStorage.getItem(name), null); } catch { return null; }
+  try {
+    const it = jsonOr(localStorage.getItem(name), null);
+    return it && { doubts: 1, ...it };
+  } catch { return null; }
 }
 
 function storedNames() {
@@ -41,6 +46,11 @@ export const kept = {
   },
   // Whether it is still there after the page is closed.
   isSafe: key => !inMemory.has(key),
+  // Counts one try more, or one less, that may have been acted on. What is kept may be from another window.
+  doubt(key, more) {
+    const it = kept.get(key);
+    if (it) kept.put({ ...it, doubts: Math.max(0, it.doubts + more) });
+  },
 };
 
 function newKey() {
@@ -48,11 +58,12 @@ function newKey() {
   return Array.from(random, byte => byte.toString(16).padStart(2, '0')).join('');
 }
 
-// The order to send for this body: the one that has no answer yet, if its bytes are the same, else a new one.
-// `isUnsure` says that a try may have been acted on.
+// The order to send for this body: the one that has no answer yet, if its caller and bytes are the same, else a new
+// one.
 function orderWith(body, caller) {
   const text = JSON.stringify(body);
-  return kept.all().find(it => it.caller === caller && it.body === text) ?? { key: newKey(), caller, body: text, isUnsure: false };
+  return kept.all().find(it => it.caller === caller && it.body === text)
+    ?? { key: newKey(), caller, body: text, doubts: 0 };
 }
 
 // One try. A response that is cut, or that is no JSON of one line, is none.
@@ -61,12 +72,15 @@ async function tryOnce(order, person) {
   try {
     response = await fetch('/commands', {
       method: 'POST', credentials: 'omit', cache: 'no-store', body: order.body,
-      headers: { authorization: person.authorization, 'registry-key': order.key, 'content-type': 'application/json' },
+      headers: {
+        authorization: person.authorization, 'registry-key': order.key, 'content-type': 'application/json',
+      },
     });
     text = await response.text();
   } catch { return { status: 0, body: {} }; }
   const body = text.endsWith('\n') ? jsonOr(text, null) : null;
-  return body ? { status: response.status, body, wait: Number(response.headers.get('retry-after')) } : { status: 0, body: {} };
+  if (!body) return { status: 0, body: {} };
+  return { status: response.status, body, wait: Number(response.headers.get('retry-after')) };
 }
 
 const isDone = ({ status, body }) => status === 200 && typeof body.done === 'string';
@@ -75,66 +89,67 @@ const isRefused = ({ status, body }) => status !== 200 && status !== 503 && type
 const isStopped = ({ status, body }) => [400, 401, 403, 413, 429, 503].includes(status) && body.proxy === status;
 const isOver = ({ status }) => [400, 401, 403, 413].includes(status);
 
-// Tries until there is an answer. An order is marked as unsure before each try, since the page may end during it; what the
-// proxy refuses says nothing of the tries before. If somebody else signs in meanwhile, it waits for its own caller.
-async function tryAgain(order, tell) {
+// One try of the order under a key. It is in doubt before the try, since the page may end during it; what the proxy
+// refuses says nothing of the tries before.
+async function trySafely(key, person) {
+  kept.doubt(key, 1);
+  const answer = await tryOnce(kept.get(key), person);
+  if (isDone(answer) || isRefused(answer)) kept.drop(key);
+  else if (isStopped(answer)) kept.doubt(key, -1);
+  if (isOver(answer) && isStopped(answer) && kept.get(key)?.doubts === 0) kept.drop(key);
+  return answer;
+}
+
+const isEnd = it => isDone(it) || isRefused(it) || isStopped(it) && (isOver(it) || it.wait > PATIENCE);
+
+// Tries until there is an answer. If somebody else signs in meanwhile, the order waits for its own caller; if it was
+// forgotten, it is over.
+async function tryAgain(key, tell) {
   const person = me();
-  let answer;
+  let answer = null;
   for (const wait of WAITS) {
     await pause(wait);
-    if (me() !== person) break;
-    const { isUnsure } = order;
-    kept.put(Object.assign(order, { isUnsure: true }));
-    if (wait === 0 && !kept.isSafe(order.key)) tell(UNSAFE);
-    answer = await tryOnce(order, person);
-    if (isDone(answer) || isRefused(answer)) {
-      kept.drop(order.key);
-      return answer;
-    }
-    if (isStopped(answer)) {
-      kept.put(Object.assign(order, { isUnsure }));
-      if (isOver(answer)) {
-        if (!isUnsure) kept.drop(order.key);
-        break;
-      }
-      if (answer.wait > PATIENCE) break;
-      await pause(1000 * (answer.wait || 0));
-    }
+    if (me() !== person || !kept.get(key)) break;
+    if (wait === 0 && !kept.isSafe(key)) tell(UNSAFE);
+    answer = await trySafely(key, person);
+    if (isEnd(answer)) return answer;
+    if (isStopped(answer)) await pause(1000 * (answer.wait || 0));
     tell(`${inWords(answer.status, answer.body)} Sending it again under the same key …`);
   }
   return answer;
 }
 
-function words(answer, order) {
-  const said = inWords(answer.status, answer.body);
+// What came of an order: `done`, the words of the reply; or `words`, and the body of a refusal, or the key of the
+// order if it is still kept.
+function outcome(answer, key) {
+  if (!answer) return { words: 'It was not sent.', key };
+  const { status, body } = answer, said = inWords(status, body);
+  if (isDone(answer)) return { done: body.done };
+  if (isRefused(answer)) return { words: said, refusal: body };
   const wait = answer.wait > 0 ? ` Wait ${answer.wait} seconds.` : '';
-  if (!kept.get(order.key)) return `${said}${wait} Nothing was done.`;
-  const known = order.isUnsure ? 'It may have been acted on.' : 'It was not acted on.';
-  return `${said}${wait} ${known} The order is kept at the top of the page: send it again later.`;
+  return kept.get(key) ? { words: `${said}${wait}`, key } : { words: `${said}${wait} Nothing was done.` };
 }
 
 let sending = 0;
 export const isSending = () => sending > 0;
 
 // One window sends an order at a time. Where there are no locks, two may: they get the same reply.
-const alone = (key, act) => navigator.locks ? navigator.locks.request(PREFIX + key, { ifAvailable: true }, act) : act(true);
+function alone(key, act) {
+  return navigator.locks ? navigator.locks.request(PREFIX + key, { ifAvailable: true }, act) : act(true);
+}
 
-// Sends the order that is kept under a key, and returns `done`, the words of the reply, or `words` and perhaps the body of a
-// refusal.
+// Sends the order that is kept under a key, and returns what came of it.
 export async function sendKept({ key, caller }, tell) {
-  if (me()?.name !== caller && !await signIn(caller)) return { words: `Sign in as ${caller} to send it.` };
+  if (me()?.name !== caller && !await signIn(caller)) return { words: `Sign in as ${caller} to send it.`, key };
   sending += 1;
   try {
     return await alone(key, async isFree => {
-      if (!isFree) return { words: 'Another window is sending this order.' };
-      // another window may have got its answer, or tried it, since this one looked
-      const mine = kept.get(key);
-      if (!mine) return { words: 'This order got its answer in another window.' };
-      const answer = await tryAgain(mine, tell);
-      if (answer.status === 401) signOut();
-      if (isDone(answer)) return { done: answer.body.done };
-      if (isRefused(answer)) return { words: inWords(answer.status, answer.body), refusal: answer.body };
-      return { words: words(answer, mine) };
+      if (!isFree) return { words: 'Another window is sending this order.', key };
+      // another window may have got its answer since this one looked
+      if (!kept.get(key)) return { words: 'This order got its answer in another window.' };
+      const answer = await tryAgain(key, tell);
+      if (answer?.status === 401) signOut();
+      return outcome(answer, key);
     });
   } finally { sending -= 1; }
 }

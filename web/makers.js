@@ -1,15 +1,16 @@
-// The pages of organisations and petitions, and the page of the person that is signed in.
+// The pages of organisations, and the page of the person that is signed in.
 
 import {
-  button, choices, counted, facts, h, note, numberLink, orderLink, orgLink, outside, petitionLink, searchBar, soft, state, table, written,
+  addressOf, button, choices, counted, facts, h, later, orderLink, orgLink, note, outside, paged, petitionLink,
+  searchBar, searchBox, soft, table, written,
 } from './elements.js';
-import { check } from './orders.js';
-import { HELD, STATES, hex, known, loaded, numbersOf, openPetitions, orgNow, orgsKeptBy, petitionNow } from './registry.js';
+import { founded, known, loaded, numberNow, openPetitions, orgNow, orgsKeptBy } from './registry.js';
+import { HELD } from './vendor.js';
 import { me, signIn } from './session.js';
-import { petitionsInRecord, storyOfPetition } from './record.js';
-import { decision } from './decide.js';
+import { numbersTable, wish } from './pieces.js';
+import { petitionsInRecord } from './record.js';
 
-const MOST = 500;
+const PER_PAGE = 100;
 
 function heldByOrg() {
   const held = new Map();
@@ -21,96 +22,103 @@ function heldByOrg() {
   return held;
 }
 
-export async function orgsView() {
+const lowerText = (slug, it) => `${slug}\n${it.title}\n${it.keeper}`.toLowerCase();
+
+export async function orgsView(_, { q = '', page = '1' }) {
   await loaded();
-  const held = heldByOrg(), all = [...known.orgs].map(([slug, it]) => ({ slug, ...it, text: `${slug}\n${it.title}\n${it.keeper}`.toLowerCase() }));
-  const query = h('input', { type: 'search', id: 'query', autocomplete: 'off', spellcheck: 'false', oninput: () => show() });
-  const rows = h('div', { id: 'rows' }), count = h('p', { role: 'status', id: 'count' });
-  const show = () => {
+  const held = heldByOrg(), all = [...known.orgs].map(([slug, it]) => ({ slug, ...it, text: lowerText(slug, it) }));
+  const query = searchBox(q, () => {
+    show(1);
+    history.replaceState(null, '', addressOf('orgs', { q: query.value }));
+  });
+  const rows = h('div', { id: 'rows' }), count = h('p', { role: 'status', id: 'count' }), links = h('div');
+  const cells = it => [orgLink(it.slug), written(it.title), it.keeper, String(held.get(it.slug) ?? 0)];
+  const show = at => {
     const words = query.value.toLowerCase().split(/\s+/).filter(Boolean);
     const found = all.filter(it => words.every(word => it.text.includes(word)));
-    count.textContent = `${counted(found.length, 'organisation')}${found.length > MOST ? `; the first ${MOST} shown` : ''}`;
-    const cells = it => [orgLink(it.slug), written(it.title), it.keeper, String(held.get(it.slug) ?? 0)];
-    rows.replaceChildren(table('Organisations', ['Short name', ['Name', 'long'], 'Keeper', ['Holds', 'count']], found.slice(0, MOST).map(cells)));
+    const part = paged(found, at, PER_PAGE, it => addressOf('orgs', { q: query.value, page: it > 1 ? it : '' }));
+    count.textContent = `${counted(found.length, 'organisation')}${part.words}`;
+    const heads = ['Short name', ['Name', 'long'], 'Keeper', ['Holds', 'count']];
+    rows.replaceChildren(table('Organisations', heads, part.shown.map(cells)));
+    links.replaceChildren(part.links || '');
   };
-  show();
-  return ['Organisations', searchBar(h('label', { class: 'wide' }, 'Search by name or keeper', query)), count, rows];
+  show(Number(page));
+  const bar = searchBar(h('label', { class: 'wide' }, 'Search by name or keeper', query));
+  return ['Organisations', bar, count, rows, links];
 }
-
-// The numbers of an organisation.
-export function numbersTable(org, most = MOST) {
-  const owned = numbersOf(org);
-  if (owned.length === 0) return note('none');
-  const cells = ({ vendor, pid }) => [numberLink(vendor.vid, hex(pid)), written(vendor.titles[pid]), state(STATES[vendor.states[pid]])];
-  return [
-    table('Numbers', [['Number', 'code few'], ['Title', 'long'], ['State', 'few']], owned.slice(0, most).map(cells)),
-    owned.length > most && note(`and ${counted(owned.length - most, 'other')}`),
-  ];
-}
-
-const wish = it => it.want ? numberLink(it.vid, it.want) : `any number of ${it.vid}`;
 
 function openList(open) {
   if (open.length === 0) return note('none');
   return h('ul', {}, open.map(it => h('li', {}, petitionLink(it.id), ': ', written(it.title), ', ', wish(it))));
 }
 
-const forKeeper = slug => choices(
-  orderLink('ask', 'Ask for a number', { org: slug }), orderLink('amend-org', 'Change the organisation', { org: slug }));
+const forKeeper = org => choices(
+  orderLink('ask', 'Ask for a number', { org }), orderLink('amend-org', 'Change the organisation', { org }));
 
-export async function orgView([slug = '']) {
-  if (check('slug', slug)) return null;
+// What an organisation has: all that is known of its numbers, and its open petitions.
+const numbersOf = slug => later('The numbers are read …', async () => {
   await loaded();
-  const [got, open] = await Promise.all([orgNow(slug), openPetitions().catch(() => [])]);
-  const past = h('div', {}, button('Show all its petitions', () => past.replaceChildren(petitionsInRecord(slug))));
-  return [
-    written(got.title), facts(['Short name', got.org], ['Web page', outside(got.site)], ['Keeper', got.keeper]),
-    me()?.name === got.keeper && forKeeper(slug),
-    h('h2', {}, 'Numbers'), numbersTable(slug),
-    h('h2', {}, 'Open petitions'), openList(open.filter(it => it.org === slug)), past,
-  ];
+  return numbersTable(slug);
+});
+const openOf = slug => later('The petitions are read …',
+  async () => openList((await openPetitions()).filter(it => it.org === slug)));
+
+// All petitions of an organisation. What was granted after the reports is asked for, and `changed` is told.
+function allPetitions(slug, isKeeper, changed = () => {}) {
+  return petitionsInRecord(slug, isKeeper, async it => {
+    const [vid, pid] = it.granted.split(':');
+    if (known.vendors.get(vid)?.isOf(pid, slug) !== false) return;
+    await numberNow(vid, pid).then(changed, () => { /* the next view asks again */ });
+  });
 }
 
-export async function petitionView([id = '']) {
-  if (check('petition', id)) return null;
-  await loaded();
-  const got = await petitionNow(id), owner = await orgNow(got.org), isOpen = got.state === 'open';
+export async function orgView({ org: slug }) {
+  await founded();
+  const got = await orgNow(slug), isKeeper = me()?.name === got.keeper;
+  const all = () => past.replaceChildren(allPetitions(slug, isKeeper));
+  const past = h('div', {}, button('Show all its petitions', all));
   return [
-    `Petition ${id}`,
-    facts(['State', got.state], ['Title', written(got.title)],
-      ['Organisation', [written(owner.title), ' (', orgLink(got.org), '), kept by ', owner.keeper]],
-      ['Wants', wish(got)], ['Granted', got.granted ? numberLink(got.vid, got.granted) : null],
-      ['Licence', written(got.licence)], ['Web page', outside(got.site)], ['Source', outside(got.source)]),
-    isOpen && owner.keeper === me()?.name && choices(orderLink('withdraw', 'Withdraw it', { petition: id })),
-    isOpen && decision(got),
-    h('h2', {}, 'What the record says'), storyOfPetition(Number(id)),
+    written(got.title), facts(['Short name', got.org], ['Web page', outside(got.site)], ['Keeper', got.keeper]),
+    isKeeper && forKeeper(slug),
+    h('h2', {}, 'Numbers'), numbersOf(slug), h('h2', {}, 'Open petitions'), openOf(slug), past,
   ];
 }
 
 const HOW = [
   ['Get a name and a password from the people who run this registry, and sign in.'],
   [orderLink('enrol', 'Enrol your organisation'), '. A person who makes things alone is one too.'],
-  [orderLink('ask', 'Ask for a number'), ' for each product, with its title, its licence, and links to its web page and its source.'],
+  [orderLink('ask', 'Ask for a number'), ' for each product, with its title, its licence, and links to its web page ',
+    'and its source.'],
   ['A curator looks at your petition, and grants you the number. This page shows it then.'],
 ];
 
 function beforeSignIn() {
   const enter = async () => { if (await signIn()) dispatchEvent(new Event('hashchange')); };
   return [
-    'Your page', h('p', {}, 'Sign in to see your organisations, numbers and petitions.'), button('Sign in', enter, { class: 'main' }),
+    'Your page', h('p', {}, 'Sign in to see your organisations, numbers and petitions.'),
+    button('Sign in', enter, { class: 'main' }),
     h('h2', {}, 'How to get a number'), h('ol', {}, HOW.map(step => h('li', {}, step))),
   ];
 }
 
-// What a maker has: organisations with their numbers and open petitions.
+function section(slug, open) {
+  const numbers = h('div', {}), show = () => numbers.replaceChildren(...[numbersTable(slug)].flat().filter(Boolean));
+  show();
+  return h('section', { class: 'mine' },
+    h('h2', {}, written(known.orgs.get(slug).title), ' ', soft('(', orgLink(slug), ')')), forKeeper(slug),
+    h('h3', {}, 'Open petitions'), openList(open.filter(it => it.org === slug)),
+    h('h3', {}, 'Numbers'), numbers,
+    h('h3', {}, 'All petitions'), allPetitions(slug, true, show));
+}
+
+// What a maker has: organisations with their numbers and petitions.
 export async function mineView() {
   if (!me()) return beforeSignIn();
   await loaded();
   const open = await openPetitions().catch(() => []), mine = orgsKeptBy(me().name);
-  if (mine.length === 0) return ['Your page', h('p', {}, 'You keep no organisation yet: ', orderLink('enrol', 'enrol one'), '.')];
-  const section = slug => h('section', { class: 'mine' },
-    h('h2', {}, written(known.orgs.get(slug).title), ' ', soft('(', orgLink(slug), ')')), forKeeper(slug),
-    h('h3', {}, 'Open petitions'), openList(open.filter(it => it.org === slug)),
-    h('h3', {}, 'Numbers'), numbersTable(slug));
-  return ['Your page', mine.map(section), choices(orderLink('enrol', 'Enrol another organisation'), h('a', { href: '#/do' }, 'All orders'))];
+  if (mine.length === 0) {
+    return ['Your page', h('p', {}, 'You keep no organisation yet: ', orderLink('enrol', 'enrol one'), '.')];
+  }
+  const more = choices(orderLink('enrol', 'Enrol another organisation'), h('a', { href: '#/do' }, 'All orders'));
+  return ['Your page', mine.map(slug => section(slug, open)), more];
 }

@@ -1,21 +1,26 @@
 // The map: each number of a vendor is a square, 256 in a row. A row has the numbers with the same first two digits.
 
-import { button, confirmed, counted, grouped, h, note, numberLink, orgLink, state, written } from './elements.js';
-import { check } from './orders.js';
-import { ALL, FREE, HELD, RESERVED, RETURNED, STATES, foundingVendor, hex, isCurator, known, loaded } from './registry.js';
+import { confirmed } from './dialogs.js';
+import { button, counted, grouped, h, note, numberLink, orgLink, state, written } from './elements.js';
+import { foundingVendor, isCurator, known, loaded } from './registry.js';
+import { ALL, FREE, HELD, RESERVED, RETURNED, STATES, hex } from './vendor.js';
 import { me } from './session.js';
 import { order, placeForAnswer } from './acting.js';
-import { vendorChoice } from './numbers.js';
+import { vendorChoice } from './pieces.js';
 
 const CELL = 3, EDGE = 26, SIDE = 256 * CELL;
 // Whether a dot of a square is inked: each state has a pattern, so that colours are not needed to tell them apart.
-const PATTERNS = { [FREE]: () => false, [RESERVED]: (x, y) => (x + y) % 3 === 0, [HELD]: () => true, [RETURNED]: (_, y) => y % 3 !== 2 };
-const STEPS = { ArrowLeft: -1, ArrowRight: 1, ArrowUp: -256, ArrowDown: 256, PageUp: -4096, PageDown: 4096, Home: -ALL, End: ALL };
+const PATTERNS = {
+  [FREE]: () => false, [RESERVED]: (x, y) => (x + y) % 3 === 0, [HELD]: () => true, [RETURNED]: (_, y) => y % 3 !== 2,
+};
+const STEPS = {
+  ArrowLeft: -1, ArrowRight: 1, ArrowUp: -256, ArrowDown: 256, PageUp: -4096, PageDown: 4096, Home: -ALL, End: ALL,
+};
 const ABOUT = 'Map of the numbers. Arrow keys go to the next number or row, Page Up and Page Down 16 rows; '
   + 'with Shift they choose a span. Enter opens the number.';
 
-const HOW = 'Each square is a number; a row has those with the same first two digits. Click one, or use the arrow keys. '
-  + 'Draw, or hold Shift, to choose a span.';
+const HOW = 'Each square is a number; a row has those with the same first two digits. Click one, or use the arrow '
+  + 'keys. Draw, or hold Shift, to choose a span.';
 
 // The colours of the style sheet, which knows whether the page is dark.
 const colour = name => getComputedStyle(document.documentElement).getPropertyValue(`--${name}`).trim();
@@ -74,9 +79,9 @@ class Picture {
   constructor(vid, at) {
     Object.assign(this, { vid, anchor: at, at });
     this.canvas = h('canvas', {
-      id: 'map', width: SIDE + EDGE, height: SIDE + EDGE, tabindex: 0, role: 'application', 'aria-label': ABOUT, 'aria-describedby': 'told',
-      onkeydown: event => this.pressed(event), onpointerdown: event => this.pointed(event), onpointermove: event => this.moved(event),
-      ondblclick: () => this.open(),
+      id: 'map', width: SIDE + EDGE, height: SIDE + EDGE, tabindex: 0, role: 'application', 'aria-label': ABOUT,
+      'aria-describedby': 'told', onkeydown: event => this.pressed(event), onpointerdown: event => this.pointed(event),
+      onpointermove: event => this.moved(event), ondblclick: () => this.open(),
     });
     this.box = h('div', { class: 'map-box' }, this.canvas);
     this.legend = h('div');
@@ -116,7 +121,8 @@ class Picture {
     const [first, last] = this.span;
     this.told.replaceChildren(...(first === last ? this.aboutOne(first) : this.aboutSpan(first, last)));
     if (!isCurator(me()?.name)) return;
-    this.choices.replaceChildren(button('Reserve', () => this.order('reserve')), button('Release', () => this.order('release')));
+    this.choices.replaceChildren(button('Reserve', () => this.order('reserve')),
+      button('Release', () => this.order('release')));
   }
 
   aboutOne(pid) {
@@ -127,7 +133,8 @@ class Picture {
   }
 
   aboutSpan(first, last) {
-    const counts = this.vendor.counts(first, last).map((count, kind) => count && `${grouped(count)} ${STATES[kind]}`).filter(Boolean);
+    const counts = this.vendor.counts(first, last)
+      .map((count, kind) => count && `${grouped(count)} ${STATES[kind]}`).filter(Boolean);
     return [
       h('p', {}, `${this.vid}:${hex(first)} to ${hex(last)}`),
       h('p', {}, `${counted(last - first + 1, 'number')}: ${counts.join(', ')}`),
@@ -185,13 +192,15 @@ class Picture {
 let shown = null;
 matchMedia('(prefers-color-scheme: dark)').addEventListener('change', () => shown?.paint());
 
-export async function mapView([vid], given) {
+export async function mapView({ vendor: vid }, { at = '0001' }) {
   await loaded();
-  const vendor = known.vendors.get(vid ?? foundingVendor()), at = given.get('at') ?? '0001';
-  if (!vendor || check('id', at)) return null;
+  const vendor = known.vendors.get(vid ?? foundingVendor());
+  if (!vendor) return null;
   shown = new Picture(vendor.vid, parseInt(at, 16));
+  const to = it => { location.hash = `#/map/${it}`; };
   return [
-    ['Map of ', written(vendor.name)], h('form', { class: 'bar' }, vendorChoice('map', vendor.vid)),
-    h('div', { class: 'both map' }, shown.box, h('div', {}, shown.legend, shown.told, shown.choices, shown.place, note(HOW))),
+    ['Map of ', written(vendor.name)], h('form', { class: 'bar' }, vendorChoice(vendor.vid, to)),
+    h('div', { class: 'both map' }, shown.box,
+      h('div', {}, shown.legend, shown.told, shown.choices, shown.place, note(HOW))),
   ];
 }

@@ -1,13 +1,15 @@
 // The numbers of a vendor, searched, and the page of one number.
 
+import { Refused } from './asking.js';
 import {
-  button, choices, counted, facts, grouped, h, note, numberLink, orderLink, orgLink, outside, searchBar, state, table, written,
+  addressOf, choices, counted, facts, grouped, h, note, numberLink, orderLink, orgLink, paged, searchBar, searchBox,
+  select, state, table, written,
 } from './elements.js';
-import { check } from './orders.js';
-import {
-  FREE, HELD, RESERVED, RETURNED, STATES, foundingVendor, hex, isCurator, known, loaded, numberNow, orgNow,
-} from './registry.js';
+import { numberIn } from './orders.js';
+import { founded, foundingVendor, isCurator, known, loaded, numberNow, orgNow } from './registry.js';
+import { FREE, HELD, RESERVED, RETURNED, STATES, hex } from './vendor.js';
 import { me } from './session.js';
+import { orgAndKeeper, standingOf, termsOf, vendorChoice } from './pieces.js';
 import { storyOfNumber } from './record.js';
 
 const PER_PAGE = 50;
@@ -16,66 +18,73 @@ const SHOWN = [
   ...STATES.map((name, it) => [name, name, [it]]),
 ];
 
-// A choice between the vendors, if there are several, which leads to the same view of another one.
-export function vendorChoice(view, vid) {
-  if (known.vendors.size < 2) return null;
-  const options = [...known.vendors.values()].map(it => h('option', { value: it.vid, selected: it.vid === vid }, `${it.vid} ${it.name}`));
-  return h('label', {}, 'Vendor', h('select', { onchange: event => { location.hash = `#/${view}/${event.target.value}`; } }, options));
+// The words to search for: of a number as people write it, its digits. Digits alone may be a part of a number.
+export function wordsIn(text) {
+  const words = text.toLowerCase().split(/\s+/).filter(Boolean);
+  return words.map(it => /^[0-9a-f]{1,4}$/.test(it) ? it : numberIn(it)?.number ?? it);
 }
 
+// A search, whose words, state and page are in the address.
 class Search {
-  constructor(vendor) {
-    this.vendor = vendor;
-    this.page = 0;
-    this.query = h('input', { type: 'search', id: 'query', autocomplete: 'off', spellcheck: 'false', oninput: () => this.search() });
-    this.kind = h('select', { id: 'kind', onchange: () => this.search() }, SHOWN.map(([value, words]) => h('option', { value }, words)));
+  constructor(vendor, { q = '', state: kind = SHOWN[0][0], page = '1' }) {
+    Object.assign(this, { vendor, page: Number(page) });
+    this.query = searchBox(q, () => this.search());
+    this.kind = select({ id: 'kind', onchange: () => this.search() }, SHOWN, kind);
+    this.exact = h('p', { id: 'exact' });
     this.count = h('p', { role: 'status', id: 'count' });
     this.rows = h('div', { id: 'rows' });
-    this.back = button('Previous', () => this.leaf(-1));
-    this.on = button('Next', () => this.leaf(1));
-    this.search();
+    this.links = h('div');
+    this.show();
     // before the first word is typed
-    setTimeout(() => vendor.prepare());
+    setTimeout(() => vendor.prepare(known.orgs));
+  }
+
+  address(page) {
+    const kind = this.kind.value === SHOWN[0][0] ? '' : this.kind.value;
+    return addressOf(`numbers/${this.vendor.vid}`, { q: this.query.value, state: kind, page: page > 1 ? page : '' });
   }
 
   search() {
-    const [, , states] = SHOWN.find(([value]) => value === this.kind.value);
-    this.found = this.vendor.search(this.query.value, states);
-    this.page = 0;
+    this.page = 1;
     this.show();
-  }
-
-  leaf(step) {
-    this.page += step;
-    this.show();
-    this.count.scrollIntoView();
+    history.replaceState(null, '', this.address(1));
   }
 
   show() {
-    const first = this.page * PER_PAGE, shown = this.found.slice(first, first + PER_PAGE), { vendor } = this;
-    this.back.disabled = this.page === 0;
-    this.on.disabled = first + PER_PAGE >= this.found.length;
-    const part = shown.length ? `; ${grouped(first + 1)} to ${grouped(first + shown.length)} shown` : '';
-    this.count.textContent = `${counted(this.found.length, 'number')}${part}`;
+    const { vendor } = this, [, , states] = SHOWN.find(([value]) => value === this.kind.value) ?? SHOWN[0];
+    const found = vendor.search(wordsIn(this.query.value), states, known.orgs);
+    const { shown, words, links } = paged(found, this.page, PER_PAGE, page => this.address(page));
+    this.count.textContent = `${counted(found.length, 'number')}${words}`;
     const cells = pid => [
-      numberLink(vendor.vid, hex(pid)), written(vendor.titles[pid] ?? ''),
+      numberLink(vendor.vid, hex(pid)), written(vendor.titles[pid]),
       vendor.owners[pid] ? orgLink(vendor.owners[pid]) : '', state(STATES[vendor.states[pid]]),
     ];
-    this.rows.replaceChildren(table('Numbers', [['Number', 'code few'], ['Title', 'long'], 'Organisation', ['State', 'few']], shown.map(cells)));
+    const heads = [['Number', 'code few'], ['Title', 'long'], 'Organisation', ['State', 'few']];
+    this.rows.replaceChildren(table('Numbers', heads, shown.map(cells)));
+    this.links.replaceChildren(links || '');
+    this.exact.replaceChildren(...this.one());
+  }
+
+  // The one number that is written, whatever its state and its vendor.
+  one() {
+    const it = numberIn(this.query.value), vid = it?.vendor ?? this.vendor.vid;
+    if (!it || it.number === '0000' || !known.vendors.has(vid)) return [];
+    return [numberLink(vid, it.number), ' is ', state(standingOf(vid, it.number).state), '.'];
   }
 }
 
-export async function numbersView([vid]) {
+export async function numbersView({ vendor: vid }, given) {
   await loaded();
   const vendor = known.vendors.get(vid ?? foundingVendor());
   if (!vendor) return null;
-  const search = new Search(vendor);
+  const search = new Search(vendor, given);
   const counts = vendor.counts().map((count, at) => `${grouped(count)} ${STATES[at]}`).join(', ');
   return [
     ['Numbers of ', written(vendor.name)], note(`${counts}.`),
-    searchBar(vendorChoice('numbers', vendor.vid),
-      h('label', { class: 'wide' }, 'Search by number, title or organisation', search.query), h('label', {}, 'State', search.kind)),
-    search.count, search.rows, h('div', { class: 'buttons' }, search.back, search.on),
+    searchBar(vendorChoice(vendor.vid, it => { location.hash = `#/numbers/${it}`; }),
+      h('label', { class: 'wide' }, 'Search by number, title or organisation', search.query),
+      h('label', {}, 'State', search.kind)),
+    search.exact, search.count, search.rows, search.links,
   ];
 }
 
@@ -84,7 +93,9 @@ function deeds(got, vid, owner) {
   const given = { number: got.number, vendor: vid };
   const isKeeper = owner && owner.keeper === me()?.name, links = [];
   if (got.state === 'free') links.push(orderLink('ask', 'Ask for this number', given));
-  if (got.state === 'returned' && isKeeper) links.push(orderLink('ask', 'Ask for it again', { ...given, org: got.org }));
+  if (got.state === 'returned' && isKeeper) {
+    links.push(orderLink('ask', 'Ask for it again', { ...given, org: got.org }));
+  }
   if (got.state === 'held' && isKeeper) {
     links.push(orderLink('amend', 'Change what it says', given), orderLink('return', 'Return it', given));
   }
@@ -94,21 +105,35 @@ function deeds(got, vid, owner) {
   return links.length > 0 && choices(...links);
 }
 
-export async function numberView([vid, pid = '']) {
-  if (check('id', vid) || check('id', pid)) return null;
-  await loaded();
-  const got = await numberNow(vid.toLowerCase(), pid.toLowerCase());
-  const owner = got.org ? await orgNow(got.org) : null;
-  const link = text => text == null ? null : outside(text);
+// What the registry says of a number now; while it is down, what the reports said.
+async function numberOr(vid, pid) {
+  try {
+    const got = await numberNow(vid, pid);
+    return [got, got.org ? await orgNow(got.org) : null];
+  } catch (why) {
+    if (!(why instanceof Refused) || ![0, 502, 504].includes(why.status)) throw why;
+    await loaded();
+    const vendor = known.vendors.get(vid), { state: now, owner } = standingOf(vid, pid);
+    if (!vendor) throw why;
+    const title = owner ? vendor.titles[parseInt(pid, 16)] : undefined;
+    return [{ number: pid, state: now, org: owner || undefined, title, isOld: true }, known.orgs.get(owner) ?? null];
+  }
+}
+
+export async function numberView({ vendor: vid, number: pid }) {
+  await founded();
+  if (!known.vendors.has(vid)) return null;
+  const [got, owner] = await numberOr(vid, pid);
   return [
     `Number ${vid}:${got.number}`,
     facts(['State', state(got.state)], ['Title', got.title == null ? null : written(got.title)],
-      ['Organisation', owner && [written(owner.title), ' (', orgLink(got.org), '), kept by ', owner.keeper]],
-      ['Licence', got.licence == null ? null : written(got.licence)], ['Web page', link(got.site)], ['Source', link(got.source)]),
-    got.org && got.licence == null && note('It was imported without licence, web page and source.'),
+      ['Organisation', owner && orgAndKeeper(got.org, owner)], ...termsOf(got)),
+    got.isOld && note('The registry is down: this is what the last reports said.'),
+    got.org && got.licence == null && !got.isOld && note('It was imported without licence, web page and source.'),
     got.state === 'returned' && note('Only its owner can get it again.'),
     deeds(got, vid, owner),
     h('h2', {}, 'What the record says'), storyOfNumber(vid, got.number, got.org),
-    choices(h('a', { href: `#/numbers/${vid}` }, 'All numbers of this vendor'), h('a', { href: `#/map/${vid}?at=${got.number}` }, 'On the map')),
+    choices(h('a', { href: `#/numbers/${vid}` }, 'All numbers of this vendor'),
+      h('a', { href: `#/map/${vid}?at=${got.number}` }, 'On the map')),
   ];
 }

@@ -1,50 +1,47 @@
 // The page: which view is shown at which address, and what stands around it.
 
-import { byId, button, h, note, spelt } from './elements.js';
-import { Refused } from './reading.js';
-import { isCurator, known, loaded } from './registry.js';
+import { addressAt, readAddress } from './address.js';
+import { Refused, onDown } from './asking.js';
+import { button, byId, h, spelt } from './elements.js';
+import { founded, isCurator, known } from './registry.js';
 import { me, onSession, signIn, signOut } from './session.js';
 import { showPending } from './acting.js';
 import { numberView, numbersView } from './numbers.js';
 import { mapView } from './map.js';
-import { mineView, orgView, orgsView, petitionView } from './makers.js';
+import { mineView, orgView, orgsView } from './makers.js';
+import { petitionView } from './petition.js';
 import { recordView } from './record.js';
 import { decideView } from './decide.js';
 import { orderView } from './forms.js';
 
-// Each view takes the parts of its address and what follows the question mark, and returns a heading and elements, or null.
+// Each view takes the values of its address, and returns a heading and elements, or null.
 const VIEWS = {
-  '': numbersView, numbers: numbersView, number: numberView, map: mapView, orgs: orgsView, org: orgView,
-  petition: petitionView, record: recordView, me: mineView, decide: decideView, do: orderView,
+  numbers: numbersView, number: numberView, map: mapView, orgs: orgsView, org: orgView, petition: petitionView,
+  record: recordView, me: mineView, decide: decideView, do: orderView,
 };
 
 const NONE = ['No such page', h('p', {}, h('a', { href: '#/' }, 'All numbers'))];
 
-function addressIn(hash) {
-  const [path, given = ''] = hash.replace(/^#\/?/, '').split(/\?([^]*)/);
-  const [name, ...parts] = path.split('/');
-  return { path, name, parts, given: new URLSearchParams(given) };
-}
-
 // What an address shows, whichever vendor it names: a view, or the form of an order.
-const kindOf = ({ path, name }) => name === 'do' ? path : name || 'numbers';
+const kindOf = address => address?.view === 'do' ? `do/${address.values.order}` : address?.view;
 
-async function viewNow({ name, parts, given }) {
+async function viewNow(address) {
   try {
-    return Object.hasOwn(VIEWS, name) ? await VIEWS[name](parts, given) ?? NONE : NONE;
-  } catch (fault) {
-    const words = fault instanceof Refused ? fault.message : `A fault of the page: ${fault.message}`;
+    return address ? await VIEWS[address.view](address.values, address.given) ?? NONE : NONE;
+  } catch (why) {
+    const words = why instanceof Refused ? why.message : `A fault of the page: ${why.message}`;
     return ['This cannot be shown', h('p', { class: 'fault', role: 'alert' }, words), button('Try again', () => go())];
   }
 }
 
-// Shows the view at this address, unless another one was asked for meanwhile. Its heading gets the focus if one came here
-// by a link, so that it is read aloud.
+// Shows the view at this address, unless another one was asked for meanwhile. Its heading gets the focus if one came
+// here by a link, so that it is read aloud.
 let turn = 0;
 async function go(isFollowed = false) {
-  const mine = turn += 1, address = addressIn(location.hash);
-  for (const link of document.querySelectorAll('nav a')) {
-    if (kindOf(addressIn(link.hash)) === kindOf(address)) link.setAttribute('aria-current', 'page');
+  const mine = turn += 1, address = readAddress(location.hash);
+  for (const link of document.querySelectorAll('header nav a')) {
+    const isHere = address && kindOf(readAddress(link.hash)) === kindOf(address);
+    if (isHere) link.setAttribute('aria-current', 'page');
     else link.removeAttribute('aria-current');
   }
   byId('main').setAttribute('aria-busy', 'true');
@@ -61,25 +58,35 @@ async function go(isFollowed = false) {
 }
 
 const nameOfAll = () => spelt(known.founding?.name ?? 'USB numbers');
-const isWritten = () => [...document.querySelectorAll('form.order input')].some(it => it.value !== '');
 
 async function showSession() {
-  byId('me').hidden = me() === null;
+  byId('me').hidden = byId('sign-out').hidden = me() === null;
+  byId('sign-in').hidden = me() !== null;
   byId('me').replaceChildren('Signed in as ', h('b', {}, me()?.name ?? ''));
-  byId('sign-in').textContent = me() ? 'Sign out' : 'Sign in';
-  if (me()) await loaded().catch(() => { /* the view says so */ });
+  if (me()) await founded().catch(() => { /* the view says so */ });
   byId('to-decide').hidden = !isCurator(me()?.name);
 }
 
-byId('sign-in').addEventListener('click', async () => {
-  if (me()) signOut();
-  else if (!await signIn()) return;
-  // what was written into a form stays
-  if (!isWritten()) go();
+byId('sign-in').addEventListener('click', async () => { if (await signIn()) go(true); });
+byId('sign-out').addEventListener('click', () => {
+  signOut();
+  go(true);
 });
 onSession(showSession);
+onDown(isDown => { byId('down').hidden = !isDown; });
 addEventListener('hashchange', () => go(true));
-document.querySelector('.skip').addEventListener('click', event => { event.preventDefault(); byId('main').focus(); });
-loaded().then(() => { document.querySelector('.brand a').textContent = nameOfAll(); }, () => { /* the view says so */ });
+// A link to the view that is shown shows it anew.
+document.addEventListener('click', event => {
+  const link = event.target.closest?.('a[href^="#/"]');
+  const isPlain = event.button === 0 && !event.ctrlKey && !event.metaKey && !event.shiftKey;
+  if (link && isPlain && link.hash === (location.hash || '#/')) go(true);
+});
+document.querySelector('.skip').addEventListener('click', event => {
+  event.preventDefault();
+  byId('main').focus();
+});
+if (addressAt(location.pathname)) history.replaceState(null, '', `/${location.hash || addressAt(location.pathname)}`);
+const showName = () => { document.querySelector('.brand a').textContent = nameOfAll(); };
+founded().then(showName, () => { /* the view says so */ });
 showSession();
 go();

@@ -1,19 +1,10 @@
-// What the registry answers: texts and JSON by GET, and the forms of the reports.
+// What the registry answers, in the forms of docs/requests.md: refusals in words, replies, and reports.
 
-// A response that is no answer to a question: a refusal by the registry, one by the proxy, or none (status 0).
-export class Refused extends Error {
-  constructor(status, body) {
-    super(inWords(status, body));
-    this.status = status;
-    this.body = body;
-  }
-}
-
-// A refusal of the registry by its number in docs/requests.md: the words for it, and the fields that it may be about.
+// A refusal of the registry by its number: the words for it, and the fields that it may be about.
 const REFUSALS = {
   1: [() => 'This key was used for another order.'],
   2: [() => 'Only a curator can do this.'],
-  3: [() => 'Only the keeper of the organisation can do this: the person who enrolled it.', 'org', 'number', 'petition'],
+  3: [() => 'Only the keeper of the organisation can do this.', 'org', 'number', 'petition'],
   4: [() => 'No such organisation is enrolled.', 'org'],
   5: [() => 'This short name is taken by another organisation.', 'org'],
   6: [() => 'There is no such petition.', 'petition'],
@@ -57,30 +48,38 @@ export function inWords(status, body) {
 }
 
 // The names of the fields that a refusal may be about; that of a bad field is its detail.
-export const fieldsOf = body => body.refused === 28 ? [body.detail] : REFUSALS[body.refused]?.slice(1) ?? [];
-
-// The text at a path. A body that is cut is no answer: fetch fails then, since its length is known.
-export async function read(path) {
-  let response, text;
-  try {
-    response = await fetch(path, { credentials: 'omit', cache: 'no-cache' });
-    text = await response.text();
-  } catch { throw new Refused(0, {}); }
-  if (response.ok) return text;
-  throw new Refused(response.status, jsonOr(text, {}));
+export function fieldsOf(body) {
+  return body.refused === 28 ? [body.detail] : REFUSALS[body.refused]?.slice(1) ?? [];
 }
-
-export const readJson = async path => JSON.parse(await read(path));
 
 export function jsonOr(text, otherwise) {
   try { return JSON.parse(text) ?? otherwise; } catch { return otherwise; }
 }
 
+// The forms of the replies that name something, and the names of their parts.
+const REPLIES = [
+  [/^(granted) (?:(.{4}):)?([0-9a-f]{4}) to (\S+) by petition (\d+)$/, 'deed', 'vendor', 'number', 'org', 'petition'],
+  [/^(amended|returned) (?:(.{4}):)?([0-9a-f]{4})$/, 'deed', 'vendor', 'number'],
+  [/^(enrolled|amended organisation) (\S+)$/, 'deed', 'org'],
+  [/^(declined |withdrawn |)petition (\d+)$/, 'deed', 'petition'],
+  [/^(reserved|released) (?:(.{4}):)?([0-9a-f]{4})-([0-9a-f]{4})$/, 'deed', 'vendor', 'first', 'last'],
+];
+
+// What a reply names: the deed, and the vendor unless it is the founding one, the number, the organisation, the
+// petition or the span. Null if it names none of them.
+export function readReply(done) {
+  for (const [form, ...names] of REPLIES) {
+    const parts = done.match(form);
+    if (parts) return Object.fromEntries(names.map((name, at) => [name, parts[at + 1]]));
+  }
+  return null;
+}
+
 // Lines end at line feeds only: a title may have U+0085 or U+2028.
 export const linesOf = text => text.split('\n').filter(line => line !== '');
 
-// `VVVV  PPPP  STATE`, and for a number with an owner its organisation in 32 columns, and its title. Everything before the
-// title is ASCII.
+// `VVVV  PPPP  STATE`, and for a number with an owner its organisation in 32 columns, and its title. Everything before
+// the title is ASCII.
 export function* readNumbers(text) {
   for (const line of linesOf(text)) {
     yield {
@@ -94,7 +93,9 @@ export function* readNumbers(text) {
 export const readOrganisations = text => linesOf(text).map(line =>
   [line.slice(0, 32).trimEnd(), { keeper: line.slice(34, 66).trimEnd(), title: line.slice(68) }]);
 
-// The number of the petition, the organisation, the number that it wants, and the title. No column but the last has spaces.
+// The number of the petition, the organisation, the number that it wants, and the title. No column but the last has
+// spaces, and it begins with none.
 export const readPetitions = text => linesOf(text)
-  .map(line => line.match(/^ *(\d+) +(\S+) +(?:([0-9a-f]{4}):)?(any|[0-9a-f]{4})  ([^]*)$/))
-  .map(([, id, org, vendor, want, title]) => ({ id: Number(id), org, vendor, want: want === 'any' ? null : want, title }));
+  .map(line => line.match(/^ *(\d+) +(\S+) +(?:([0-9a-f]{4}):)?(any|[0-9a-f]{4}) +([^]*)$/))
+  .map(([, id, org, vendor, want, title]) =>
+    ({ id: Number(id), org, vendor, want: want === 'any' ? null : want, title }));

@@ -1,107 +1,69 @@
 // What the page knows of the registry: its founding, its organisations, and each number of each vendor.
 
-import { read, readJson, readNumbers, readOrganisations, readPetitions } from './reading.js';
+import { clock, read, readDated } from './asking.js';
+import { readNumbers, readOrganisations, readPetitions, readReply } from './reading.js';
+import { Vendor } from './vendor.js';
 
-export const STATES = ['free', 'reserved', 'held', 'returned'];
-export const [FREE, RESERVED, HELD, RETURNED] = STATES.keys();
-export const ALL = 65536;
-export const hex = pid => pid.toString(16).padStart(4, '0');
-
-// What is known is read anew for a view once it is so old. The proxy keeps a report for ten seconds: what an order of
-// one's own changed is put over a report that may be older.
-const FRESH = 60_000, REPORTED = 15_000;
-
-// The numbers of a vendor: for each a state and, if it has an owner, that and the title.
-class Vendor {
-  constructor(vid, name) {
-    const texts = () => new Array(ALL).fill('');
-    Object.assign(this, { vid, name, states: new Uint8Array(ALL), owners: texts(), titles: texts(), text: null });
-  }
-
-  put(pid, state, owner = '', title = '') {
-    this.states[pid] = STATES.indexOf(state);
-    if (this.owners[pid] === owner && this.titles[pid] === title) return;
-    this.owners[pid] = owner;
-    this.titles[pid] = title;
-    this.text = null;
-  }
-
-  counts(first = 1, last = ALL - 1) {
-    const counts = STATES.map(() => 0);
-    for (let pid = first; pid <= last; pid += 1) counts[this.states[pid]] += 1;
-    return counts;
-  }
-
-  // Makes the text that is searched: a line for each number, with its digits, organisation and title. One long text is
-  // searched faster than many short ones. No title has a line feed.
-  prepare() {
-    if (this.text !== null) return;
-    const line = (owner, pid) => owner ? `${hex(pid)} ${owner} ${known.orgs.get(owner)?.title ?? ''} ${this.titles[pid]}\n` : `${hex(pid)}\n`;
-    this.text = this.owners.map(line).join('').toLowerCase();
-    this.ends = new Uint32Array(ALL);
-    for (let pid = 0, at = -1; pid < ALL; pid += 1) this.ends[pid] = at = this.text.indexOf('\n', at + 1);
-  }
-
-  // For each number whether its line has the word.
-  having(word) {
-    this.prepare();
-    const has = new Uint8Array(ALL), { text, ends } = this;
-    for (let pid = 0, at = text.indexOf(word); at >= 0; at = text.indexOf(word, ends[pid])) {
-      while (ends[pid] < at) pid += 1;
-      has[pid] = 1;
-    }
-    return has;
-  }
-
-  // The numbers that have all the words and one of the states, in order.
-  search(words, states) {
-    const wanted = words.toLowerCase().replaceAll(`${this.vid}:`, '').split(/\s+/).filter(Boolean).map(word => this.having(word));
-    const found = [];
-    for (let pid = 1; pid < ALL; pid += 1) {
-      if (states.includes(this.states[pid]) && wanted.every(has => has[pid])) found.push(pid);
-    }
-    return found;
-  }
-
-  // The first free numbers whose digits begin so.
-  free(digits, most) {
-    const found = [];
-    for (let pid = 1; pid < ALL && found.length < most; pid += 1) {
-      if (this.states[pid] === FREE && hex(pid).startsWith(digits)) found.push(pid);
-    }
-    return found;
-  }
-
-  of(org) {
-    return this.owners.flatMap((owner, pid) => owner === org ? [pid] : []);
-  }
-}
+// What is known is read anew for a view once it is so old.
+const FRESH = 60_000;
+// A report may have been read so long before it was written to its file.
+const WRITTEN = 20_000;
+// An own petition is listed by the report at the latest after so long.
+const LISTED = 15_000;
 
 export const known = { founding: null, vendors: new Map(), orgs: new Map() };
 const closed = new Set(), opened = [];
-let news = [], loading = null, since = 0;
+// What was learned after the reports: each change with its time by the clock of the proxy.
+let news = [];
+// What was read when, by what it is: `founding` alone, or `all`.
+const readings = {};
 
-async function load() {
-  const [founding, numbers, organisations] =
-    await Promise.all([readJson('/founding'), read('/reports/numbers'), read('/reports/organisations')]);
+function put(founding) {
   known.founding = founding;
-  known.orgs = new Map(readOrganisations(organisations));
-  known.vendors = new Map(founding.vendors.map(it => [it.vendor, new Vendor(it.vendor, it.name)]));
-  for (const { vid, pid, state, owner, title } of readNumbers(numbers)) known.vendors.get(vid)?.put(pid, state, owner, title);
-  news = news.filter(it => Date.now() - it.at < REPORTED);
+  for (const { vendor, name } of founding.vendors) {
+    if (!known.vendors.has(vendor)) known.vendors.set(vendor, new Vendor(vendor, name));
+  }
+}
+
+async function readFounding() {
+  put(JSON.parse(await read('/founding')));
   for (const it of news) it.put();
 }
 
-// Resolves once all is known, and not too old. What is old is better than nothing, if the registry does not answer.
-export function loaded() {
-  if (!loading || Date.now() - since > FRESH) {
-    since = Date.now();
-    loading = load().catch(fault => {
-      loading = null;
-      if (!known.founding) throw fault;
+async function readAll() {
+  const [founding, numbers, organisations] =
+    await Promise.all([read('/founding'), readDated('/reports/numbers'), readDated('/reports/organisations')]);
+  known.vendors = new Map();
+  put(JSON.parse(founding));
+  known.orgs = new Map(readOrganisations(organisations.text));
+  for (const { vid, pid, state, owner, title } of readNumbers(numbers.text)) {
+    known.vendors.get(vid)?.put(pid, state, owner, title);
+  }
+  const asOf = Math.min(numbers.asOf, organisations.asOf) - WRITTEN;
+  news = news.filter(it => it.at >= asOf);
+  for (const it of news) it.put();
+}
+
+// Resolves once this is known, and not too old. What is old is better than nothing, if the registry does not answer.
+function fresh(what, reading) {
+  const is = readings[what] ??= { at: 0, now: null };
+  if (!is.now || Date.now() - is.at > FRESH) {
+    is.at = Date.now();
+    is.now = reading().catch(fault => {
+      is.now = null;
+      if (!known.founding || what === 'all' && known.orgs.size === 0) throw fault;
     });
   }
-  return loading;
+  return is.now;
+}
+
+// The founding alone; and all, of which the founding is a part.
+export const founded = () => readings.all?.now ?? fresh('founding', readFounding);
+export const loaded = () => fresh('all', readAll);
+
+// Has the next view read all anew.
+function renew() {
+  for (const it of Object.values(readings)) it.at = 0;
 }
 
 export const foundingVendor = () => known.founding.vendor;
@@ -110,52 +72,87 @@ export const orgsKeptBy = name => [...known.orgs].filter(([, it]) => it.keeper =
 export const numbersOf = org =>
   [...known.vendors.values()].flatMap(vendor => vendor.of(org).map(pid => ({ vendor, pid })));
 
-function learn(put) {
-  news.push({ at: Date.now(), put });
-  put();
+function learn(at, change) {
+  const it = { at, put: change };
+  news.push(it);
+  it.put();
 }
 
 // What the registry says of a number now. It is newer than the reports.
 export async function numberNow(vid, pid) {
-  const got = await readJson(`/numbers/${vid}/${pid}`);
-  learn(() => known.vendors.get(vid)?.put(parseInt(pid, 16), got.state, got.org, got.title));
+  const { text, at } = await readDated(`/numbers/${vid}/${pid}`), got = JSON.parse(text);
+  learn(at, () => known.vendors.get(vid)?.put(parseInt(pid, 16), got.state, got.org, got.title));
   return got;
 }
 
 export async function orgNow(slug) {
-  const got = await readJson(`/orgs/${slug}`);
-  learn(() => known.orgs.set(slug, { keeper: got.keeper, title: got.title }));
+  const { text, at } = await readDated(`/orgs/${slug}`), got = JSON.parse(text);
+  learn(at, () => known.orgs.set(slug, { keeper: got.keeper, title: got.title }));
   return got;
 }
 
+// What the registry says of a petition now. Once it is closed, its organisation may hold another number than was read.
 export async function petitionNow(id) {
-  const got = await readJson(`/petitions/${id}`);
-  return { ...got, vid: got.vendor ?? foundingVendor() };
+  await founded();
+  const got = JSON.parse(await read(`/petitions/${id}`)), vid = got.vendor ?? foundingVendor();
+  if (got.state !== 'open' && !closed.has(got.id)) {
+    closed.add(got.id);
+    renew();
+  }
+  if (got.granted && known.vendors.get(vid)?.isOf(got.granted, got.org) === false) await numberNow(vid, got.granted);
+  return { ...got, vid };
+}
+
+// Those that were open when they were read before: what became of them is asked for once they are not listed.
+let seen = [];
+const MOST_GONE = 20;
+
+async function lookAfter(open) {
+  const there = new Set(open.map(it => it.id)), gone = seen.filter(it => !there.has(it.id) && !closed.has(it.id));
+  seen = open;
+  if (gone.length) renew();
+  await Promise.all(gone.slice(0, MOST_GONE).map(it => petitionNow(it.id).catch(() => { /* a view asks again */ })));
 }
 
 // The open petitions, oldest first, with what this page did to them since the report.
 export async function openPetitions() {
-  const listed = readPetitions(await read('/reports/petitions')).map(it => ({ ...it, vid: it.vendor ?? foundingVendor() }));
-  const isNews = it => Date.now() - it.at < REPORTED && !listed.some(other => other.id === it.id);
-  return [...listed, ...opened.filter(isNews)].filter(it => !closed.has(it.id));
+  await founded();
+  const listed = readPetitions(await read('/reports/petitions'))
+    .map(it => ({ ...it, vid: it.vendor ?? foundingVendor() }));
+  const isNews = it => Date.now() - it.at < LISTED && !listed.some(other => other.id === it.id);
+  const open = [...listed, ...opened.filter(isNews)];
+  await lookAfter(open);
+  return open.filter(it => !closed.has(it.id));
+}
+
+// Says that a petition is closed, as the record told.
+export function noteClosed(id) {
+  closed.add(id);
+  renew();
 }
 
 // Learns from an order of this page and its reply what the reports will show later.
 export async function learnOrder(order, reply) {
-  await loaded();
-  const [, vid, pid] = reply.match(/^(?:granted|amended|returned) (?:([0-9a-f]{4}):)?([0-9a-f]{4})\b/) ?? [];
-  if (pid) await numberNow(vid ?? foundingVendor(), pid);
+  await founded();
+  renew();
+  const { vendor, number, petition, first, last } = readReply(reply) ?? {}, vid = vendor ?? foundingVendor();
   if (order.petition) closed.add(order.petition);
+  if (number) await numberNow(vid, number);
   if (order.order === 'enrol' || order.order === 'amend-org') await orgNow(order.org);
   if (order.order === 'ask') {
-    const id = Number(reply.match(/^petition (\d+)$/)[1]);
-    const { org, number = null, title, vendor } = order;
-    opened.push({ at: Date.now(), id, org, want: number?.toLowerCase() ?? null, title, vid: vendor ?? foundingVendor() });
+    const { org, number: want = null, title } = order;
+    opened.push({ at: Date.now(), id: Number(petition), org, want, title, vid: order.vendor ?? foundingVendor() });
   }
-  if (order.order === 'reserve' || order.order === 'release') {
-    const state = order.order === 'reserve' ? 'reserved' : 'free';
-    const first = parseInt(order.first, 16), last = parseInt(order.last, 16);
-    learn(() => { for (let it = first; it <= last; it += 1) known.vendors.get(order.vendor ?? foundingVendor()).put(it, state); });
+  if (first) {
+    const state = order.order === 'reserve' ? 'reserved' : 'free', span = [parseInt(first, 16), parseInt(last, 16)];
+    learn(clock(), () => known.vendors.get(vid)?.putSpan(...span, state));
   }
-  if (order.order === 'add-licence' || order.order === 'add-vendor') loading = null;
+  if (order.order === 'add-licence') learn(clock(), () => addTo('licences', order.licence));
+  if (order.order === 'add-vendor') learn(clock(), () => addTo('vendors', { vendor: order.vendor, name: order.name }));
+}
+
+// Adds what an order added to the founding, unless it is there.
+function addTo(list, it) {
+  const same = JSON.stringify(it), there = known.founding[list].filter(other => JSON.stringify(other) !== same);
+  put({ ...known.founding, [list]: [...there, it] });
 }

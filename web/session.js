@@ -1,6 +1,8 @@
-// Who is signed in. The password stays in memory, and goes out with orders only; the browser asks for none and keeps none.
+// Who is signed in. The password stays in memory, and goes out with orders only; the browser asks for none and keeps
+// none.
 
-import { byId, button, h } from './elements.js';
+import { asked, close } from './dialogs.js';
+import { button, h } from './elements.js';
 import { inWords } from './reading.js';
 import { check } from './orders.js';
 
@@ -26,38 +28,49 @@ function authorizationOf(name, password) {
 async function tryPassword(name, password) {
   if (check('slug', name)) return 'A name has only the characters a to z, 0 to 9 and -.';
   const authorization = authorizationOf(name, password);
-  const asked = { credentials: 'omit', cache: 'no-store', headers: { authorization } };
-  const response = await fetch('/web/me.json', asked).catch(() => ({ ok: false, status: 0 }));
+  const how = { credentials: 'omit', cache: 'no-store', headers: { authorization } };
+  const response = await fetch('/web/me.json', how).catch(() => ({ ok: false, status: 0 }));
   if (!response.ok) return inWords(response.status, {});
   become({ name, authorization });
   return '';
 }
 
+// Tries what was written, once at a time.
+async function submitted(form, fault, main) {
+  const { name, password } = form.elements;
+  if (main.disabled) return;
+  main.disabled = true;
+  fault.textContent = '';
+  fault.textContent = await tryPassword(name.value, password.value);
+  main.disabled = false;
+  if (fault.textContent === '') close('in');
+  else password.select();
+}
+
+const input = (label, attributes) => h('p', {}, h('label', {}, label, h('input', { required: true, ...attributes })));
+
+function inputs(name) {
+  return [
+    input('Name', {
+      name: 'name', value: name, autocomplete: 'username', autocapitalize: 'none', spellcheck: 'false',
+      readonly: name !== '', autofocus: name === '',
+    }),
+    input('Password', {
+      name: 'password', type: 'password', autocomplete: 'current-password', autofocus: name !== '',
+    }),
+  ];
+}
+
 // Asks for a name and a password in a dialog, and says whether somebody is signed in at its end.
-export function signIn(name = '') {
-  const dialog = byId('dialog');
-  const input = (label, attributes) => h('p', {}, h('label', {}, label, h('input', { required: true, ...attributes })));
-  const asked = { name: 'name', value: name, autocomplete: 'username', autocapitalize: 'none', spellcheck: 'false', readonly: name !== '' };
-  const fault = h('p', { class: 'fault', role: 'alert' });
-  const form = h('form', {
-    async onsubmit(event) {
-      event.preventDefault();
-      const { name, password } = form.elements;
-      fault.textContent = '';
-      fault.textContent = await tryPassword(name.value, password.value);
-      if (fault.textContent === '') dialog.close();
-      else password.select();
-    },
-  },
-  h('h2', { id: 'dialog-title' }, 'Sign in'),
-  input('Name', asked),
-  input('Password', { name: 'password', type: 'password', autocomplete: 'current-password', autofocus: name !== '' }),
-  fault,
-  h('p', { class: 'soft' }, 'Names and passwords are given by the people who run this registry.'),
-  h('div', { class: 'buttons' }, h('button', { class: 'main' }, 'Sign in'), button('Cancel', () => dialog.close())));
-  dialog.replaceChildren(form);
-  return new Promise(tell => {
-    dialog.addEventListener('close', () => tell(person !== null && (name === '' || person.name === name)), { once: true });
-    dialog.showModal();
-  });
+export async function signIn(name = '') {
+  const fault = h('p', { class: 'fault', role: 'alert' }), main = h('button', { class: 'main' }, 'Sign in');
+  const onsubmit = event => {
+    event.preventDefault();
+    submitted(event.target, fault, main);
+  };
+  await asked(h('form', { onsubmit },
+    h('h2', { id: 'dialog-title' }, 'Sign in'), inputs(name), fault,
+    h('p', { class: 'soft' }, 'Names and passwords are given by the people who run this registry.'),
+    h('div', { class: 'buttons' }, main, button('Cancel', () => close()))));
+  return person !== null && (name === '' || person.name === name);
 }

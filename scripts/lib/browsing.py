@@ -66,8 +66,14 @@ class Browser:
     def look(self, width, dark=False, height=1000):
         """Makes the page so wide and, if asked for, dark."""
         self.driver.execute_cdp_cmd("Emulation.setDeviceMetricsOverride", {"width": width, "height": height, "deviceScaleFactor": 1, "mobile": width < 600})
-        scheme = {"name": "prefers-color-scheme", "value": "dark" if dark else "light"}
-        self.driver.execute_cdp_cmd("Emulation.setEmulatedMedia", {"features": [scheme]})
+        self.dark = dark
+        self.force_colours(False)
+
+    def force_colours(self, is_forced):
+        """Has the page shown in the colours of the system, as people with weak sight do, or in its own."""
+        scheme = {"name": "prefers-color-scheme", "value": "dark" if self.dark else "light"}
+        forced = {"name": "forced-colors", "value": "active" if is_forced else "none"}
+        self.driver.execute_cdp_cmd("Emulation.setEmulatedMedia", {"features": [scheme, forced]})
 
     def __enter__(self):
         return self
@@ -94,11 +100,16 @@ class Page:
             time.sleep(0.02)
         return got
 
-    def load(self):
-        """Opens the page anew."""
+    def load(self, path=""):
+        """Opens the page anew, at a path and what follows it."""
         self.driver.get("about:blank")
-        self.driver.get(self.address)
+        self.driver.get(f"{self.address}{path}")
         self.until(lambda: self.all("main h1"), "the page")
+
+    def search(self, words):
+        """Writes into the box of a search."""
+        box = self.one("#query")
+        self.run("arguments[0].value = arguments[1]; arguments[0].dispatchEvent(new Event('input'))", box, words)
 
     def open(self, view):
         """Opens a view as a link does."""
@@ -133,7 +144,7 @@ class Page:
         for name, value in fields.items():
             box = self.one(f"#f-{name}")
             if box.tag_name == "select":
-                self.run("arguments[0].value = arguments[1]; arguments[0].dispatchEvent(new Event('input'))", box, value)
+                self.run("arguments[0].value = arguments[1]; arguments[0].dispatchEvent(new Event('input', {bubbles: true}))", box, value)
             else:
                 box.send_keys(Keys.CONTROL, "a", Keys.NULL, Keys.DELETE, value)
 
@@ -153,8 +164,8 @@ class Page:
         self.until(is_there, lambda: f"{reply} in {self.text('main .answer')!r}, {self.text('#pending')!r}")
 
     def write(self, **fields):
-        """Writes a petition."""
-        self.open("do/ask")
+        """Writes a petition of an organisation. The proxy may not know yet that it is there."""
+        self.open("do/ask?org=acme")
         self.fill(**fields, licence="MIT", site="https://acme.example/blinker", source="https://acme.example/src")
 
     def ask(self, **fields):
@@ -178,9 +189,12 @@ class Page:
                 it.send_keys(value)
         self.press("dialog button.main")
 
+    def sign_out(self):
+        if self.one("#sign-out").is_displayed():
+            self.press("#sign-out")
+
     def sign_in(self, name, password=None):
-        if self.text("#sign-in") == "Sign out":
-            self.press("#sign-in")
+        self.sign_out()
         self.try_to_sign_in(name, password or name)
         self.has(f"Signed in as {name}", "#me")
         self.until(lambda: not self.all("dialog[open]"), "the end of the dialog")
@@ -192,7 +206,7 @@ class Page:
 
     def kept(self):
         """Returns the orders that the browser keeps."""
-        return self.run("return Object.values(localStorage).map(it => JSON.parse(it))")
+        return self.run("return Object.keys(localStorage).filter(it => it.startsWith('usbreg-order-')).map(it => JSON.parse(localStorage[it]))")
 
     def complaints(self):
         """Returns what the browser complained of, but for statuses that the script causes."""

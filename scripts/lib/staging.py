@@ -2,6 +2,8 @@
 of the recipe, and the page as `make install` puts it."""
 
 import contextlib
+import json
+import shutil
 import signal
 import socket
 import subprocess
@@ -10,10 +12,10 @@ import threading
 
 from lib.proxy import by_proxy
 from lib.serving import HOST, free_port, serving
-from lib.usbreg import CONTRIB, TOP, apply, content, found, same, write
+from lib.usbreg import CONTRIB, TOP, apply, content, copy, found, same, write
 
-CURATOR = "curator-1"
-FOUNDING = f'vendor = "1209"\nname = "Shared products"\ncurators = ["{CURATOR}"]\nlicences = ["GPL-3.0-only", "MIT"]\nfixed = ["0001-0010", "0f00-0fff"]\n'
+CURATOR, OTHER = "curator-1", "curator-2"
+FOUNDING = f'vendor = "1209"\nname = "Shared products"\ncurators = ["{CURATOR}", "{OTHER}"]\nlicences = ["GPL-3.0-only", "MIT"]\nfixed = ["0001-0010", "0f00-0fff"]\n'
 # What is there before: another organisation, with a number and an open petition, and a second vendor.
 BEFORE = f"""\
 {{"caller":"bob","key":"b1","order":"enrol","org":"bobs-boards","title":"Bob's boards","site":"https://bob.example/"}}
@@ -35,10 +37,11 @@ class Relay:
     """Passes connections on to a server. `losses` says what becomes of the next responses to orders: a number of bytes
     after which one is cut, other bytes in its place, or a function that is called before it is dropped. `tries` has the
     key, the body and the response of each order, `callers` the caller of each, and `waiting` counts those that have no
-    response yet."""
+    response yet. `reads` has the responses to the next questions for a path in place of those of the server."""
 
     def __init__(self, server_port):
         self.server_port, self.losses, self.tries, self.callers, self.waiting = server_port, [], [], [], 0
+        self.reads = {}
         self.listener = socket.create_server((HOST, 0), backlog=128)
         self.port = self.listener.getsockname()[1]
         threading.Thread(target=self.listen, daemon=True).start()
@@ -52,6 +55,8 @@ class Relay:
         with contextlib.suppress(OSError), connection:
             head, body = whole_message(connection)
             is_order = head.startswith(b"POST /commands ")
+            if others := self.reads.get(head.split()[1].decode()):
+                return connection.sendall(others.pop(0))
             self.waiting += is_order
             got = b""
             with contextlib.suppress(OSError), socket.create_connection((HOST, self.server_port)) as peer:
@@ -97,12 +102,15 @@ def received(connection):
 class Stage:
     """All that stands behind the page, for a `with`: a store in which the requests of `before` were acted on, its server, the
     relay, a proxy that `recipe` makes of a folder and a server, and the installed page. `edits` are changes to the files of
-    the page, or to usbreg.conf: the file, what it has, and what it gets instead."""
+    the page, or to usbreg.conf: the file, what it has, and what it gets instead. With `store` it begins with a copy of that."""
 
-    def __init__(self, usbreg, room, recipe, edits=(), before=BEFORE):
-        self.usbreg, self.room, self.port = usbreg, room, free_port()
-        self.store = found(usbreg, f"{room}/store.db", write(f"{room}/founding.toml", FOUNDING))
-        apply(usbreg, self.store, write(f"{room}/before.jsonl", before))
+    def __init__(self, usbreg, room, recipe, edits=(), before=BEFORE, store=None):
+        self.usbreg, self.room, self.port, self.store = usbreg, room, free_port(), f"{room}/store.db"
+        if store:
+            copy(store, self.store)
+        else:
+            found(usbreg, self.store, write(f"{room}/founding.toml", FOUNDING))
+            apply(usbreg, self.store, write(f"{room}/before.jsonl", before))
         self.relay = Relay(self.port)
         self.recipe = recipe(room, self.relay)
         subprocess.run(["make", "-s", "-C", TOP, "install", f"PROGRAM={usbreg}", f"DESTDIR={room}/installed", "PREFIX=/usr/local"], check=True)
@@ -126,6 +134,24 @@ class Stage:
     def stop(self, is_stopped):
         """Stops the server in the middle of all that it does, or lets it go on."""
         self.server.process.send_signal(signal.SIGSTOP if is_stopped else signal.SIGCONT)
+
+    def orders(self, caller, key, order):
+        """Gives an order as somebody does who does not use this page."""
+        body = json.dumps(order)
+        head = f"POST /commands HTTP/1.1\r\nregistry-caller: {caller}\r\nregistry-key: {key}\r\ncontent-length: {len(body)}\r\n\r\n"
+        with socket.create_connection((HOST, self.port)) as peer:
+            peer.sendall(f"{head}{body}".encode())
+            got = b"".join(iter(lambda: peer.recv(65536), b""))
+        if not got.startswith(b"HTTP/1.1 200 "):
+            sys.exit(f"{order} of {caller} got {got!r}")
+
+    def publish(self):
+        """Writes the reports to files, as the timer does."""
+        words = [f"{CONTRIB}/publish-reports", f"http://{HOST}:{self.port}/reports", f"{self.recipe.folder}/usbreg-list/reports"]
+        subprocess.run(words, check=True)
+
+    def unpublish(self):
+        shutil.rmtree(f"{self.recipe.folder}/usbreg-list/reports")
 
     def password(self, name, password):
         users = f"{self.recipe.folder}/usbreg.users"

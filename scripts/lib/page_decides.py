@@ -1,0 +1,99 @@
+"""What curators do with the page."""
+
+from lib.page_orders import SHOWN
+from lib.staging import CURATOR, OTHER, done
+from lib.usbreg import same
+
+
+def card(petition):
+    return f"[aria-label='Petition {petition}']"
+
+
+def focused(page):
+    return page.run("return document.activeElement.getAttribute('aria-label')")
+
+
+def decides(page, stage):
+    """The queue shows what one needs to decide, to curators alone; what is granted is what was pressed."""
+    page.sign_in(CURATOR)
+    page.press("#to-decide")
+    page.has("17 open petitions.", "#count")
+    for text in ("1209:0011, now free", "https://acme.example/src at acme.example", "Acme Tools (acme)", "Keeper\nann",
+                 "Also wanted by petition 18 of acme."):
+        page.has(text, card(3))
+    page.has("1209:0033\tSerial adapter\theld", card(2))
+    decide(page, stage, 3, "Grant", "Blinker", "granted 0011 to acme by petition 3", "granted 1209:0011 to acme by petition 3")
+    page.until(lambda: focused(page) == "Grant petition 4", "the next petition")
+    page.has("16 open petitions; 1 petition closed since.", "#count")
+    page.press("[aria-label='Grant petition 4']")
+    page.one("dialog input").send_keys("1209:00Ab")
+    same("the hostile title in a question", SHOWN in page.yes(), True)
+    page.has("Done: granted 1209:00ab", card(4))
+    decide(page, stage, 5, "Decline", "Lost", "declined petition 5", "declined petition 5")
+    decide(page, stage, 17, "Grant", "Second", "granted cafe:00ab to acme by petition 17", "granted cafe:00ab to acme by petition 17")
+    page.open("decide")
+    page.has("13 open petitions.", "#count")
+    page.has("1209:0011 is not free: it is held.", card(18))
+
+
+def decide(page, stage, petition, words, title, reply, shown):
+    page.press(f"[aria-label='{words} petition {petition}']")
+    same("the title in the question", title in page.yes(), True)
+    page.has(f"Done: {shown}.", card(petition))
+    body = f'{{"order":"{words.lower()}","petition":{petition}}}'
+    same("what was sent", [it.strip() for it in stage.relay.tries[-1][1:]], [body, done(reply)])
+
+
+def decides_on_many(page, stage):
+    """A filter and a sequence; keys; several in one go, each under its own key; what somebody else decided."""
+    page.open("decide?sort=new")
+    page.one(card(18))
+    cards = lambda: page.run("return [...document.querySelectorAll('.card')].map(it => it.getAttribute('aria-label'))")
+    same("the newest first", cards()[:2], ["Petition 18", "Petition 16"])
+    page.search("thermometer")
+    same("a filter", (cards(), page.run("return location.hash")), (["Petition 2"], "#/decide?q=thermometer&sort=new"))
+    page.open("decide")
+    page.one("[aria-label='Grant petition 11']")
+    page.one("[aria-label='Grant petition 10']").send_keys("xjx")
+    same("where j leads", focused(page), "Grant petition 11")
+    page.has("2 petitions chosen:", "#chosen")
+    before = len(stage.relay.tries)
+    page.button("Decline them", "#chosen")
+    asked = page.yes()
+    same("what the question names", [it for it in ("Killed later", "Kept") if it not in asked], [])
+    for petition in (10, 11):
+        page.has(f"Done: declined petition {petition}.", card(petition))
+    tries = stage.relay.tries[before:]
+    same("what was sent", [body for _, body, _ in tries], [f'{{"order":"decline","petition":{it}}}' for it in (10, 11)])
+    same("the keys", len({key for key, _, _ in tries}), 2)
+    stage.orders(OTHER, "y12", {"order": "grant", "petition": 12})
+    page.has(f"It was granted by {OTHER}.", card(12))
+    page.has("10 open petitions; 3 petitions closed since.", "#count")
+    page.open("petition/13")
+    page.one("[aria-label='Grant petition 13']")
+    stage.orders(OTHER, "y13", {"order": "decline", "petition": 13})
+    page.press("[aria-label='Grant petition 13']")
+    page.yes()
+    page.answer("This petition is closed already.")
+    same("how it is shown", page.one(".answer").get_attribute("class"), "answer fault")
+
+
+def curates(page, stage):
+    """Numbers are reserved and released on the map, and a licence is added."""
+    from selenium.webdriver.common.keys import Keys
+
+    page.open("map/cafe")
+    for words, state in (("Reserve", "reserved"), ("Release", "free")):
+        page.one("#map").send_keys(Keys.HOME, Keys.PAGE_DOWN, Keys.SHIFT, Keys.ARROW_DOWN)
+        page.button(words)
+        same("the span in the question", f"{words} cafe:1001 to 1101?" in page.yes(), True)
+        page.answer(f"Done: {words.lower()}d cafe:1001-1101.")
+        page.has(f"257 numbers: 257 {state}", "#told")
+    page.open("do/add-licence")
+    page.fill(licence="Apache-2.0")
+    page.submit()
+    page.yes()
+    page.answer("Done: added licence Apache-2.0.")
+    page.open("do/amend?number=0011")
+    same("the licences", page.run("return [...document.querySelectorAll('#f-licence option')].map(it => it.value).sort()"),
+         ["Apache-2.0", "GPL-3.0-only", "MIT"])

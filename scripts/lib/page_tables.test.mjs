@@ -1,0 +1,128 @@
+// Tests what of the page needs no browser, by `node --test`: the table of orders against that of docs/requests.md, the
+// reading of numbers, addresses, replies, refusals and reports. `use_the_page.py` runs it, with the folder of the page in
+// the variable WEB and that of the repository in TOP.
+
+import assert from 'node:assert/strict';
+import { readFileSync } from 'node:fs';
+import { test } from 'node:test';
+
+const { WEB, TOP } = process.env;
+const { ORDERS, check, fieldsIn, numberIn, orderOf, valueIn, wordsOf, wrongIn } = await import(`${WEB}/orders.js`);
+const {
+  fieldsOf, inWords, jsonOr, readNumbers, readOrganisations, readPetitions, readReply,
+} = await import(`${WEB}/reading.js`);
+const { addressAt, readAddress } = await import(`${WEB}/address.js`);
+
+const requests = readFileSync(`${TOP}/docs/requests.md`, 'utf8');
+// The rows of the table of orders: name, fields, and a reply as an example.
+const rows = [...requests.matchAll(/^\| `([a-z-]+)` \| ([a-z?, ]+) \| `([^`]+)` \|$/gm)]
+  .map(([, name, fields, reply]) => ({ name, fields: fields.split(', '), reply }));
+const refusals = [...requests.matchAll(/^\| (\d+) \| (\w+) \| (\d+) \|/gm)].map(([, number]) => Number(number));
+
+test('the forms have the orders of the table, and their fields', () => {
+  assert.deepEqual(rows.map(it => it.name).sort(), Object.keys(ORDERS).sort());
+  for (const { name, fields } of rows) {
+    const here = ORDERS[name].fields.map(it => it.name + (it.optional ? '?' : ''));
+    assert.deepEqual(here.sort(), fields.toSorted(), name);
+  }
+});
+
+test('each reply that names something is read', () => {
+  const read = Object.fromEntries(rows.map(it => [it.name, readReply(it.reply)]));
+  assert.deepEqual(read.grant, { deed: 'granted', vendor: undefined, number: '00ab', org: 'acme', petition: '1' });
+  assert.deepEqual(read.return, { deed: 'returned', vendor: undefined, number: '00ab' });
+  assert.deepEqual(read['amend-org'], { deed: 'amended organisation', org: 'acme' });
+  assert.deepEqual(read.ask, { deed: '', petition: '1' });
+  assert.deepEqual(read.decline, { deed: 'declined ', petition: '2' });
+  assert.deepEqual(read.reserve, { deed: 'reserved', vendor: 'cafe', first: '2000', last: '20ff' });
+  assert.equal(readReply('granted cafe:00ab to acme by petition 12').vendor, 'cafe');
+  for (const name of ['add-licence', 'add-vendor']) assert.equal(read[name], null);
+  const none = ['granted 00ab', 'petition 1 ', 'amended 00AB', 'added licence petition 1'];
+  for (const text of none) assert.equal(readReply(text), null, text);
+});
+
+test('each refusal has words of its own, but those of a message and of an import', () => {
+  const rest = new Set([19, 20, 21, 22, 23, 24, 25, 27, 29, 32]);
+  assert.ok(refusals.length > 20);
+  for (const refused of refusals.filter(it => !rest.has(it))) {
+    assert.doesNotMatch(inWords(409, { refused, name: 'ItsName', detail: 'x' }), /ItsName|undefined/, String(refused));
+  }
+  assert.equal(inWords(409, { refused: 9, name: 'NumberOwned', detail: 'acme' }), 'This number belongs to acme.');
+  assert.equal(inWords(418, {}), 'The answer has status 418.');
+  assert.equal(inWords(409, { refused: 99, name: 'New' }), 'The registry refused this: New.');
+  assert.deepEqual(fieldsOf({ refused: 28, detail: 'site' }), ['site']);
+  assert.deepEqual(fieldsOf({ refused: 13 }), ['licence']);
+  assert.deepEqual(fieldsOf({ refused: 99 }), []);
+});
+
+test('a number is read as people write it', () => {
+  const of = text => numberIn(text) && `${numberIn(text).vendor ?? ''}:${numberIn(text).number}`;
+  const right = {
+    '1209:0011': '1209:0011', '0x0011': ':0011', 11: ':0011', 'VID_1209&PID_0011': '1209:0011',
+    '1209/0011': '1209:0011', '0011.': ':0011', ' 00aB ': ':00ab', 'USB\\VID_CAFE&PID_00AB&REV_0100': 'cafe:00ab',
+    '0x1209:0x11': '1209:0011', '1209/0011/': '1209:0011', pid_0011: ':0011',
+  };
+  for (const [text, is] of Object.entries(right)) assert.equal(of(text), is, text);
+  const none = ['', 'zz', '00110', '1209:', ':0011', '1209:00110', '12 09', 'VID_1209'];
+  for (const text of none) assert.equal(of(text), null, text);
+});
+
+test('a field takes what the registry takes, and says what is wrong', () => {
+  const right = { slug: 'acme-1', title: 'x', link: 'https://a.example/', id: '00AB', petition: '4294967295' };
+  for (const [kind, text] of Object.entries(right)) assert.equal(check(kind, text), '', kind);
+  const wrong = {
+    slug: ['', 'Acme', 'a'.repeat(33)], title: [' x', 'x ', 'a\tb', 'é'.repeat(101)], id: ['0000', '11', 'zzzz'],
+    link: ['acme.example', 'ftp://a.example/', `https://a.example/${'x'.repeat(400)}`], petition: ['0', '4294967296', '1.0'],
+  };
+  for (const [kind, texts] of Object.entries(wrong)) {
+    for (const text of texts) assert.notEqual(check(kind, text), '', text);
+  }
+  assert.equal(wrongIn({ kind: 'id' }, ''), 'This is needed.');
+  assert.equal(wrongIn({ kind: 'id', optional: true }, ''), '');
+  assert.equal(valueIn({ kind: 'id' }, ' 1209:11. '), '0011');
+  assert.equal(valueIn({ kind: 'title' }, ' x'), ' x');
+});
+
+test('an order has the fields that are not empty', () => {
+  assert.deepEqual(orderOf('grant', { petition: '7', number: '' }), { order: 'grant', petition: 7 });
+  const texts = { vendor: 'cafe', number: '00ab' };
+  assert.deepEqual(orderOf('return', texts), { order: 'return', ...texts });
+  assert.equal(wordsOf({ order: 'ask' }), 'Ask for a number');
+  assert.deepEqual(fieldsIn({ order: 'grant', petition: 7 }), [['Petition', '7']]);
+});
+
+test('an address is read once, in lower case, or is none', () => {
+  const is = (view, values, given = {}) => ({ view, values, given });
+  assert.deepEqual(readAddress(''), is('numbers', {}));
+  assert.deepEqual(readAddress('#/number/CAFE/3ABC'), is('number', { vendor: 'cafe', number: '3abc' }));
+  assert.deepEqual(readAddress('#/do/return?number=3ABC&vendor=CAFE&x=1'),
+    is('do', { order: 'return' }, { number: '3abc', vendor: 'cafe' }));
+  const search = readAddress('#/numbers/cafe?q=A%20b&page=2');
+  assert.deepEqual(search, is('numbers', { vendor: 'cafe' }, { q: 'A b', page: '2' }));
+  const none = ['number/1209', 'number/1209/zz', 'petition/0', 'do/constructor', 'do/return?number=zz', '__proto__',
+    '%', 'orgs/x', 'numbers/1209/0011', 'org/A%2f'];
+  for (const it of none) assert.equal(readAddress(`#/${it}`), null, it);
+  assert.equal(addressAt('/1209/00AB/'), '#/number/1209/00AB');
+  assert.equal(addressAt('/org/acme'), '#/org/acme');
+  for (const it of ['/', '/1209/00110/', '/org/a/b', '/list']) assert.equal(addressAt(it), '', it);
+});
+
+test('reports are read by their columns', () => {
+  const numbers = '1209  0010  reserved\n1209  00ab  held      acme                              A  title\u0085 here\n';
+  assert.deepEqual([...readNumbers(numbers)], [
+    { vid: '1209', pid: 16, state: 'reserved', owner: '', title: '' },
+    { vid: '1209', pid: 171, state: 'held', owner: 'acme', title: 'A  title\u0085 here' },
+  ]);
+  assert.deepEqual(readOrganisations('acme                              ann                               Acme Tools\n'),
+    [['acme', { keeper: 'ann', title: 'Acme Tools' }]]);
+  const petitions = '      1  acme                              any   Lamp\n'
+    + '     12  bobs-boards                       cafe:any  any  thing\n'
+    + '1000000  acme                              00ab  \u00e9\n';
+  assert.deepEqual(readPetitions(petitions), [
+    { id: 1, org: 'acme', vendor: undefined, want: null, title: 'Lamp' },
+    { id: 12, org: 'bobs-boards', vendor: 'cafe', want: null, title: 'any  thing' },
+    { id: 1000000, org: 'acme', vendor: undefined, want: '00ab', title: '\u00e9' },
+  ]);
+  assert.equal(jsonOr('{', 7), 7);
+  assert.equal(jsonOr('null', 7), 7);
+});
