@@ -1,201 +1,237 @@
 #!/usr/bin/env python3
-"""Moves a made-up repository in the layout of pid.codes into a registry, by the commands in docs/moving.md as they are written,
-except for the names of folders and stores, and out again.
+"""Moves a made-up repository in the layout of pid.codes into a registry, by the commands in docs/moving.md as they are written and in
+their order, and out again.
 
-The report has to say what is left out, lost and changed of each page, and nothing of the others. The replies and the census
-are those that the script for the move said. The pages that are written of the record are those of before, but for what the
-report says. Written with slugs in place of names, and moved in again, they make the same rows. Then the first pages are
-taken with changed tables of names and licences, and the pages of a registry with each kind of order are compared with its
-tables.
+The repository has a page for each row of cases/moving.tsv. The report has to say what the row says, and nothing of other pages; what
+becomes of each number is compared with the store, where no number that a page or a folder names is free. The replies are those that the
+script for the move said. The pages that are written of the record are those of before, but for what the report says. Written with names,
+and moved in again, they make the same rows and slugs. After mending, over the store that is there, what is new is taken; the pages that
+are written over the checkout keep their bytes where they say the same. The history in Git, a commit for each request, and the requests
+of a branch are those that scripts/lib/both_ways.py makes.
 
-Usage: scripts/move_pid_codes.py [PROGRAM [ENTRIES]], by default the one that `make` builds, and 300. If Debian's python3-yaml is
-not installed it says so and skips all. The exit status is 0 if all of this holds."""
+Usage: scripts/move_pid_codes.py [PROGRAM [ENTRIES]] [--all], by default the one that `make` builds, and 200. With --all both ways go for
+a thousand commits, with kills. If Debian's python3-yaml or git is not installed it says so and skips all. The exit status is 0 if all of
+this holds."""
 
 import json
 import os
-import re
 import shutil
-import subprocess
 import sys
 import time
 
-from lib.made_up_pages import VENDOR, MadeUp
-from lib.usbreg import EXAMPLES, TOP, apply, content, copy, done, folder, found, opened, program, run, write
+from lib.both_ways import Repository, commit_each_request, give_histories, say_a_branch
+from lib.made_up_pages import HOME, VENDOR, MadeUp
+from lib.moving import PYTHON, Mover, compare_fields, compare_report, pages_in
+from lib.usbreg import EXAMPLES, TOP, apply, content, copy, done, folder, found, opened, program, run, same, write, write_requests
 
-PAGE = f"{TOP}/docs/moving.md"
-PYTHON, YAML = "/usr/bin/python3", "python3-yaml"
-TAKEN, SOME_LEFT_OUT = 0, 3
-ROWS = "SELECT * FROM entries3 ORDER BY vid, pid", "SELECT * FROM orgs ORDER BY slug", "SELECT name FROM licences ORDER BY name"
+USERS = f"{TOP}/scripts/users"
+SOME_LEFT_OUT = 3
+TAKE, MOVE, NEW, OUT, DAILY = "What would be taken", "Take it", "Take what is new", "The way out", "Every day"
 ORDERS = [
     {"caller": "ann", "key": "m1", "order": "enrol", "org": "lamps", "title": "yes", "site": "https://lamps.example/"},
-    {"caller": "ann", "key": "m2", "order": "ask", "org": "acme", "number": "0013", "title": "Clock: 2", "licence": "MIT", "site": "https://acme.example/", "source": "https://acme.example/"},
+    {"caller": "ben", "key": "m2", "order": "ask", "org": "acme", "number": "0013", "title": "Clock: 2", "licence": "MIT", "site": "https://acme.example/", "source": "https://acme.example/"},
     {"caller": "cora", "key": "m3", "order": "grant", "petition": 5},
-    {"caller": "ann", "key": "m4", "order": "return", "number": "0013"},
+    {"caller": "ben", "key": "m4", "order": "return", "number": "0013"},
     {"caller": "cora", "key": "m5", "order": "reserve", "first": "0012", "last": "0012"},
 ]
 LIST = "1209  Shared\n\t0000  Zero\n\t0010  Fixed\n\t0011  Lamp\n\t0012  Reserved\n\t0013  Owned\n\t0014  \n\t0015  1.10\n\t0015  Doubled\n\tcafe  null\n"
 
 
-def same(what, got, wanted):
-    if got != wanted:
-        sys.exit(f"{what}: {str(got)[:1000]}\nwhere this is wanted: {str(wanted)[:1000]}")
+def move_in(mover, made):
+    """Moves the pages into a store by the commands of the page, and compares what becomes of each."""
+    counts = json.loads(mover.runs(mover.block(TAKE), SOME_LEFT_OUT))
+    same("counts.json", json.loads(content(mover.path("moved/counts.json"))), counts)
+    compare_report(made, mover, "moved/report.tsv")
+    became = {it: sum(page.startswith(VENDOR) and of == it for page, of in made.becomes.items()) for it in ("granted", "imported", "returned")}
+    same("the counts", {it: counts["numbers"][it] for it in became}, became)
+    same("the slugs", {name: slug for slug, _, name in mover.table("moved/names.tsv")}, made.slugs)
+    census = mover.runs(mover.block(MOVE))
+    same("the census", f"\nheld  {became['granted'] + became['imported']:>10}\n" in census, True)
+    states = mover.states("numbers.db")
+    same("the states of numbers", {it: states.get(it) for it in made.states}, made.states)
+    same("numbers that are not free besides", {it[1] for it in set(states) - set(made.states)}, set(range(1, 0x11)))
+    # taken again, each request gets its first reply, and nothing changes
+    before = mover.rows("numbers.db")
+    mover.runs(mover.block(MOVE).split("\n", 1)[1])
+    same("the rows after the same commands", mover.rows("numbers.db"), before)
+    return counts
 
 
-def block(title):
-    """Returns the commands below a title of docs/moving.md."""
-    below = content(PAGE).decode().split(f"# {title}\n", 1)[1]
-    return re.search(r"^```sh\n(.*?)^```$", below, re.MULTILINE | re.DOTALL)[1]
+def ask_for_any(mover, made):
+    """Another organisation asks for any number, again and again: it gets none that a page or a folder names."""
+    site = "https://any.example/"
+    requests = [{"caller": "any", "key": "e", "order": "enrol", "org": "any", "title": "Any", "site": site}]
+    petitions = len([it for it in mover.requests("moved/requests.jsonl") if it["order"] == "ask"])
+    for at in range(1, 40):
+        requests.append({"caller": "any", "key": f"a{at}", "order": "ask", "org": "any", "title": "Any", "licence": "MIT", "site": site, "source": site})
+        requests.append({"caller": "curator-1", "key": f"g{at}", "order": "grant", "petition": petitions + at})
+    store = copy(mover.path("numbers.db"), mover.path("any.db"))
+    said = [json.loads(it).get("done", "") for it in apply(mover.usbreg, store, write_requests(mover.path("any.jsonl"), requests)).splitlines()]
+    granted = {(VENDOR, int(it.split()[1], 16)) for it in said if it.startswith("granted ")}
+    same("the numbers that are granted to another", (len(granted), granted & set(made.states)), (39, set()))
 
 
-class Mover:
-    """A folder in which the commands of the page run, as at the top of a checkout."""
-
-    def __init__(self, usbreg, room):
-        self.room = room
-        os.mkdir(f"{room}/bin")
-        os.symlink(usbreg, f"{room}/bin/usbreg")
-        os.symlink(f"{TOP}/scripts", f"{room}/scripts")
-        self.env = {**os.environ, "PATH": f"{room}/bin:{os.environ['PATH']}"}
-
-    def runs(self, title, status=0, **names):
-        """Returns the output of commands of the page, in which words are replaced by others."""
-        commands = block(title)
-        for name, other in names.items():
-            commands = re.sub(rf"\b{name}\b", other, commands)
-        ran = subprocess.run(["sh", "-ec", commands], cwd=self.room, env=self.env, capture_output=True, check=False, timeout=600)
-        if (ran.returncode, ran.stderr) != (status, b""):
-            sys.exit(f"{commands}\nended with status {ran.returncode}: {ran.stdout!r} {ran.stderr.decode()}")
-        return ran.stdout.decode()
-
-    def take(self, pages, name, status):
-        """Turns pages into the folder of a move, and moves that into a store. Returns what the script counts."""
-        counts = json.loads(self.runs("What would be taken", status, pages=pages, moved=name))
-        same("counts.json", json.loads(content(f"{self.room}/{name}/counts.json")), counts)
-        census = self.runs("Take it", moved=name, numbers=name)
-        numbers = counts["numbers"]
-        wanted = {"held": numbers["granted"] + numbers["imported"], "reserved": 16, "returned": 0}
-        same("the census", {key: int(it) for key, it in re.findall(r"^(\w+) +(\d+)$", census, re.MULTILINE) if key in wanted}, wanted)
-        return counts
-
-    def rows(self, name):
-        with opened(copy(f"{self.room}/{name}.db", f"{self.room}/looked.db")) as tables:
-            return [tables.execute(it).fetchall() for it in ROWS]
+def move_out_and_in(mover, made, counts):
+    """Writes the pages of the record, and moves them in again, with the names and without any table."""
+    mover.runs(mover.block(OUT))
+    same("the pages with names", pages_in(mover.path("site")), made.kept)
+    differing = compare_fields(mover, "pages", "site", "moved/report.tsv")
+    again = json.loads(mover.runs(mover.block(TAKE), pages="site", moved="again"))
+    held = {it: counts["numbers"][it] for it in ("granted", "imported")}
+    same("the counts of the second time", {it: again["numbers"][it] for it in held}, held)
+    told = {what.split(",")[0] for _, _, what, _ in mover.table("again/report.tsv")}
+    same("what is reported of the second time", {it for it in told if not it.startswith("the slug of")}, {"it comes without licence"})
+    same("the slugs of the second time", sorted((slug, name) for slug, _, name in mover.table("again/names.tsv")), sorted((slug, name) for name, slug in made.slugs.items()))
+    mover.runs(mover.block(MOVE), moved="again", numbers="again")
+    same("the rows of the second time", mover.rows("again.db"), mover.rows("numbers.db"))
+    return differing
 
 
-def table(path):
-    """Returns the rows of a table below its heading."""
-    return [line.split("\t") for line in content(path).decode().splitlines()][1:]
-
-
-def pages_in(top):
-    """Returns the fields of each page that was written, by folder. A value is plain, or a text of JSON."""
-    pages = {}
-    for where, _, files in os.walk(top):
-        for name in files:
-            lines = content(f"{where}/{name}").decode().split("\n")
-            same(f"{where}: lines of hyphens", (name, lines[0], lines[-2:]), ("index.md", "---", ["---", ""]))
-            pairs = (line.split(": ", 1) for line in lines[1:-2])
-            pages[os.path.relpath(where, top)] = {field: json.loads(value) if value.startswith('"') else value for field, value in pairs}
-    return pages
-
-
-def compare_report(made, path):
-    """Compares the report with what is to be told of each page, and returns how many pages of each outcome it has."""
-    lines, outcomes = {}, {}
-    for page, outcome, what, to_do in table(path):
-        lines.setdefault(page, []).append(what)
-        outcomes.setdefault(outcome, set()).add(page)
-        if not to_do.endswith("."):
-            sys.exit(f"{path}: {page}: {what}: there is nothing to do")
-    same("the pages that are reported", sorted(lines), sorted(made.told))
-    for page, told in made.told.items():
-        if len(lines[page]) != len(told) or not all(any(it in line for line in lines[page]) for it in told):
-            sys.exit(f"{path}: {page}: {lines[page]}, where {told} is to be told")
-    return {outcome: sum(it.startswith(VENDOR) for it in pages) for outcome, pages in outcomes.items()}
-
-
-def move_in_and_out(mover, entries):
-    made = MadeUp(f"{mover.room}/pages", entries)
-    began = time.monotonic()
-    counts = mover.take("pages", "moved", SOME_LEFT_OUT)
-    outcomes = compare_report(made, f"{mover.room}/moved/report.tsv")
-    held = sum(it.startswith(VENDOR) for it in made.kept)
-    by_list = sum(it.startswith(VENDOR) and "license" not in fields for it, fields in made.kept.items())
-    same("the counts", counts["numbers"], {"pages": held + outcomes["left out"], "granted": held - by_list, "imported": by_list, "left out": outcomes["left out"]})
-    same("the names", {name: slug for slug, keeper, name in table(f"{mover.room}/moved/names.tsv") if slug == keeper}, made.slugs)
-    mover.runs("The way out", numbers="moved")
-    same("the pages with names", pages_in(f"{mover.room}/site"), made.kept)
-    record = done([f"{mover.room}/bin/usbreg", "history", f"{mover.room}/moved.db"])
-    pages_of(mover, record, "slugs")
-    again = mover.take("slugs", "again", TAKEN)
-    same("the counts of the second time", {it: again["numbers"][it] for it in ("granted", "imported")}, {it: counts["numbers"][it] for it in ("granted", "imported")})
-    same("what is reported of the second time", {what.split(",")[0] for _, _, what, _ in table(f"{mover.room}/again/report.tsv")}, {"it comes without licence"})
-    same("the rows of the second time", mover.rows("again"), mover.rows("moved"))
-    return counts, time.monotonic() - began
-
-
-def take_with_tables(mover, usbreg):
+def take_with_tables(mover, made):
     """Turns the pages into a folder anew, with other slugs, keepers and licences."""
-    names, aliases = f"{mover.room}/names.tsv", f"{mover.room}/aliases.tsv"
-    given = content(f"{mover.room}/moved/names.tsv").decode().replace("acme-labs-2\tacme-labs-2\t", "other-labs\tann\t")
+    names, aliases = mover.path("names.tsv"), mover.path("aliases.tsv")
+    given = content(mover.path("moved/names.tsv")).decode().replace("acme-labs-2\tann\t", "other-labs\tlou\t")
     write(names, given)
-    write(aliases, content(f"{TOP}/scripts/users/licence_aliases.tsv").decode() + "Beerware\tLicenseRef-Beerware\n")
-    words = [f"{TOP}/scripts/users/take_pid_codes.py", f"{mover.room}/pages", f"{mover.room}/tables", "--program", usbreg, "--names", names]
-    same("moving with tables", run([*words, "--aliases", aliases])[::2], (SOME_LEFT_OUT, b""))
-    same("the names that were given", content(f"{mover.room}/tables/names.tsv").decode(), given)
-    enrolled = [it for it in content(f"{mover.room}/tables/enrolments.jsonl").decode().splitlines() if '"key":"enrol-other-labs"' in it]
-    same("who enrols it", [json.loads(it)["caller"] for it in enrolled], ["ann"])
-    same("a licence that was given", b'"LicenseRef-Beerware"' in content(f"{mover.room}/tables/founding.toml"), True)
+    table = content(f"{USERS}/licence_aliases.tsv").decode()
+    # whatever the report says is not known gets known by what it says to do
+    unknown = [written for written, meant, _ in mover.table("moved/licences.tsv") if written and not meant]
+    write(aliases, table + "".join(f"{it}\tLicenseRef-{at}\n" for at, it in enumerate(unknown)))
+    words = [f"{USERS}/take_pid_codes.py", mover.path("pages"), mover.path("tables"), "--program", mover.usbreg, "--names", names]
+    same("moving with tables", run([*words, "--aliases", aliases, "--also", "beef=Beef boards"])[::2], (SOME_LEFT_OUT, b""))
+    first = [it for it in mover.requests("tables/enrolments.jsonl") if it.get("vendor") == "beef"]
+    same("what is reserved of another vendor", [(it["order"], it.get("first")) for it in first], [("add-vendor", None), ("reserve", made.number("a folder of another vendor that is named"))])
+    same("the names that were given", sorted(content(mover.path("tables/names.tsv")).decode().splitlines()), sorted(given.splitlines()))
+    (enrolled,) = (it for it in mover.requests("tables/enrolments.jsonl") if it.get("org") == "other-labs")
+    same("who enrols it", enrolled["caller"], "lou")
+    same("licences that are not known then", [it for it in mover.table("tables/licences.tsv") if it[0] and not it[1]], [])
     same("a folder that is there", run(words)[0], 2)
-    shutil.rmtree(f"{mover.room}/tables")
-    write(names, given.replace("\tann\t", "\tcurator-2\t"))
-    status, _, errors = run(words)
+    shutil.rmtree(mover.path("tables"))
+    for bad in ("\tMIT\n", "Beer\t\n", "Beer\n", f"Beer\t{'x' * 201}\n", "MIT\tX11\n"):
+        status, _, errors = run([*words, "--aliases", write(aliases, table + bad)])
+        same(f"the alias {bad!r}", (status, b"wanted" in errors), (1, True))
+    # a word that is dropped from what is written is no alias of what is empty
+    same("an empty alias", run([*words, "--aliases", write(aliases, table + "License\tMIT\n")])[0], SOME_LEFT_OUT)
+    same("who has no licence", [it[1] for it in mover.table("tables/licences.tsv") if it[0] in ("", "License")], ["", "MIT"])
+    shutil.rmtree(mover.path("tables"))
+    same("a licence for all", run([*words, "--unknown", "NOASSERTION"])[0], SOME_LEFT_OUT)
+    same("what comes by lists then", {what.split(" since ")[1].split(" ")[0] for _, of, what, _ in mover.table("tables/report.tsv") if "it comes without" in what}, {"it", "its", "usbreg"})
+    shutil.rmtree(mover.path("tables"))
+    status, _, errors = run([*words[:-1], write(names, given.replace("\tlou\t", "\tcurator-2\t"))])
     same("a keeper who would be a curator", (status, b"would be a curator" in errors), (1, True))
 
 
-def pages_of(mover, record, name):
-    """Writes the pages of a record, and returns the folder."""
-    path = write(f"{mover.room}/{name}.jsonl", record.decode())
-    done([f"{TOP}/scripts/users/write_pages.py", path, f"{mover.room}/{name}"])
-    return f"{mover.room}/{name}"
+def change(path, *changes):
+    text = content(path).decode("latin-1")
+    for old, new in changes:
+        same(f"{path} has {old}", old in text, True)
+        text = text.replace(old, new)
+    write(path, text)
 
 
-def compare_with_tables(mover, usbreg):
+def mend_and_take(mover, made):
+    """Mends pages and writes new ones, while others change the registry, and takes what is new over the store that is there."""
+    page = {row.case: f"{mover.path('pages')}/{path}" for path, row in made.rows.items()}
+    change(page["a colon"], ("Board: x", '"Board: x"'))
+    change(page["Latin-1"], ("Z\xe4hler", "Meter\nlicense: MIT\nsource: https://example.org/l"))
+    change(page["no owner"], ("layout: pid\n", "layout: pid\nowner: Works0\n"))
+    change(page["no licence"], ("layout: pid\n", "layout: pid\nlicense: MIT\n"))
+    change(page["a number"], ("1.10", "1.11"))
+    change(page["a word that means yes"], ("title: yes", "title: yes, changed"))
+    change(page["a date"], ("owner: Acme_Labs", "owner: Works0"))
+    change(page["no site of an organisation"], ("title: None", "title: None\nsite: https://none.example/"))
+    made.write(f"{VENDOR}/d0d0/index.md", f"---\nlayout: pid\ntitle: New\nowner: Newcomers\nlicense: CERN-OHL-W-2.0\nsource: {HOME}/new\n---\n".encode())
+    made.write("org/Newcomers/index.md", b"---\nlayout: org\ntitle: New\nsite: https://new.example/\n---\n")
+    keepers = {name: keeper for _, keeper, name in mover.table("moved/names.tsv")}
+    taken = {name: made.number(row) for name, row in ((it, it) for it in ("a sign within a word", "a word that means yes"))}
+    terms = {"licence": "MIT", "site": "https://example.org/", "source": "https://example.org/"}
+    amends = [{"caller": keepers["Acme_Labs"], "key": f"own-{code}", "order": "amend", "number": code, "title": f"Own {name}", **terms} for name, code in taken.items()]
+    apply(mover.usbreg, mover.path("numbers.db"), write_requests(mover.path("own.jsonl"), amends))
+    mover.runs(mover.block(NEW), SOME_LEFT_OUT)
+    counts = json.loads(content(mover.path("new/counts.json")))["numbers"]
+    same("what is new", {it: counts[it] for it in ("granted", "imported", "amended", "returned")}, {"granted": 4, "imported": 0, "amended": 2, "returned": 0})
+    lines = {page: what for page, _, what, _ in mover.table("new/report.tsv")}
+    said = {name: lines.get(os.path.relpath(page[name], mover.path("pages"))) for name in (*taken, "a date")}
+    same("what is said of pages that the registry has otherwise", [said[it][:24] for it in said], ["the registry says otherw", "it has changed, and so h", "its number belongs to ac"])
+    rest = mover.block(NEW, 1)
+    mover.runs(rest)
+    states = mover.states("numbers.db")
+    made.states |= {(VENDOR, int(made.number(it), 16)): "held" for it in ("a colon", "Latin-1", "no owner")} | {(VENDOR, 0xD0D0): "held"}
+    same("the states after mending", {it: states.get(it) for it in made.states}, made.states)
+    same("the petitions that are open", done([mover.usbreg, "report", copy(mover.path("numbers.db"), mover.path("looked.db")), "petitions"]), b"")
+
+
+def write_over(mover, made, repository):
+    """Writes the pages over the checkout: those that say what the registry says keep their bytes, and nothing else is touched."""
+    repository.commit("Mend pages")
+    mover.runs(mover.block(OUT, 1))
+    changed = set(repository.git("diff", "--name-only", "-z").strip("\0").split("\0"))
+    wanted = {made.path(it) for it in ("a sign within a word", "a word that means yes", "a date", "a colon in the title of an organisation")}
+    same("the pages that change", changed, wanted)
+    fresh = {f"{it}/index.md" for it in made.kept if it.startswith(("org/Nobody", "org/Twin Works"))}
+    same("the pages that are new", set(repository.git("ls-files", "--others", "-z").strip("\0").split("\0")), fresh)
+    for name in ("1209/index.html", "org/index.html", made.path("text below the fields"), made.path("other files")):
+        same(f"{name} is there", os.path.exists(mover.path(f"pages/{name}")), True)
+    # a page whose number says something else keeps what is below its fields, its other fields and its folder
+    path = made.path("other fields")
+    change(mover.path(f"pages/{path}"), ("title: Device", "title: Gadget"), ("---\n", "---\r\n"))
+    mover.runs(mover.block(OUT, 1))
+    text = content(mover.path(f"pages/{path}")).decode()
+    same("a page that is written over", ("title: Device" in text and "date: 2020-02-02" in text and "{home: there}" in text), True)
+    repository.git("checkout", "-q", ".")
+    repository.git("clean", "-f", "-d", "-q")
+
+
+def compare_with_tables(mover):
     """Writes the pages of a registry with each kind of order and a list, and compares them with its tables."""
-    store = found(usbreg, f"{mover.room}/orders.db")
+    usbreg = mover.usbreg
+    store = found(usbreg, mover.path("orders.db"))
     apply(usbreg, store, f"{EXAMPLES}/orders.jsonl")
-    apply(usbreg, store, write(f"{mover.room}/orders.jsonl", "".join(f"{json.dumps(it)}\n" for it in ORDERS)))
+    apply(usbreg, store, write_requests(mover.path("orders.jsonl"), ORDERS))
     for key, vendor in (("i1", "1209"), ("i2", "cafe")):
         listed = write(f"{mover.room}/{key}.ids", LIST.replace("1209", vendor))
         done([usbreg, "import", store, listed, "--caller", "cora", "--key", key, "--org", "lamps", "--vendor", vendor])
-    pages = pages_in(pages_of(mover, done([usbreg, "history", store]), "of-orders"))
+    record = write(mover.path("of-orders.jsonl"), done([usbreg, "history", store]).decode())
+    done([f"{USERS}/write_pages.py", record, mover.path("of-orders")])
     wanted = {}
-    with opened(copy(store, f"{mover.room}/looked.db")) as tables:
+    with opened(copy(store, mover.path("looked.db"))) as tables:
         for slug, title, site in tables.execute("SELECT slug, title, site FROM orgs"):
             wanted[f"org/{slug}"] = {"layout": "org", "title": title, "site": site}
         for vid, pid, *values in tables.execute("SELECT vid, pid, title, org, licence, site, source FROM entries3 WHERE held"):
             fields = dict(zip(("layout", "title", "owner", "license", "site", "source"), ("pid", *values)))
             wanted[f"{vid:04x}/{pid:04x}"] = {name: value for name, value in fields.items() if value is not None}
-    same("the pages of each kind of order", pages, wanted)
+    same("the pages of each kind of order", pages_in(mover.path("of-orders")), wanted)
     # a record whose list had another reply is none
-    wrong = content(f"{mover.room}/of-orders.jsonl").replace(b"imported fresh ", b"imported fresh 1")
-    status, _, errors = run([f"{TOP}/scripts/users/write_pages.py", "-", f"{mover.room}/none"], wrong)
-    said = b"is not the next one of a record" in errors
-    same("pages of a wrong record", (status, said, os.path.exists(f"{mover.room}/none")), (1, True, False))
+    wrong = content(record).replace(b"imported fresh ", b"imported fresh 1")
+    status, _, errors = run([f"{USERS}/write_pages.py", "-", mover.path("none")], wrong)
+    same("pages of a wrong record", (status, b"is not the next one of a record" in errors, os.path.exists(mover.path("none"))), (1, True, False))
 
 
 def main():
-    usbreg = program(*sys.argv[1:2])
-    entries = int(sys.argv[2]) if len(sys.argv) > 2 else 300
-    if not os.path.exists(PYTHON) or run([PYTHON, "-c", "import yaml"])[0]:
-        print(f"SKIPPED: no repository of pages was moved: {YAML} is not installed")
+    words = [it for it in sys.argv[1:] if it != "--all"]
+    usbreg, entries = program(*words[:1]), int(words[1]) if len(words) > 1 else 200
+    if not os.path.exists(PYTHON) or run([PYTHON, "-c", "import yaml"])[0] or not shutil.which("git"):
+        print("SKIPPED: no repository of pages was moved: python3-yaml or git is not installed")
         return
+    began = time.monotonic()
     with folder() as room:
         mover = Mover(usbreg, room)
-        counts, seconds = move_in_and_out(mover, entries)
-        take_with_tables(mover, usbreg)
-        compare_with_tables(mover, usbreg)
-    print(f"docs/moving.md: {counts['numbers']['pages']} pages moved in, out and in again in {seconds:.0f} s, and the rows are the same")
+        made = MadeUp(f"{room}/pages", entries)
+        repository = Repository(mover, "pages")
+        give_histories(repository, made)
+        counts = move_in(mover, made)
+        repository.compare(made)
+        ask_for_any(mover, made)
+        differing = move_out_and_in(mover, made, counts)
+        take_with_tables(mover, made)
+        mend_and_take(mover, made)
+        write_over(mover, made, repository)
+        commits = commit_each_request(mover, repository, 1000 if "--all" in sys.argv else 20)
+        said = say_a_branch(mover, made, repository)
+        compare_with_tables(mover)
+    print(
+        f"docs/moving.md: {counts['numbers']['pages']} pages moved in, out and in again, {differing} fields that differ are named, "
+        f"{commits} commits, {said} requests of a branch, in {time.monotonic() - began:.0f} s"
+    )
 
 
 if __name__ == "__main__":

@@ -1,172 +1,157 @@
-"""A made-up repository in the layout of pid.codes, with the oddities of real ones, and what has to come of each page."""
+"""A made-up repository in the layout of pid.codes, and what has to come of each page. Each row of cases/moving.tsv, whose head says what
+its columns are, is a page in it, and the others are plain."""
 
 import dataclasses
 import os
 import random
+import re
 
-VENDOR, FIRST, LAST = "1209", 0x0011, 0xFFFF
-# The fields of a page, as they are written and, where a page says nothing else, as they are kept.
-DEVICE = {"layout": "pid", "title": "Device {at}", "owner": "acme-labs", "license": "MIT", "site": "https://example.org/{at}", "source": "https://example.org/{at}/src"}
-BY_LIST = {"license": None, "site": None, "source": None}
-SOURCE = {"site": "https://example.org/{at}/src"}
-AND = "GPL-3.0-only AND CC-BY-SA-4.0"
+from lib.usbreg import TOP, content
 
-
-def crlf(text):
-    return text.replace("\n", "\r\n").encode()
-
-
-def marked(text):
-    return b"\xef\xbb\xbf" + text.encode()
-
-
-def latin(text):
-    return text.encode("latin-1")
+CASES = f"{TOP}/cases/moving.tsv"
+VENDOR, FIRST, LAST, HOME = "1209", 0x0011, 0xFFFF, "https://pid.codes/org"
+# The fields of a plain page, and the numbers that rows name besides.
+PLAIN = {"layout": "pid", "title": "Device {at}", "owner": "Acme_Labs", "license": "MIT", "site": "https://example.org/{at}", "source": "https://example.org/{at}/src"}
+TERMS = ("license", "site", "source")
+NAMED = {0xD00D, 0xD01D, 0xD02D, 0xD03D}
+STATES = {"granted": "held", "imported": "held", "returned": "returned", "reserved": "reserved"}
 
 
 @dataclasses.dataclass
-class Oddity:
-    """How a page differs: fields that are written otherwise, or not at all if None; those that are kept otherwise, or None if
-    the page is left out; and a part of each line of the report on it."""
+class Row:
+    """A row of the table."""
 
-    written: dict = dataclasses.field(default_factory=dict)
-    kept: dict | None = dataclasses.field(default_factory=dict)
-    told: tuple = ()
-    below: str = ""
-    bytes_of: object = str.encode
-    upper: bool = False
-    files: tuple = ()
+    case: str
+    file: str
+    written: str
+    becomes: str
+    kept: str
+    report: str
 
 
-ODDITIES = [
-    Oddity(bytes_of=crlf), Oddity(bytes_of=marked), Oddity(upper=True),
-    Oddity({"title": "Zähler {at}", "owner": "acme-labs"}, {"title": "Zähler {at}", "owner": "acme-labs"}, ("read as Latin-1",), bytes_of=latin),
-    Oddity(files=("picture.jpg",), told=("other files are not taken: picture.jpg",)),
-    Oddity(below="It has \"quotes\", 'more' and --- dashes.\n\n---\n\nText {at}.\n", told=("the text below its fields, ",)),
-    Oddity({"date": "2020-02-02"}, told=("the field date",)),
-    Oddity({"links": "{home: there}"}, told=("the field links",)),
-    # licences
-    Oddity({"license": None}, BY_LIST, ("since it has no licence",)),
-    Oddity({"license": "Beerware"}, BY_LIST, ("since the licence Beerware is not known",)),
-    Oddity({"license": "3.0"}, BY_LIST, ("since the licence 3.0 is not known",)),
-    Oddity({"license": "(MIT OR X11) AND CC0"}, BY_LIST, ("is not known",)),
-    Oddity({"license": "mit"}, {"license": "MIT"}, ("licence mit is taken as MIT",)),
-    Oddity({"license": "GPLv3"}, {"license": "GPL-3.0-only"}, ("licence GPLv3 is",)),
-    Oddity({"license": "GPL v2 or later"}, {"license": "GPL-2.0-or-later"}, ("is taken as GPL-2.0-or-later",)),
-    Oddity({"license": "GNU GPL, version 3"}, {"license": "GPL-3.0-only"}, ("is taken as GPL-3.0-only",)),
-    Oddity({"license": "GPLv3 (software), CC-BY-SA 4.0 (hardware)"}, {"license": AND}, (f"is taken as {AND}",)),
-    Oddity({"license": "[GPLv3, CC-BY-SA]"}, {"license": AND}, (f"is taken as {AND}",)),
-    Oddity({"license": "MIT or Apache 2.0"}, {"license": "MIT OR Apache-2.0"}, ("is taken as MIT OR Apache-2.0",)),
-    Oddity({"license": "CERN OHL v1.2/MIT"}, {"license": "CERN-OHL-1.2 AND MIT"}, ("is taken as CERN-OHL-1.2 AND MIT",)),
-    # titles
-    Oddity({"title": "Zähler µ-Ω №{at} 時計 🔌"}, {"title": "Zähler µ-Ω №{at} 時計 🔌"}),
-    Oddity({"title": '"The \\"best\\" board: {at}"'}, {"title": 'The "best" board: {at}'}),
-    Oddity({"title": 'Board: the {at} "edition"'}, {"title": 'Board: the {at} "edition"'}, ("read line by line",)),
-    Oddity({"title": "1.10"}, {"title": "1.10"}), Oddity({"title": "yes"}, {"title": "yes"}),
-    Oddity({"title": "Lamp # the {at}th"}, {"title": "Lamp"}),
-    Oddity({"title": "Ω" * 130}, {"title": "Ω" * 100}, ("its title, of 260 bytes",)),
-    Oddity({"title": '"A\\ttab {at}"'}, {"title": "A tab {at}"}, ("its title, of",)),
-    Oddity({"title": "Lamp\ntitle: Lamp {at}"}, {"title": "Lamp {at}"}, ("the field title comes twice",)),
-    # links
-    Oddity({"site": "HTTP://Example.ORG"}, {"site": "http://example.org/"}),
-    Oddity({"site": "http://example.org/my page {at}"}, {"site": "http://example.org/my%20page%20{at}"}),
-    Oddity({"site": "www.example.org/{at}"}, {"site": "http://www.example.org/{at}"}, ("its site is taken as http://www.",)),
-    Oddity({"site": None}, SOURCE, ("its source stands for its site, since it has none",)),
-    Oddity({"site": "mailto:me@example.org"}, SOURCE, ("since its site mailto:me@example.org is no link",)),
-    Oddity({"site": "http://my site.example/{at}"}, SOURCE, ("since usbreg does not take its site",)),
-    Oddity({"source": None}, BY_LIST, ("since it has no source",)),
-    Oddity({"source": "ftp://example.org/{at}"}, BY_LIST, ("since its source ftp:",)),
-    Oddity({"source": "https://example.org/" + "x" * 420}, BY_LIST, ("since usbreg does not take its source",)),
-    Oddity({"site": None, "source": "http://a b/"}, BY_LIST, ("stands for its site", "does not take its source http://a b/ as a link")),
-    # owners
-    Oddity({"owner": "Nobody{at}"}, {"owner": "Nobody{at}"}, ("owner Nobody{at} has no page",)),
-    Oddity({"owner": "bÜCHEREI"}, {"owner": "Bücherei"}, ("owner bÜCHEREI is taken as Bücherei",)),
-    # pages that are left out
-    Oddity({"owner": None}, None, ("it has no owner that",)), Oddity({"title": None}, None, ("it has no title that",)),
-    Oddity({"title": None, "owner": None}, None, ("it has no owner and no title that",)),
-    Oddity({"layout": "page"}, None, ("its layout is page",)),
-    Oddity({it: None for it in DEVICE}, None, ("its layout is none",)),
-]
-# What is in the vendor's folder besides, and what the report says of it.
-OTHERS = {
-    "0000/index.md": "---\nlayout: pid\n---\n", "12345/index.md": "---\nlayout: pid\n---\n", "README.md": "Read me.\n", "c0de/README.md": "No page.\n",
-    "beef/index.md": "# Beef\n", "DEAD/index.md": "---\nlayout: pid\ntitle: Twice\nowner: acme-labs\n---\n", "index.md": "---\nlayout: vid\n---\n",
-    **{f"{pid:04x}/index.md": "---\nlayout: pid\ntitle: For tests\nowner: pidcodes\n---\n" for pid in range(1, 0x11)},
-}
-TOLD = {
-    "0000/index.md": "or is 0000", "12345/index.md": "not named by four", "README.md": "it is no folder", "c0de": "it has no index.md",
-    "beef/index.md": "does not begin with fields", "dead/index.md": "1209/DEAD/index.md has the same number",
-    **{f"{pid:04x}/index.md": "one of those that stay reserved" for pid in range(1, 0x11)},
-}
-# By name of an organisation: its slug, the page, title and site that are kept, and what the report says of it.
-HOME = "https://pid.codes/org"
-ORGANISATIONS = {
-    "acme-labs": ("acme-labs", "layout: org\ntitle: Acme\nsite: https://acme.example/", "Acme", "https://acme.example/", ()),
-    "Acme_Labs": ("acme-labs-2", "layout: org\ntitle: Other\nsite: https://other.example/", "Other", "https://other.example/", ("acme-labs is that of another",)),
-    "Bücherei": ("bucherei", 'layout: org\ntitle: "Bücherei: Ulm"\nsite: www.ulm.example', "Bücherei: Ulm", "http://www.ulm.example/", ("its site is taken as",)),
-    "株式会社": ("org", "layout: org\ntitle: 株式会社\nsite: http://jp.example/", "株式会社", "http://jp.example/", ("no letter",)),
-    "curator-1": ("org-curator-1", "layout: org\ntitle: One\nsite: http://one.example/", "One", "http://one.example/", ("a curator's name",)),
-    "NoSite": ("nosite", "layout: org\ntitle: None", "None", f"{HOME}/nosite/", ("since it has none",)),
-    "BadSite": ("badsite", "layout: org\ntitle: Bad\nsite: http://a b/", "Bad", f"{HOME}/badsite/", ("usbreg does not take its site",)),
-    "NoTitle": ("notitle", "layout: page\nsite: http://no.example/", "NoTitle", "http://no.example/", ("its layout is page", "the name of its folder stands")),
-    "AnOrganisationWithAVeryLongNameOfMoreThan32Letters": ("anorganisationwithaverylongnameo", "layout: org\ntitle: Long\nsite: http://l.example/", "Long", "http://l.example/", ("a slug has at most 32",)),
-}
+def rows():
+    lines = [it.split("\t") for it in content(CASES).decode().splitlines() if it and not it.startswith("#")]
+    return [Row(*it) for it in lines[1:]]
 
 
-def write(path, data, *others):
-    os.makedirs(os.path.dirname(path), exist_ok=True)
-    with open(path, "wb") as file:
-        file.write(data)
-    for name in others:
-        write(f"{os.path.dirname(path)}/{name}", b"\xff")
+def bytes_of(text):
+    """Returns the bytes that a cell of the table stands for."""
+    names = {b"n": b"\n", b"r": b"\r", b"t": b"\t", b"\\": b"\\"}
+
+    def one(found):
+        what = found[1]
+        if what in names:
+            return names[what]
+        return bytes([int(what[1:], 16)]) if what[:1] == b"x" else chr(int(what[1:], 16)).encode()
+
+    return re.sub(rb"\\(u[0-9a-f]{4}|x[0-9a-f]{2}|[nrt\\])", one, text.encode())
+
+
+def lines_of(cell):
+    """Returns the lines of a cell, whose \\n stands for the end of one before another field. What is below the fields comes last."""
+    above, mark, below = cell.partition("below ")
+    lines = re.split(r"(?<!\\)\\n(?=-?[a-z_]+(?:: |:?$|:?\\n)|beside )", above) if above else []
+    return lines + ([mark + below] if mark else [])
 
 
 class MadeUp:
-    """A repository that is written into a folder. `kept` has the fields of each page after the move, `told` a part of each
-    line of the report by page, `left_out` how many pages of numbers are."""
+    """A repository that is written into a folder. `kept` has the fields of each page after the move, `told` the outcome and a part of
+    each line of the report by page, `states` the state of each number with its vendor, and `slugs` the slug of each name."""
 
     def __init__(self, top, count):
-        self.top, self.kept, self.told, self.slugs = top, {}, {}, {}
-        for name, (slug, front, title, site, told) in ORGANISATIONS.items():
-            self.organisation(name, slug, front, title, site, told)
-        write(f"{top}/org/Empty/other.md", b"")
-        self.told["org/Empty"] = ("it has no index.md",)
-        numbers = random.Random(1209).sample([it for it in range(FIRST, LAST + 1) if it not in (0xC0DE, 0xBEEF, 0xDEAD)], count)
+        self.top, self.kept, self.told, self.slugs, self.states, self.becomes, self.rows = top, {}, {}, {}, {}, {}, {}
+        self.numbers = {}
+        for pid in range(1, 0x11):
+            self.write(f"{VENDOR}/{pid:04x}/index.md", b"---\nlayout: pid\ntitle: For tests\nowner: pidcodes\n---\n")
+            self.told[f"{VENDOR}/{pid:04x}/index.md"] = [("reserved", "one of those that stay reserved")]
+        for folder in (VENDOR, "org"):
+            self.write(f"{folder}/index.html", b"---\nlayout: list\n---\n")
+        self.states |= {(VENDOR, it): "reserved" for it in NAMED}
+        table = rows()
+        numbers = random.Random(1209).sample([it for it in range(FIRST, LAST + 1) if it not in NAMED], max(count, len(table)))
+        for at, row in enumerate(table):
+            self.put_row(at, numbers[at], row)
         owners = [f"Works{at}" for at in range(max(1, count // 8))]
         for name in owners:
-            self.organisation(name, name.lower(), f"layout: org\ntitle: {name}\nsite: https://{name.lower()}.example/", name, f"https://{name.lower()}.example/", ())
-        for at, number in enumerate(numbers):
-            # a fourth is odd, and each oddity comes at least once
-            oddity = ODDITIES[at % len(ODDITIES)] if at < max(len(ODDITIES), count // 4) else Oddity()
-            self.device(number, oddity, at, [*ORGANISATIONS, *owners][at % (len(ORGANISATIONS) + len(owners))])
-        write(f"{top}/{VENDOR}/dead/index.md", b"---\nlayout: pid\n---\n")
-        for name, text in OTHERS.items():
-            write(f"{top}/{VENDOR}/{name}", text.encode())
-        self.kept[f"{VENDOR}/dead"] = {"layout": "pid", "title": "Twice", "owner": "acme-labs"}
-        self.told |= {f"{VENDOR}/{name}": (told,) for name, told in TOLD.items()} | {f"{VENDOR}/DEAD/index.md": ("since it has no licence",)}
+            self.put_row(0, 0, Row("", f"org/{name}/index.md", f"=---\nlayout: org\ntitle: {name}\nsite: https://{name.lower()}.example/\n---\n", f"enrolled {name.lower()}", "", ""))
+        for at in range(len(table), count):
+            self.put_row(at, numbers[at], Row("", "", f"owner: {owners[at % len(owners)]}", "granted", "", ""))
+        self.twice()
 
-    def organisation(self, name, slug, front, title, site, told):
-        page = f"org/{name}/index.md"
-        write(f"{self.top}/{page}", f"---\n{front}\n---\n".encode())
-        self.kept[f"org/{name}"], self.slugs[name] = {"layout": "org", "title": title, "site": site}, slug
+    def twice(self):
+        """Writes two pages of one number: the first one, by the name of its folder, is taken, as it would be by itself."""
+        for folder, title in (("DEAD", "One"), ("dead", "Two")):
+            self.write(f"{VENDOR}/{folder}/index.md", f"---\nlayout: pid\ntitle: {title}\nowner: acme-labs\n---\n".encode())
+        self.kept[f"{VENDOR}/DEAD"] = {"layout": "pid", "title": "One", "owner": "acme-labs"}
+        self.told |= {f"{VENDOR}/DEAD/index.md": [("lost", "since it has no licence")], f"{VENDOR}/dead/index.md": [("left out", "1209/DEAD/index.md has the same number")]}
+        self.states[VENDOR, 0xDEAD], self.becomes[f"{VENDOR}/DEAD/index.md"] = "held", "imported"
+
+    def path(self, case):
+        """Returns the path of the page of a row."""
+        return next(path for path, row in self.rows.items() if row.case == case)
+
+    def number(self, case):
+        return self.numbers[case]
+
+    def write(self, path, data):
+        os.makedirs(os.path.dirname(f"{self.top}/{path}"), exist_ok=True)
+        with open(f"{self.top}/{path}", "wb") as file:
+            file.write(data)
+
+    def put_row(self, at, number, row):
+        def put(text):
+            return text.replace("{at}", str(at)).replace("{n}", f"{number:04x}").replace("{N}", f"{number:04X}")
+
+        path = put(row.file or f"{VENDOR}/{{n}}/index.md")
+        fields, below, beside = dict(PLAIN), "", []
+        if row.written.startswith("="):
+            data = bytes_of(put(row.written[1:]))
+            fields = dict(it.split(": ", 1) for it in data.decode("utf-8-sig", "replace").splitlines() if ": " in it)
+        else:
+            lines = []
+            for line in lines_of(row.written):
+                name, _, value = line.partition(": ")
+                if line.startswith("-"):
+                    fields.pop(line[1:])
+                elif line.startswith("below "):
+                    below = line[6:]
+                elif line.startswith("beside "):
+                    beside.append(line[7:])
+                else:
+                    lines.append(line)
+                    if name in PLAIN:
+                        fields[name] = value
+            given = {it.partition(":")[0] for it in lines}
+            front = [f"{name}: {value}" for name, value in fields.items() if name not in given]
+            data = bytes_of(put("".join(f"{it}\\n" for it in ["---", *front[:1], *lines, *front[1:], "---"]) + below))
+        self.write(path, data)
+        for it in beside:
+            self.write(f"{os.path.dirname(path)}/{it}", b"\xff")
+        self.expect(path, number, row, fields, put)
+
+    def expect(self, path, number, row, fields, put):
+        told = [it.partition(": ")[::2] for it in put(row.report).split(" | ") if it]
         if told:
-            self.told[page] = told
+            self.told[path] = told
+        self.becomes[path], self.rows[path] = row.becomes, row
+        self.numbers[row.case] = f"{number:04x}"
+        vendor = path.split("/")[0]
+        if vendor == "org":
+            if row.becomes.startswith("enrolled "):
+                self.slugs[path.split("/")[1]] = row.becomes.split()[1]
+                self.keep(path, fields, row, put)
+        elif row.becomes in STATES:
+            self.states[vendor, number] = STATES[row.becomes]
+            if STATES[row.becomes] == "held":
+                self.keep(path, {name: it for name, it in fields.items() if name not in TERMS} if row.becomes == "imported" else fields, row, put)
 
-    def device(self, number, oddity, at, owner):
-        def put(value):
-            return value and value.replace("{at}", str(at))
-
-        fields = DEVICE | {"owner": owner}
-        folder = f"{number:04X}" if oddity.upper else f"{number:04x}"
-        lines = (f"{name}: {put(value)}\n" for name, value in (fields | oddity.written).items() if value is not None)
-        text = f"---\n{''.join(lines)}---\n{put(oddity.below)}"
-        write(f"{self.top}/{VENDOR}/{folder}/index.md", oddity.bytes_of(text), *oddity.files)
-        if oddity.told:
-            self.told[f"{VENDOR}/{folder}/index.md"] = tuple(put(it) for it in oddity.told)
-        if oddity.kept is not None:
-            kept = fields | oddity.kept
-            self.kept[f"{VENDOR}/{number:04x}"] = {name: put(value) for name, value in kept.items() if value is not None}
-            name = put(kept["owner"])
-            if name not in self.slugs:
-                self.slugs[name] = name.lower()
-                self.kept[f"org/{name}"] = {"layout": "org", "title": name, "site": f"{HOME}/{name.lower()}/"}
+    def keep(self, path, fields, row, put):
+        kept = {name: bytes_of(put(it)).decode() for name, it in fields.items()}
+        for line in lines_of(row.kept):
+            name, _, value = line.partition(": ")
+            kept[name] = bytes_of(put(value)).decode()
+        self.kept[os.path.dirname(path)] = kept
+        name = kept.get("owner")
+        if name and name not in self.slugs and not os.path.exists(f"{self.top}/org/{name}") or name == "BadYaml":
+            self.slugs[name] = name.lower().replace(" ", "-")
+            self.kept[f"org/{name}"] = {"layout": "org", "title": name, "site": f"{HOME}/{self.slugs[name]}/"}

@@ -1,0 +1,222 @@
+"""Both ways between a registry and a checkout of its pages: the history in Git that a move keeps, a commit for each request of a record,
+and the requests that a branch means."""
+
+import json
+import os
+import random
+import re
+import signal
+import subprocess
+import sys
+import time
+
+from lib.made_up_pages import VENDOR
+from lib.usbreg import TOP, apply, content, done, run, same, write, write_requests
+
+USERS = f"{TOP}/scripts/users"
+GITHUB = ("GitHub", "noreply@github.com")
+ANN, BOB, EVE, CORA, DAN = (("Ann", "ann@a.example"), ("Bob", "bob@b.example"), ("Eve", "eve@e.example"), ("Cora", "cora@c.example"), ("Dan Dell", "dan@d.example"))
+DAILY = "Every day"
+
+
+class Repository:
+    """A Git repository in the folder of a mover."""
+
+    def __init__(self, mover, name):
+        self.mover, self.top, self.times, self.merges = mover, mover.path(name), 1_500_000_000, []
+
+    def git(self, *words, author=CORA, committer=None):
+        committer = committer or author
+        self.times += 60
+        people = {"AUTHOR": author, "COMMITTER": committer}
+        env = {f"GIT_{who}_{what}": of[at] for who, of in people.items() for at, what in enumerate(("NAME", "EMAIL"))}
+        env |= {f"GIT_{who}_DATE": f"{self.times} +0000" for who in people}
+        ran = subprocess.run(["git", "-C", self.top, *words], capture_output=True, check=False, env={**self.mover.env, **env})
+        same(f"git {' '.join(words)}: {ran.stderr!r}", ran.returncode, 0)
+        return ran.stdout.decode()
+
+    def commit(self, text, *paths, author=ANN, committer=None):
+        """Commits some paths, by default all, and returns the commit."""
+        self.git("add", "-A", "--", *(paths or ["."]))
+        self.git("commit", "-q", "-m", text, author=author, committer=committer)
+        return self.git("rev-parse", "HEAD").strip()
+
+    def put(self, paths, author, merger, way):
+        """Commits pages, and merges them as a merge, a squash by GitHub, or directly. Keeps what a move has to say of them."""
+        if way == "merge":
+            self.git("checkout", "-q", "-b", "change")
+            self.commit("Add pages", *paths, author=author)
+            self.git("checkout", "-q", "main")
+            self.git("merge", "-q", "--no-ff", "-m", "Merge pull request", "change", author=merger, committer=GITHUB)
+            self.git("branch", "-q", "-d", "change")
+        else:
+            self.commit("Add pages", *paths, author=author, committer=GITHUB if way == "squash" else merger)
+        commit = self.git("rev-parse", "HEAD").strip()
+        self.merges.append((set(paths), commit, author, None if way == "squash" else merger))
+
+    def compare(self, made):
+        """Compares the requests of a move with the history: their order, who grants, who keeps, and the commit in each key."""
+        keys = {(it["order"], it.get("org") if it["order"] == "enrol" else it.get("number")): it for it in self.mover.requests("moved/requests.jsonl") + self.mover.requests("moved/enrolments.jsonl")}
+        granted = self.mover.requests("moved/requests.jsonl")
+        places, names = [], {name: "curator-" + name.lower().replace(" ", "-") for name, _ in (CORA, DAN)}
+        for ask, grant in zip(granted, granted[1:]):
+            if ask["order"] == "ask":
+                place, commit, _, merger = self.merge_of(made.paths[ask["number"]])
+                places.append(place)
+                same(f"who grants {ask['number']}", grant["caller"], names[merger[0]] if merger else "curator-1")
+                same(f"the commit of {ask['number']}", commit[:10] in ask["key"] and commit[:10] in grant["key"], True)
+        same("the order of the merges", (len(set(places)) > 3, places), (True, sorted(places)))
+        for name, slug in made.slugs.items():
+            if os.path.exists(f"{self.top}/org/{name}/index.md") and ("enrol", slug) in keys and name != "BadYaml":
+                _, commit, author, _ = self.merge_of(f"org/{name}/index.md")
+                enrolled = keys["enrol", slug]
+                same(f"who enrols {slug}", (enrolled["caller"], commit[:10] in enrolled["key"]), (author[0].lower(), True))
+        table = {path: (commit, merged) for path, commit, merged, *_ in self.mover.table("moved/history.tsv")}
+        same("the times in the table", all(re.fullmatch(r"2017-.*", merged) for _, merged in table.values()), True)
+
+    def merge_of(self, path):
+        return next((place, *rest) for place, (paths, *rest) in enumerate(self.merges) if path in paths)
+
+
+def give_histories(repository, made):
+    """Commits made-up pages in some merges, by several people. One page moves to a folder in the other case, and one is removed."""
+    repository.git("init", "-q", "-b", "main")
+    repository.git("commit", "-q", "--allow-empty", "-m", "Begin")
+    pages = [it for it in made.becomes if os.path.exists(f"{repository.top}/{it}")]
+    orgs, numbers = (sorted(it for it in pages if it.startswith(f"{top}/")) for top in ("org", VENDOR))
+    first = made.path("upper case")
+    lower = first.lower()
+    numbers.remove(first)
+    os.rename(f"{repository.top}/{os.path.dirname(first)}", f"{repository.top}/{os.path.dirname(lower)}")
+    made.write(f"{VENDOR}/d0e0/index.md", b"---\nlayout: pid\ntitle: Gone\nowner: acme-labs\n---\n")
+    size = len(numbers) // 3
+    repository.put([*orgs[: len(orgs) // 2], lower, f"{VENDOR}/d0e0/index.md"], ANN, CORA, "merge")
+    repository.put(orgs[len(orgs) // 2 :], BOB, DAN, "merge")
+    repository.put(numbers[:size], EVE, None, "squash")
+    repository.put(numbers[size : 2 * size], ANN, CORA, "merge")
+    os.rename(f"{repository.top}/{os.path.dirname(lower)}", f"{repository.top}/{os.path.dirname(first)}")
+    repository.git("rm", "-q", f"{VENDOR}/d0e0/index.md")
+    repository.put(numbers[2 * size :], DAN, DAN, "direct")
+    repository.commit("Add the rest, and write a folder otherwise", author=DAN)
+    repository.merges[0][0].add(first)
+    gone = repository.git("log", "-1", "--diff-filter=D", "--format=%H", "--", f"{VENDOR}/d0e0/index.md")[:10]
+    made.told[f"{VENDOR}/d0e0/index.md"] = [("reserved", f"its page was removed, by the commit {gone}")]
+    made.states[VENDOR, 0xD0E0] = "reserved"
+    made.paths = {made.numbers[row.case]: path for path, row in made.rows.items() if row.case} | {os.path.basename(os.path.dirname(it)).lower(): it for it in numbers}
+
+
+def commit_each_request(mover, repository, count):
+    """Writes a commit for each request over a clone, also after kills, and compares the pages with those that are written at once.
+    Returns how many there are."""
+    block = mover.block(DAILY)
+    same("the first commit", mover.runs(block), "1 commits\n")
+    before = int(mover.runs("git -C mirror rev-list --count HEAD"))
+    requests, wanted = made_up_requests(mover, count)
+    apply(mover.usbreg, mover.path("numbers.db"), write_requests(mover.path("more.jsonl"), requests))
+    write(mover.path("record.jsonl"), done([mover.usbreg, "history", mover.path("numbers.db")]).decode())
+    words = [f"{USERS}/commit_pages.py", mover.path("record.jsonl"), mover.path("mirror"), mover.path("moved")]
+    chance = random.Random(1209)
+    # a killed run leaves all commits or none
+    for at in range(3 if count < 100 else 20):
+        process = subprocess.Popen(words, env=mover.env, cwd=mover.room, stdout=subprocess.DEVNULL, stderr=subprocess.DEVNULL, start_new_session=True)
+        time.sleep(chance.random() * (at + 1) / 4)
+        if process.poll() is None:
+            os.killpg(process.pid, signal.SIGKILL)
+        process.wait()
+        there = int(mover.runs("git -C mirror rev-list --count HEAD")) - before
+        same("the commits after a kill", there in (0, wanted), True)
+    status, said, errors = run(words, env=mover.env)
+    same("the last run", (status, errors), (0, b""))
+    same("the commits at the end", int(mover.runs("git -C mirror rev-list --count HEAD")) - before, wanted)
+    same("what is not committed", mover.runs("git -C mirror status --porcelain"), "")
+    heads = mover.runs(f"git -C mirror log -{wanted} --reverse --format=%an:%s").splitlines()
+    replies = [json.loads(it) for it in content(mover.path("record.jsonl")).decode().splitlines()[1:]]
+    same("who made the commits", heads, [f"{it['caller']}:{it['done']}" for it in replies[-len(requests) :] if it["order"] in ("enrol", "grant", "amend", "return")])
+    compare_trees(mover)
+    compare_callers(mover)
+    same("a run with nothing new", run(words, env=mover.env)[1], b"0 commits\n")
+    return wanted
+
+
+def compare_callers(mover):
+    """A caller whose request was made into a commit stays that caller in another move, and becomes no curator by it."""
+    sys.path.insert(0, USERS)
+    from page_history import History
+
+    history = History(mover.path("mirror"), VENDOR)
+    history.give_names([it for it in history.merges if it.startswith("org/")], set(), ["curator-1"], {})
+    named = {it.address: (it.curator, it.keeper) for it in history.people.values()}
+    same("the names of callers", [named[f"{it}@registry.invalid"] for it in ("daily", "curator-1")], [("", "daily"), ("curator-1", "")])
+
+
+def compare_trees(mover):
+    """Compares the pages of the clone with those that are written over the checkout at once."""
+    mover.runs("rm -rf over; git clone -q pages over; scripts/users/write_pages.py record.jsonl over moved --over")
+    same("the pages that are committed and those that are written", mover.runs("diff -r -x .git mirror over"), "")
+
+
+def made_up_requests(mover, count):
+    """Returns requests of one organisation that is granted numbers, amends and returns them, and how many change a page."""
+    petitions = sum(json.loads(it)["order"] == "ask" for it in done([mover.usbreg, "history", mover.path("numbers.db"), "--after", "0"]).decode().splitlines())
+    site = "https://daily.example/"
+    requests = [{"caller": "daily", "key": "e", "order": "enrol", "org": "daily", "title": "Daily", "site": site}]
+    terms = {"licence": "MIT", "site": site, "source": site}
+    for at in range(count // 3):
+        code = f"{0xE000 + at:04x}"
+        requests += [
+            {"caller": "daily", "key": f"a{at}", "order": "ask", "org": "daily", "number": code, "title": f"Lamp {at}", **terms},
+            {"caller": "curator-1", "key": f"g{at}", "order": "grant", "petition": petitions + at + 1},
+            {"caller": "daily", "key": f"m{at}", "order": "amend", "number": code, "title": f"Lamp: {at}", **terms},
+        ]
+        if at % 2:
+            requests.append({"caller": "daily", "key": f"r{at}", "order": "return", "number": code})
+    return requests, sum(it["order"] != "ask" for it in requests)
+
+
+def change_pages(made, repository):
+    """Changes pages in a branch: new ones, others that say something else, other owners, and one that goes. Returns the paths of one that
+    changes and of the one that goes, and the commit."""
+    repository.git("checkout", "-q", "-b", "change")
+
+    def page(path, **fields):
+        made.write(path, ("---\n" + "".join(f"{name}: {value}\n" for name, value in fields.items()) + "---\nBelow.\n").encode())
+
+    page("org/Makers/index.md", layout="org", title="Makers", site="https://makers.example/")
+    page("org/NoSite/index.md", layout="org", title="Some site", site="https://some.example/")
+    terms = {"license": "EUPL-1.2", "site": "https://makers.example/", "source": "https://makers.example/src"}
+    page(f"{VENDOR}/D0D1/index.md", layout="pid", title="Made", owner="Makers", **terms)
+    page(f"{VENDOR}/d0d2/index.md", layout="pid", title="Without a licence", owner="Makers")
+    page(f"{VENDOR}/d0d3/index.md", layout="pid", title="Of nobody")
+    plain, other, gone = made.path("a byte order mark"), made.path("a date"), made.path("lines that end as in Windows")
+    page(plain, layout="pid", title="Changed", owner="Acme_Labs", **terms)
+    page(other, layout="pid", title="Taken", owner="Works0", **terms)
+    repository.git("rm", "-q", gone)
+    for name in os.listdir(f"{repository.top}/{VENDOR}"):
+        path = f"{repository.top}/{VENDOR}/{name}/index.md"
+        if os.path.exists(path) and b"\nowner: Works1\n" in (text := content(path)):
+            made.write(os.path.relpath(path, repository.top), text.replace(b"\nowner: Works1\n", b"\nowner: Works2\n"))
+    return plain, gone, repository.commit("Change pages", author=EVE)[:10]
+
+
+def say_a_branch(mover, made, repository):
+    """Has the requests that a branch means printed, and acts on them. Returns how many there are."""
+    mover.runs("git -C pages pull -q ../mirror main")
+    keepers = {slug: keeper for slug, keeper, _ in mover.table("moved/names.tsv")}
+    plain, gone, commit = change_pages(made, repository)
+    ask, grant = mover.block(DAILY, 1).split("\nusbreg apply", 1)
+    same("what is printed besides", mover.runs(ask, 3, (b"no owner that can be taken", b"its number comes by `usbreg import` alone", b"its number belongs to acme-labs-2")), "")
+    requests = mover.requests("orders.jsonl")
+    numbers = {it: os.path.basename(os.path.dirname(it)) for it in (plain, gone)}
+    wanted = [
+        ("curator-1", "add-licence", "EUPL-1.2"), ("makers", "enrol", "makers"), (keepers["nosite"], "amend-org", "nosite"), ("curator-1", "hand-over", "works1"),
+        (keepers["acme-labs-2"], "amend", numbers[plain]), ("makers", "ask", "d0d1"), (keepers["acme-labs-2"], "return", numbers[gone]),
+    ]
+    same("the requests of a branch", [(it["caller"], it["order"], it.get("number", it.get("org", it.get("licence")))) for it in requests], wanted)
+    same("the commit in their keys", all(commit in it["key"] for it in requests), True)
+    hand_over = [it for it in requests if it["order"] == "hand-over"]
+    if b'"order"' in run([mover.usbreg, "trial"], json.dumps(hand_over[0]).encode())[2]:
+        write_requests(mover.path("orders.jsonl"), [it for it in requests if it not in hand_over])
+    mover.runs(f"usbreg apply{grant}")
+    states = mover.states("numbers.db")
+    same("the states after the branch", [states.get((VENDOR, int(it, 16))) for it in ("d0d1", "d0d2", numbers[plain], numbers[gone])], ["held", None, "held", "returned"])
+    return len(requests)
