@@ -7,6 +7,8 @@
 # mutants: tries the wrong bodies in mutants/, as many in one check as possible. A release runs it beside the gate.
 # install: puts the program that `make` built into PREFIX/bin, its man page into PREFIX/share/man/man1, and the page for
 #          makers and curators into PREFIX/share/usbreg/web.
+# install-service: puts what a service needs beside it: the scripts of contrib/ into PREFIX/lib/usbreg, the files of nginx and of
+#          the firewall and the settings into PREFIX/share/usbreg, the units into UNITS, and the file for logrotate into /etc.
 # bench:   reads and writes lists and looks devices up beside plain readers, acts on requests and serves messages
 #          beside plain registries, and prints ratios; times each kind of order on a full store; opens a large store of an
 #          older schema; prints and replays a long record. Not part of the gate; it says which packages are missing.
@@ -16,8 +18,12 @@
 
 PREFIX ?= /usr/local
 PROGRAM := crates/registry_cli/out/registry_cli
+UNITS ?= /etc/systemd/system
+PROGRAMS := $(shell find contrib -maxdepth 1 -type f -perm -u+x -printf '%f\n' | sort)
+# What is installed names the folder into which it is installed, and the program there.
+PLACED := sed -e 's:/usr/local/:$(PREFIX)/:g' -e 's:\(^\|[ (!]\)usbreg \(export\|history\|replay\) :\1$(PREFIX)/bin/usbreg \2 :'
 
-.PHONY: all trial test mutants install deb release bench
+.PHONY: all trial test mutants install install-service deb release bench
 
 all:
 	@cd crates/registry_cli && rt run -- --version
@@ -40,6 +46,17 @@ install:
 	install -D $(PROGRAM) "$(DESTDIR)$(PREFIX)/bin/usbreg"
 	install -D -m 644 man/usbreg.1 "$(DESTDIR)$(PREFIX)/share/man/man1/usbreg.1"
 	install -D -m 644 -t "$(DESTDIR)$(PREFIX)/share/usbreg/web" web/*
+
+install-service:
+	install -d "$(DESTDIR)$(PREFIX)/lib/usbreg" "$(DESTDIR)$(PREFIX)/share/usbreg" "$(DESTDIR)$(UNITS)"
+	@set -e; put() { $(PLACED) "contrib/$$2" > "$$3/$$2"; chmod "$$1" "$$3/$$2"; }; \
+	for it in $(PROGRAMS); do put 755 $$it "$(DESTDIR)$(PREFIX)/lib/usbreg"; done; \
+	put 644 hwdb.awk "$(DESTDIR)$(PREFIX)/lib/usbreg"; \
+	for it in nginx.conf firewall.nft settings; do put 644 $$it "$(DESTDIR)$(PREFIX)/share/usbreg"; done; \
+	for it in $$(cd contrib && ls *.service *.timer); do put 644 $$it "$(DESTDIR)$(UNITS)"; done
+	install -D -m 644 contrib/usbreg.logrotate "$(DESTDIR)/etc/logrotate.d/usbreg"
+	install -D -m 644 package/sysusers "$(DESTDIR)$(PREFIX)/lib/sysusers.d/usbreg.conf"
+	install -D -m 644 package/tmpfiles "$(DESTDIR)$(PREFIX)/lib/tmpfiles.d/usbreg.conf"
 
 bench:
 	bench/run.sh

@@ -1,7 +1,9 @@
 #!/usr/bin/env python3
 """Makes the Debian package of the program that `make` built: out/usbreg_VERSION_ARCHITECTURE.deb, at the top of the
-repository. It holds what `make install` installs, the unit, the documents with the examples and the files of contrib/,
-and the scripts in scripts/users for a move and for stores without checksums.
+repository. It holds what `make install` and `make install-service` install, completions for shells, the documents, the
+examples and the files of contrib/, and the scripts in scripts/users for a move and for stores without checksums. What is no
+document lies outside of /usr/share/doc, which some machines leave out. A link of a document to a file that the package lacks
+becomes its text.
 
 Usage: package/build.py [--program PATH] [--version VERSION] [--into FOLDER]. It prints the path of the package. The version
 is that of the program, with the time and the hash of the commit. The maintainer is DEBFULLNAME <DEBEMAIL>, or else the
@@ -21,16 +23,14 @@ HERE = os.path.dirname(os.path.abspath(__file__))
 TOP = os.path.dirname(HERE)
 BUILT = f"{TOP}/crates/registry_cli/out/registry_cli"
 DOCUMENTS, SHARED = "usr/share/doc/usbreg", "usr/share/usbreg"
+# The folders that documents link to, and that stand outside of theirs.
+OUTSIDE = ("contrib", "examples", "web")
 # The scripts for users, and what they are made of.
 SCRIPTS = (
-    "users/take_pid_codes.py", "users/write_pages.py", "users/pid_codes.py", "users/read_pid_codes.py", "users/move_report.py",
-    "users/licence_aliases.tsv", "users/renew_a_store.py", "lib/usbreg.py",
-)
-# The unit of a service whose user the package makes. What DynamicUser= implies, and the unit does not say, is said.
-UNIT = (
-    ("/usr/local/bin/usbreg serve", "/usr/bin/usbreg serve"),
-    ("DynamicUser=yes\n", ""),
-    ("NoNewPrivileges=yes\n", "NoNewPrivileges=yes\nRestrictSUIDSGID=yes\nRemoveIPC=yes\n"),
+    "users/take_pid_codes.py", "users/read_pid_codes.py", "users/page_text.py", "users/pid_codes.py", "users/licence_aliases.tsv", "users/links.py",
+    "users/page_history.py", "users/beside_a_registry.py", "users/move_orders.py", "users/move_files.py", "users/move_report.py",
+    "users/write_pages.py", "users/site_pages.py", "users/read_record.py", "users/commit_pages.py", "users/page_orders.py",
+    "users/renew_a_store.py", "lib/usbreg.py",
 )
 
 
@@ -73,37 +73,45 @@ def libraries(program):
     return ", ".join(packages)
 
 
-def unit():
-    """Returns the unit in contrib/ as the package needs it: without its heading, which says how to found by hand."""
-    text = read(f"{TOP}/contrib/usbreg.service").decode()
-    text = text[text.index("[Unit]") :]
-    for there, wanted in UNIT:
-        if text.count(there) != 1:
-            sys.exit(f"contrib/usbreg.service: there has to be one line {there!r}")
-        text = text.replace(there, wanted)
-    return "# The service of the package usbreg. Found the registry first: /usr/share/doc/usbreg/docs/operating.md\n" + text
+def linked(stage, path):
+    """Returns a document whose relative links are those of the package: one to a file that it lacks becomes its text."""
+    def link(found):
+        target = os.path.normpath(os.path.join(os.path.dirname(path), found[2]))
+        target = f"{SHARED if target.split('/')[0] in OUTSIDE else DOCUMENTS}/{target}"
+        if not os.path.exists(f"{stage}/{target}"):
+            return found[1]
+        return f"[{found[1]}]({os.path.relpath(target, os.path.dirname(f'{DOCUMENTS}/{path}'))}{found[3]})"
+
+    return re.sub(r"\[([^\]\[]*)\]\((?![a-z]+:)([^)#\s]+)(#[^)]*)?\)", lambda it: link([it[0], it[1], it[2], it[3] or ""]), read(f"{TOP}/{path}").decode())
+
+
+def put_documents(stage):
+    """Puts the documents into a folder, and what they name beside."""
+    shutil.copytree(f"{TOP}/docs", f"{stage}/{DOCUMENTS}/docs")
+    for folder in OUTSIDE:
+        shutil.copytree(f"{TOP}/{folder}", f"{stage}/{SHARED}/{folder}", dirs_exist_ok=True)
+    pages = ["README.md", "CHANGELOG.md", *(f"docs/{it}" for it in sorted(os.listdir(f"{TOP}/docs")) if it.endswith(".md"))]
+    for name in pages:
+        write(f"{stage}/{DOCUMENTS}/{name}", "")
+    for name in pages:
+        write(f"{stage}/{DOCUMENTS}/{name}", linked(stage, name))
 
 
 def put_files(stage, program, commit, version):
     """Puts what the package holds into a folder."""
-    said("make", "-s", "install", f"DESTDIR={stage}", "PREFIX=/usr", f"PROGRAM={program}")
+    said("make", "-s", "install", "install-service", f"DESTDIR={stage}", "PREFIX=/usr", "UNITS=/lib/systemd/system", f"PROGRAM={program}")
     page = f"{stage}/usr/share/man/man1/usbreg.1"
     write(f"{page}.gz", gzip.compress(read(page), mtime=0))
     os.remove(page)
-    write(f"{stage}/lib/systemd/system/usbreg.service", unit())
-    write(f"{stage}/usr/lib/sysusers.d/usbreg.conf", read(f"{HERE}/sysusers"))
-    write(f"{stage}/usr/lib/tmpfiles.d/usbreg.conf", read(f"{HERE}/tmpfiles"))
     write(f"{stage}/usr/share/lintian/overrides/usbreg", read(f"{HERE}/lintian-overrides"))
     os.makedirs(f"{stage}/etc/usbreg")
     for name in SCRIPTS:
         path = f"{TOP}/scripts/{name}"
         write(f"{stage}/{SHARED}/{name}", read(path), 0o755 if os.access(path, os.X_OK) else 0o644)
-    for folder in ("docs", "examples", "contrib"):
-        shutil.copytree(f"{TOP}/{folder}", f"{stage}/{DOCUMENTS}/{folder}")
-    for name in ("README.md", "CHANGELOG.md"):
-        write(f"{stage}/{DOCUMENTS}/{name}", read(f"{TOP}/{name}"))
+    said(f"{HERE}/completions.py", program, f"{stage}/usr/share")
     write(f"{stage}/{DOCUMENTS}/copyright", read(f"{HERE}/copyright"))
-    write(f"{stage}/{DOCUMENTS}/usbreg.sha256", f"{hashlib.sha256(read(program)).hexdigest()}  /usr/bin/usbreg\n")
+    put_documents(stage)
+    write(f"{stage}/{SHARED}/usbreg.sha256", f"{hashlib.sha256(read(program)).hexdigest()}  /usr/bin/usbreg\n")
     date = said("date", "-u", "-R", "-d", f"@{commit.time}")
     change = f"usbreg ({version}) unstable; urgency=medium\n\n  * See CHANGELOG.md.\n\n -- {commit.author}  {date}\n"
     write(f"{stage}/{DOCUMENTS}/changelog.gz", gzip.compress(change.encode(), mtime=0))
@@ -112,6 +120,7 @@ def put_files(stage, program, commit, version):
 def put_control(stage, program, commit, version):
     """Puts what dpkg reads beside the files: the description, the sums of the files and the scripts."""
     paths = sorted(os.path.relpath(f"{where}/{name}", stage) for where, _, names in os.walk(stage) for name in names)
+    write(f"{stage}/DEBIAN/conffiles", "".join(f"/{it}\n" for it in paths if it.startswith("etc/")))
     size = sum(os.path.getsize(f"{stage}/{it}") for it in paths)
     told = {
         "VERSION": version, "ARCHITECTURE": said("dpkg", "--print-architecture"), "MAINTAINER": commit.author,

@@ -7,8 +7,8 @@ and the same record, also if it is replayed line by line, from standard input, a
 record that was changed is refused at its line, with status 2, and the lines before that one stand; memory does not grow
 with a line that is too long. Stores of the older schemas have their whole record too.
 
-The commands for the record in docs/operating.md run as they are written, but for folders, addresses, `apt-get`, `systemctl`
-and `runuser`, while orders come: the copy and the registry on the second machine end equal to the first.
+The commands for the record in docs/backup.md run as they are written, but for folders, addresses, `apt-get`, `systemctl` and
+`runuser`, while orders come: the copy and the registry on the second machine end equal to the first.
 
 Usage: scripts/record_and_replay.py [PROGRAM], by default the one that `make` builds. The commands for the record are skipped
 if curl or Git is not installed. The exit status is 0 if all of this holds."""
@@ -22,7 +22,8 @@ import sys
 import time
 
 from compare_with_plain_history import Chance, Room, all_cases, enrol, request, requests_in
-from lib.machine import Machine, Orders, block
+from lib.machine import Machine, Orders
+from lib.pages import block
 from lib.plain_history import FIELDS, History, items
 from lib.usbreg import (
     EXAMPLES, FOUNDING, content, done, folder, found, older, opened, program, remove, rounds, run, tables, write,
@@ -290,7 +291,7 @@ def fork(org):
 
 
 def follows(usbreg, made):
-    """Runs the commands of docs/operating.md for a copy of the record, a second machine and an audit, while orders come."""
+    """Runs the commands of docs/backup.md for a copy of the record, a second machine and an audit, while orders come."""
     first = Machine(usbreg, f"{made}/first")
     record = f"{first.lib}-record/record.jsonl"
     elsewhere = {"https://registry.example": f"http://127.0.0.1:{first.port}", "/etc/usbreg/record.jsonl": record}
@@ -332,7 +333,7 @@ def follows(usbreg, made):
 def take_over(first, second, requests, following):
     """Lets the second machine take over, and then both take orders, which is noticed."""
     kept = content(f"{second.lib}/record.jsonl")
-    for machine, start, org in ((second, block("A second machine", 1), "later"), (first, "systemctl start usbreg", "fork")):
+    for machine, start, org in ((second, "systemctl start usbreg", "later"), (first, "systemctl start usbreg", "fork")):
         machine.must_run(start)
         machine.send([*requests, *fork(org)])
         if machine == second:

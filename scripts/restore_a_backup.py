@@ -1,14 +1,16 @@
 #!/usr/bin/env python3
-"""Runs the commands for a backup and for a restore in docs/operating.md as they are written, except for the folders, the
-day of the restore, the port, the delay between two tries of `curl`, and `systemctl`, for which a script stands that starts
-and stops `usbreg serve` and runs the command of a unit.
+"""Runs the commands for a backup and for a restore in docs/backup.md as they are written, except for the folders, the day of
+the restore, the port, and `systemctl` and `runuser`, for which scripts stand: one starts and stops `usbreg serve` and runs the
+commands of a unit.
 
 Backups are made while orders come, one after another. Each holds every order that was acknowledged before it began, none
 that was not sent when it ended, and the orders between are a prefix of those that were sent; the server goes on. One that
 cannot copy its files fails, leaves the last one, and lets the server go on.
 
 The registry that is restored has the list and the tables of the backup, and later orders are acted on anew. A second
-restore keeps what the first one replaced. As a control, the restore is run without the lines that move the last store
+restore keeps what the first one replaced. Then a follower has what came after the backup, which is restored once more and
+takes other orders: the follower must stop, say that the histories part, and keep its lines. With the record of the follower
+the restored registry has all that was acknowledged, and the follower goes on. As a control, the restore is run without the lines that move the last store
 away, on a backup of the file alone: the command at its end must notice. Then the newest of two backups is damaged by one
 bit, and the commands that look for a sound one must find the other, and leave no copy behind.
 
@@ -21,8 +23,9 @@ import shutil
 import sys
 import time
 
-from lib.machine import Machine, Orders, block
-from lib.usbreg import content, copy, folder, form, found, opened, program, rounds
+from lib.machine import Machine, Orders
+from lib.pages import block
+from lib.usbreg import content, copy, done, folder, form, found, opened, program, rounds, same, write
 
 # The backups that are made while orders come, and the rounds of orders that are sent before, and after.
 BACKUPS, ROUNDS = 5, 40
@@ -33,7 +36,7 @@ class BackedUp(Machine):
 
     def backups(self):
         """Returns the names of the backups, and of their lists."""
-        return sorted(os.listdir(f"{self.room}/backups"))
+        return sorted(it for it in os.listdir(f"{self.room}/backups") if not it.startswith("usbreg-"))
 
     def kept(self):
         """Returns the callers and keys of the requests that the newest backup holds, oldest first."""
@@ -87,10 +90,64 @@ def find_a_sound_one(machine, commands):
         file.seek(0)
         file.write(there)
     ended = machine.runs(commands)
-    if ended != (0, f"fault: store\n{backups}/{before}\n".encode()):
+    status, said = ended[0], ended[1].decode().splitlines()
+    if (status, said[0], said[-1], len(said)) != (0, "fault: store", f"{backups}/{before}", 3):
         sys.exit(f"looking for a sound backup ended with {ended}")
     if machine.backups() != sorted(it + ending for it in (newest, before) for ending in ("", ".ids")):
         sys.exit(f"looking for a sound backup left {machine.backups()}")
+
+
+def restore_twice(machine, restore, later, before):
+    """Restores a backup whose tables are `before` two times, and sends the orders after it each time."""
+    after = machine.rows()
+    for _ in range(2):
+        machine.must_run(restore)
+        same("the tables of the restored registry", machine.rows() == before, True)
+        machine.send(later)
+        same("the tables after the orders that came after the backup", machine.rows() == after, True)
+        # the folder of the replaced files is named by the second
+        time.sleep(1)
+
+
+def forks(usbreg, first, restore, later):
+    """Restores a backup that a follower is beyond, without a record and then with that of the follower. `later` are the
+    orders after the backup, which the registry has."""
+    def record():
+        copied = copy(first.store, f"{first.room}/recorded.db")
+        return done([usbreg, "history", copied]).decode()
+
+    begun = write(f"{first.room}/record.jsonl", record())
+    address = {"https://registry.example": f"http://127.0.0.1:{first.port}", "/etc/usbreg/record.jsonl": begun}
+    second = BackedUp(usbreg, f"{first.room}/second", address)
+    second.must_run(block("A second machine"))
+    follow, kept = "systemctl start usbreg-follow.service", f"{second.lib}/record.jsonl"
+    same("what the follower has", content(kept).decode(), record())
+    lines, tables = content(kept), second.rows()
+    first.must_run(restore)
+    first.send([it | {"key": f"other-{it['key']}"} for it in later[:12:3]])
+    status, said = second.runs(follow)
+    if not status or b"it goes on from " not in said or (content(kept), second.rows()) != (lines, tables):
+        sys.exit(f"a follower of another history ended with {status}, {said!r}")
+    os.makedirs(f"{first.lib}-record")
+    shutil.copy(kept, f"{first.lib}-record/record.jsonl")
+    # the folder of the replaced files is named by the second
+    time.sleep(1)
+    first.must_run(restore)
+    same("the restored registry after the record", first.rows(), tables)
+    first.send(later[:1])
+    second.must_run(follow)
+    same("the follower after that", (content(kept), second.rows()), (lines, tables))
+    shutil.rmtree(f"{first.lib}-record")
+
+
+def without_removal(machine, restore):
+    """Restores the file alone beside a newer log, which the commands must notice. Returns what they say."""
+    wrong = re.sub(r"^ *(mkdir|mv) .*\n", "", restore, flags=re.MULTILINE)
+    wrong = re.sub(r"(cp -p \S+numbers\.db) \S+numbers\.db-wal", r"\1", wrong)
+    status, said = machine.runs(wrong)
+    if not status:
+        sys.exit("an old file beside a newer log was not noticed")
+    return said
 
 
 def main():
@@ -101,7 +158,7 @@ def main():
     backup, restore = block("Backup"), block("Restore")
     day = "$(date +%F)"
     if not (given := re.search(r"^day=(.*)$", restore, re.MULTILINE)):
-        sys.exit("docs/operating.md: the commands name no day")
+        sys.exit("docs/backup.md: the commands name no day")
     restore = restore.replace(given[1], day)
     (again,) = (it for it in backup.splitlines() if it.startswith("systemctl start "))
     with folder() as room:
@@ -115,29 +172,16 @@ def main():
             before, later = machine.rows(), list(rounds(last + 1, last + ROUNDS))
             machine.must_run(again)
             machine.send(later)
-            after = machine.rows()
-            for _ in range(2):
-                machine.must_run(restore)
-                if machine.rows() != before:
-                    sys.exit("the restored registry has other tables than the backup")
-                machine.send(later)
-                if machine.rows() != after:
-                    sys.exit("the orders after the backup were not acted on anew")
-                # The folder of the replaced files is named by the second.
-                time.sleep(1)
+            restore_twice(machine, restore, later, before)
+            forks(usbreg, machine, restore, later)
             replaced = [os.listdir(f"{machine.lib}/{it}") for it in os.listdir(machine.lib) if it.startswith("replaced-")]
-            if [sorted(it) for it in replaced] != [["numbers.db", "numbers.db-wal"]] * 2:
-                sys.exit(f"two restores kept these files of the replaced stores: {replaced}")
-            wrong = re.sub(r"^ *(mkdir|mv) .*\n", "", restore, flags=re.MULTILINE)
-            wrong = re.sub(r"(cp -p \S+numbers\.db) \S+numbers\.db-wal", r"\1", wrong)
-            # the server may refuse these files, and nothing is to be waited for
-            status, said = machine.runs(wrong.replace("--retry 60", "--retry 2"))
-            if not status:
-                sys.exit("an old file beside a newer log was not noticed")
+            if [sorted(it) for it in replaced] != [["numbers.db", "numbers.db-wal"]] * 4:
+                sys.exit(f"four restores kept these files of the replaced stores: {replaced}")
+            said = without_removal(machine, restore)
             find_a_sound_one(machine, block("A damaged store"))
         finally:
             machine.runs("systemctl stop usbreg")
-    print(f"docs/operating.md: backups while orders came and a restore ran as they are written; without the removal, the check at the end says {said[:80]!r}")
+    print(f"docs/backup.md: backups while orders came and a restore ran as they are written; without the removal, the check at the end says {said[:80]!r}")
 
 
 if __name__ == "__main__":

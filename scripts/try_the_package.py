@@ -2,15 +2,17 @@
 """Makes the Debian package, installs it into a folder of its own (`dpkg --root`), founds and serves a registry there,
 upgrades the package over the live store, removes it, installs it again and purges it.
 
-The commands of docs/operating.md for the package run as they are written, except for the folders, `apt-get`, `systemctl` and
-`runuser`, for which other programs stand: there is no systemd in the folder. The service starts by the command line in its
-unit. The package has the files that its own docs/operating.md names. Everything belongs to root and can be read by all; the
-store belongs to the user of the service, who alone can read it, and is left as it is by all that dpkg does. If `lintian` is
-installed it finds no error in the package. Two packages of one program are the same.
+The commands of docs/operating.md for the registry run as they are written, except for the folders, `systemctl`, `journalctl`
+and `runuser`, for which other programs stand: there is no systemd in the folder. The service starts by the command line in its
+unit. The package has the files that its units and its own pages name, and each link of its pages leads to a file of it. All but
+the documents are there too if dpkg leaves /usr/share/doc out. What an installation from a checkout left is named. Everything
+belongs to root and can be read by all; the store belongs to the user of the service, who alone can read it, and is left as it is
+by all that dpkg does. If `lintian` is installed it finds no error in the package. Two packages of one program are the same.
 
 Usage: scripts/try_the_package.py [PROGRAM], by default the one that `make` builds. If dpkg-deb or another program that this
 needs is not installed, or it does not run as root, it says so and skips all. The exit status is 0 if all of this holds."""
 
+import glob
 import hashlib
 import json
 import os
@@ -19,15 +21,17 @@ import shutil
 import stat
 import sys
 
+from lib.pages import OPERATING, block, links
 from lib.serving import Serving, done as reply, command, exchange, free_port, get
 from lib.usbreg import PAGE_SIZE, SUM_SIZE, TOP, content, done, folder, form, found_without_sums, program, rounds, run, same, write
 
-PAGE = f"{TOP}/docs/operating.md"
 NEEDED = ("dpkg", "dpkg-deb", "readelf", "git", "setpriv", "systemd-sysusers", "systemd-tmpfiles")
 # A fast compression: the packages are installed, and not kept.
 QUICK = {"DPKG_DEB_COMPRESSOR_TYPE": "gzip", "DPKG_DEB_COMPRESSOR_LEVEL": "1"}
 ON_PATH = {"PATH": f"{os.environ['PATH']}:/usr/sbin:/sbin"}
-DOCUMENTS = "usr/share/doc/usbreg"
+DOCUMENTS, SHARED = "usr/share/doc/usbreg", "usr/share/usbreg"
+# What an installation from a checkout left, and comes before the package.
+LEFT = ("usr/local/bin/usbreg", "etc/systemd/system/usbreg.service", "etc/systemd/system/usbreg-list.timer")
 STORE, FOUNDING, UNIT = "var/lib/usbreg/numbers.db", "etc/usbreg/founding.toml", "lib/systemd/system/usbreg.service"
 
 
@@ -47,13 +51,15 @@ def compare_files(package, usbreg):
         if owner != "root/root" or mode not in ("drwxr-xr-x", "-rwxr-xr-x", "-rw-r--r--"):
             sys.exit(f"{package}: {mode} {owner} {name}")
     wanted = {"usr/bin/usbreg", "usr/share/man/man1/usbreg.1.gz", UNIT, "usr/lib/sysusers.d/usbreg.conf", "usr/lib/tmpfiles.d/usbreg.conf"}
-    wanted |= {f"usr/share/usbreg/users/{it}" for it in ("take_pid_codes.py", "write_pages.py", "licence_aliases.tsv", "renew_a_store.py")}
-    folders = {"docs": f"{DOCUMENTS}/docs", "examples": f"{DOCUMENTS}/examples", "contrib": f"{DOCUMENTS}/contrib", "web": "usr/share/usbreg/web"}
+    wanted |= {f"lib/systemd/system/{os.path.basename(it)}" for ending in ("service", "timer") for it in glob.glob(f"{TOP}/contrib/*.{ending}")}
+    wanted |= {f"usr/share/usbreg/users/{it}" for it in os.listdir(f"{TOP}/scripts/users") if it != "read_debian_list.sh" and not it.startswith("__")}
+    folders = {"docs": f"{DOCUMENTS}/docs", "examples": f"{SHARED}/examples", "contrib": f"{SHARED}/contrib", "web": f"{SHARED}/web"}
     for top, target in folders.items():
         if os.path.isdir(f"{TOP}/{top}"):
             wanted |= {f"{target}/{it}" for it in os.listdir(f"{TOP}/{top}")}
     same("what the package lacks", wanted - there, set())
-    same("what is in /etc", [it for it in there if it.startswith("etc/")], [])
+    same("what is in /etc", [it for it in there if it.startswith("etc/")], ["etc/logrotate.d/usbreg"])
+    same("what is not a document and lies among them", [it for it in there if it.startswith("usr/share/doc/") and not re.search(r"/(docs/.*|README.md|CHANGELOG.md|changelog.gz|copyright)$", it)], [])
     if shutil.which("lintian"):
         status, output, errors = run(["lintian", "--allow-root", "--fail-on", "error", package])
         same("lintian", (status, [it for it in (output + errors).decode().splitlines() if it.startswith("E:")]), (0, []))
@@ -65,6 +71,7 @@ class Root:
 
     def __init__(self, room):
         self.room, self.top, self.port = room, f"{room}/root", free_port()
+        os.makedirs(room, exist_ok=True)
         for name in ("updates", "info", "triggers"):
             os.makedirs(f"{self.top}/var/lib/dpkg/{name}")
         write(f"{self.top}/var/lib/dpkg/status", "")
@@ -93,11 +100,12 @@ class Root:
 
     def found(self):
         """Runs the commands of the page that write the founding file and found the registry."""
-        below = content(PAGE).decode().split("# The package\n", 1)[1]
-        commands = re.findall(r"^```sh\n(.*?)^```$", below, re.MULTILINE | re.DOTALL)[1]
-        commands = commands.replace("/etc/usbreg", self.path("etc/usbreg")).replace("/var/lib/usbreg", self.path("var/lib/usbreg"))
+        commands = block("The registry")
+        for name in ("/etc/usbreg", "/var/lib/usbreg", "/usr/share/usbreg"):
+            commands = commands.replace(name, self.path(name[1:]))
         commands = commands.replace("runuser -u usbreg -- usbreg", " ".join(self.as_service(self.path("usr/bin/usbreg"))))
-        same("the founding", run(["sh", "-ec", f"umask 022\nsystemctl() {{ :; }}\n{commands}"]), (0, b"", b""))
+        others = "umask 022\nsystemctl() { :; }\njournalctl() { echo serves; }\n"
+        same("the founding", run(["sh", "-ec", f"{others}{commands}"]), (0, b"serves\n", b""))
 
     def service(self):
         """Starts the service by the command line in its unit."""
@@ -127,16 +135,38 @@ def install_and_serve(root, package, summed):
     """Installs a package where there is none, founds a registry and serves it."""
     root.dpkg("--install", package)
     same("the folder of the store", (os.stat(root.path("var/lib/usbreg")).st_uid, os.stat(root.path("var/lib/usbreg")).st_mode & 0o777), (root.owner()[0], 0o700))
-    same("the sum of the program", content(root.path(f"{DOCUMENTS}/usbreg.sha256")).decode(), f"{summed}  /usr/bin/usbreg\n")
+    same("the sum of the program", content(root.path(f"{SHARED}/usbreg.sha256")).decode(), f"{summed}  /usr/bin/usbreg\n")
     same("the program", hashlib.sha256(content(root.path("usr/bin/usbreg"))).hexdigest(), summed)
-    named = re.findall(r"\b(?:contrib|examples)/[\w.-]+", content(root.path(f"{DOCUMENTS}/docs/operating.md")).decode())
-    lacks = [it for it in named if not os.path.exists(root.path(f"{DOCUMENTS}/{it}"))]
-    same("the page names files, and these are not there", (bool(named), lacks), (True, []))
+    compare_pages(root)
     root.found()
     same("whose the store is", (os.stat(root.path(STORE)).st_uid, os.stat(root.path(STORE)).st_gid), root.owner())
     status, _, errors = run([sys.executable, root.path("usr/share/usbreg/users/write_pages.py")])
     same("the script for pages says how it is called", (status, b"Usage: write_pages.py" in errors), (1, True))
     renew(root)
+
+
+def compare_pages(root):
+    """Checks that the files which the pages and the units of the package name are there, and where its links lead."""
+    named = {it for page in OPERATING for it in re.findall(r"(?<![\w/])/?((?:contrib|examples|usr/lib/usbreg|usr/share/usbreg)/[\w.-]+)", content(root.path(f"{DOCUMENTS}/{page}")).decode())}
+    named |= {it for unit in glob.glob(root.path("lib/systemd/system/usbreg*.service")) for it in re.findall(r"^Exec\w+=[-+]*/(\S+)", content(unit).decode(), re.MULTILINE)}
+    outside = {it for it in named if not os.path.exists(root.path(it)) and not os.path.exists(root.path(f"{SHARED}/{it}"))}
+    same("files that are named, and are not there", (len(named) > 20, outside - {"bin/sh"}), (True, set()))
+    pages = glob.glob(root.path(f"{DOCUMENTS}/**/*.md"), recursive=True)
+    broken = [(page, it) for page in pages for it in links(content(page).decode()) if not os.path.exists(f"{os.path.dirname(page)}/{it}")]
+    same("links that lead nowhere", (len(pages) > 10, broken), (True, []))
+
+
+def without_documents(package, room):
+    """Installs a package where dpkg leaves the documents out, over what an installation from a checkout left."""
+    root = Root(f"{room}/bare")
+    for name in LEFT:
+        os.makedirs(os.path.dirname(root.path(name)), exist_ok=True)
+        write(root.path(name), "")
+    said = root.dpkg("--path-exclude=/usr/share/doc/*", "--install", package)
+    same("what comes before the package is named", [it for it in LEFT if f"usbreg: /{it} comes before" in said], list(LEFT))
+    same("the documents", os.path.exists(root.path(DOCUMENTS)), False)
+    names = ("contrib/nginx.conf", "contrib/usbreg.logrotate", "examples/first.jsonl", "nginx.conf", "settings", "usbreg.sha256", "web/index.html")
+    same("what else the package lacks then", [it for it in names if not os.path.exists(root.path(f"{SHARED}/{it}"))], [])
 
 
 def renew(root):
@@ -173,6 +203,7 @@ def main():
         os.mkdir(f"{room}/again")
         same("two packages of one program", content(made(usbreg, f"{room}/again", "0.1.0+first")), content(first))
         summed = compare_files(first, usbreg)
+        without_documents(first, room)
         root = Root(room)
         install_and_serve(root, first, summed)
         upgrade(root, second, orders)

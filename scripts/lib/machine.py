@@ -1,25 +1,26 @@
-"""A machine on which the scripts run commands of docs/operating.md as they are written: other folders and programs stand in
-place of those of a machine. A script for `systemctl` starts and stops `usbreg serve` and runs the commands of a unit, one for
+"""A machine on which the scripts run commands of docs/backup.md and docs/faults.md as they are written: other folders and
+programs stand in place of those of a machine, and what `make install-service` installs is there. A script for `systemctl` starts and stops `usbreg serve` and runs the commands of a unit, one for
 `runuser` runs a command as the same user, and one for `apt-get` installs nothing."""
 
+import glob
 import os
-import re
+import shutil
 import subprocess
 import sys
 import threading
 import time
 
 from lib.serving import PATIENCE, command, exchange, free_port, listens
-from lib.usbreg import TOP, content, copy, tables, write
+from lib.usbreg import CONTRIB, TOP, content, copy, tables, write
 
-PAGE = f"{TOP}/docs/operating.md"
 SYSTEMCTL = """#!/bin/sh
 told() { sed -n "s/^$2=-\\{0,1\\}//p" "$LIB/../units/$1" | sed -f "$LIB/../places"; }
+if [ -e "$LIB/../settings" ]; then . "$LIB/../settings"; export REGISTRY; fi
 case "$*" in
 "start usbreg" | "enable --now usbreg") "$USBREG" serve "$LIB/numbers.db" --port "$PORT" 2> "$LIB/../errors" & echo $! > "$LIB/../pid" ;;
 "stop usbreg") kill "$(cat "$LIB/../pid")"; while kill -0 "$(cat "$LIB/../pid")" 2> /dev/null; do sleep 0.01; done ;;
 "show -p MainPID --value usbreg") cat "$LIB/../pid" ;;
-"start "*.service) sh -c "$(told "$2" ExecStart)" || exit; sh -c "$(told "$2" ExecStartPost)" > "$LIB/../after" 2>&1 || true ;;
+"start "*.service) sh -ec "$(told "$2" ExecStart)" || exit; sh -c "$(told "$2" ExecStartPost)" > "$LIB/../after" 2>&1 || true ;;
 esac
 """
 RUNUSER = """#!/bin/sh
@@ -27,12 +28,6 @@ shift 3
 exec "$@"
 """
 NOTHING = "#!/bin/sh\n"
-
-
-def block(title, at=0):
-    """Returns the commands below a title: the first ones, or those after so many others."""
-    below = content(PAGE).decode().split(f"# {title}\n", 1)[1]
-    return re.findall(r"^```sh\n(.*?)^```$", below, re.MULTILINE | re.DOTALL)[at]
 
 
 class Machine:
@@ -43,10 +38,12 @@ class Machine:
         self.store = f"{self.lib}/numbers.db"
         for name in ("bin", "lib", "units"):
             os.makedirs(f"{room}/{name}")
-        folders = {"/var/lib/usbreg": self.lib, "/var/backups/usbreg": f"{room}/backups", "/usr/local/lib/usbreg": f"{room}/programs", "/etc/systemd/system": f"{room}/units"}
+        folders = {"/var/lib/usbreg": self.lib, "/var/backups/usbreg": f"{room}/backups", "/usr/local/lib/usbreg": CONTRIB, "/etc/usbreg/settings": f"{room}/settings"}
         self.places = folders | {":8080": f":{self.port}"} | (others or {})
         write(f"{room}/places", "".join(f"s|{text}|{other}|g\n" for text, other in self.places.items()))
         os.symlink(usbreg, f"{room}/bin/usbreg")
+        for unit in glob.glob(f"{CONTRIB}/*.service"):
+            shutil.copy(unit, f"{room}/units")
         for name, script in (("systemctl", SYSTEMCTL), ("runuser", RUNUSER), ("apt-get", NOTHING)):
             os.chmod(write(f"{room}/bin/{name}", script), 0o755)
         self.env = {**os.environ, "PATH": f"{room}/bin:{os.environ['PATH']}", "USBREG": usbreg, "LIB": self.lib, "PORT": str(self.port)}
