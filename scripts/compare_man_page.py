@@ -14,16 +14,11 @@ import re
 import shutil
 import sys
 
+from lib.pages import section
 from lib.usbreg import EXAMPLES, TOP, content, done, program, run
 
 # What each command's help has, and the page has once.
 COMMON = {"-h, --help", "--verbose", "-V, --version"}
-
-
-def section(text, name):
-    """Returns the first column of a section of a help text."""
-    there = re.search(rf"^{name}:\n((?:  .*\n)*)", text, re.MULTILINE)
-    return [re.split(r"  +", line.strip())[0] for line in there[1].splitlines()] if there else []
 
 
 def help_of_command(usbreg, command):

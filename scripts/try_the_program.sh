@@ -11,7 +11,7 @@ scripts=(
     compare_man_page.py
     compare_doc_examples.py
     index_definitions.py
-    run_help_examples.py
+    run_page_examples.py
     look_into_a_store.py
     make_new_stores.py
     damage_a_store.py
@@ -21,12 +21,13 @@ scripts=(
     move_pid_codes.py
     use_debian_list.py
     try_the_package.py
+    walk_the_pages.py
+    complete_commands.py
     "refuse_allocations.py --only trial"
     refuse_in_tests.py
     stop_a_founding.py
     stop_and_go_on.py
     cut_the_power.py
-    run_http_examples.py
     talk_to_the_desk.py
     serve_behind_nginx.py
     use_the_page.py
