@@ -58,15 +58,14 @@ class Zsh:
     def type(self, text):
         os.write(self.terminal, text.encode())
 
-    def until(self, wanted):
-        """Returns what comes, up to a pattern."""
+    def until(self, *wanted):
+        """Waits until something matches each pattern."""
         got, until = "", time.monotonic() + PATIENCE
-        while not re.search(wanted, got):
+        while lacking := [it for it in wanted if not re.search(it, got)]:
             if time.monotonic() > until:
-                sys.exit(f"zsh: {wanted!r} does not come: {got!r}")
+                sys.exit(f"zsh: {lacking} does not come: {got!r}")
             if select.select([self.terminal], [], [], 0.1)[0]:
                 got += os.read(self.terminal, 65536).decode()
-        return got
 
     def becomes(self, line, words):
         """Checks what a tab makes of a line, of which the shell writes the rest, or a list below it."""
@@ -76,8 +75,7 @@ class Zsh:
         if len(words) == 1:
             self.until(re.escape(f"{line}{rest}"))
         else:
-            for it in words:
-                self.until(it)
+            self.until(*words)
         self.type("\x15")
 
     def __enter__(self):
