@@ -70,6 +70,8 @@ class Planting:
     def __init__(self, usbreg, room, browser):
         self.usbreg, self.room, self.browser, self.count = usbreg, room, browser, 0
         self.parts = {part.__name__: (part, who) for part, who in STORY}
+        # the workers of nginx are another user
+        os.chmod(room, 0o755)
 
     def keep(self, part, stage):
         copy(stage.store, f"{self.room}/{part}.db")
