@@ -28,8 +28,10 @@ from lib.serving import HOST
 from lib.staging import BEFORE, CURATOR, Stage
 from lib.usbreg import TOP, content, copy, done, folder, program, write
 
-# The seconds that a person waits for what the page should show, and for what a bug may keep from being shown.
+# The seconds that a person waits for what the page should show, and for what a bug may keep from being shown; in these
+# parts the proxy itself waits for the server.
 PATIENCE, HASTE = 30, 10
+LONG = ("finds_the_server_down",)
 # The milliseconds until the table of all numbers stands there, and until a search is on the screen.
 TABLE, SEARCH = 1000, 100
 # A store takes lists of so many devices.
@@ -83,7 +85,7 @@ class Planting:
         os.mkdir(room)
         part, who = self.parts[name]
         with Stage(self.usbreg, room, Recipe, edits, store=f"{self.room}/{name}.db") as stage:
-            page = Page(self.browser, f"http://{HOST}:{stage.recipe.port}/", HASTE)
+            page = Page(self.browser, f"http://{HOST}:{stage.recipe.port}/", PATIENCE if name in LONG else HASTE)
             self.in_new_window()
             try:
                 if who:
@@ -104,6 +106,7 @@ class Planting:
             driver.switch_to.window(it)
             driver.close()
         driver.switch_to.window(new)
+        self.browser.prepare()
 
 
 def missed(planting, edits):

@@ -60,6 +60,10 @@ class Browser:
         options.set_capability("goog:loggingPrefs", {"browser": "ALL"})
         options.set_capability("unhandledPromptBehavior", "ignore")
         self.driver = webdriver.Chrome(service=Service(shutil.which(DRIVER)), options=options)
+        self.prepare(width, dark)
+
+    def prepare(self, width=1280, dark=False):
+        """Makes a new window one of the story."""
         self.driver.execute_cdp_cmd("Page.addScriptToEvaluateOnNewDocument", {"source": COUNT_VIOLATIONS})
         self.look(width, dark)
 
