@@ -58,15 +58,20 @@ def asks(page, stage):
     page.button("0011", ".free")
     page.submit()
     page.answer("Done: petition 3.")
-    # the same link shows the form anew
-    page.press("header a[href='#/do/ask']")
-    page.until(lambda: page.run("return document.querySelector('#f-title')?.disabled === false"), "the form anew")
+    asks_anew(page)
     page.fill(title=HOSTILE, licence="GPL-3.0-only", site="https://acme.example/blinker", source=EVIL)
     page.submit()
     page.answer("Done: petition 4.")
+    # also by the link to the view that is shown
+    asks_anew(page)
     page.open("me")
     page.has("petition 3: Blinker, 1209:0011")
     same("what is kept", page.kept(), [])
+
+
+def asks_anew(page):
+    page.press("header a[href='#/do/ask']")
+    page.until(lambda: page.run("return document.querySelector('#f-title')?.disabled === false"), "the form anew")
 
 
 def goes_on_with_a_form(page, stage):
