@@ -1,5 +1,7 @@
 """What curators do with the page."""
 
+import time
+
 from lib.page_orders import SHOWN
 from lib.staging import CURATOR, OTHER, done
 from lib.usbreg import same
@@ -7,6 +9,16 @@ from lib.usbreg import same
 
 def card(petition):
     return f"[aria-label='Petition {petition}']"
+
+
+def counts(page):
+    """Returns what the queue counts, and opens it anew for a later time: the proxy keeps its report for ten seconds."""
+    page.until(lambda: "open petition" in page.text("#count"), "a count")
+    count = page.text("#count")
+    if not count.startswith("17 "):
+        time.sleep(2)
+        page.open("decide")
+    return count
 
 
 def focused(page):
@@ -17,7 +29,7 @@ def decides(page, stage):
     """The queue shows what one needs to decide, to curators alone; what is granted is what was pressed."""
     page.sign_in(CURATOR)
     page.press("#to-decide")
-    page.has("17 open petitions.", "#count")
+    page.until(lambda: counts(page) == "17 open petitions.", "all petitions in the queue")
     for text in ("1209:0011, now free", "https://acme.example/src at acme.example", "Acme Tools (acme)", "Keeper\nann",
                  "Also wanted by petition 18 of acme."):
         page.has(text, card(3))
