@@ -70,7 +70,7 @@ class Browser:
     def look(self, width, dark=False, height=1000):
         """Makes the page so wide and, if asked for, dark."""
         self.driver.execute_cdp_cmd("Emulation.setDeviceMetricsOverride", {"width": width, "height": height, "deviceScaleFactor": 1, "mobile": width < 600})
-        self.dark = dark
+        self.dark, self.width = dark, width
         self.force_colours(False)
 
     def force_colours(self, is_forced):
@@ -205,7 +205,8 @@ class Page:
 
     def unreadable(self):
         """Returns texts that are too pale, controls without a name, and whether the page is wider than the screen."""
-        is_wider = self.run("return document.documentElement.scrollWidth > innerWidth")
+        # on a narrow screen the browser makes its own width fit what is wider
+        is_wider = self.run("return document.documentElement.scrollWidth > arguments[0]", self.browser.width)
         return self.run(TOO_PALE), self.run(NAMELESS), is_wider
 
     def kept(self):

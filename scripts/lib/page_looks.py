@@ -38,7 +38,7 @@ def looks(page, stage):
         page.open(view)
         same(f"the view {view}", page.text("h1"), "No such page")
     on_the_map(page)
-    same("a link to the list without a script", page.run("return fetch('/').then(it => it.text()).then(it => /<noscript>[^]*href=.\\/list/.test(it))"), True)
+    same("a link to the list without a script", page.run("return fetch('/').then(it => it.text()).then(it => /<noscript>[^]*?href=.\\/list[^]*?<\\/noscript>/.test(it))"), True)
 
 
 def on_the_map(page):
@@ -114,6 +114,7 @@ def finds_the_server_down(page, stage):
     page.load("#/number/1209/0033")
     page.has("Serial adapter")
     page.has("The registry is down: this is what the last reports said.")
+    same("whether it is said to be down", page.one("#down").is_displayed(), True)
     same("what is said of orders", re.sub(r"\s+", " ", page.text("#down")),
          "The registry is down for the moment. What is shown may be old, and orders have to wait.")
     page.open("numbers")

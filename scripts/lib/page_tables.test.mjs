@@ -35,6 +35,7 @@ test('each reply that names something is read', () => {
   assert.deepEqual(read.ask, { deed: '', petition: '1' });
   assert.deepEqual(read.decline, { deed: 'declined ', petition: '2' });
   assert.deepEqual(read.reserve, { deed: 'reserved', vendor: 'cafe', first: '2000', last: '20ff' });
+  assert.deepEqual(read.release, { deed: 'released', vendor: 'cafe', first: '2010', last: '2010' });
   assert.equal(readReply('granted cafe:00ab to acme by petition 12').vendor, 'cafe');
   for (const name of ['add-licence', 'add-vendor']) assert.equal(read[name], null);
   const none = ['granted 00ab', 'petition 1 ', 'amended 00AB', 'added licence petition 1'];
