@@ -95,6 +95,20 @@ def enrolments():
     yield Case("amend-org", "curator", 3, amend(CURATOR))
     yield Case("amend-org", "stranger", 3, amend(STRANGER))
 
+    def hand_over(caller, org="o1"):
+        return lambda o, run: o.order(caller, "hand-over", org=org, keeper=KEEPER)
+
+    def correct(caller, org="o1"):
+        return lambda o, run: o.order(caller, "correct-org", org=org, title="Workshop", site=SITE)
+
+    for caller, name in ((KEEPER, "keeper"), (CURATOR, "curator")):
+        yield Case("hand-over", name, "accepted", hand_over(caller))
+    yield Case("hand-over", "keeper", 4, hand_over(KEEPER, "absent"))
+    yield Case("hand-over", "stranger", 3, hand_over(STRANGER))
+    yield Case("correct-org", "curator", "accepted", correct(CURATOR))
+    yield Case("correct-org", "curator", 4, correct(CURATOR, "absent"))
+    yield Case("correct-org", "keeper", 2, correct(KEEPER))
+
 
 def asks():
     def ask(caller=KEEPER, key=None, org="o1", **fields):
@@ -163,6 +177,26 @@ def given_numbers():
     yield Case("return", "keeper", 11, give_back(KEEPER, EMPTY))
     yield Case("return", "curator", 3, give_back(CURATOR))
     yield Case("return", "stranger", 3, give_back(STRANGER))
+
+    def correct(caller, **fields):
+        return lambda o, run: o.order(caller, "correct", **{"number": "0001", "vendor": FULL, **CARD, **fields})
+
+    def revoke(caller, vendor=FULL):
+        return lambda o, run: o.order(caller, "revoke", number="0001", vendor=vendor, reason="No product uses it")
+
+    def revoked(o, run):
+        """Number 3 is granted again after each run."""
+        if run > 0:
+            o.send(o.order(CURATOR, "grant", petition=o.asked("o1", vendor=FULL), number="0003"))
+        return o.order(CURATOR, "revoke", number="0003", vendor=FULL, reason="No product uses it")
+
+    yield Case("correct", "curator", "accepted", correct(CURATOR))
+    yield Case("correct", "curator", 11, correct(CURATOR, vendor=EMPTY))
+    yield Case("correct", "curator", 13, correct(CURATOR, licence="Other"))
+    yield Case("correct", "keeper", 2, correct(KEEPER))
+    yield Case("revoke", "curator", "accepted", revoked)
+    yield Case("revoke", "curator", 11, revoke(CURATOR, EMPTY))
+    yield Case("revoke", "keeper", 2, revoke(KEEPER))
 
 
 def spans():
@@ -263,6 +297,7 @@ def queries():
         yield Case(f"GET {path}", "", "after a refused order", after_a_refused_order(path))
     for path in whole:
         yield Case(f"GET {path}", "", "after an order", after_an_order(path))
+    yield Case("GET /history/founding", "", "after an order", after_an_order("/history/founding"))
     yield Case("GET /history/{n}, the first page", "", "found", asked("/history/0"))
     yield Case("GET /history/{n}, the last full page", "", "found", lambda o, run: get(last_page(o)))
     yield Case("GET /history/{n}, behind the end", "", "found", asked("/history/4294967295"))

@@ -9,6 +9,6 @@ peer_time = 10_000_000_000
 abbrev pub IsLimited : {A : Type 0} → (A → A → ℕ → Type 0) → (A → A → ℕ → Type 0) → A → A → Type 0
 IsLimited {A} limits_reads limits_writes old new = (between : A) × limits_reads old between peer_time × limits_writes between new peer_time
 
--- the limit of reads could not be set; or it was set, and that of writes could not be
+-- A call failed at once; or the limit of reads was set, and then a call failed. Which call it was is not said.
 abbrev pub FailsToLimit : {A : Type 0} → (A → A → ℕ → Type 0) → (A → A → Type 0) → A → A → Type 0
 FailsToLimit {A} limits_reads fails old new = fails old new ⊎ ((between : A) × limits_reads old between peer_time × fails between new)

@@ -74,7 +74,7 @@ module _ {P : Type 0} (g : Ghosts P) where
   abbrev pub Drains : P → P → Type 0
   Drains = Then (λ old new. g.waits old new true) (Then g.ends DiscardsFromNow)
 
-  -- one byte was looked for without waiting; the flag says whether it is there
+  -- One byte was looked for without waiting, and is there. Or the flag is false: it is not there, or a call failed.
   abbrev pub Looks : P → P → Bool → Type 0
   Looks old new true = (middle : P) × g.waits old middle false × g.sees middle new 1 1
   Looks old new false = Then (λ a b. g.waits a b false) (λ a b. g.fails a b ⊎ g.sees a b 1 0) old new

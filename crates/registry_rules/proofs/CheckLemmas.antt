@@ -1,6 +1,6 @@
 -- The checks of an accepted order: which of them passed, and what its act is.
 use Rattle.std.proofs.Common.{◌≡◌, ℕ, ◌+◌, List, Option, Some, None, Result, Ok, Err, Bool, true, false, length, refl, sym}
-use Rattle.std.specs.Prelude.{not, nat_lt, nat_le}
+use Rattle.std.specs.Prelude.{not, nat_lt, nat_le, is_some, ◌||◌}
 use Rattle.std.specs.List.{list_any}
 use Rattle.std.specs.Str.{bytes_eq}
 use Rattle.std.proofs.lemmas.Slice.Eq.{bytes_eq-Decides}
@@ -8,9 +8,9 @@ use Rattle.usbnum_core.specs.declared.number.Span.{Span}
 use Rattle.registry_rules.specs.Number.{name_of, span_name_of}
 use Rattle.registry_rules.specs.Query.{is_open}
 use Rattle.registry_rules.specs.Import.{Standing, fresh_of, tally_of}
-use Rattle.registry_rules.specs.Checks.{◌>>=◌, Passed, ◌>>◌, check, present, open_petition, by_known_keeper, not_anothers, can_be_given, wanted_can_be_given, held_by_keeper, none_owned, enrol_checks, amend_org_checks, ask_checks, grant_checks, decline_checks, withdraw_checks, amend_checks, return_checks, reserve_checks, release_checks, import_checks, add_vendor_checks, add_licence_checks}
+use Rattle.registry_rules.specs.Checks.{◌>>=◌, Passed, ◌>>◌, check, present, open_petition, by_known_keeper, not_anothers, can_be_given, wanted_can_be_given, held_by_keeper, none_owned, enrol_checks, amend_org_checks, ask_checks, grant_checks, decline_checks, withdraw_checks, amend_checks, return_checks, reserve_checks, release_checks, import_checks, add_vendor_checks, add_licence_checks, hand_over_checks, correct_checks, correct_org_checks, revoke_checks}
 use Rattle.registry_rules.specs.declared.deed.Act.{Act}
-use Rattle.registry_rules.specs.declared.deed.Act.TheVariants.{Enrolled, OrgAmended, Asked, Granted, Declined, Withdrawn, CardAmended, Returned, Reserved, Released, Imported, VendorAdded, LicenceAdded}
+use Rattle.registry_rules.specs.declared.deed.Act.TheVariants.{Enrolled, OrgAmended, Asked, Granted, Declined, Withdrawn, CardAmended, Returned, Reserved, Released, Imported, VendorAdded, LicenceAdded, HandedOver, CardCorrected, OrgCorrected, Revoked}
 use Rattle.registry_rules.specs.declared.item.Item.{Item}
 use Rattle.registry_rules.specs.declared.item.ItemClass.{ItemClass}
 use Rattle.registry_rules.specs.declared.limits.TheConstants.{MOST_ORGS, MOST_OPEN, MOST_PETITIONS, MOST_ITEMS, MOST_VENDORS, MOST_LICENCES}
@@ -332,3 +332,59 @@ add_licence_ok curators allowed licences caller licence act e =
     let c = passed (nat_lt licences MOST_LICENCES) _ _ act b.1 in
     let same : Ok (LicenceAdded licence) ≡ Ok act = c.1 in
     record { curator = a.0; unknown = not_false allowed b.0; below = c.0; does = cc }
+
+pub record IsHandOver (curators : List (List ℕ)) (known : Option Org) (caller keeper : List ℕ) (act : Act) : Type 0 where
+  pub org : Org
+  pub there : known ≡ Some org
+  pub by : (bytes_eq org.keeper caller || list_any (bytes_eq caller) curators) ≡ true
+  pub does : act ≡ HandedOver (record org { keeper = keeper })
+
+pub hand_over_ok : (curators : List (List ℕ)) (known : Option Org) (caller keeper : List ℕ) (act : Act) →
+    hand_over_checks curators known caller keeper ≡ Ok act → IsHandOver curators known caller keeper act
+hand_over_ok curators None caller keeper act e = absurd cc
+hand_over_ok curators (Some org) caller keeper act e =
+    let a = passed (bytes_eq org.keeper caller || list_any (bytes_eq caller) curators) _ _ act e in
+    let same : Ok (HandedOver (record org { keeper = keeper })) ≡ Ok act = a.1 in
+    record { org = org; there = refl; by = a.0; does = cc }
+
+pub record IsCorrection (curators : List (List ℕ)) (founding : ℕ) (standing : Standing) (allowed : Bool) (caller : List ℕ) (card : Card) (act : Act) : Type 0 where
+  pub curator : list_any (bytes_eq caller) curators ≡ true
+  pub owned : is_some standing.owner ≡ true
+  pub licence : allowed ≡ true
+  pub does : act ≡ CardCorrected (name_of founding standing.number) card
+
+pub correct_ok : (curators : List (List ℕ)) (founding : ℕ) (standing : Standing) (allowed : Bool) (caller : List ℕ) (card : Card) (act : Act) →
+    correct_checks curators founding standing allowed caller card ≡ Ok act → IsCorrection curators founding standing allowed caller card act
+correct_ok curators founding standing allowed caller card act e =
+    let a = passed (list_any (bytes_eq caller) curators) _ _ act e in
+    let b = passed (is_some standing.owner) _ _ act a.1 in
+    let c = passed allowed _ _ act b.1 in
+    let same : Ok (CardCorrected (name_of founding standing.number) card) ≡ Ok act = c.1 in
+    record { curator = a.0; owned = b.0; licence = c.0; does = cc }
+
+pub record IsOrgCorrection (curators : List (List ℕ)) (known : Option Org) (caller title site : List ℕ) (act : Act) : Type 0 where
+  pub org : Org
+  pub curator : list_any (bytes_eq caller) curators ≡ true
+  pub there : known ≡ Some org
+  pub does : act ≡ OrgCorrected (record org { title = title; site = site })
+
+pub correct_org_ok : (curators : List (List ℕ)) (known : Option Org) (caller title site : List ℕ) (act : Act) →
+    correct_org_checks curators known caller title site ≡ Ok act → IsOrgCorrection curators known caller title site act
+correct_org_ok curators known caller title site act e =
+    let a = passed (list_any (bytes_eq caller) curators) _ _ act e in
+    let b = was_there known _ _ act a.1 in
+    let same : Ok (OrgCorrected (record b.0 { title = title; site = site })) ≡ Ok act = b.2 in
+    record { org = b.0; curator = a.0; there = b.1; does = cc }
+
+pub record IsRevocation (curators : List (List ℕ)) (founding : ℕ) (standing : Standing) (caller : List ℕ) (act : Act) : Type 0 where
+  pub curator : list_any (bytes_eq caller) curators ≡ true
+  pub held : standing.held ≡ true
+  pub does : act ≡ Revoked (name_of founding standing.number)
+
+pub revoke_ok : (curators : List (List ℕ)) (founding : ℕ) (standing : Standing) (caller : List ℕ) (act : Act) →
+    revoke_checks curators founding standing caller ≡ Ok act → IsRevocation curators founding standing caller act
+revoke_ok curators founding standing caller act e =
+    let a = passed (list_any (bytes_eq caller) curators) _ _ act e in
+    let b = passed standing.held _ _ act a.1 in
+    let same : Ok (Revoked (name_of founding standing.number)) ≡ Ok act = b.1 in
+    record { curator = a.0; held = b.0; does = cc }

@@ -20,7 +20,7 @@ use Rattle.registry_rules.proofs.RunLemmas.{legal_before}
 use Rattle.registry_rules.specs.declared.change.Change.TheVariants.{PutEntry}
 use Rattle.registry_rules.specs.declared.deed.Deed.{Deed}
 use Rattle.registry_rules.specs.declared.deed.Act.{Act}
-use Rattle.registry_rules.specs.declared.deed.Act.TheVariants.{Granted, CardAmended, Imported}
+use Rattle.registry_rules.specs.declared.deed.Act.TheVariants.{Granted, CardAmended, Imported, CardCorrected}
 use Rattle.registry_rules.specs.declared.founding.Founding.{Founding}
 use Rattle.registry_rules.specs.declared.item.Item.{Item}
 use Rattle.registry_rules.specs.declared.record.Petition.{Petition}
@@ -87,6 +87,7 @@ carded_by : (h : History) (caller : List ℕ) (act : Act) (n : Number) (owner : 
 carded_by h caller (Granted id petition name) n owner card follows was = carded_grant (number_eq n name.number) owner card petition.org (card_asked petition) was
 carded_by h caller (CardAmended name new) n owner card follows was = carded_amendment (number_eq n name.number) owner card new was
 carded_by h caller (Imported vid org fresh tally) n owner card follows was = carded_import n vid org (standing_at h vid) fresh (item_of vid fresh n) owner card follows.each refl was
+carded_by h caller (CardCorrected name new) n owner card follows was = carded_amendment (number_eq n name.number) owner card new was
 carded_by h caller _ n owner card follows was = was
 
 carded_deeds : (founding : Founding) (deeds : List Deed) (n : Number) → Legal (record { founding = founding; deeds = deeds }) →

@@ -7,17 +7,17 @@ use Rattle.usbnum_core.specs.declared.number.Number.{Number}
 use Rattle.usbnum_core.specs.Spans.{span_has}
 use Rattle.registry_rules.specs.Number.{number, name_of, span_name_of}
 use Rattle.registry_rules.specs.History.{History}
-use Rattle.registry_rules.specs.Query.{owner_of, org_of, enrolled, asked, petition_of, open_count, vendors, has_vendor, vendor_meant, licences, is_licence, is_fixed, is_reserved}
+use Rattle.registry_rules.specs.Query.{owner_of, is_held, org_of, enrolled, asked, petition_of, open_count, vendors, has_vendor, vendor_meant, licences, is_licence, is_fixed, is_reserved}
 use Rattle.registry_rules.specs.Import.{Standing, classes_from}
 use Rattle.registry_rules.specs.Verdict.{verdict, outcome, standing_of, standing_at, org_owning, org_petitioning, least_for, number_chosen, meets_fixed, all_reserved, least_owned, new_org, new_petition, new_card}
 use Rattle.registry_rules.specs.Run.{Legal, request_of}
 use Rattle.registry_rules.proofs.RunLemmas.{IsNew, is_new, legal_verdict}
-use Rattle.registry_rules.proofs.CheckLemmas.{CanBeGiven, IsHeldByKeeper, enrol_ok, amend_org_ok, ask_ok, grant_ok, decline_ok, withdraw_ok, amend_ok, return_ok, reserve_ok, release_ok, import_ok, add_vendor_ok, add_licence_ok}
+use Rattle.registry_rules.proofs.CheckLemmas.{CanBeGiven, IsHeldByKeeper, enrol_ok, amend_org_ok, ask_ok, grant_ok, decline_ok, withdraw_ok, amend_ok, return_ok, reserve_ok, release_ok, import_ok, add_vendor_ok, add_licence_ok, hand_over_ok, correct_ok, correct_org_ok, revoke_ok}
 use Rattle.registry_rules.proofs.ImportLemmas.{IsFreshItem, AreApart, all_fresh, all_apart}
 use Rattle.registry_rules.proofs.SpanLemmas.{none_in_span, none_of_span, all_of_span}
 use Rattle.registry_rules.specs.declared.deed.Deed.{Deed}
 use Rattle.registry_rules.specs.declared.deed.Act.{Act}
-use Rattle.registry_rules.specs.declared.deed.Act.TheVariants.{Enrolled, OrgAmended, Asked, Granted, Declined, Withdrawn, CardAmended, Returned, Reserved, Released, Imported, VendorAdded, LicenceAdded}
+use Rattle.registry_rules.specs.declared.deed.Act.TheVariants.{Enrolled, OrgAmended, Asked, Granted, Declined, Withdrawn, CardAmended, Returned, Reserved, Released, Imported, VendorAdded, LicenceAdded, HandedOver, CardCorrected, OrgCorrected, Revoked}
 use Rattle.registry_rules.specs.declared.founding.Founding.{Founding}
 use Rattle.registry_rules.specs.declared.item.Item.{Item}
 use Rattle.registry_rules.specs.declared.limits.TheConstants.{MOST_ORGS, MOST_OPEN, MOST_PETITIONS, MOST_VENDORS, MOST_LICENCES}
@@ -96,6 +96,24 @@ pub record CanAddLicence (h : History) (licence : List ℕ) : Type 0 where
   pub unknown : is_licence h licence ≡ false
   pub below : nat_lt (length (licences h)) MOST_LICENCES ≡ true
 
+pub record CanHandOver (h : History) (org : Org) : Type 0 where
+  pub before : Org
+  pub there : org_of h org.slug ≡ Some before
+  pub same : org ≡ record before { keeper = org.keeper }
+
+pub record CanCorrect (h : History) (name : NumberName) : Type 0 where
+  pub owned : is_some (owner_of h name.number) ≡ true
+  pub named : name ≡ name_of h.founding.vendor name.number
+
+pub record CanCorrectOrg (h : History) (org : Org) : Type 0 where
+  pub before : Org
+  pub there : org_of h org.slug ≡ Some before
+  pub keeper : before.keeper ≡ org.keeper
+
+pub record CanRevoke (h : History) (name : NumberName) : Type 0 where
+  pub held : is_held h name.number ≡ true
+  pub named : name ≡ name_of h.founding.vendor name.number
+
 -- the act of the caller meets its conditions in the history before it
 abbrev pub Follows : History → List ℕ → Act → Type 0
 Follows h caller (Enrolled org) = CanEnrol h caller org
@@ -111,6 +129,10 @@ Follows h caller (Released name) = CanRelease h name
 Follows h caller (Imported vid org fresh tally) = CanImport h vid org fresh
 Follows h caller (VendorAdded vid name) = CanAddVendor h vid
 Follows h caller (LicenceAdded licence) = CanAddLicence h licence
+Follows h caller (HandedOver org) = CanHandOver h org
+Follows h caller (CardCorrected name card) = CanCorrect h name
+Follows h caller (OrgCorrected org) = CanCorrectOrg h org
+Follows h caller (Revoked name) = CanRevoke h name
 
 -- The steps.
 
@@ -203,6 +225,22 @@ follows h caller (orders.AddVendor it) act e =
 follows h caller (orders.AddLicence it) act e =
     let is = add_licence_ok h.founding.curators (is_licence h it.licence) (length (licences h)) caller it.licence act e in
     subst (Follows h caller) (sym is.does) (record { unknown = is.unknown; below = is.below })
+follows h caller (orders.HandOver it) act e =
+    let is = hand_over_ok h.founding.curators (org_of h it.org) caller it.keeper act e in
+    let slug : is.org.slug ≡ it.org = slug_is h it.org is.org is.there in
+    subst (Follows h caller) (sym is.does) (record { before = is.org; there = ap (org_of h) slug ∙ is.there; same = refl })
+follows h caller (orders.Correct it) act e =
+    let n = number (vendor_meant h it.vendor) it.number in
+    let is = correct_ok h.founding.curators h.founding.vendor (standing_of h n) (is_licence h it.terms.licence) caller (new_card it.title it.terms) act e in
+    subst (Follows h caller) (sym is.does) (record { owned = is.owned; named = refl })
+follows h caller (orders.CorrectOrg it) act e =
+    let is = correct_org_ok h.founding.curators (org_of h it.org) caller it.title it.site act e in
+    let slug : is.org.slug ≡ it.org = slug_is h it.org is.org is.there in
+    subst (Follows h caller) (sym is.does) (record { before = is.org; there = ap (org_of h) slug ∙ is.there; keeper = refl })
+follows h caller (orders.Revoke it) act e =
+    let n = number (vendor_meant h it.vendor) it.number in
+    let is = revoke_ok h.founding.curators h.founding.vendor (standing_of h n) caller act e in
+    subst (Follows h caller) (sym is.does) (record { held = is.held; named = refl })
 
 -- so does the act of a new deed
 pub new_follows : (h : History) (request : Request) (deed : Deed) → verdict h request ≡ New deed → Follows h deed.caller deed.act

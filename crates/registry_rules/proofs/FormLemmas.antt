@@ -159,6 +159,10 @@ kind_utf8 (orders.Release it) = ascii_utf8 (codes "release") refl
 kind_utf8 (orders.Import it) = ascii_utf8 (codes "import") refl
 kind_utf8 (orders.AddVendor it) = ascii_utf8 (codes "add-vendor") refl
 kind_utf8 (orders.AddLicence it) = ascii_utf8 (codes "add-licence") refl
+kind_utf8 (orders.HandOver it) = ascii_utf8 (codes "hand-over") refl
+kind_utf8 (orders.Correct it) = ascii_utf8 (codes "correct") refl
+kind_utf8 (orders.CorrectOrg it) = ascii_utf8 (codes "correct-org") refl
+kind_utf8 (orders.Revoke it) = ascii_utf8 (codes "revoke") refl
 
 pub not_both : NoOrder ≡ NoMemory → ⊥
 not_both is = absurd cc

@@ -18,7 +18,7 @@ use Rattle.registry_rules.proofs.ImportLemmas.{IsFreshItem, item_is}
 use Rattle.registry_rules.proofs.FollowLemmas.{Follows, legal_follows}
 use Rattle.registry_rules.specs.declared.deed.Deed.{Deed}
 use Rattle.registry_rules.specs.declared.deed.Act.{Act}
-use Rattle.registry_rules.specs.declared.deed.Act.TheVariants.{Granted, Returned, Reserved, Released, Imported}
+use Rattle.registry_rules.specs.declared.deed.Act.TheVariants.{Granted, Returned, Reserved, Released, Imported, Revoked}
 use Rattle.registry_rules.specs.declared.founding.Founding.{Founding}
 use Rattle.registry_rules.specs.declared.item.Item.{Item}
 
@@ -143,6 +143,7 @@ unheld_now n (Granted id petition name) so_far r e =
 unheld_now n (Imported vid to fresh tally) so_far r e =
     unheld_before (option_map (λ item. true) (item_of vid fresh n)) so_far (ap (option_map (λ item. true)) (unmapped (λ item. to) (item_of vid fresh n) r)) e
 unheld_now n (Returned name) so_far r e = unheld_if (number_eq n name.number) so_far e
+unheld_now n (Revoked name) so_far r e = unheld_if (number_eq n name.number) so_far e
 unheld_now n _ so_far r e = e
 
 unheld_in : (n : Number) (deeds : List Deed) → first_of (λ deed. receiver n deed.act) deeds ≡ None → unwrap_or (last_of (λ deed. holds n deed.act) deeds) false ≡ false

@@ -10,13 +10,13 @@ use Rattle.registry_rules.specs.Number.{number, number_eq}
 use Rattle.registry_rules.specs.History.{History, sooner, first_of, last_of}
 use Rattle.registry_rules.specs.Import.{Standing, is_doubled, class_of, classes_from}
 use Rattle.registry_rules.specs.Query.{owner_of, is_held, is_reserved, holds, receiver, item_of, answer_if, petition_of, least, org_of, open_count, asked, has_vendor, vendor_meant, is_licence}
-use Rattle.registry_rules.specs.Checks.{ask_checks, grant_checks, amend_checks, return_checks, reserve_checks, release_checks, import_checks}
+use Rattle.registry_rules.specs.Checks.{ask_checks, grant_checks, amend_checks, return_checks, reserve_checks, release_checks, import_checks, correct_checks, revoke_checks}
 use Rattle.registry_rules.specs.Verdict.{outcome, deed_for, verdict, verdict_by, standing_of, standing_at, org_owning, number_chosen, pid_chosen, least_for, least_owned, meets_fixed, new_petition, new_card, kept_under}
 use Rattle.registry_rules.specs.FactsOf.{AreFactsOf, slug_concerned, petition_named, vendor_concerned, open_concerned, org_concerned, concerns, is_wanted, holding_of, holding_in}
 use Rattle.registry_rules.specs.OnFacts.{outcome_on, standing_in, standing_in_at, standing_in_sets, is_owned_by, least_owned_in}
 use Rattle.registry_rules.specs.declared.deed.Deed.{Deed}
 use Rattle.registry_rules.specs.declared.deed.Act.{Act}
-use Rattle.registry_rules.specs.declared.deed.Act.TheVariants.{Granted, Returned, Imported}
+use Rattle.registry_rules.specs.declared.deed.Act.TheVariants.{Granted, Returned, Imported, Revoked}
 use Rattle.registry_rules.specs.declared.refusal.Refusal.{Refusal}
 use Rattle.registry_rules.specs.declared.verdict.Verdict.{Verdict}
 use Rattle.registry_rules.specs.declared.verdict.Verdict.TheVariants.{New, Refused}
@@ -41,6 +41,8 @@ held_given n (Imported vid org fresh tally) owner held e h =
     elim (item_of vid fresh n) as (λ o. sooner owner (option_map (λ item. org) o) ≡ None → unwrap_or (option_or (option_map (λ item. true) o) held) false ≡ false)
     [ None ↦ λ no. h no | Some item ↦ λ no. absurd cc ] e
 held_given n (Returned name) owner held e h =
+    elim (number_eq n name.number) as (λ b. unwrap_or (option_or (answer_if b false) held) false ≡ false) [ true ↦ refl | false ↦ h e ]
+held_given n (Revoked name) owner held e h =
     elim (number_eq n name.number) as (λ b. unwrap_or (option_or (answer_if b false) held) false ≡ false) [ true ↦ refl | false ↦ h e ]
 held_given n _ owner held e h = h e
 
@@ -151,6 +153,16 @@ same_for h caller key (orders.Import it) facts are =
     (λ code. has_answer (is_owned_by facts.taken.now facts.reserved.now code) ∙ are.owned code)))
 same_for h caller key (orders.AddVendor it) facts are = rw (are.founding.curators, are.vendors.each it.vendor, are.vendors.count) refl
 same_for h caller key (orders.AddLicence it) facts are = rw (are.founding.curators, are.founding.allowed it.licence, are.founding.allowed_count) refl
+same_for h caller key (orders.HandOver it) facts are = rw (are.founding.curators, are.org) refl
+same_for h caller key (orders.Correct it) facts are =
+    rw (are.founding.curators, are.founding.vendor, are.vendor, are.founding.allowed it.terms.licence)
+    (ap (λ s. correct_checks h.founding.curators h.founding.vendor s (is_licence h it.terms.licence) caller (new_card it.title it.terms))
+    (same_standing h facts (number (vendor_meant h it.vendor) it.number) (are.reserved it.number) (are.holdings (number (vendor_meant h it.vendor) it.number) (is_itself (number (vendor_meant h it.vendor) it.number)))))
+same_for h caller key (orders.CorrectOrg it) facts are = rw (are.founding.curators, are.org) refl
+same_for h caller key (orders.Revoke it) facts are =
+    rw (are.founding.curators, are.founding.vendor, are.vendor)
+    (ap (λ s. revoke_checks h.founding.curators h.founding.vendor s caller)
+    (same_standing h facts (number (vendor_meant h it.vendor) it.number) (are.reserved it.number) (are.holdings (number (vendor_meant h it.vendor) it.number) (is_itself (number (vendor_meant h it.vendor) it.number)))))
 
 pub same_outcome : (h : History) (request : Request) (facts : Facts) → AreFactsOf h request facts → outcome_on facts request.caller request.order ≡ outcome h request.caller request.order
 same_outcome h request facts are = same_for h request.caller request.key request.order facts are

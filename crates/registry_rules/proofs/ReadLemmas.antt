@@ -107,6 +107,19 @@ tabless (orders.Import it) is =
     (fixed_text (codes "import") refl, (slug_has_no_tab it.org is.0, vendor_tabless it.vendor (map item_field it.items) (items_tabless it.items (recursion_from_All IsItem it.items is.1))))
 tabless (orders.AddVendor it) is = (fixed_text (codes "add-vendor") refl, (digits_tabless it.vendor, (title_has_no_tab it.name is.1, tt)))
 tabless (orders.AddLicence it) is = (fixed_text (codes "add-licence") refl, (title_has_no_tab it.licence is, tt))
+tabless (orders.HandOver it) is = (fixed_text (codes "hand-over") refl, (slug_has_no_tab it.org is.0, (slug_has_no_tab it.keeper is.1, tt)))
+tabless (orders.Correct it) is = (
+  fixed_text (codes "correct") refl,
+  (
+    digits_tabless it.number,
+    (
+      title_has_no_tab it.title is.1,
+      (title_has_no_tab it.terms.licence is.2.licence, (link_has_no_tab it.terms.site is.2.site, (link_has_no_tab it.terms.source is.2.source, last_tabless it.vendor))),
+    ),
+  ),
+)
+tabless (orders.CorrectOrg it) is = (fixed_text (codes "correct-org") refl, (slug_has_no_tab it.org is.0, (title_has_no_tab it.title is.1, (link_has_no_tab it.site is.2, tt))))
+tabless (orders.Revoke it) is = (fixed_text (codes "revoke") refl, (digits_tabless it.number, (title_has_no_tab it.reason is.2, last_tabless it.vendor)))
 
 -- Reading numbers and items.
 
@@ -249,6 +262,18 @@ a_vendor vendor name = orders.AddVendor (record { vendor = vendor; name = name }
 abbrev a_licence : List ℕ → Order
 a_licence licence = orders.AddLicence (record { licence = licence })
 
+abbrev a_hand_over : List ℕ → List ℕ → Order
+a_hand_over org keeper = orders.HandOver (record { org = org; keeper = keeper })
+
+abbrev a_correction : ℕ → List ℕ → Terms → Option ℕ → Order
+a_correction number title terms vendor = orders.Correct (record { number = number; title = title; terms = terms; vendor = vendor })
+
+abbrev an_org_correction : List ℕ → List ℕ → List ℕ → Order
+an_org_correction org title site = orders.CorrectOrg (record { org = org; title = title; site = site })
+
+abbrev a_revocation : ℕ → Option ℕ → List ℕ → Order
+a_revocation number vendor reason = orders.Revoke (record { number = number; vendor = vendor; reason = reason })
+
 abbrev terms_at : List (List ℕ) → ℕ → Terms
 terms_at fields i = record { licence = at fields i; site = at fields (i + 1); source = at fields (i + 2) }
 
@@ -276,6 +301,10 @@ read (name ∷ fields) =
     else if bytes_eq name (codes "release") then on_span (λ span. a_release span (code_of (at fields 2))) (span_read (at fields 0) (at fields 1))
     else if bytes_eq name (codes "import") then an_import (at fields 0) (items_read (drop 1 fields)) (code_of (at fields 1))
     else if bytes_eq name (codes "add-vendor") then a_vendor (number_at fields 0) (at fields 1)
+    else if bytes_eq name (codes "hand-over") then a_hand_over (at fields 0) (at fields 1)
+    else if bytes_eq name (codes "correct") then a_correction (number_at fields 0) (at fields 1) (terms_at fields 2) (code_of (at fields 5))
+    else if bytes_eq name (codes "correct-org") then an_org_correction (at fields 0) (at fields 1) (at fields 2)
+    else if bytes_eq name (codes "revoke") then a_revocation (number_at fields 0) (code_of (at fields 2)) (at fields 1)
     else a_licence (at fields 0)
 
 petition_reads : (n : ℕ) → n < 2 ^ 32 → digits_value 10 (decimal n) ≡ n
@@ -303,6 +332,12 @@ reads (orders.Import it) is =
     ∙ ap (an_import it.org it.items) (vendor_is it.vendor it.items is.2)
 reads (orders.AddVendor it) is = ap (λ v. a_vendor v it.name) (number_reads it.vendor is.0)
 reads (orders.AddLicence it) is = refl
+reads (orders.HandOver it) is = refl
+reads (orders.Correct it) is =
+    ap (λ n. a_correction n it.title it.terms (code_of (at (vendor_fields it.vendor) 0))) (number_reads it.number is.0) ∙ ap (a_correction it.number it.title it.terms) (vendor_reads it.vendor is.3)
+reads (orders.CorrectOrg it) is = refl
+reads (orders.Revoke it) is =
+    ap (λ n. a_revocation n (code_of (at (vendor_fields it.vendor) 0)) it.reason) (number_reads it.number is.0) ∙ ap (λ v. a_revocation it.number v it.reason) (vendor_reads it.vendor is.1)
 
 -- Orders with the same canonical form are equal.
 
@@ -320,6 +355,10 @@ filled (orders.Release it) = omega arith
 filled (orders.Import it) = omega arith
 filled (orders.AddVendor it) = omega arith
 filled (orders.AddLicence it) = omega arith
+filled (orders.HandOver it) = omega arith
+filled (orders.Correct it) = omega arith
+filled (orders.CorrectOrg it) = omega arith
+filled (orders.Revoke it) = omega arith
 
 same_joined : (xs ys : List (List ℕ)) → 1 ≤ length xs → 1 ≤ length ys → AllByRecursion HasNoTab xs → AllByRecursion HasNoTab ys → join_with_byte 9 xs ≡ join_with_byte 9 ys → xs ≡ ys
 same_joined [] ys p q each others e = absurd (omega arith)

@@ -25,6 +25,10 @@ refused_alone h caller (orders.Release it) is none = rw none refl
 refused_alone h caller (orders.Import it) is none = rw none refl
 refused_alone h caller (orders.AddVendor it) is none = rw none refl
 refused_alone h caller (orders.AddLicence it) is none = rw none refl
+refused_alone h caller (orders.HandOver it) is none = absurd cc
+refused_alone h caller (orders.Correct it) is none = rw none refl
+refused_alone h caller (orders.CorrectOrg it) is none = rw none refl
+refused_alone h caller (orders.Revoke it) is none = rw none refl
 
 pub refused_verdict : (h : History) (request : Request) → kept_under h request.caller request.key ≡ None → is_for_curators request.order ≡ true
     → list_any (bytes_eq request.caller) h.founding.curators ≡ false → Refused NotCurator ≡ verdict h request

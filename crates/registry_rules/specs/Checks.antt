@@ -1,5 +1,5 @@
 -- The checks of each kind of order, in the sequence in which they run. The numbers in the comments are those of the refusals.
-use Rattle.std.specs.Prelude.{ℕ, ◌+◌, List, Option, Some, None, Result, Ok, Err, Bool, true, false, not, nat_lt, nat_le, length, is_none}
+use Rattle.std.specs.Prelude.{ℕ, ◌+◌, List, Option, Some, None, Result, Ok, Err, Bool, true, false, not, nat_lt, nat_le, ◌||◌, length, is_none, is_some}
 use Rattle.std.specs.List.{list_any}
 use Rattle.std.specs.Str.{bytes_eq}
 use Rattle.usbnum_core.specs.declared.number.Span.{Span}
@@ -8,7 +8,7 @@ use Rattle.registry_rules.specs.Number.{name_of, span_name_of, number}
 use Rattle.registry_rules.specs.Query.{is_open}
 use Rattle.registry_rules.specs.Import.{Standing, fresh_of, tally_of}
 use Rattle.registry_rules.specs.declared.deed.Act.{Act}
-use Rattle.registry_rules.specs.declared.deed.Act.TheVariants.{Enrolled, OrgAmended, Asked, Granted, Declined, Withdrawn, CardAmended, Returned, Reserved, Released, Imported, VendorAdded, LicenceAdded}
+use Rattle.registry_rules.specs.declared.deed.Act.TheVariants.{Enrolled, OrgAmended, Asked, Granted, Declined, Withdrawn, CardAmended, Returned, Reserved, Released, Imported, VendorAdded, LicenceAdded, HandedOver, CardCorrected, OrgCorrected, Revoked}
 use Rattle.registry_rules.specs.declared.item.Item.{Item}
 use Rattle.registry_rules.specs.declared.item.ItemClass.{ItemClass}
 use Rattle.registry_rules.specs.Limits.{most_orgs, most_open, most_petitions, most_items, most_vendors, most_licences}
@@ -52,7 +52,11 @@ by_curator curators caller = check (list_any (bytes_eq caller) curators) NotCura
 abbrev pub by_keeper : Org → Slug → Result Passed Refusal
 by_keeper org caller = check (bytes_eq org.keeper caller) NotKeeper
 
--- 3: the same for the organisation of a petition or of a held number; in a legal history it exists
+-- 3: the caller is the organisation's keeper, or a curator
+abbrev pub by_keeper_or_curator : List Slug → Org → Slug → Result Passed Refusal
+by_keeper_or_curator curators org caller = check (bytes_eq org.keeper caller || list_any (bytes_eq caller) curators) NotKeeper
+
+-- 3: the caller is the keeper of the organisation of a petition or of a held number; in a legal history it exists
 abbrev pub by_known_keeper : Option Org → Slug → Result Passed Refusal
 by_known_keeper None caller = Err NotKeeper
 by_known_keeper (Some org) caller = by_keeper org caller
@@ -201,3 +205,32 @@ add_licence_checks curators allowed licences caller licence = do
   check (not allowed) LicenceTaken
   check (nat_lt licences most_licences) Full
   Ok (LicenceAdded licence)
+
+-- HandOver. Refusals: 4, 3
+abbrev pub hand_over_checks : List Slug → Option Org → Slug → Slug → Result Act Refusal
+hand_over_checks curators known caller keeper = do
+  org ← present known NoOrg
+  by_keeper_or_curator curators org caller
+  Ok (HandedOver (record org { keeper = keeper }))
+
+-- Correct. Refusals: 2, 11, 13; 11 if the number has no owner
+abbrev pub correct_checks : List Slug → VendorId → Standing → Bool → Slug → Card → Result Act Refusal
+correct_checks curators founding_vendor standing allowed caller card = do
+  by_curator curators caller
+  check (is_some standing.owner) NumberNotHeld
+  check allowed LicenceUnknown
+  Ok (CardCorrected (name_of founding_vendor standing.number) card)
+
+-- CorrectOrg. Refusals: 2, 4
+abbrev pub correct_org_checks : List Slug → Option Org → Slug → Title → Link → Result Act Refusal
+correct_org_checks curators known caller title site = do
+  by_curator curators caller
+  org ← present known NoOrg
+  Ok (OrgCorrected (record org { title = title; site = site }))
+
+-- Revoke. Refusals: 2, 11
+abbrev pub revoke_checks : List Slug → VendorId → Standing → Slug → Result Act Refusal
+revoke_checks curators founding_vendor standing caller = do
+  by_curator curators caller
+  check standing.held NumberNotHeld
+  Ok (Revoked (name_of founding_vendor standing.number))

@@ -4,7 +4,7 @@ use Rattle.std.specs.Fmt.{decimal}
 use Rattle.usbnum_core.specs.Number.{digits_of}
 use Rattle.registry_rules.specs.Values.{VendorId}
 use Rattle.registry_rules.specs.declared.deed.Act.{Act}
-use Rattle.registry_rules.specs.declared.deed.Act.TheVariants.{Enrolled, OrgAmended, Asked, Granted, Declined, Withdrawn, CardAmended, Returned, Reserved, Released, Imported, VendorAdded, LicenceAdded}
+use Rattle.registry_rules.specs.declared.deed.Act.TheVariants.{Enrolled, OrgAmended, Asked, Granted, Declined, Withdrawn, CardAmended, Returned, Reserved, Released, Imported, VendorAdded, LicenceAdded, HandedOver, CardCorrected, OrgCorrected, Revoked}
 use Rattle.registry_rules.specs.declared.item.Tally.{Tally}
 use Rattle.registry_rules.specs.declared.name.NumberName.{NumberName}
 use Rattle.registry_rules.specs.declared.name.SpanName.{SpanName}
@@ -44,6 +44,10 @@ act_text (Released name) = codes "released " ++ span_text name
 act_text (Imported vid org fresh tally) = codes "imported " ++ tally_text tally
 act_text (VendorAdded vendor name) = codes "added vendor " ++ digits_of vendor
 act_text (LicenceAdded licence) = codes "added licence " ++ licence
+act_text (HandedOver org) = codes "handed " ++ org.slug ++ codes " over to " ++ org.keeper
+act_text (CardCorrected name card) = codes "corrected " ++ number_text name
+act_text (OrgCorrected org) = codes "corrected organisation " ++ org.slug
+act_text (Revoked name) = codes "revoked " ++ number_text name
 
 -- the number of a refusal. Other crates use 20 to 32, for bad input and for faults (docs/requests.md).
 abbrev pub refusal_number : Refusal → ℕ

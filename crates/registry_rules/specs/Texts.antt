@@ -17,7 +17,7 @@ pub record AreSorted (given ordered : List (List ℕ)) : Type 0 where
   pub same : (text : List ℕ) → list_any (bytes_eq text) ordered ≡ list_any (bytes_eq text) given
 
 -- a valid list of curators, the callers who run the registry: they grant and decline petitions, reserve and release numbers,
--- import, and add vendors and licences
+-- import, add vendors and licences, correct cards and organisations, and revoke numbers
 pub record IsCurators (slugs : List (List ℕ)) : Type 0 where
   pub some : 1 ≤ length slugs
   pub most : length slugs ≤ most_curators

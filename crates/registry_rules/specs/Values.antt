@@ -32,6 +32,6 @@ abbrev pub ProductId : Type 0
 ProductId = ℕ
 
 -- the ID of a petition, 1 for the first. A petition is an organisation's application for a USB number. It is open until a
--- curator, who runs the registry, grants or declines it, or the keeper, who enrolled the organisation, withdraws it.
+-- curator, who runs the registry, grants or declines it, or the organisation's keeper withdraws it.
 abbrev pub PetitionId : Type 0
 PetitionId = ℕ

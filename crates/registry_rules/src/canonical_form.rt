@@ -4,11 +4,13 @@ ghost use Rattle.std.specs.Prelude.{◌≡◌, ◌++◌, ◌∷◌, Some, IfOk, 
 ghost use Rattle.std.specs.List.{join_with_byte};
 ghost use Rattle.std.specs.String.{string_bytes};
 ghost use Rattle.usbnum_core.specs.Number.{digits_of};
-ghost use Rattle.registry_rules.specs.Orders.{canonical_form, number_field, vendor_fields, terms_fields, item_field, after_tabs};
+ghost use Rattle.registry_rules.specs.Orders.{canonical_form, fields_of, number_field, vendor_fields, terms_fields, item_field, after_tabs};
+ghost use Rattle.registry_rules.specs.declared.order.Order.TheVariants as orders;
 
 use crate::{
-    AddLicence, AddVendor, AmendOrg, CanonicalForm, Decline, Enrol, Grant, Item, Order, Release,
-    Request, Reserve, Return, Terms, Withdraw,
+    AddLicence, AddVendor, Amend, AmendOrg, Ask, CanonicalForm, Correct, CorrectOrg, Decline,
+    Enrol, Grant, HandOver, Item, Order, Release, Request, Reserve, Return, Revoke, Terms,
+    Withdraw,
 };
 use std::alloc::{AllocError, Global};
 use std::fmt::{self, Write};
@@ -33,23 +35,14 @@ pub(crate) fn order_text(alloc: Global, order: &Order) -> Result<String, AllocEr
         Order::AmendOrg(AmendOrg { org, title, site }) => {
             format!(in alloc; "amend-org\t{org}\t{title}\t{site}")
         }
-        Order::Ask(it) => {
-            let org = &it.org;
-            let want = NumberField { number: it.want };
-            let card = card_text(alloc, &it.title, &it.terms, it.vendor)?;
-            format!(in alloc; "ask\t{org}\t{want}\t{card}")
-        }
+        Order::Ask(it) => ask_text(alloc, it),
         Order::Grant(Grant { petition, number }) => {
             let number = NumberField { number: *number };
             format!(in alloc; "grant\t{petition}\t{number}")
         }
         Order::Decline(Decline { petition }) => format!(in alloc; "decline\t{petition}"),
         Order::Withdraw(Withdraw { petition }) => format!(in alloc; "withdraw\t{petition}"),
-        Order::Amend(it) => {
-            let number = it.number;
-            let card = card_text(alloc, &it.title, &it.terms, it.vendor)?;
-            format!(in alloc; "amend\t{number}\t{card}")
-        }
+        Order::Amend(it) => amend_text(alloc, it),
         Order::Return(Return { number, vendor }) => {
             let vendor = VendorField { vendor: *vendor };
             format!(in alloc; "return\t{number}{vendor}")
@@ -61,7 +54,49 @@ pub(crate) fn order_text(alloc: Global, order: &Order) -> Result<String, AllocEr
             format!(in alloc; "add-vendor\t{vendor}\t{name}")
         }
         Order::AddLicence(AddLicence { licence }) => format!(in alloc; "add-licence\t{licence}"),
+        Order::HandOver(HandOver { org, keeper }) => format!(in alloc;
+            "hand-over\t{org}\t{keeper}"
+        ),
+        Order::Correct(it) => correct_text(alloc, it),
+        Order::CorrectOrg(CorrectOrg { org, title, site }) => {
+            format!(in alloc; "correct-org\t{org}\t{title}\t{site}")
+        }
+        Order::Revoke(it) => revoke_text(alloc, it),
     }
+}
+
+fn ask_text(alloc: Global, it: &Ask) -> Result<String, AllocError>
+    ensures { IfOk result (λ text. string_bytes text ≡ join_with_byte 9 (fields_of (orders.Ask it.now))) }
+{
+    let org = &it.org;
+    let want = NumberField { number: it.want };
+    let card = card_text(alloc, &it.title, &it.terms, it.vendor)?;
+    format!(in alloc; "ask\t{org}\t{want}\t{card}")
+}
+
+fn amend_text(alloc: Global, it: &Amend) -> Result<String, AllocError>
+    ensures { IfOk result (λ text. string_bytes text ≡ join_with_byte 9 (fields_of (orders.Amend it.now))) }
+{
+    let number = it.number;
+    let card = card_text(alloc, &it.title, &it.terms, it.vendor)?;
+    format!(in alloc; "amend\t{number}\t{card}")
+}
+
+fn correct_text(alloc: Global, it: &Correct) -> Result<String, AllocError>
+    ensures { IfOk result (λ text. string_bytes text ≡ join_with_byte 9 (fields_of (orders.Correct it.now))) }
+{
+    let number = it.number;
+    let card = card_text(alloc, &it.title, &it.terms, it.vendor)?;
+    format!(in alloc; "correct\t{number}\t{card}")
+}
+
+fn revoke_text(alloc: Global, it: &Revoke) -> Result<String, AllocError>
+    ensures { IfOk result (λ text. string_bytes text ≡ join_with_byte 9 (fields_of (orders.Revoke it.now))) }
+{
+    let number = it.number;
+    let reason = &it.reason;
+    let vendor = VendorField { vendor: it.vendor };
+    format!(in alloc; "revoke\t{number}\t{reason}{vendor}")
 }
 
 // The order with this word on a span of numbers.

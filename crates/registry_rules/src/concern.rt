@@ -10,8 +10,8 @@ ghost use Rattle.registry_rules.specs.Query.{petition_of};
 ghost use Rattle.registry_rules.specs.Verdict.{least_for};
 
 use crate::{
-    Amend, AmendOrg, Ask, Decline, Enrol, Grant, Holdings, Import, Order, Petition, Release,
-    Reserve, Return, Withdraw,
+    Amend, AmendOrg, Ask, Correct, CorrectOrg, Decline, Enrol, Grant, HandOver, Holdings, Import,
+    Order, Petition, Release, Reserve, Return, Revoke, Withdraw,
 };
 use usbnum_core::{Number, Pid, Slug, Span, Vid};
 
@@ -61,7 +61,9 @@ pub fn vid_concerned(order: &Order, founding: Vid, petition: Option<&Petition>) 
         | Order::Return(Return { vendor, .. })
         | Order::Reserve(Reserve { vendor, .. })
         | Order::Release(Release { vendor, .. })
-        | Order::Import(Import { vendor, .. }) => vendor.unwrap_or(founding),
+        | Order::Import(Import { vendor, .. })
+        | Order::Correct(Correct { vendor, .. })
+        | Order::Revoke(Revoke { vendor, .. }) => vendor.unwrap_or(founding),
         Order::Grant(_) | Order::Decline(_) | Order::Withdraw(_) => match petition {
             Some(petition) => petition.vid,
             None => founding,
@@ -86,7 +88,10 @@ pub fn numbers_concerned(
     let span = match order {
         Order::Ask(it) => only(it.want?),
         Order::Grant(it) => only(it.number.or(petition?.want).or(least)?),
-        Order::Amend(Amend { number, .. }) | Order::Return(Return { number, .. }) => only(*number),
+        Order::Amend(Amend { number, .. })
+        | Order::Return(Return { number, .. })
+        | Order::Correct(Correct { number, .. })
+        | Order::Revoke(Revoke { number, .. }) => only(*number),
         _ => return None,
     };
     Some(VendorSpan { vid, span })
@@ -119,10 +124,13 @@ pub fn slug_concerned<'a>(
         Order::Enrol(Enrol { org, .. })
         | Order::AmendOrg(AmendOrg { org, .. })
         | Order::Ask(Ask { org, .. })
-        | Order::Import(Import { org, .. }) => Some(org),
-        Order::Amend(Amend { number, .. }) | Order::Return(Return { number, .. }) => {
-            owner_in(holdings, Number { vid, pid: *number })
-        }
+        | Order::Import(Import { org, .. })
+        | Order::HandOver(HandOver { org, .. })
+        | Order::CorrectOrg(CorrectOrg { org, .. }) => Some(org),
+        Order::Amend(Amend { number, .. })
+        | Order::Return(Return { number, .. })
+        | Order::Correct(Correct { number, .. })
+        | Order::Revoke(Revoke { number, .. }) => owner_in(holdings, Number { vid, pid: *number }),
         Order::Grant(_) | Order::Decline(_) | Order::Withdraw(_) => Some(&petition?.org),
         _ => None,
     }

@@ -65,6 +65,19 @@ pub enum Act {
     LicenceAdded {
         licence: Title,
     },
+    /// An organisation got this keeper.
+    HandedOver(Org),
+    /// An owned number got this card from a curator.
+    CardCorrected {
+        name: NumberName,
+        card: Card,
+    },
+    /// An organisation got this title and site from a curator.
+    OrgCorrected(Org),
+    /// A held number was taken back.
+    Revoked {
+        name: NumberName,
+    },
 }
 
 /// An accepted request with its effect.
@@ -106,6 +119,10 @@ impl Drop for Act {
             } => {}
             Act::VendorAdded { vendor: _, name: _ } => {}
             Act::LicenceAdded { licence: _ } => {}
+            Act::HandedOver(_) => {}
+            Act::CardCorrected { name: _, card: _ } => {}
+            Act::OrgCorrected(_) => {}
+            Act::Revoked { name: _ } => {}
         }
     }
 }

@@ -45,9 +45,10 @@ fn is_for_curators(order: &Order) -> bool
 {
     match order {
         Order::Enrol(_) | Order::AmendOrg(_) | Order::Ask(_) => false,
-        Order::Withdraw(_) | Order::Amend(_) | Order::Return(_) => false,
+        Order::Withdraw(_) | Order::Amend(_) | Order::Return(_) | Order::HandOver(_) => false,
         Order::Grant(_) | Order::Decline(_) | Order::Reserve(_) | Order::Release(_) => true,
         Order::Import(_) | Order::AddVendor(_) | Order::AddLicence(_) => true,
+        Order::Correct(_) | Order::CorrectOrg(_) | Order::Revoke(_) => true,
     }
 }
 

@@ -134,9 +134,54 @@ pub struct AddLicence {
     pub licence: Title,
 }
 
+/// Gives an organisation another keeper. Its numbers and its petitions stay.
+#[derive(Clone, Debug, Drop)]
+pub struct HandOver {
+    /// The organisation.
+    pub org: Slug,
+    /// Its new keeper.
+    pub keeper: Slug,
+}
+
+/// Changes the card of an owned number, held or returned, by a curator.
+#[derive(Clone, Debug, Drop)]
+pub struct Correct {
+    /// The number.
+    pub number: Pid,
+    /// The new title.
+    pub title: Title,
+    /// The new terms.
+    pub terms: Terms,
+    /// The number's vendor, where it is named.
+    pub vendor: Option<Vid>,
+}
+
+/// Changes the title and the site of an organisation, by a curator.
+#[derive(Clone, Debug, Drop)]
+pub struct CorrectOrg {
+    /// The organisation.
+    pub org: Slug,
+    /// Its new title.
+    pub title: Title,
+    /// Its new site.
+    pub site: Link,
+}
+
+/// Takes a held number back, by a curator. It is then returned, and keeps its owner.
+#[derive(Clone, Debug, Drop)]
+pub struct Revoke {
+    /// The number.
+    pub number: Pid,
+    /// The number's vendor, where it is named.
+    pub vendor: Option<Vid>,
+    /// The reason, which only the order has.
+    pub reason: Title,
+}
+
 /// The order of a request. An order that may name a vendor and does not means the founding vendor.
 /// `Enrol` is for any caller, `AmendOrg`, `Ask`, `Withdraw`, `Amend` and `Return` for the keeper of
-/// the organisation concerned, and all other orders for curators.
+/// the organisation concerned, `HandOver` for its keeper or a curator, and all other orders for
+/// curators.
 #[derive(Debug, Drop)]
 pub enum Order {
     /// Enrols an organisation.
@@ -165,6 +210,14 @@ pub enum Order {
     AddVendor(AddVendor),
     /// Adds a licence.
     AddLicence(AddLicence),
+    /// Hands an organisation over.
+    HandOver(HandOver),
+    /// Corrects a number's card.
+    Correct(Correct),
+    /// Corrects an organisation.
+    CorrectOrg(CorrectOrg),
+    /// Revokes a number.
+    Revoke(Revoke),
 }
 
 // By hand, so that a copy is equal to the order it is of.
@@ -172,21 +225,25 @@ impl Clone for Order {
     ghost is_clone = { λ order copy. copy ≡ order };
 
     fn clone(&self) -> Result<Order, AllocError> {
-        Ok(match self {
-            Order::Enrol(it) => Order::Enrol(it.clone()?),
-            Order::AmendOrg(it) => Order::AmendOrg(it.clone()?),
-            Order::Ask(it) => Order::Ask(it.clone()?),
-            Order::Grant(it) => Order::Grant(it.clone()?),
-            Order::Decline(it) => Order::Decline(it.clone()?),
-            Order::Withdraw(it) => Order::Withdraw(it.clone()?),
-            Order::Amend(it) => Order::Amend(it.clone()?),
-            Order::Return(it) => Order::Return(it.clone()?),
-            Order::Reserve(it) => Order::Reserve(it.clone()?),
-            Order::Release(it) => Order::Release(it.clone()?),
-            Order::Import(it) => Order::Import(it.clone()?),
-            Order::AddVendor(it) => Order::AddVendor(it.clone()?),
-            Order::AddLicence(it) => Order::AddLicence(it.clone()?),
-        })
+        match self {
+            Order::Enrol(it) => Ok(Order::Enrol(it.clone()?)),
+            Order::AmendOrg(it) => Ok(Order::AmendOrg(it.clone()?)),
+            Order::Ask(it) => Ok(Order::Ask(it.clone()?)),
+            Order::Grant(it) => Ok(Order::Grant(it.clone()?)),
+            Order::Decline(it) => Ok(Order::Decline(it.clone()?)),
+            Order::Withdraw(it) => Ok(Order::Withdraw(it.clone()?)),
+            Order::Amend(it) => Ok(Order::Amend(it.clone()?)),
+            Order::Return(it) => Ok(Order::Return(it.clone()?)),
+            Order::Reserve(it) => Ok(Order::Reserve(it.clone()?)),
+            Order::Release(it) => Ok(Order::Release(it.clone()?)),
+            Order::Import(it) => Ok(Order::Import(it.clone()?)),
+            Order::AddVendor(it) => Ok(Order::AddVendor(it.clone()?)),
+            Order::AddLicence(it) => Ok(Order::AddLicence(it.clone()?)),
+            Order::HandOver(it) => Ok(Order::HandOver(it.clone()?)),
+            Order::Correct(it) => Ok(Order::Correct(it.clone()?)),
+            Order::CorrectOrg(it) => Ok(Order::CorrectOrg(it.clone()?)),
+            Order::Revoke(it) => Ok(Order::Revoke(it.clone()?)),
+        }
     }
 }
 

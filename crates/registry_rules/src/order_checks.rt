@@ -7,15 +7,17 @@ ghost use Rattle.registry_rules.specs.Verdict.{new_petition};
 ghost use Rattle.registry_rules.specs.declared.order.Order.TheVariants as orders;
 
 use crate::checks::{
-    check_curator, check_held, check_keeper, check_known_keeper, check_licence, check_number,
-    check_petition, check_vendor, check_wanted, number_name,
+    check_curator, check_held, check_held_by_any, check_keeper, check_keeper_or_curator,
+    check_known_keeper, check_licence, check_number, check_owned, check_petition, check_vendor,
+    check_wanted, number_name,
 };
 use crate::importing::import;
 use crate::limits::{MOST_LICENCES, MOST_OPEN, MOST_ORGS, MOST_PETITIONS, MOST_VENDORS};
 use crate::span_checks::{release, reserve};
 use crate::{
-    Act, AddLicence, AddVendor, Amend, AmendOrg, Ask, Card, Decline, Enrol, Facts, Grant, Order,
-    Org, Petition, PetitionState, Refusal, Rejection, Return, Withdraw,
+    Act, AddLicence, AddVendor, Amend, AmendOrg, Ask, Card, Correct, CorrectOrg, Decline, Enrol,
+    Facts, Grant, HandOver, Order, Org, Petition, PetitionState, Refusal, Rejection, Return,
+    Revoke, Withdraw,
 };
 use std::alloc::Global;
 use usbnum_core::{Number, Slug, Vid};
@@ -43,6 +45,10 @@ pub(crate) fn act_of(
         Order::Import(it) => import(alloc, facts, caller, it),
         Order::AddVendor(it) => add_vendor(facts, caller, it),
         Order::AddLicence(it) => add_licence(facts, caller, it),
+        Order::HandOver(it) => hand_over(facts, caller, it),
+        Order::Correct(it) => correct(facts, caller, it),
+        Order::CorrectOrg(it) => correct_org(facts, caller, it),
+        Order::Revoke(it) => revoke(facts, caller, it),
     }
 }
 
@@ -252,4 +258,86 @@ pub(crate) fn add_licence(
     Ok(Act::LicenceAdded {
         licence: it.licence.clone()?,
     })
+}
+
+#[tactic(auto, unfolding(crate::specs::OnFacts::outcome_on))]
+pub(crate) fn hand_over(
+    facts: &Facts<'_>,
+    caller: &Slug,
+    it: &HandOver,
+) -> Result<Act, Rejection<Refusal>>
+    ensures { Gives result (outcome_on facts.now caller.now (orders.HandOver it.now)) }
+{
+    let Some(org) = &facts.org else {
+        return Err(Rejection::Refused(Refusal::NoOrg));
+    };
+    check_keeper_or_curator(facts.founding, org, caller)?;
+    Ok(Act::HandedOver(Org {
+        slug: org.slug.clone()?,
+        title: org.title.clone()?,
+        site: org.site.clone()?,
+        keeper: it.keeper.clone()?,
+    }))
+}
+
+#[tactic(auto, unfolding(crate::specs::OnFacts::outcome_on))]
+pub(crate) fn correct(
+    facts: &Facts<'_>,
+    caller: &Slug,
+    it: &Correct,
+) -> Result<Act, Rejection<Refusal>>
+    ensures { Gives result (outcome_on facts.now caller.now (orders.Correct it.now)) }
+{
+    check_curator(facts.founding, caller)?;
+    let number = Number {
+        vid: facts.vendor,
+        pid: it.number,
+    };
+    check_owned(facts, &number)?;
+    check_licence(facts.founding, &it.terms.licence)?;
+    Ok(Act::CardCorrected {
+        name: number_name(facts.founding, &number),
+        card: Card {
+            title: it.title.clone()?,
+            terms: Some(it.terms.clone()?),
+        },
+    })
+}
+
+#[tactic(auto, unfolding(crate::specs::OnFacts::outcome_on))]
+pub(crate) fn correct_org(
+    facts: &Facts<'_>,
+    caller: &Slug,
+    it: &CorrectOrg,
+) -> Result<Act, Rejection<Refusal>>
+    ensures { Gives result (outcome_on facts.now caller.now (orders.CorrectOrg it.now)) }
+{
+    check_curator(facts.founding, caller)?;
+    let Some(org) = &facts.org else {
+        return Err(Rejection::Refused(Refusal::NoOrg));
+    };
+    Ok(Act::OrgCorrected(Org {
+        slug: org.slug.clone()?,
+        title: it.title.clone()?,
+        site: it.site.clone()?,
+        keeper: org.keeper.clone()?,
+    }))
+}
+
+#[tactic(auto, unfolding(crate::specs::OnFacts::outcome_on))]
+pub(crate) fn revoke(
+    facts: &Facts<'_>,
+    caller: &Slug,
+    it: &Revoke,
+) -> Result<Act, Rejection<Refusal>>
+    ensures { Gives result (outcome_on facts.now caller.now (orders.Revoke it.now)) }
+{
+    check_curator(facts.founding, caller)?;
+    let number = Number {
+        vid: facts.vendor,
+        pid: it.number,
+    };
+    check_held_by_any(facts, &number)?;
+    let name = number_name(facts.founding, &number);
+    Ok(Act::Revoked { name })
 }

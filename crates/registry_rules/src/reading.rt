@@ -18,12 +18,16 @@ ghost use Rattle.registry_rules.specs.declared.order.Release.{Release as Release
 ghost use Rattle.registry_rules.specs.declared.order.Import.{Import as ImportValue};
 ghost use Rattle.registry_rules.specs.declared.order.AddVendor.{AddVendor as AddVendorValue};
 ghost use Rattle.registry_rules.specs.declared.order.AddLicence.{AddLicence as AddLicenceValue};
+ghost use Rattle.registry_rules.specs.declared.order.HandOver.{HandOver as HandOverValue};
+ghost use Rattle.registry_rules.specs.declared.order.Correct.{Correct as CorrectValue};
+ghost use Rattle.registry_rules.specs.declared.order.CorrectOrg.{CorrectOrg as CorrectOrgValue};
+ghost use Rattle.registry_rules.specs.declared.order.Revoke.{Revoke as RevokeValue};
 
 use crate::canonical_form::order_text;
 use crate::form_fields::{Fields, Unread, VendorAndItems, tab_at};
 use crate::{
-    AddLicence, AddVendor, Amend, AmendOrg, Ask, CanonicalForm, Decline, Enrol, Grant, Import,
-    Order, Release, Reserve, Return, Terms, Withdraw,
+    AddLicence, AddVendor, Amend, AmendOrg, Ask, CanonicalForm, Correct, CorrectOrg, Decline,
+    Enrol, Grant, HandOver, Import, Order, Release, Reserve, Return, Revoke, Terms, Withdraw,
 };
 use std::alloc::Global;
 use usbnum_core::{Link, NoMemory, Pid, Slug, Span, Title, Vid};
@@ -157,6 +161,49 @@ fn add_licence(alloc: Global, text: &[u8]) -> Result<Order, Unread>
     Ok(Order::AddLicence(AddLicence { licence }))
 }
 
+fn hand_over(alloc: Global, text: &[u8]) -> Result<Order, Unread>
+    ensures { (it : HandOverValue) → ReadsBack text.now result (orders.HandOver it) }
+{
+    let (org, (keeper, ())) = <(Slug, (Slug, ()))>::from_fields(alloc, text)?;
+    Ok(Order::HandOver(HandOver { org, keeper }))
+}
+
+fn correct(alloc: Global, text: &[u8]) -> Result<Order, Unread>
+    ensures { (it : CorrectValue) → ReadsBack text.now result (orders.Correct it) }
+{
+    let (number, (title, (licence, (site, (source, vendor))))) = <(Pid, CardFields)>::from_fields(
+        alloc, text,
+    )?;
+    Ok(Order::Correct(Correct {
+        number,
+        title,
+        terms: Terms {
+            licence,
+            site,
+            source,
+        },
+        vendor,
+    }))
+}
+
+fn correct_org(alloc: Global, text: &[u8]) -> Result<Order, Unread>
+    ensures { (it : CorrectOrgValue) → ReadsBack text.now result (orders.CorrectOrg it) }
+{
+    let (org, (title, (site, ()))) = <(Slug, (Title, (Link, ())))>::from_fields(alloc, text)?;
+    Ok(Order::CorrectOrg(CorrectOrg { org, title, site }))
+}
+
+fn revoke(alloc: Global, text: &[u8]) -> Result<Order, Unread>
+    ensures { (it : RevokeValue) → ReadsBack text.now result (orders.Revoke it) }
+{
+    let (number, (reason, vendor)) = <(Pid, (Title, Option<Vid>))>::from_fields(alloc, text)?;
+    Ok(Order::Revoke(Revoke {
+        number,
+        vendor,
+        reason,
+    }))
+}
+
 // The order of this kind with these fields.
 fn order_from(alloc: Global, kind: &str, text: &[u8]) -> Result<Order, Unread>
     ensures { (order : OrderValue) → kind.now ≡ kind_of order → ReadsBack text.now result order }
@@ -175,6 +222,10 @@ fn order_from(alloc: Global, kind: &str, text: &[u8]) -> Result<Order, Unread>
         "import" => import(alloc, text),
         "add-vendor" => add_vendor(alloc, text),
         "add-licence" => add_licence(alloc, text),
+        "hand-over" => hand_over(alloc, text),
+        "correct" => correct(alloc, text),
+        "correct-org" => correct_org(alloc, text),
+        "revoke" => revoke(alloc, text),
         _ => Err(Unread::NoOrder),
     }
 }

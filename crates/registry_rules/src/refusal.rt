@@ -16,7 +16,7 @@ pub enum Refusal {
     KeyReused,
     /// The caller is not a curator.
     NotCurator,
-    /// The caller is not the keeper of the organisation concerned.
+    /// The caller is not the keeper of the organisation concerned, nor a curator who hands it over.
     NotKeeper,
     /// The organisation does not exist.
     NoOrg,

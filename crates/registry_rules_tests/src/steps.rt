@@ -27,10 +27,20 @@ fn acme(alloc: Global) -> Result<Org, RowFault> {
     })
 }
 
-// The organisation that an order concerns: Ann's, which asks.
+fn bolt(alloc: Global) -> Result<Org, RowFault> {
+    Ok(Org {
+        slug: row_records::slug(alloc, "bolt")?,
+        title: row_records::title(alloc, "Bolt Works")?,
+        site: row_records::link(alloc, "http://b.example/")?,
+        keeper: row_records::slug(alloc, "bob")?,
+    })
+}
+
+// The organisation that an order concerns: Ann's, which asks, or Bob's, who is no curator.
 fn org_of(alloc: Global, order: &Order) -> Result<Option<Org>, RowFault> {
     match order {
         Order::Ask(_) => Ok(Some(acme(alloc)?)),
+        Order::HandOver(_) | Order::CorrectOrg(_) => Ok(Some(bolt(alloc)?)),
         _ => Ok(None),
     }
 }

@@ -13,7 +13,7 @@ use Rattle.registry_rules.specs.declared.deed.Deed.{Deed}
 use Rattle.registry_rules.specs.declared.verdict.Reply.{Reply}
 use Rattle.registry_rules.specs.declared.verdict.Reply.TheVariants.{Done}
 use Rattle.registry_rules.specs.declared.verdict.Verdict.{Verdict}
-use Rattle.registry_rules.specs.declared.verdict.Verdict.TheVariants.{New}
+use Rattle.registry_rules.specs.declared.verdict.Verdict.TheVariants.{Kept, Refused, New}
 use Rattle.registry_rules.specs.declared.change.Change.{Change}
 use Rattle.registry_rules.specs.History.{History, with_deed}
 use Rattle.registry_rules.specs.Run.{Legal, after_verdict, reply_of, after_one, reply_to}
@@ -26,8 +26,9 @@ use Rattle.registry_tables.specs.Rows.{Rows, HoldsRows, HoldsUnkept, newest}
 use Rattle.registry_tables.specs.Calls.{IsKeptAs}
 use Rattle.registry_tables.specs.Finds.{Finds}
 use Rattle.registry_tables.proofs.RowsLemmas.{enters, goes_out}
+use Rattle.registry_store.specs.declared.attempt.Answer.{Answer}
 use Rattle.registry_store.specs.Promise.{IsLegalWith, IsAt}
-use Rattle.registry_store.specs.Attempt.{CommitsOne, Wrote}
+use Rattle.registry_store.specs.Attempt.{CommitsOne, AddsNoDeed, Wrote, IsAnswerOf, Answered}
 use Rattle.registry_store.proofs.OpeningLemmas.{rows_now}
 
 abbrev Goes : State → State → Type 0
@@ -91,129 +92,128 @@ never_foreign g old begun mid end is live before none first ends clean h counts 
     let is_open : IsTrue (state g old).is_open = subst (λ b. IsTrue (state g b).is_open) is it.0 in
     it.1 h counts.legal (subst (λ b. HoldsRows newest (state g b).now h) (sym is) (enters (state g old) h live is_open (rows_now (state g old) h at start_old is_open)))
 
-module _ {S : Type 0} (g : Ghosts S) (old begun mid : Held S) (is : begun ≡ record old { in_transaction = true }) (live : IsLive (state g old)) (before : Totals) (r : Request) (v : Verdict)
-    (judged : HasCleanDisk (state g mid) → IsTrue (state g begun).in_transaction → Finds (state g begun) (state g mid) (Ok v) (λ h found. AreTotalsOf h before → found ≡ verdict h r))
-    (first : CommitsNothing (state g begun) (state g mid)) where
-  inside : IsTrue (state g begun).in_transaction
-  inside = subst (λ b. IsTrue (state g b).in_transaction) (sym is) refl
+-- a verdict that is no new deed leaves the history as it is
+stays : (h : History) (v : Verdict) → ((d : Deed) → v ≢ New d) → after_verdict h v ≡ h
+stays h (Kept text) none = refl
+stays h (Refused refusal) none = refl
+stays h (New d) none = absurd (none d refl)
+
+-- what the transaction answers on a verdict
+module _ (old mid : State) (before : Totals) (r : Request) (v : Verdict) (judged : Finds old mid (Ok v) (λ h found. AreTotalsOf h before → found ≡ verdict h r)) where
+  -- without a new deed nothing is written
+  pub answers_quiet : (reply : Reply) → reply_of v ≡ reply → ((d : Deed) → v ≢ New d) → Answered old mid before before r (record { reply = reply; is_new = false })
+  answers_quiet reply is none = record {
+    shown = judged.0;
+    of_history = λ h counts held.
+        let it = judged.1 h counts.legal held in
+        let says : v ≡ verdict h r = it.1 counts.totals_are in
+        let history : h ≡ after_one h r = sym (stays h v none) ∙ ap (after_verdict h) says in record {
+          reply = sym is ∙ ap reply_of says;
+          adds = λ never. absurd cc;
+          adds_none = λ _ d new. none d (says ∙ new);
+          counts = subst (IsLegalWith before) history counts;
+          rows = subst (HoldsRows newest mid.now) history (subst (λ db. HoldsRows newest db h) (sym it.0.0.now_is) held);
+        };
+  }
+
+  -- with one its rows are written
+  pub answers_new : (last : State) (after : Totals) (d : Deed) → v ≡ New d → Wrote mid last before after r d → (reply : List ℕ) → reply ≡ act_text d.act
+      → Answered old last before after r (record { reply = Done reply; is_new = true })
+  answers_new last after d new wrote reply said = record {
+    shown = record { was_open = judged.0.was_open; is_open = wrote.shown.is_open; now_is = refl; committed_is = wrote.shown.committed_is ∙ judged.0.committed_is; mode = wrote.shown.mode };
+    of_history = λ h counts held.
+        let it = judged.1 h counts.legal held in
+        let says : verdict h r ≡ New d = sym (it.1 counts.totals_are) ∙ new in
+        let history : with_deed h d ≡ after_one h r = ap (after_verdict h) (sym says) in record {
+          reply = ap Done said ∙ ap reply_of (sym says);
+          adds = λ _. (d, says);
+          adds_none = λ never. absurd cc;
+          counts = record { legal = legal_after_one h r counts.legal; totals_are = subst (λ x. AreTotalsOf x after) history (wrote.carried h counts says) };
+          rows = subst (HoldsRows newest last.now) history (wrote.made h counts says (subst (λ db. HoldsRows newest db h) (sym it.0.0.now_is) held));
+        };
+  }
+
+-- the whole transaction, once the request was acted on
+module _ {S : Type 0} (g : Ghosts S) (old begun last : Held S) (is : begun ≡ record old { in_transaction = true }) (live : IsLive (state g old)) (before after : Totals) (r : Request) (it : Answer)
+    (acted : HasCleanDisk (state g last) → IsTrue (state g begun).in_transaction → Answered (state g begun) (state g last) before after r it)
+    (first : CommitsNothing (state g begun) (state g last)) where
+  answered : HasCleanDisk (state g last) → Answered (state g begun) (state g last) before after r it
+  answered clean = acted clean (subst (λ b. IsTrue (state g b).in_transaction) (sym is) refl)
 
   -- at the start of the transaction the connection shows what it showed before
-  from_old : (P : State → Type 0) → P (state g (record old { in_transaction = true })) → P (state g begun)
-  from_old P = subst (λ b. P (state g b)) (sym is)
-
   holds : (h : History) → IsTrue (state g old).is_open → Rows newest (state g old).now.trees h → HoldsRows newest (state g begun).now h
-  holds h is_open rows = from_old (λ s. HoldsRows newest s.now h) (enters (state g old) h live is_open rows)
+  holds h is_open rows = subst (λ b. HoldsRows newest (state g b).now h) (sym is) (enters (state g old) h live is_open rows)
 
-  module _ (last : Held S) (after : Totals) (d : Deed) (new : v ≡ New d)
-      (wrote : HasCleanDisk (state g last) → IsTrue (state g mid).in_transaction → IsTrue (state g mid).is_open → Wrote (state g mid) (state g last) before after r d)
-      (second : CommitsNothing (state g mid) (state g last)) where
-    wrote_at : HasCleanDisk (state g last) → Wrote (state g mid) (state g last) before after r d
-    wrote_at clean = let early : HasCleanDisk (state g mid) = omega (arith, second.clean) in wrote clean (judged early inside).0.mode (judged early inside).0.is_open
+  was_open : HasCleanDisk (state g last) → IsTrue (state g old).is_open
+  was_open clean = subst (λ b. IsTrue (state g b).is_open) is (answered clean).shown.was_open
 
-    says_new : HasCleanDisk (state g last) → (h : History) → IsLegalWith before h → HoldsRows newest (state g begun).now h → verdict h r ≡ New d
-    says_new clean h counts it = let early : HasCleanDisk (state g mid) = omega (arith, second.clean) in sym (((judged early inside).1 h counts.legal it).1 counts.totals_are) ∙ new
+  was_clean : HasCleanDisk (state g last) → HasCleanDisk (state g old)
+  was_clean clean = let start : HasCleanDisk (state g begun) = omega (arith, first.clean) in subst (λ b. HasCleanDisk (state g b)) is start
 
-    was_open : HasCleanDisk (state g last) → IsTrue (state g old).is_open
-    was_open clean =
-        let early : HasCleanDisk (state g mid) = omega (arith, second.clean) in
-        subst (λ b. IsTrue (state g b).is_open) is (judged early inside).0.was_open
+  -- the answer is that of the history whose rows the connection showed
+  pub said_of : HasCleanDisk (state g last) → (h : History) → IsLegalWith before h → IsAt newest (state g old) h → IsAnswerOf h r it after (state g last).now
+  said_of clean h counts at = (answered clean).of_history h counts (holds h (was_open clean) (rows_now (state g old) h at (was_clean clean) (was_open clean)))
 
-    pub commits_one : HasCleanDisk (state g last) → CommitsOne (state g old) before r (state g last).now.trees
-    commits_one clean = (
-      was_open clean,
-      λ h counts rows.
-          let early : HasCleanDisk (state g mid) = omega (arith, second.clean) in
-          let it = holds h (was_open clean) rows in
-          let same = ((judged early inside).1 h counts.legal it).0.0 in
-          let says = says_new clean h counts it in
-          let made = (wrote_at clean).made h counts says (subst (λ db. HoldsRows newest db h) (sym same.now_is) it) in
-          subst (λ x. Rows newest (state g last).now.trees (after_verdict h x)) (sym says) (goes_out (state g last).now (with_deed h d) made),
-    )
+  commits_one : HasCleanDisk (state g last) → CommitsOne (state g old) before r (state g last).now.trees
+  commits_one clean = (was_open clean, λ h counts rows. goes_out (state g last).now (after_one h r) ((answered clean).of_history h counts (holds h (was_open clean) rows)).rows)
 
-    module _ (end : Held S) (third : Survives (state g last) (state g end) (λ db. db ≡ (state g last).now.trees)) where
-      -- over the whole call a crash leaves what it left before, or what the request commits
-      pub one_at_most : Survives (state g old) (state g end) (CommitsOne (state g old) before r)
-      one_at_most =
-          let inner = quiet_then (state g begun) (state g mid) (state g last) first second in
-          let outer = survives_begin g old (state g last) _ (subst (λ b. CommitsNothing (state g b) (state g last)) is inner) in
-          quiet_to (state g old) (state g last) (state g end) _ (CommitsOne (state g old) before r)
-          (λ clean db it. let early : HasCleanDisk (state g last) = omega (arith, third.clean) in subst (CommitsOne (state g old) before r) (sym it) (commits_one early)) outer third
+  module _ (end : Held S) (third : Survives (state g last) (state g end) (λ db. db ≡ (state g last).now.trees)) where
+    -- over the whole call a crash leaves what it left before, or what the request commits
+    pub one_at_most : Survives (state g old) (state g end) (CommitsOne (state g old) before r)
+    one_at_most =
+        let outer = survives_begin g old (state g last) _ (subst (λ b. CommitsNothing (state g b) (state g last)) is first) in
+        let given = λ (clean : HasCleanDisk (state g end)) (db : Trees) (same : db ≡ (state g last).now.trees).
+        let late : HasCleanDisk (state g last) = omega (arith, third.clean) in
+        subst (CommitsOne (state g old) before r) (sym same) (commits_one late) in
+        quiet_to (state g old) (state g last) (state g end) _ (CommitsOne (state g old) before r) given outer third
 
-      commits_new : (h : History) → IsLegalWith before h → IsAt newest (state g old) h → HasCleanDisk (state g end) → (db : Trees) → CommitsOne (state g old) before r db → verdict h r ≡ New d
-      commits_new h counts at clean db one =
-          let late : HasCleanDisk (state g last) = omega (arith, third.clean) in
-          let mids : HasCleanDisk (state g mid) = omega (arith, second.clean) in
-          let start : HasCleanDisk (state g begun) = omega (arith, first.clean) in
-          let start_old : HasCleanDisk (state g old) = subst (λ b. HasCleanDisk (state g b)) is start in
-          says_new late h counts (holds h one.0 (rows_now (state g old) h at start_old one.0))
+    -- so nothing was committed for a request that adds no deed
+    pub never_here : it.is_new ≡ true → (h : History) → IsLegalWith before h → IsAt newest (state g old) h → AddsNoDeed h r → CommitsNothing (state g old) (state g end)
+    never_here new h counts at none =
+        let never = λ (clean : HasCleanDisk (state g end)) (db : Trees) (one : CommitsOne (state g old) before r db).
+        let late : HasCleanDisk (state g last) = omega (arith, third.clean) in
+        let added = (said_of late h counts at).adds new in
+        none added.0 added.1 in
+        survives_weaker (state g old) (state g end) (CommitsOne (state g old) before r) (λ _. ⊥) never one_at_most
 
-      -- so nothing was committed for a request that adds no deed
-      pub never_here : (h : History) → IsLegalWith before h → IsAt newest (state g old) h → verdict h r ≢ New d → CommitsNothing (state g old) (state g end)
-      never_here h counts at not_new = survives_weaker (state g old) (state g end) (CommitsOne (state g old) before r) (λ _. ⊥) (λ clean db one. not_new (commits_new h counts at clean db one)) one_at_most
-
-      -- after a successful commit
-      pub answered : (settled : (s : S) (db : Trees) → IsTrue (g.view s).is_open → g.recovers s db → db ≡ (g.view s).committed)
-          → (HasCleanDisk (state g end) → Shows (state g last) (state g end) (state g last).now (state g last).now false)
-          → (reply : List ℕ) → reply ≡ act_text d.act
-          → HasCleanDisk (state g end) → (h : History) → IsLegalWith before h → IsAt newest (state g old) h
-          → (Done reply ≡ reply_to h r) × IsLegalWith after (after_one h r) × IsAt newest (state g end) (after_one h r)
-      answered settled went reply said clean h counts at =
-          let late : HasCleanDisk (state g last) = omega (arith, third.clean) in
-          let mids : HasCleanDisk (state g mid) = omega (arith, second.clean) in
-          let start : HasCleanDisk (state g begun) = omega (arith, first.clean) in
-          let start_old : HasCleanDisk (state g old) = subst (λ b. HasCleanDisk (state g b)) is start in
-          let one = commits_one late in
-          let shown = at.shown start_old one.0 in
-          let held : Rows newest (state g old).now.trees h = subst (λ db. Rows newest db.trees h) (sym shown.0) shown.1 in
-          let shows = went clean in
-          let begun_held = holds h one.0 held in
-          let says : verdict h r ≡ New d = says_new late h counts begun_held in
-          let kept : Rows newest (state g end).committed.trees (after_one h r) = subst (λ db. Rows newest db.trees (after_one h r)) (sym shows.committed_is) (one.1 h counts held) in (
-            ap Done said ∙ ap reply_of (sym says),
-            record {
-              legal = legal_after_one h r counts.legal;
-              totals_are = subst (λ x. AreTotalsOf (after_verdict h x) after) (sym says) ((wrote_at late).carried h counts says);
-            },
-            record {
-              shown = λ _ _. (shows.now_is ∙ sym shows.committed_is, kept);
-              left = λ _ db may. (after_one h r, refl, subst (λ x. Rows newest x (after_one h r)) (sym (settled end.store db shows.is_open may)) kept);
-            },
-          )
-
-  module _ (end : Held S) (ends : CommitsNothing (state g mid) (state g end)) where
-    -- the verdict is that of the history
-    pub said_of : HasCleanDisk (state g end) → (h : History) → IsLegalWith before h → IsAt newest (state g old) h → v ≡ verdict h r
-    said_of clean h counts at =
-        let mids : HasCleanDisk (state g mid) = omega (arith, ends.clean) in
-        let start : HasCleanDisk (state g begun) = omega (arith, first.clean) in
-        let start_old : HasCleanDisk (state g old) = subst (λ b. HasCleanDisk (state g b)) is start in
-        let open_before : IsTrue (state g old).is_open = subst (λ b. IsTrue (state g b).is_open) is (judged mids inside).0.was_open in
-        ((judged mids inside).1 h counts.legal (holds h open_before (rows_now (state g old) h at start_old open_before))).1 counts.totals_are
-
-    -- nothing was committed
-    pub none_at_all : CommitsNothing (state g old) (state g end)
-    none_at_all = commits_none g old begun mid end is first ends (λ _. ⊥)
-
-    -- the transaction was rolled back, after a verdict that changes nothing
-    pub as_before : (HasCleanDisk (state g end) → IsRolledBack (state g mid) (state g end)) → (reply : Reply) → reply_of v ≡ reply → ((h : History) → after_verdict h v ≡ h)
+    -- after a successful commit
+    pub committed : (settled : (s : S) (db : Trees) → IsTrue (g.view s).is_open → g.recovers s db → db ≡ (g.view s).committed)
+        → (HasCleanDisk (state g end) → Shows (state g last) (state g end) (state g last).now (state g last).now false)
         → HasCleanDisk (state g end) → (h : History) → IsLegalWith before h → IsAt newest (state g old) h
-        → (reply ≡ reply_to h r) × IsLegalWith before (after_one h r) × IsAt newest (state g end) (after_one h r)
-    as_before back reply is_reply same_history clean h counts at =
-        let mids : HasCleanDisk (state g mid) = omega (arith, ends.clean) in
-        let start : HasCleanDisk (state g begun) = omega (arith, first.clean) in
-        let start_old : HasCleanDisk (state g old) = subst (λ b. HasCleanDisk (state g b)) is start in
-        let same = (judged mids inside).0 in
-        let open_before : IsTrue (state g old).is_open = subst (λ b. IsTrue (state g b).is_open) is same.was_open in
-        let shown = at.shown start_old open_before in
-        let held : Rows newest (state g old).now.trees h = subst (λ db. Rows newest db.trees h) (sym shown.0) shown.1 in
-        let said = ((judged mids inside).1 h counts.legal (holds h open_before held)).1 counts.totals_are in
-        let history : after_one h r ≡ h = ap (after_verdict h) (sym said) ∙ same_history h in
+        → (it.reply ≡ reply_to h r) × IsLegalWith after (after_one h r) × IsAt newest (state g end) (after_one h r)
+    committed settled went clean h counts at =
+        let late : HasCleanDisk (state g last) = omega (arith, third.clean) in
+        let says = said_of late h counts at in
+        let shows = went clean in
+        let kept : Rows newest (state g end).committed.trees (after_one h r) = subst (λ db. Rows newest db.trees (after_one h r)) (sym shows.committed_is) (goes_out (state g last).now (after_one h r) says.rows) in (
+          says.reply,
+          says.counts,
+          record {
+            shown = λ _ _. (shows.now_is ∙ sym shows.committed_is, kept);
+            left = λ _ db may. (after_one h r, refl, subst (λ x. Rows newest x (after_one h r)) (sym (settled end.store db shows.is_open may)) kept);
+          },
+        )
+
+  module _ (end : Held S) (ends : CommitsNothing (state g last) (state g end)) where
+    -- the transaction was rolled back: nothing was committed
+    pub none_at_all : CommitsNothing (state g old) (state g end)
+    none_at_all = commits_none g old begun last end is first ends (λ _. ⊥)
+
+    -- an answer that adds no deed is given after it
+    pub as_before : it.is_new ≡ false → (HasCleanDisk (state g end) → IsRolledBack (state g last) (state g end))
+        → HasCleanDisk (state g end) → (h : History) → IsLegalWith before h → IsAt newest (state g old) h
+        → (it.reply ≡ reply_to h r) × IsLegalWith after (after_one h r) × IsAt newest (state g end) (after_one h r)
+    as_before quiet back clean h counts at =
+        let late : HasCleanDisk (state g last) = omega (arith, ends.clean) in
+        let says = said_of late h counts at in
+        let history : after_one h r ≡ h = stays h (verdict h r) (says.adds_none quiet) in
+        let shown = at.shown (was_clean late) (was_open late) in
         let undone = back clean in
-        let committed : (state g mid).committed ≡ (state g old).committed = subst (λ b. (state g mid).committed ≡ (state g b).committed) is same.committed_is in (
-          sym is_reply ∙ ap reply_of said,
-          subst (IsLegalWith before) (sym history) counts,
+        let same : (state g last).committed ≡ (state g old).committed = subst (λ b. (state g last).committed ≡ (state g b).committed) is (answered late).shown.committed_is in (
+          says.reply,
+          says.counts,
           subst (IsAt newest (state g end)) (sym history) (record {
-            shown = λ _ still. let it = undone.undone still in (it.0 ∙ sym it.1, subst (λ db. Rows newest db.trees h) (sym (it.1 ∙ committed)) shown.1);
-            left = λ _ db may. at.left start_old db (elim (none_at_all.crash clean db may) [ inl old_may ↦ old_may | inr none ↦ absurd none ]);
+            shown = λ _ still. let now = undone.undone still in (now.0 ∙ sym now.1, subst (λ db. Rows newest db.trees h) (sym (now.1 ∙ same)) shown.1);
+            left = λ _ db may. at.left (was_clean late) db (elim (none_at_all.crash clean db may) [ inl old_may ↦ old_may | inr none ↦ absurd none ]);
           }),
         )

@@ -1,7 +1,9 @@
 -- One request in one transaction.
-use Rattle.std.specs.Prelude.{◌≡◌, ◌≢◌, true, IsTrue}
+use Rattle.std.specs.Prelude.{◌≡◌, ◌≢◌, true, false, IsTrue}
 use Rattle.sqlite.specs.Tree.{Trees}
+use Rattle.sqlite.specs.Effect.{Database}
 use Rattle.sqlite.specs.State.{State, Shows}
+use Rattle.table_laws.specs.Inside.{GoesOn}
 use Rattle.registry_rules.specs.declared.totals.Totals.{Totals}
 use Rattle.registry_rules.specs.declared.order.Request.{Request}
 use Rattle.registry_rules.specs.declared.deed.Deed.{Deed}
@@ -9,8 +11,9 @@ use Rattle.registry_rules.specs.declared.verdict.Verdict.TheVariants.{New}
 use Rattle.registry_rules.specs.History.{History, with_deed}
 use Rattle.registry_rules.specs.TotalsOf.{AreTotalsOf}
 use Rattle.registry_rules.specs.Verdict.{verdict}
-use Rattle.registry_rules.specs.Run.{after_one}
+use Rattle.registry_rules.specs.Run.{after_one, reply_to}
 use Rattle.registry_tables.specs.Rows.{Rows, HoldsRows, newest}
+use Rattle.registry_store.specs.declared.attempt.Answer.{Answer}
 use Rattle.registry_store.specs.Promise.{IsLegalWith}
 
 -- what one request may commit
@@ -26,3 +29,17 @@ pub record Wrote (old new : State) (before after : Totals) (r : Request) (d : De
   pub shown : Shows old new new.now old.committed true
   pub made : (h : History) → IsLegalWith before h → verdict h r ≡ New d → HoldsRows newest old.now h → HoldsRows newest new.now (with_deed h d)
   pub carried : (h : History) → IsLegalWith before h → verdict h r ≡ New d → AreTotalsOf (with_deed h d) after
+
+-- The answer to a request is that of the history: it has its reply, and says whether the request adds a deed. These are the
+-- totals after the request, and the database holds the rows after it.
+pub record IsAnswerOf (h : History) (r : Request) (it : Answer) (after : Totals) (now : Database) : Type 0 where
+  pub reply : it.reply ≡ reply_to h r
+  pub adds : it.is_new ≡ true → (d : Deed) × (verdict h r ≡ New d)
+  pub adds_none : it.is_new ≡ false → AddsNoDeed h r
+  pub counts : IsLegalWith after (after_one h r)
+  pub rows : HoldsRows newest now (after_one h r)
+
+-- the transaction shows what the request makes of each history whose rows it showed, and nothing is committed
+pub record Answered (old new : State) (before after : Totals) (r : Request) (it : Answer) : Type 0 where
+  pub shown : GoesOn old new
+  pub of_history : (h : History) → IsLegalWith before h → HoldsRows newest old.now h → IsAnswerOf h r it after new.now

@@ -9,12 +9,12 @@ ghost use Rattle.registry_rules.specs.Verdict.{verdict, kept_under};
 ghost use Rattle.registry_rules.specs.declared.deed.Deed.{Deed};
 ghost use Rattle.registry_rules.specs.declared.verdict.Verdict.TheVariants as verdicts;
 ghost use Rattle.registry_rules.specs.Reply.{act_text};
-ghost use Rattle.registry_rules.specs.Run.{after_one, reply_to};
+ghost use Rattle.registry_rules.specs.Run.{Legal, after_one, reply_to};
 ghost use Rattle.registry_rules.specs.TotalsOf.{AreTotalsOf};
 ghost use Rattle.registry_tables.specs.Finds.{Finds, ReadsHistoryOpen};
 ghost use Rattle.registry_tables.specs.Rows.{HoldsRows, newest};
 ghost use Rattle.registry_store.specs.Promise.{IsLegalWith, IsAt};
-ghost use Rattle.registry_store.specs.Attempt.{CommitsOne, AddsNoDeed, Wrote};
+ghost use Rattle.registry_store.specs.Attempt.{CommitsOne, AddsNoDeed, Wrote, Answered};
 
 use registry_rules::{
     Deed, KeptReply, Reply, ReplyText, Request, Totals, Verdict, changes, judge, reply_text,
@@ -90,6 +90,50 @@ fn write<S: Alter>(
     keep_reply(alloc, tx, request, reply)
 }
 
+/// The reply to a request, and whether the request is accepted and new, so that there are rows to commit.
+#[derive(Drop)]
+struct Answer {
+    reply: Reply,
+    is_new: bool,
+}
+
+/// Judges a request in the transaction, and writes the rows of its deed and its reply if it is accepted and new. After a fault the
+/// totals may be those after the deed.
+fn act_on<S: Alter>(
+    alloc: Global,
+    tx: &mut Transaction<'_, S>,
+    totals: &mut Totals,
+    request: &Request,
+) -> Result<Answer, TableFault>
+    ensures same_reference { tx.new.conn.ghost_name ≡ tx.old.conn.ghost_name }
+    ensures ok { HasCleanDisk (state S.Store tx.new.conn.now) → IsTrue (state S.Store tx.old.conn.now).in_transaction
+        → IfOk result (Answered (state S.Store tx.old.conn.now) (state S.Store tx.new.conn.now) totals.old totals.new request.now) }
+    ensures foreign { HasCleanDisk (state S.Store tx.new.conn.now) → IsTrue (state S.Store tx.old.conn.now).in_transaction
+        → result ≡ Err TableFault.Foreign → IsTrue (state S.Store tx.old.conn.now).is_open × ((h : History) → Legal h → ¬ HoldsRows newest (state S.Store tx.old.conn.now).now h) }
+    ensures survives { CommitsNothing (state S.Store tx.old.conn.now) (state S.Store tx.new.conn.now) }
+{
+    match judged(alloc, tx, totals, request)? {
+        Verdict::Kept(text) => Ok(Answer {
+            reply: Reply::Done(text),
+            is_new: false,
+        }),
+        Verdict::Refused(refusal) => Ok(Answer {
+            reply: Reply::Refused(refusal),
+            is_new: false,
+        }),
+        Verdict::New(deed) => {
+            let Ok(reply) = reply_text(alloc, &deed) else {
+                return Err(TableFault::NoMemory);
+            };
+            write(alloc, tx, totals, request, &deed, &reply)?;
+            Ok(Answer {
+                reply: Reply::Done(reply),
+                is_new: true,
+            })
+        }
+    }
+}
+
 /// Acts on one request in one transaction: one commit if the request is accepted and new, otherwise
 /// none.
 pub(crate) fn attempt<S: Alter>(
@@ -111,17 +155,10 @@ pub(crate) fn attempt<S: Alter>(
     // For the proof only: the schema that the connection shows.
     let _schema = conn.schema();
     let mut tx = conn.transaction();
-    let verdict = judged(alloc, &mut tx, totals, request)?;
-    match verdict {
-        Verdict::Kept(text) => Ok(Reply::Done(text)),
-        Verdict::Refused(refusal) => Ok(Reply::Refused(refusal)),
-        Verdict::New(deed) => {
-            let Ok(reply) = reply_text(alloc, &deed) else {
-                return Err(TableFault::NoMemory);
-            };
-            write(alloc, &mut tx, totals, request, &deed, &reply)?;
-            commit(tx)?;
-            Ok(Reply::Done(reply))
-        }
+    let answer = act_on(alloc, &mut tx, totals, request)?;
+    if !answer.is_new {
+        return Ok(answer.reply);
     }
+    commit(tx)?;
+    Ok(answer.reply)
 }

@@ -116,11 +116,21 @@ fn orders_12_to_15_as_the_log_stops(rt: HostRuntime) -> Result<(), Fail> {
 }
 
 #[test]
-fn orders_from_15_as_the_log_stops(rt: HostRuntime) -> Result<(), Fail> {
+fn orders_15_to_18_as_the_log_stops(rt: HostRuntime) -> Result<(), Fail> {
+    stop_in(&rt, rt.alloc(), run(&EACH_KIND, 15, 18, LOG, 4))
+}
+
+#[test]
+fn orders_18_to_20_as_the_log_stops(rt: HostRuntime) -> Result<(), Fail> {
+    stop_in(&rt, rt.alloc(), run(&EACH_KIND, 18, 20, LOG, 4))
+}
+
+#[test]
+fn orders_from_20_as_the_log_stops(rt: HostRuntime) -> Result<(), Fail> {
     stop_in(
         &rt,
         rt.alloc(),
-        run(&EACH_KIND, 15, EACH_KIND.len(), LOG, 4),
+        run(&EACH_KIND, 20, EACH_KIND.len(), LOG, 4),
     )
 }
 

@@ -22,7 +22,7 @@ use Rattle.registry_rules.specs.Reply.{act_text}
 use Rattle.registry_rules.specs.Run.{Legal}
 use Rattle.registry_rules.specs.Texts.{AreSorted}
 use Rattle.registry_rules.specs.declared.deed.Act.{Act}
-use Rattle.registry_rules.specs.declared.deed.Act.TheVariants.{Enrolled, OrgAmended, Asked, Granted, Declined, Withdrawn, CardAmended, Returned, Reserved, Released, Imported, VendorAdded, LicenceAdded}
+use Rattle.registry_rules.specs.declared.deed.Act.TheVariants.{Enrolled, OrgAmended, Asked, Granted, Declined, Withdrawn, CardAmended, Returned, Reserved, Released, Imported, VendorAdded, LicenceAdded, HandedOver, CardCorrected, OrgCorrected, Revoked}
 use Rattle.registry_rules.specs.declared.deed.Deed.{Deed}
 use Rattle.registry_rules.proofs.NoRepeatLemmas.{licences_once}
 use Rattle.registry_rules.proofs.RunLemmas.{legal_licences}
@@ -74,6 +74,10 @@ one deed licence = go deed.act refl
     go (Released name) is = rw is refl
     go (Imported vid org fresh tally) is = rw is refl
     go (VendorAdded vendor name) is = rw is refl
+    go (HandedOver org) is = rw is refl
+    go (CardCorrected name card) is = rw is refl
+    go (OrgCorrected org) is = rw is refl
+    go (Revoked name) is = rw is refl
     go (LicenceAdded other) is = rw (is, above other) (ap (λ b. b || false) (same_turned other licence))
 
 any_answer : (licence : List ℕ) (xs : List (List ℕ)) (o : Option (List ℕ)) → list_any (bytes_eq licence) (with_answer xs o) ≡ (list_any (bytes_eq licence) xs || list_any (bytes_eq licence) (option_to_list o))

@@ -10,7 +10,7 @@ use Rattle.registry_old_rows.specs.Steps.{Second, IsHeld}
 use Rattle.registry_tables.specs.Rows.{newest}
 use Rattle.registry_tables.specs.Version.{SaysNewest}
 
--- a row of meta names this version
+-- some row of these values of `meta` names this version
 abbrev pub names_version : ℕ → Tables → Bool
 names_version version t = list_any (λ (meta : Meta). nat_eq meta.version version) t.metas
 
@@ -26,10 +26,10 @@ SaysFirst db = (vid : ℕ) (t : Tables) (numbers : List ℕ) → HoldsFirst vid 
 abbrev pub IsNamed : ℕ → Database → Type 0
 IsNamed version db = version_named db.schema.tables ≡ Some version
 
--- the tables have the names of an older schema, and meta says its version
+-- the tables have the names of an older schema, and, if each row has values of its table, `meta` says its version
 abbrev pub IsKnownOlder : Database → Type 0
 IsKnownOlder db = (IsNamed 1 db × SaysFirst db) ⊎ (IsNamed 2 db × SaysVersion 2 db)
 
--- the tables have the names of a schema, and meta says its version
+-- the tables have the names of a schema, and, if each row has values of its table, `meta` says its version
 abbrev pub IsKnown : Database → Type 0
 IsKnown db = IsKnownOlder db ⊎ (IsNamed newest db × SaysNewest db)

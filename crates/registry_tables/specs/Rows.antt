@@ -141,8 +141,9 @@ pub record HasSecond (vid : ℕ) (db : Trees) (t : Tables) : Type 0 where
 abbrev pub HasValues : ℕ → ℕ → Trees → Tables → Type 0
 HasValues version vid db t = ((version ≡ 1) × HasFirst vid db t) ⊎ (((version ≡ 2) × HasSecond vid db t) ⊎ ((version ≡ newest) × HasRows db t))
 
--- The trees have exactly the tables of this schema version, and hold exactly the rows of the history. Below the newest
--- version a store is still to be migrated; a history with a second vendor has no rows there.
+-- The trees have exactly the tables of this schema version, and hold the rows of the history and no others. The rowids are said
+-- of `kept` alone, and the order of the rows of `kept` and `fixed`; in the other tables any will do. Below the newest version a
+-- store is still to be migrated; a history with a second vendor has no rows there.
 unfoldable pub Rows : ℕ → Trees → History → Type 0
 Rows version db h = (t : Tables) × HasValues version h.founding.vendor db t × AreRecords h t × AreKeptReplies h t.kept
 

@@ -92,12 +92,16 @@ ask_plain (Some n) vendor = named_plain fields.Vendor vendor
 order_plain : (order : Order) → fields_have_float (order_fields order) ≡ false
 order_plain (orders.Enrol it) = refl
 order_plain (orders.AmendOrg it) = refl
+order_plain (orders.HandOver it) = refl
+order_plain (orders.CorrectOrg it) = refl
 order_plain (orders.Ask it) = ask_plain it.want it.vendor
 order_plain (orders.Grant it) = named_plain fields.Number it.number
 order_plain (orders.Decline it) = refl
 order_plain (orders.Withdraw it) = refl
 order_plain (orders.Amend it) = named_plain fields.Vendor it.vendor
 order_plain (orders.Return it) = named_plain fields.Vendor it.vendor
+order_plain (orders.Correct it) = named_plain fields.Vendor it.vendor
+order_plain (orders.Revoke it) = named_plain fields.Vendor it.vendor
 order_plain (orders.Reserve it) = named_plain fields.Vendor it.vendor
 order_plain (orders.Release it) = named_plain fields.Vendor it.vendor
 order_plain (orders.Import it) = or_is_false (has_float (array (items_of (map item_data it.items)))) (fields_have_float (digits_if_named fields.Vendor it.vendor)) (items_plain it.items) (named_plain fields.Vendor it.vendor)

@@ -55,12 +55,16 @@ petition_field petition = (fields.Petition, number (unsigned petition))
 abbrev pub order_fields : Order → List (Field × Data)
 order_fields (orders.Enrol it) = (fields.Order, string (codes "enrol")) ∷ (fields.Org, string it.org) ∷ (fields.Title, string it.title) ∷ (fields.Site, string it.site) ∷ []
 order_fields (orders.AmendOrg it) = (fields.Order, string (codes "amend-org")) ∷ (fields.Org, string it.org) ∷ (fields.Title, string it.title) ∷ (fields.Site, string it.site) ∷ []
+order_fields (orders.HandOver it) = (fields.Order, string (codes "hand-over")) ∷ (fields.Org, string it.org) ∷ (fields.Keeper, string it.keeper) ∷ []
+order_fields (orders.CorrectOrg it) = (fields.Order, string (codes "correct-org")) ∷ (fields.Org, string it.org) ∷ (fields.Title, string it.title) ∷ (fields.Site, string it.site) ∷ []
 order_fields (orders.Ask it) = (fields.Order, string (codes "ask")) ∷ (fields.Org, string it.org) ∷ (fields.Title, string it.title) ∷ fields_of_terms it.terms ++ digits_if_named fields.Number it.want ++ digits_if_named fields.Vendor it.vendor
 order_fields (orders.Grant it) = (fields.Order, string (codes "grant")) ∷ petition_field it.petition ∷ digits_if_named fields.Number it.number
 order_fields (orders.Decline it) = (fields.Order, string (codes "decline")) ∷ petition_field it.petition ∷ []
 order_fields (orders.Withdraw it) = (fields.Order, string (codes "withdraw")) ∷ petition_field it.petition ∷ []
 order_fields (orders.Amend it) = (fields.Order, string (codes "amend")) ∷ (fields.Number, string (digits_of it.number)) ∷ (fields.Title, string it.title) ∷ fields_of_terms it.terms ++ digits_if_named fields.Vendor it.vendor
 order_fields (orders.Return it) = (fields.Order, string (codes "return")) ∷ (fields.Number, string (digits_of it.number)) ∷ digits_if_named fields.Vendor it.vendor
+order_fields (orders.Correct it) = (fields.Order, string (codes "correct")) ∷ (fields.Number, string (digits_of it.number)) ∷ (fields.Title, string it.title) ∷ fields_of_terms it.terms ++ digits_if_named fields.Vendor it.vendor
+order_fields (orders.Revoke it) = (fields.Order, string (codes "revoke")) ∷ (fields.Number, string (digits_of it.number)) ∷ (fields.Reason, string it.reason) ∷ digits_if_named fields.Vendor it.vendor
 order_fields (orders.Reserve it) = (fields.Order, string (codes "reserve")) ∷ (fields.First, string (digits_of it.span.first)) ∷ (fields.Last, string (digits_of it.span.last)) ∷ digits_if_named fields.Vendor it.vendor
 order_fields (orders.Release it) = (fields.Order, string (codes "release")) ∷ (fields.First, string (digits_of it.span.first)) ∷ (fields.Last, string (digits_of it.span.last)) ∷ digits_if_named fields.Vendor it.vendor
 order_fields (orders.Import it) = (fields.Order, string (codes "import")) ∷ (fields.Org, string it.org) ∷ (fields.Items, array (items_of (map item_data it.items))) ∷ digits_if_named fields.Vendor it.vendor

@@ -13,8 +13,8 @@ ghost use Rattle.registry_wire.specs.Record.{title_data, item_data, digits_if_na
 use crate::Field;
 use crate::json_object::{Members, object_text, put, text_value};
 use registry_rules::{
-    Accepted, AddLicence, AddVendor, Amend, AmendOrg, Ask, Decline, Enrol, Grant, Import, Item,
-    Order, Release, Reserve, Return, Terms, Withdraw,
+    Accepted, AddLicence, AddVendor, Amend, AmendOrg, Ask, Correct, CorrectOrg, Decline, Enrol,
+    Grant, HandOver, Import, Item, Order, Release, Reserve, Return, Revoke, Terms, Withdraw,
 };
 use serde_json::{Map, Number, Value};
 use std::alloc::Global;
@@ -147,6 +147,23 @@ fn put_amend_org(alloc: Global, members: &mut Members, it: &AmendOrg) -> Result<
     put_text(alloc, members, Field::Site, it.site.as_str())
 }
 
+fn put_hand_over(alloc: Global, members: &mut Members, it: &HandOver) -> Result<(), NoMemory>
+    ensures { OnOk result (members_view members.new.entries ≡ with_fields (order_fields (orders.HandOver it.now)) (members_view members.old.entries)) }
+{
+    put_text(alloc, members, Field::Order, "hand-over")?;
+    put_text(alloc, members, Field::Org, it.org.as_str())?;
+    put_text(alloc, members, Field::Keeper, it.keeper.as_str())
+}
+
+fn put_correct_org(alloc: Global, members: &mut Members, it: &CorrectOrg) -> Result<(), NoMemory>
+    ensures { OnOk result (members_view members.new.entries ≡ with_fields (order_fields (orders.CorrectOrg it.now)) (members_view members.old.entries)) }
+{
+    put_text(alloc, members, Field::Order, "correct-org")?;
+    put_text(alloc, members, Field::Org, it.org.as_str())?;
+    put_text(alloc, members, Field::Title, it.title.as_str())?;
+    put_text(alloc, members, Field::Site, it.site.as_str())
+}
+
 #[tactic(auto, using(crate::proofs::FieldLemmas::with_fields_append))]
 fn put_ask(alloc: Global, members: &mut Members, it: &Ask) -> Result<(), NoMemory>
     ensures { OnOk result (members_view members.new.entries ≡ with_fields (order_fields (orders.Ask it.now)) (members_view members.old.entries)) }
@@ -199,6 +216,25 @@ fn put_return(alloc: Global, members: &mut Members, it: &Return) -> Result<(), N
     put_vendor_if_named(alloc, members, it.vendor)
 }
 
+fn put_correct(alloc: Global, members: &mut Members, it: &Correct) -> Result<(), NoMemory>
+    ensures { OnOk result (members_view members.new.entries ≡ with_fields (order_fields (orders.Correct it.now)) (members_view members.old.entries)) }
+{
+    put_text(alloc, members, Field::Order, "correct")?;
+    put_pid(alloc, members, Field::Number, it.number)?;
+    put_text(alloc, members, Field::Title, it.title.as_str())?;
+    put_terms(alloc, members, &it.terms)?;
+    put_vendor_if_named(alloc, members, it.vendor)
+}
+
+fn put_revoke(alloc: Global, members: &mut Members, it: &Revoke) -> Result<(), NoMemory>
+    ensures { OnOk result (members_view members.new.entries ≡ with_fields (order_fields (orders.Revoke it.now)) (members_view members.old.entries)) }
+{
+    put_text(alloc, members, Field::Order, "revoke")?;
+    put_pid(alloc, members, Field::Number, it.number)?;
+    put_text(alloc, members, Field::Reason, it.reason.as_str())?;
+    put_vendor_if_named(alloc, members, it.vendor)
+}
+
 fn put_reserve(alloc: Global, members: &mut Members, it: &Reserve) -> Result<(), NoMemory>
     ensures { OnOk result (members_view members.new.entries ≡ with_fields (order_fields (orders.Reserve it.now)) (members_view members.old.entries)) }
 {
@@ -247,12 +283,16 @@ fn put_order(alloc: Global, members: &mut Members, order: &Order) -> Result<(), 
     match order {
         Order::Enrol(it) => put_enrol(alloc, members, it),
         Order::AmendOrg(it) => put_amend_org(alloc, members, it),
+        Order::HandOver(it) => put_hand_over(alloc, members, it),
+        Order::CorrectOrg(it) => put_correct_org(alloc, members, it),
         Order::Ask(it) => put_ask(alloc, members, it),
         Order::Grant(it) => put_grant(alloc, members, it),
         Order::Decline(it) => put_decline(alloc, members, it),
         Order::Withdraw(it) => put_withdraw(alloc, members, it),
         Order::Amend(it) => put_amend(alloc, members, it),
         Order::Return(it) => put_return(alloc, members, it),
+        Order::Correct(it) => put_correct(alloc, members, it),
+        Order::Revoke(it) => put_revoke(alloc, members, it),
         Order::Reserve(it) => put_reserve(alloc, members, it),
         Order::Release(it) => put_release(alloc, members, it),
         Order::Import(it) => put_import(alloc, members, it),

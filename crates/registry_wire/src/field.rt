@@ -13,6 +13,8 @@ pub enum Field {
     Org,
     /// The title of a product or an organisation.
     Title,
+    /// The caller who becomes the keeper.
+    Keeper,
     /// The address of a site.
     Site,
     /// A product ID.
@@ -29,6 +31,8 @@ pub enum Field {
     Last,
     /// A vendor ID.
     Vendor,
+    /// Why a curator revokes a number.
+    Reason,
     /// The name of a vendor.
     Name,
     /// The items of an import, in a record.
@@ -51,6 +55,7 @@ impl Field {
             Field::Order => "order",
             Field::Org => "org",
             Field::Title => "title",
+            Field::Keeper => "keeper",
             Field::Site => "site",
             Field::Number => "number",
             Field::Licence => "licence",
@@ -59,6 +64,7 @@ impl Field {
             Field::First => "first",
             Field::Last => "last",
             Field::Vendor => "vendor",
+            Field::Reason => "reason",
             Field::Name => "name",
             Field::Items => "items",
             Field::Done => "done",

@@ -53,7 +53,7 @@ pub const TEN: [Step; 10] = [
 ];
 
 /// Each kind of order, accepted once, then a repeat, a refusal and another order under a kept key.
-pub const EACH_KIND: [Step; 20] = [
+pub const EACH_KIND: [Step; 24] = [
     ENROL,
     (
         r#"{"caller":"ann","key":"a2","order":"amend-org","org":"acme","title":"Acme","site":"http://acme.example/"}"#,
@@ -114,6 +114,22 @@ pub const EACH_KIND: [Step; 20] = [
     (
         r#"{"caller":"ann","key":"a9","order":"return","number":"0001","vendor":"cafe"}"#,
         r#"{"done":"returned cafe:0001"}"#,
+    ),
+    (
+        r#"{"caller":"ann","key":"b1","order":"hand-over","org":"acme","keeper":"ben"}"#,
+        r#"{"done":"handed acme over to ben"}"#,
+    ),
+    (
+        r#"{"caller":"cora","key":"d1","order":"correct-org","org":"acme","title":"Acme Works","site":"http://acme.example/"}"#,
+        r#"{"done":"corrected organisation acme"}"#,
+    ),
+    (
+        r#"{"caller":"cora","key":"d2","order":"correct","number":"2001","title":"Lamp 3","licence":"MIT","site":"https://acme.example/lamp","source":"https://acme.example/src"}"#,
+        r#"{"done":"corrected 2001"}"#,
+    ),
+    (
+        r#"{"caller":"cora","key":"d3","order":"revoke","number":"2001","reason":"No product uses it"}"#,
+        r#"{"done":"revoked 2001"}"#,
     ),
     (
         "c8 acme\n1209  x\n\t0000  Zero\n\t0001  Fixed\n\t2001  Taken\n\t0300  Probe\n\t0300  Again\n\t2000  Reserved\n\t0301\n",

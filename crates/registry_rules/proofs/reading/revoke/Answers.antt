@@ -1,0 +1,13 @@
+use Rattle.std.proofs.Common.{◌≡◌, ap, rules}
+use Rattle.registry_rules.specs.declared.form_fields.Unread.TheVariants.{NoMemory}
+use Rattle.registry_rules.specs.declared.order.Order.TheVariants as orders
+use Rattle.registry_rules.proofs.reading.revoke.Goals as goal
+
+pub returns-in_err-number : goal.returns-in_err-number
+returns-in_err-number c it valid none is =
+    let lost : c.in_err-number.field-0.0 ≡ NoMemory = c.in_err-number.ensures (it.number, (it.reason, it.vendor)) (valid.0, (valid.2, valid.1)) none is in
+    search rules
+
+pub returns : goal.returns
+returns c it valid none is =
+    ap (λ f. orders.Revoke (record { number = f.0; vendor = f.1.1; reason = f.1.0 })) (c.in_ok-number.ensures (it.number, (it.reason, it.vendor)) (valid.0, (valid.2, valid.1)) none is)
