@@ -204,6 +204,7 @@ one_of_query h (queries.Number (Some vid) pid) a b valid is_a is_b = is_a ∙ sy
 one_of_query h (queries.Org org) a b valid is_a is_b = is_a ∙ sym is_b
 one_of_query h (queries.Petition id) a b valid is_a is_b = is_a ∙ sym is_b
 one_of_query h queries.Founding a b valid is_a is_b = one_founding_response h a b is_a is_b
+one_of_query h queries.FirstFounding a b valid is_a is_b = is_a ∙ sym is_b
 one_of_query h (queries.History n) a b valid is_a is_b = is_a.2 ∙ (ap text_response (one_page_text (lines_after h n) is_a.0 is_b.0 (is_a.1 valid) (is_b.1 valid)) ∙ sym is_b.2)
 one_of_query h (queries.Report reports.Census) a b valid is_a is_b = is_a.2 ∙ (ap text_response (one_census_text h is_a.0 is_b.0 is_a.1 is_b.1) ∙ sym is_b.2)
 one_of_query h (queries.Report reports.Holders) a b valid is_a is_b = is_a.2 ∙ (ap text_response (one_holders_text h is_a.0 is_b.0 is_a.1 is_b.1) ∙ sym is_b.2)

@@ -1,5 +1,5 @@
 -- The response to a message over a history, and the history after it.
-use Rattle.std.specs.Prelude.{◌≡◌, ◌⊎◌, ⊤, true, Some, None, Result, Ok, Err, IfOk, IfErr, ℕ, List, if◌then◌else◌}
+use Rattle.std.specs.Prelude.{◌≡◌, ◌⊎◌, ⊤, true, Some, None, Result, Ok, Err, IfOk, IfErr, ℕ, List, [], ◌∷◌, ◌++◌, if◌then◌else◌}
 use Rattle.sqlite.specs.Store.{Ghosts}
 use Rattle.sqlite.specs.State.{HasCleanDisk}
 use Rattle.usbids_text.specs.Entries.{TopEntry}
@@ -33,6 +33,7 @@ use Rattle.registry_http.specs.declared.route.Query.{Query}
 use Rattle.registry_http.specs.declared.route.Query.TheVariants as queries
 use Rattle.registry_http.specs.declared.message.Message.{Message}
 use Rattle.registry_http.specs.declared.message.Message.TheVariants as messages
+use Rattle.registry_wire.specs.Record.{founding_line}
 use Rattle.registry_http.specs.Responses.{refusal_response, reply_response, text_response}
 use Rattle.registry_http.specs.Foundings.{founding_response}
 use Rattle.registry_http.specs.Resources.{number_response, org_response, petition_response}
@@ -62,6 +63,10 @@ pub record IsFoundingResponse (h : History) (response : Response) : Type 0 where
   pub all_vendors : IsVendorList h vendors
   pub response_is : response ≡ founding_response founding vendors
 
+-- the first line of the record: the founding with its first licences
+abbrev pub first_founding_response : Founding → Response
+first_founding_response founding = text_response (founding_line founding ++ 10 ∷ [])
+
 -- the response has the page of the record after the first n accepted requests, if they have valid fields
 abbrev pub IsHistoryResponse : History → ℕ → Response → Type 0
 IsHistoryResponse h n response = (text : List ℕ) × IsRecordPage h n text × (response ≡ text_response text)
@@ -76,6 +81,7 @@ IsQueryResponse h (queries.Org org) response = response ≡ org_response (org_of
 IsQueryResponse h (queries.Petition id) response = response ≡ petition_response h.founding.vendor id (petition_of h id)
 IsQueryResponse h (queries.Report kind) response = IsReportResponse h kind response
 IsQueryResponse h queries.Founding response = IsFoundingResponse h response
+IsQueryResponse h queries.FirstFounding response = response ≡ first_founding_response h.founding
 IsQueryResponse h (queries.History n) response = IsHistoryResponse h n response
 
 -- the response to what a message says, over a history
@@ -152,6 +158,7 @@ IsDetermined h (Ok (messages.Query (queries.Number vendor pid))) = Unit {0}
 IsDetermined h (Ok (messages.Query (queries.Org org))) = Unit {0}
 IsDetermined h (Ok (messages.Query (queries.Petition id))) = Unit {0}
 IsDetermined h (Ok (messages.Query queries.Founding)) = Unit {0}
+IsDetermined h (Ok (messages.Query queries.FirstFounding)) = Unit {0}
 IsDetermined h (Ok (messages.Query (queries.Report kind))) = Unit {0}
 
 -- a history has one response to what a message says

@@ -1,7 +1,8 @@
--- The last list and the last reports, which a server keeps.
+-- The last list, the last reports and the first founding, which a server keeps.
 --
--- A text that is cached is the response to its query over the history. A query keeps it, and an order or a fault drops it.
-use Rattle.std.specs.Prelude.{ℕ, List, Option, Some, None, Result, Ok, Err, IfSome}
+-- A text that is cached is the response to its query over the history. A query keeps it. A fault drops all; an order that is
+-- accepted drops all but the first founding, which no order changes; an order that is refused changes and drops nothing.
+use Rattle.std.specs.Prelude.{ℕ, List, Option, Some, None, Result, Ok, Err, IfSome, nat_eq, if◌then◌else◌}
 use Rattle.registry_rules.specs.History.{History}
 use Rattle.registry_http.specs.declared.response.Response.{Response}
 use Rattle.registry_http.specs.declared.refusal.HttpRefusal.{HttpRefusal}
@@ -19,7 +20,7 @@ use Rattle.registry_desk.specs.Server.{Visit, IsTurn}
 
 -- nothing is cached
 abbrev pub no_texts : Cache
-no_texts = record { list = None; census = None; holders = None; petitions = None; numbers = None; organisations = None }
+no_texts = record { list = None; census = None; holders = None; petitions = None; numbers = None; organisations = None; first_founding = None }
 
 -- the response that is cached for a query
 abbrev pub text_for : Cache → Query → Option Response
@@ -28,6 +29,7 @@ text_for cache (queries.Number vendor pid) = None
 text_for cache (queries.Org org) = None
 text_for cache (queries.Petition id) = None
 text_for cache queries.Founding = None
+text_for cache queries.FirstFounding = cache.first_founding
 text_for cache (queries.History n) = None
 text_for cache (queries.Report reports.Census) = cache.census
 text_for cache (queries.Report reports.Holders) = cache.holders
@@ -35,13 +37,14 @@ text_for cache (queries.Report reports.Petitions) = cache.petitions
 text_for cache (queries.Report reports.Numbers) = cache.numbers
 text_for cache (queries.Report reports.Organisations) = cache.organisations
 
--- this is cached for a query for the list or a report
+-- this is cached for a query for the list, a report or the first founding
 abbrev pub with_text : Cache → Query → Option Response → Cache
 with_text cache queries.List text = record cache { list = text }
 with_text cache (queries.Number vendor pid) text = cache
 with_text cache (queries.Org org) text = cache
 with_text cache (queries.Petition id) text = cache
 with_text cache queries.Founding text = cache
+with_text cache queries.FirstFounding text = record cache { first_founding = text }
 with_text cache (queries.History n) text = cache
 with_text cache (queries.Report reports.Census) text = record cache { census = text }
 with_text cache (queries.Report reports.Holders) text = record cache { holders = text }
@@ -55,12 +58,16 @@ cache_beside cache (Err refusal) = cache
 cache_beside cache (Ok (messages.Query query)) = with_text cache query None
 cache_beside cache (Ok (messages.Request request)) = cache
 
--- what is cached after a message: an order or a fault drops all
+-- what is cached after an order: with status 200 it was accepted, and drops all but the first founding
+abbrev pub after_order : Cache → Response → Cache
+after_order cache response = if nat_eq response.status 200 then record no_texts { first_founding = cache.first_founding } else cache
+
+-- what is cached after a message: a fault drops all
 abbrev pub cache_after : Cache → Result Response DeskFault → Result Message HttpRefusal → Cache
 cache_after cache (Err fault) said = no_texts
 cache_after cache (Ok response) (Err refusal) = cache
 cache_after cache (Ok response) (Ok (messages.Query query)) = with_text cache query (Some response)
-cache_after cache (Ok response) (Ok (messages.Request request)) = no_texts
+cache_after cache (Ok response) (Ok (messages.Request request)) = after_order cache response
 
 -- each text that is cached is the response to its query over the history
 pub record AreTextsOf (h : History) (cache : Cache) : Type 0 where
@@ -70,6 +77,7 @@ pub record AreTextsOf (h : History) (cache : Cache) : Type 0 where
   pub petitions : IfSome cache.petitions (IsQueryResponse h (queries.Report reports.Petitions))
   pub numbers : IfSome cache.numbers (IsQueryResponse h (queries.Report reports.Numbers))
   pub organisations : IfSome cache.organisations (IsQueryResponse h (queries.Report reports.Organisations))
+  pub first_founding : IfSome cache.first_founding (IsQueryResponse h queries.FirstFounding)
 
 -- the texts are of the history that these bytes lead to, whether their message was acted on or not
 abbrev pub AreTextsAfter : History → List ℕ → Cache → Type 0

@@ -121,7 +121,8 @@ pub record IsResponded (h : History) (visit : Visit) (next : History) : Type 0 w
   pub status_is : IsSentWith visit.end response.status
   pub next_is : next ≡ after_message h said
 
--- the text is refusal 31, with status 503 if all was written, and the next history is the one after the message or the same
+-- The text is refusal 31, with status 503 if all was written, and the next history is the one after the message or the same. That
+-- memory ran out is not said.
 pub record IsShort (h : History) (visit : Visit) (next : History) : Type 0 where
   pub text_is : visit.text ≡ response_bytes (unavailable_response (unavailable_of NoMemory))
   pub status_is : IsSentWith visit.end 503
@@ -193,8 +194,8 @@ EndsConnections fails middle new (Err (stops.Registry fault)) = new ≡ middle
 
 -- ---- crashes
 
--- The last of these connections got refusal 30 or 31 for a fault of the registry: this is the history after all messages
--- before it, or after its own.
+-- The text for the last of these connections is refusal 30 or 31, as for some fault of the registry: this is the history after all
+-- messages before it, or after its own. That the registry had that fault is not said.
 pub record IsServedInPart (h : History) (visits : List Visit) (x : History) : Type 0 where
   pub before : List Visit
   pub last : Visit

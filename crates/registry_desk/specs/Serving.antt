@@ -45,8 +45,8 @@ abbrev pub IsSaidPoisoned : Result Message HttpRefusal → Response → Option F
 IsSaidPoisoned (Ok message) response fault = IsTold (Err (Registry faults.Poisoned)) response fault
 IsSaidPoisoned (Err refusal) response fault = IsSent (refusal_response refusal) response fault ⊎ IsTold (Err NoMemory) response fault
 
--- The response is what is written for all bytes over a poisoned registry, or refusal 31 if memory ran out before the message
--- was read. Either way the fault is Poisoned, unless the message is refused by itself.
+-- The response is what is written for all bytes over a poisoned registry that was founded with some vendor, or refusal 31, whatever
+-- the message is. Either way the fault is Poisoned, unless the message is refused by itself.
 abbrev pub IsTurnedAway : List ℕ → Response → Option Fault → Type 0
 IsTurnedAway bytes response fault =
     ((response ≡ unavailable_response (unavailable_of NoMemory)) × (fault ≡ Some faults.Poisoned))

@@ -1,13 +1,14 @@
-//! The last list and the last reports, which a server gives again until an order comes.
+//! The last list, the last reports and the first founding, which a server gives again until they may
+//! have changed.
 
 ghost use Rattle.std.specs.Prelude.{◌≡◌, None, Some};
-ghost use Rattle.registry_desk.specs.Cache.{cache_after, no_texts, text_for, with_text};
+ghost use Rattle.registry_desk.specs.Cache.{after_order, cache_after, no_texts, text_for, with_text};
 
 use crate::fault::DeskFault;
 use registry_http::{HttpRefusal, Message, Query, Response};
 use registry_reports::ReportKind;
 
-/// The last list and the last report of each kind, each as its whole response.
+/// The last list, the last report of each kind and the first founding, each as its whole response.
 #[derive(Drop)]
 pub(crate) struct Cache {
     list: Option<Response>,
@@ -16,6 +17,7 @@ pub(crate) struct Cache {
     petitions: Option<Response>,
     numbers: Option<Response>,
     organisations: Option<Response>,
+    first_founding: Option<Response>,
 }
 
 impl Cache {
@@ -30,6 +32,7 @@ impl Cache {
             petitions: None,
             numbers: None,
             organisations: None,
+            first_founding: None,
         }
     }
 
@@ -45,6 +48,7 @@ impl Cache {
             Query::Report(ReportKind::Petitions) => self.petitions.take(),
             Query::Report(ReportKind::Numbers) => self.numbers.take(),
             Query::Report(ReportKind::Organisations) => self.organisations.take(),
+            Query::FirstFounding => self.first_founding.take(),
             Query::Number { .. }
             | Query::Org(_)
             | Query::Petition(_)
@@ -53,7 +57,7 @@ impl Cache {
         }
     }
 
-    /// Keeps the response to a query for the list or a report.
+    /// Keeps the response to a query for the list, a report or the first founding.
     fn put(&mut self, query: &Query, response: Response)
         ensures { self.new ≡ with_text self.old query.now (Some response) }
     {
@@ -64,6 +68,7 @@ impl Cache {
             Query::Report(ReportKind::Petitions) => self.petitions = Some(response),
             Query::Report(ReportKind::Numbers) => self.numbers = Some(response),
             Query::Report(ReportKind::Organisations) => self.organisations = Some(response),
+            Query::FirstFounding => self.first_founding = Some(response),
             Query::Number { .. }
             | Query::Org(_)
             | Query::Petition(_)
@@ -79,8 +84,20 @@ impl Cache {
         *self = Cache::new();
     }
 
-    /// Keeps what was done for a message, if it is the list or a report. An order and a fault drop
-    /// all texts.
+    /// Drops the texts that an order may have changed, by the response that it got. An accepted order
+    /// changes all but the first founding, and a refused one changes nothing.
+    fn drop_changed(&mut self, response: &Response)
+        ensures { self.new ≡ after_order self.old response.now }
+    {
+        if response.status.as_u16() == 200 {
+            let first_founding = self.first_founding.take();
+            self.clear();
+            self.first_founding = first_founding;
+        }
+    }
+
+    /// Keeps what was done for a message, if it is the list, a report or the first founding. An order
+    /// drops the texts that it may have changed, and a fault drops all.
     pub(crate) fn keep(
         &mut self,
         said: Result<Message, HttpRefusal>,
@@ -91,7 +108,7 @@ impl Cache {
         match done {
             Ok(response) => match said {
                 Ok(Message::Query(query)) => self.put(&query, response),
-                Ok(Message::Request(_)) => self.clear(),
+                Ok(Message::Request(_)) => self.drop_changed(&response),
                 Err(_) => {}
             },
             Err(_) => self.clear(),

@@ -10,7 +10,7 @@ ghost use Rattle.registry_rules.specs.declared.refusal.Refusal.TheVariants as ru
 ghost use Rattle.registry_http.specs.Responses.{reply_response, text_response};
 ghost use Rattle.registry_http.specs.Resources.{number_response, org_response, petition_response};
 ghost use Rattle.registry_desk.specs.declared.fault.DeskFault.TheVariants as desk_faults;
-ghost use Rattle.registry_desk.specs.Acting.{IsAsked, IsFoundingResponse, IsHistoryResponse, IsListResponse, IsQueryResponse, IsReportResponse, vendor_number_at};
+ghost use Rattle.registry_desk.specs.Acting.{IsAsked, IsFoundingResponse, IsHistoryResponse, IsListResponse, IsQueryResponse, IsReportResponse, first_founding_response, vendor_number_at};
 
 use crate::fault::{DeskFault, failed_by};
 use byte_streams::Outlet;
@@ -19,9 +19,10 @@ use registry_http::{
     reply_response, text_response,
 };
 use registry_reports::ReportKind;
-use registry_rules::{Refusal, Reply};
+use registry_rules::{Founding, Refusal, Reply};
 use registry_store::Registry;
 use registry_views::{document_of, record_page, report_of};
+use registry_wire::founding_line;
 use sqlite::Alter;
 use std::alloc::Global;
 use usbids_text::{Document, WriteFault, write};
@@ -138,6 +139,31 @@ fn ask_founding<S: Alter>(alloc: Global, registry: &mut Registry<S>) -> Result<R
     Ok(founding_response(alloc, founding, vendors.as_slice())?)
 }
 
+/// Returns the response with the line of a founding.
+fn first_founding_response(alloc: Global, founding: &Founding) -> Result<Response, DeskFault>
+    ensures ok { IfOk result (λ response. response ≡ first_founding_response founding.now) }
+    ensures err { IfErr result (λ fault. fault ≡ desk_faults.NoMemory) }
+{
+    let mut line = founding_line(alloc, founding)?;
+    match line.push_str("\n") {
+        Ok(()) => Ok(text_response(line.into_bytes())),
+        Err(_) => Err(DeskFault::NoMemory),
+    }
+}
+
+/// Returns the response with the first line of the record: the founding, with its first licences.
+fn ask_first_founding<S: Alter>(
+    alloc: Global,
+    registry: &mut Registry<S>,
+) -> Result<Response, DeskFault>
+    ensures { IsAsked registry.old registry.new result (λ h response. response ≡ first_founding_response h.founding) }
+{
+    match registry.first_founding() {
+        Ok(founding) => first_founding_response(alloc, &founding),
+        Err(fault) => Err(failed_by(fault)),
+    }
+}
+
 /// Returns the response with a page of the record, after the first `n` accepted requests.
 fn ask_history<S: Alter>(
     alloc: Global,
@@ -172,6 +198,7 @@ pub(crate) fn ask<S: Alter>(
         Query::Org(slug) => ask_org(alloc, registry, slug),
         Query::Petition(id) => ask_petition(alloc, registry, *id),
         Query::Founding => ask_founding(alloc, registry),
+        Query::FirstFounding => ask_first_founding(alloc, registry),
         Query::History(n) => ask_history(alloc, registry, *n),
         Query::Report(kind) => ask_report(alloc, registry, *kind),
     }

@@ -165,8 +165,9 @@ pub fn serve_next<C: Connections, S: Alter>(
 /// fault at the last connection, perhaps after all but that one. So it holds each message whose
 /// response was written whole with a status other than 503.
 ///
-/// The last list and the last report of each kind are cached in memory, and written again until an
-/// order, a fault or a lack of memory comes.
+/// The last list, the last report of each kind and the first founding are cached in memory, and
+/// written again. A fault or a lack of memory drops all of them, and an order with status 200 all but
+/// the first founding.
 ///
 /// If `act` or a query finds the rows of no history, and no call found them before, the message gets
 /// refusal 30 and no response of its own, and ends the server, whatever the store holds.

@@ -16,6 +16,8 @@ pub enum Query {
     Petition(u32),
     /// The founding, with the licences and the vendors of now.
     Founding,
+    /// The founding, with its first licences, as the record has it.
+    FirstFounding,
     /// A page of the history: its accepted requests after this many.
     History(u64),
     /// A report on the whole registry.

@@ -21,6 +21,7 @@ use usbnum_core::NoMemory;
 pub(crate) enum Template {
     Commands,
     Founding,
+    FirstFounding,
     History,
     Imports,
     VendorImports,
@@ -50,6 +51,7 @@ fn templates(alloc: Global) -> Result<Router<Template>, NoMemory>
     let mut router = Router::new(alloc);
     add(&mut router, "/commands", Template::Commands)?;
     add(&mut router, "/founding", Template::Founding)?;
+    add(&mut router, "/history/founding", Template::FirstFounding)?;
     add(&mut router, "/history/{n}", Template::History)?;
     add(&mut router, "/imports/{org}", Template::Imports)?;
     add(&mut router, "/imports/{org}/{vid}", Template::VendorImports)?;
@@ -97,6 +99,7 @@ fn route_for(
     match template {
         Template::Commands => Ok(Some(Route::Post(Endpoint::Commands))),
         Template::Founding => Ok(Some(Route::Get(Query::Founding))),
+        Template::FirstFounding => Ok(Some(Route::Get(Query::FirstFounding))),
         Template::History => Ok(history_route(one)),
         Template::Imports => import_route(alloc, one),
         Template::VendorImports => vendor_import_route(alloc, one, two),

@@ -34,6 +34,7 @@ fn query_text(alloc: Global, query: &Query) -> Result<Vec<u8>, RowFault> {
         Query::Org(org) => Ok(format!(in alloc; "organisation {org}")?.into_bytes()),
         Query::Petition(id) => Ok(format!(in alloc; "petition {id}")?.into_bytes()),
         Query::Founding => text_of(alloc, "founding"),
+        Query::FirstFounding => text_of(alloc, "first founding"),
         Query::History(n) => Ok(format!(in alloc; "history {n}")?.into_bytes()),
         Query::Report(report) => report_text(alloc, *report),
     }

@@ -56,7 +56,8 @@ ComesBefore n pair = (pair.0.vid < n.vid) ⊎ ((pair.0.vid ≡ n.vid) × (pair.0
 abbrev pub ArePassed : List (Number × Entry) → Number → ℕ → Type 0
 ArePassed numbers n i = AllWithin (ComesBefore n) numbers 0 i
 
--- the index of the first entry that does not come before the number, or the length
+-- All entries below this index come before the number, and the one at the index, if there is one, does not. For numbers that ascend
+-- it is the index of the first such entry, or the length.
 pub record IsPlace (numbers : List (Number × Entry)) (n : Number) (i : ℕ) : Type 0 where
   pub passed : ArePassed numbers n i
   pub stands : (d : Number × Entry) → i < length numbers → ¬ ComesBefore n (slice_index_or numbers i d)

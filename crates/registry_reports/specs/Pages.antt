@@ -1,5 +1,5 @@
 -- A page of lines.
-use Rattle.std.specs.Prelude.{◌≡◌, ◌≢◌, ◌⊎◌, ℕ, ◌<◌, ◌≤◌, List, [], ◌∷◌, ◌++◌, length, take}
+use Rattle.std.specs.Prelude.{◌≡◌, ◌≢◌, ◌⊎◌, ℕ, ◌<◌, ◌≤◌, ◌-◌, ◌/◌, nat_lt, min, List, [], ◌∷◌, ◌++◌, length, take, if◌then◌else◌}
 use Rattle.std.specs.String.{string_bytes}
 use Rattle.registry_reports.specs.declared.page.Page.{Page}
 
@@ -27,3 +27,8 @@ HasLines page lines = (string_bytes page.text ≡ lines_text lines) × (page.cou
 -- the line may follow these lines on a page: it is the first, or all of them fit
 abbrev pub MayFollow : List (List ℕ) → List ℕ → Type 0
 MayFollow lines line = (lines ≡ []) ⊎ FitPage (lines ++ line ∷ [])
+
+-- how many lines are wanted next for a page with so many lines and bytes: none if no line may follow; one if it has none, or
+-- if its lines have 4,096 bytes or more on average; else as many as may follow, at most 4
+abbrev pub wanted_lines : ℕ → ℕ → ℕ
+wanted_lines count bytes = if nat_lt bytes 1048576 then (if nat_lt (bytes / 4096) count then min 4 (1000 - count) else 1) else 0

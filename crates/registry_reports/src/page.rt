@@ -1,8 +1,8 @@
 //! A page of lines: as many as fit.
-ghost use Rattle.std.specs.Prelude.{◌≡◌, ◌<◌, ◌++◌, ◌∷◌, [], ◌↔◌, ℕ, List, IsTrue, IfOk};
+ghost use Rattle.std.specs.Prelude.{◌≡◌, ◌<◌, ◌++◌, ◌∷◌, [], ◌↔◌, ℕ, List, length, IsTrue, IfOk};
 ghost use Rattle.std.specs.Bool.{MatchBool};
 ghost use Rattle.std.specs.String.{string_bytes};
-ghost use Rattle.registry_reports.specs.Pages.{HasLines, MayFollow};
+ghost use Rattle.registry_reports.specs.Pages.{HasLines, MayFollow, wanted_lines};
 
 use std::alloc::Global;
 use usbnum_core::NoMemory;
@@ -12,6 +12,12 @@ const MOST_LINES: usize = 1000;
 
 /// The most bytes of a page of more than one line, line feeds included.
 const MOST_BYTES: usize = 1_048_576;
+
+/// The most lines that a page wants at once.
+const MOST_WANTED: usize = 4;
+
+/// The bytes of a line, on average, from which a page wants one line at once.
+const LONG_LINE: usize = 4096;
 
 /// The lines of a page so far, each ended by a line feed.
 #[derive(Drop)]
@@ -39,6 +45,23 @@ impl Page {
     {
         self.count == 0
             || self.count < MOST_LINES && line.len() < MOST_BYTES.saturating_sub(self.text.len())
+    }
+
+    /// Returns how many lines to fetch next for the page: none if no line may follow. The last line
+    /// that is fetched may not fit, and any line may be long: so it is one as long as the page has no
+    /// line, or its lines have 4,096 bytes or more on average, and else at most 4.
+    pub fn wanted(&self) -> u32
+        ensures { result ≡ wanted_lines self.now.count (length (string_bytes self.now.text)) }
+    {
+        if self.text.len() < MOST_BYTES {
+            if self.text.len() / LONG_LINE < self.count {
+                MOST_WANTED.min(MOST_LINES.saturating_sub(self.count)) as u32
+            } else {
+                1
+            }
+        } else {
+            0
+        }
     }
 
     /// Appends a line and a line feed if the line is the first, or if the page then has at most

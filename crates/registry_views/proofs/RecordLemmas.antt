@@ -4,7 +4,8 @@ use Rattle.std.specs.Prelude.{MatchOption}
 use Rattle.std.specs.Bool.{MatchBool}
 use Rattle.std.specs.String.{string_bytes}
 use Rattle.std.proofs.Math.Seq.{take-suc, take-length}
-use Rattle.std.proofs.lemmas.List.{take-map, drop-map, length-append, length-take, length-take-le, length-drop, length-map, get_or-map, get_or-take, get_or-drop}
+use Rattle.std.proofs.lemmas.List.{take-map, drop-map, length-append, length-take, length-take-le, length-drop, length-map, get_or-map, get_or-take, get_or-drop, get_or_default}
+use Rattle.std.proofs.lemmas.Bool.{cases_lt}
 use Rattle.registry_rules.specs.Accepted.{accepted_of}
 use Rattle.registry_rules.specs.History.{History}
 use Rattle.registry_rules.specs.declared.accepted.Accepted.{Accepted}
@@ -103,33 +104,40 @@ ended_whole lines page begun all =
       text_is = begun.has.0 ∙ ap lines_text front;
     }
 
+-- or if no line may follow
+pub ended_full : (lines : List (List ℕ)) (page : Page) → IsBegun lines page → ((line : List ℕ) → MayFollow (take page.count lines) line → ⊥) → IsPageText lines (string_bytes page.text)
+ended_full lines page begun never = elim (cases_lt page.count (length lines)) [
+  | inl less ↦ ended_before lines page page (get_or lines page.count []) less (get_or_default lines page.count [] (get_or lines page.count []) less) begun (begun.has, never (get_or lines page.count []))
+  | inr all ↦ ended_whole lines page begun all
+]
+
 -- ---- a piece
 
 -- the line of the request at an index of the piece
-pub piece_at : (lines : List (List ℕ)) (start : Page) (accepted : List Accepted) (i : ℕ) (one : Accepted) → AreNext lines start accepted → i < length accepted → one ≡ get_or accepted i one
+pub piece_at : (most : ℕ) (lines : List (List ℕ)) (start : Page) (accepted : List Accepted) (i : ℕ) (one : Accepted) → AreNext most lines start accepted → i < length accepted → one ≡ get_or accepted i one
     → (start.count + i < length lines) × (accepted_line one ≡ get_or lines (start.count + i) (accepted_line one))
-piece_at lines start accepted i one next within is =
-    let size : length accepted ≡ min 64 (length lines - start.count) = sym (length-map accepted accepted_line) ∙ (ap length next ∙ (length-take 64 (drop start.count lines) ∙ ap (min 64) (length-drop start.count lines))) in
+piece_at most lines start accepted i one next within is =
+    let size : length accepted ≡ min most (length lines - start.count) = sym (length-map accepted accepted_line) ∙ (ap length next ∙ (length-take most (drop start.count lines) ∙ ap (min most) (length-drop start.count lines))) in
     let low : start.count + i < length lines = omega (arith, size, within) in (
       low,
       ap accepted_line is ∙ (sym (get_or-map accepted_line accepted i one (accepted_line one) within) ∙ (ap (λ (l : List (List ℕ)). get_or l i (accepted_line one)) next
-          ∙ (get_or-take 64 (drop start.count lines) i (accepted_line one) (omega (arith, size, within)) ∙ get_or-drop start.count lines i (accepted_line one)))),
+          ∙ (get_or-take most (drop start.count lines) i (accepted_line one) (omega (arith, size, within)) ∙ get_or-drop start.count lines i (accepted_line one)))),
     )
 
--- fewer than 64 requests are the last ones
-pub last_piece : (lines : List (List ℕ)) (start new : Page) (accepted : List Accepted) → AreNext lines start accepted → IsBegun lines start → new.count ≡ start.count + length accepted → length accepted < 64 → length lines ≤ new.count
-last_piece lines start new accepted next begun count few =
-    let size : length accepted ≡ min 64 (length lines - start.count) = sym (length-map accepted accepted_line) ∙ (ap length next ∙ (length-take 64 (drop start.count lines) ∙ ap (min 64) (length-drop start.count lines))) in
+-- fewer requests than were asked for are the last ones
+pub last_piece : (most : ℕ) (lines : List (List ℕ)) (start new : Page) (accepted : List Accepted) → AreNext most lines start accepted → IsBegun lines start → new.count ≡ start.count + length accepted → length accepted < most → length lines ≤ new.count
+last_piece most lines start new accepted next begun count few =
+    let size : length accepted ≡ min most (length lines - start.count) = sym (length-map accepted accepted_line) ∙ (ap length next ∙ (length-take most (drop start.count lines) ∙ ap (min most) (length-drop start.count lines))) in
     let within = begun.within in
     omega (arith, size, within, count, few)
 
 -- the requests at a place of the record are the next ones
-pub next_at : (h : History) (after place : ℕ) (page : Page) (accepted : List Accepted) → place ≡ after + page.count → accepted ≡ take 64 (drop place (accepted_of h.deeds)) → AreNext (lines_after h after) page accepted
-next_at h after place page accepted is read =
+pub next_at : (most : ℕ) (h : History) (after place : ℕ) (page : Page) (accepted : List Accepted) → place ≡ after + page.count → accepted ≡ take most (drop place (accepted_of h.deeds)) → AreNext most (lines_after h after) page accepted
+next_at most h after place page accepted is read =
     let all = accepted_of h.deeds in
-    ap (map accepted_line) (read ∙ ap (λ (n : ℕ). take 64 (drop n all)) is)
-    ∙ (sym (take-map accepted_line 64 (drop (after + page.count) all))
-    ∙ ap (take 64) (sym (drop-map accepted_line (after + page.count) all) ∙ (sym (drop_drop after page.count (map accepted_line all)) ∙ ap (drop page.count) (drop-map accepted_line after all))))
+    ap (map accepted_line) (read ∙ ap (λ (n : ℕ). take most (drop n all)) is)
+    ∙ (sym (take-map accepted_line most (drop (after + page.count) all))
+    ∙ ap (take most) (sym (drop-map accepted_line (after + page.count) all) ∙ (sym (drop_drop after page.count (map accepted_line all)) ∙ ap (drop page.count) (drop-map accepted_line after all))))
 
 -- a page without lines has begun
 pub begun_empty : (lines : List (List ℕ)) (page : Page) → HasLines page [] → IsBegun lines page
@@ -140,7 +148,7 @@ begun_empty lines page none = let count : page.count ≡ 0 = none.1 in record {
 }
 
 -- a page has no more than 1,000 lines
-pub never_full : (lines : List (List ℕ)) (page : Page) → IsBegun lines page → page.count ≡ 1024 → ⊥
+pub never_full : (lines : List (List ℕ)) (page : Page) → IsBegun lines page → 1001 ≤ page.count → ⊥
 never_full lines page begun count =
     let fit = (begun.fits (omega (arith, count))).count in
     let within = begun.within in
@@ -160,10 +168,10 @@ abbrev Pushes : Page → Page → List (List ℕ) → List ℕ → Bool → Type
 Pushes page new lines line pushed = HasLines page lines → MatchBool pushed (HasLines new (lines ++ line ∷ []) × MayFollow lines line) (HasLines new lines × (MayFollow lines line → ⊥))
 
 -- one request more of a piece, from the page at its start
-pub piece_more : (lines : List (List ℕ)) (start page new : Page) (accepted : List Accepted) (i : ℕ) (one : Accepted) (pushed : Bool) → IsBegun lines page × (page.count ≡ start.count + i) → AreNext lines start accepted → i < length accepted
+pub piece_more : (most : ℕ) (lines : List (List ℕ)) (start page new : Page) (accepted : List Accepted) (i : ℕ) (one : Accepted) (pushed : Bool) → IsBegun lines page × (page.count ≡ start.count + i) → AreNext most lines start accepted → i < length accepted
     → one ≡ get_or accepted i one → pushed ≡ true → Pushes page new (take page.count lines) (accepted_line one) pushed → IsBegun lines new × (new.count ≡ start.count + (i + 1))
-piece_more lines start page new accepted i one pushed so_far next within is did put =
-    let at = piece_at lines start accepted i one next within is in
+piece_more most lines start page new accepted i one pushed so_far next within is did put =
+    let at = piece_at most lines start accepted i one next within is in
     let low = at.0 in
     let count = so_far.1 in
     let line : accepted_line one ≡ get_or lines page.count (accepted_line one) = at.1 ∙ ap (λ (n : ℕ). get_or lines n (accepted_line one)) (sym count) in
@@ -171,31 +179,31 @@ piece_more lines start page new accepted i one pushed so_far next within is did 
     let one_more = more.1 in
     (more.0, omega (arith, one_more, count))
 
-pub piece_ended : (lines : List (List ℕ)) (start page new : Page) (accepted : List Accepted) (i : ℕ) (one : Accepted) (pushed : Bool) → IsBegun lines page × (page.count ≡ start.count + i) → AreNext lines start accepted → i < length accepted
+pub piece_ended : (most : ℕ) (lines : List (List ℕ)) (start page new : Page) (accepted : List Accepted) (i : ℕ) (one : Accepted) (pushed : Bool) → IsBegun lines page × (page.count ≡ start.count + i) → AreNext most lines start accepted → i < length accepted
     → one ≡ get_or accepted i one → pushed ≡ false → Pushes page new (take page.count lines) (accepted_line one) pushed → IsPageText lines (string_bytes new.text)
-piece_ended lines start page new accepted i one pushed so_far next within is not_put put =
-    let at = piece_at lines start accepted i one next within is in
+piece_ended most lines start page new accepted i one pushed so_far next within is not_put put =
+    let at = piece_at most lines start accepted i one next within is in
     let low = at.0 in
     let count = so_far.1 in
     let line : accepted_line one ≡ get_or lines page.count (accepted_line one) = at.1 ∙ ap (λ (n : ℕ). get_or lines n (accepted_line one)) (sym count) in
     ended_before lines page new (accepted_line one) (omega (arith, low, count)) line so_far.0 (refused pushed _ _ not_put (put so_far.0.has))
 
 -- what a piece leaves, by the lines that were put and by the place after them
-pub piece_read : (h : History) (after place : ℕ) (page new : Page) (accepted : List Accepted) (all : Bool) (next : Option ℕ) → place ≡ after + page.count → IsBegun (lines_after h after) page
-    → accepted ≡ take 64 (drop place (accepted_of h.deeds))
-    → (AreNext (lines_after h after) page accepted → MatchBool all (IsBegun (lines_after h after) new × (new.count ≡ page.count + length accepted)) (IsPageText (lines_after h after) (string_bytes new.text)))
-    → MatchOption next ((all ≡ false) ⊎ (length accepted < 64)) (λ n. (all ≡ true) × (64 ≤ length accepted) × (n ≡ place + 64))
-    → MatchOption next (IsPageText (lines_after h after) (string_bytes new.text)) (λ n. IsBegun (lines_after h after) new × (new.count ≡ page.count + 64) × (n ≡ place + 64))
-piece_read h after place page new accepted true None is begun read put (inl never) = absurd cc
-piece_read h after place page new accepted true None is begun read put (inr few) =
-    let next = next_at h after place page accepted is read in
+pub piece_read : (most : ℕ) (h : History) (after place : ℕ) (page new : Page) (accepted : List Accepted) (all : Bool) (next : Option ℕ) → place ≡ after + page.count → IsBegun (lines_after h after) page
+    → accepted ≡ take most (drop place (accepted_of h.deeds))
+    → (AreNext most (lines_after h after) page accepted → MatchBool all (IsBegun (lines_after h after) new × (new.count ≡ page.count + length accepted)) (IsPageText (lines_after h after) (string_bytes new.text)))
+    → MatchOption next ((all ≡ false) ⊎ (length accepted < most)) (λ n. (all ≡ true) × (most ≤ length accepted) × (n ≡ place + most))
+    → MatchOption next (IsPageText (lines_after h after) (string_bytes new.text)) (λ n. IsBegun (lines_after h after) new × (new.count ≡ page.count + most) × (n ≡ place + most))
+piece_read most h after place page new accepted true None is begun read put (inl never) = absurd cc
+piece_read most h after place page new accepted true None is begun read put (inr few) =
+    let next = next_at most h after place page accepted is read in
     let all = put next in
-    ended_whole (lines_after h after) new all.0 (last_piece (lines_after h after) page new accepted next begun all.1 few)
-piece_read h after place page new accepted false None is begun read put ends = put (next_at h after place page accepted is read)
-piece_read h after place page new accepted true (Some n) is begun read put ends =
-    let all = put (next_at h after place page accepted is read) in
+    ended_whole (lines_after h after) new all.0 (last_piece most (lines_after h after) page new accepted next begun all.1 few)
+piece_read most h after place page new accepted false None is begun read put ends = put (next_at most h after place page accepted is read)
+piece_read most h after place page new accepted true (Some n) is begun read put ends =
+    let all = put (next_at most h after place page accepted is read) in
     let count = all.1 in
     let many = ends.1 in
-    let size : length accepted ≡ min 64 (length (drop place (accepted_of h.deeds))) = ap length read ∙ length-take 64 (drop place (accepted_of h.deeds)) in
+    let size : length accepted ≡ min most (length (drop place (accepted_of h.deeds))) = ap length read ∙ length-take most (drop place (accepted_of h.deeds)) in
     (all.0, omega (arith, count, many, size), ends.2)
-piece_read h after place page new accepted false (Some n) is begun read put ends = let never = ends.0 in absurd cc
+piece_read most h after place page new accepted false (Some n) is begun read put ends = let never = ends.0 in absurd cc

@@ -21,12 +21,12 @@ pub record IsPageText (lines : List (List ℕ)) (text : List ℕ) : Type 0 where
 abbrev pub IsRecordPage : History → ℕ → List ℕ → Type 0
 IsRecordPage h after text = AreValid h.deeds → IsPageText (lines_after h after) text
 
--- the page has the first of these lines, and room for more
+-- the page has the first of these lines, and those fit on it if they are more than one
 pub record IsBegun (lines : List (List ℕ)) (page : Page) : Type 0 where
   pub within : page.count ≤ length lines
   pub has : HasLines page (take page.count lines)
   pub fits : 1 < page.count → FitPage (take page.count lines)
 
--- the requests are those of the next lines, at most 64
-abbrev pub AreNext : List (List ℕ) → Page → List Accepted → Type 0
-AreNext lines page accepted = map accepted_line accepted ≡ take 64 (drop page.count lines)
+-- the requests are those of the next lines, at most so many
+abbrev pub AreNext : ℕ → List (List ℕ) → Page → List Accepted → Type 0
+AreNext most lines page accepted = map accepted_line accepted ≡ take most (drop page.count lines)

@@ -27,6 +27,6 @@ returns g c = made c.in_ok-accepted.ensures.query (λ h stands read valid after 
     let all = c.in_ok-all.all in
     let next = c.in_ok-next_place.field-0 in
     let size : c.len.result ≡ length accepted = search rules in
-    let ends : MatchOption next ((all ≡ false) ⊎ (length accepted < 64)) (λ n. (all ≡ true) × (64 ≤ length accepted) × (n ≡ c.args.place + 64)) =
-    subst (λ (m : ℕ). MatchOption next ((all ≡ false) ⊎ (m < 64)) (λ n. (all ≡ true) × (64 ≤ m) × (n ≡ c.args.place + 64))) size c.in_ok-next_place.ensures in
-    piece_read h after c.args.place c.args.page.now c.put_lines.new.page accepted all next is begun (read valid) (rw (← c.as_slice.ensures.value) (c.in_ok-all.ensures (lines_after h after) begun)) ends)
+    let ends : MatchOption next ((all ≡ false) ⊎ (length accepted < c.args.most)) (λ n. (all ≡ true) × (c.args.most ≤ length accepted) × (n ≡ c.args.place + c.args.most)) =
+    subst (λ (m : ℕ). MatchOption next ((all ≡ false) ⊎ (m < c.args.most)) (λ n. (all ≡ true) × (c.args.most ≤ m) × (n ≡ c.args.place + c.args.most))) size c.in_ok-next_place.ensures in
+    piece_read c.args.most h after c.args.place c.args.page.now c.put_lines.new.page accepted all next is begun (read valid) (rw (← c.as_slice.ensures.value) (c.in_ok-all.ensures (lines_after h after) c.args.most begun)) ends)
