@@ -14,7 +14,7 @@ use Rattle.registry_rules.specs.declared.item.Item.{Item}
 use Rattle.registry_rules.specs.declared.order.Order.{Order}
 use Rattle.registry_rules.specs.declared.order.Order.TheVariants as orders
 use Rattle.registry_rules.specs.declared.record.Terms.{Terms}
-use Rattle.registry_wire.specs.Reading.{field_in, optional_in, link_in, petition_in, span_in, terms_in, enrol_in, amend_org_in, ask_in, grant_in, decline_in, withdraw_in, amend_in, return_in, reserve_in, release_in, add_vendor_in, add_licence_in, order_in}
+use Rattle.registry_wire.specs.Reading.{field_in, optional_in, link_in, petition_in, span_in, terms_in, enrol_in, amend_org_in, hand_over_in, correct_org_in, ask_in, grant_in, decline_in, withdraw_in, amend_in, return_in, correct_in, revoke_in, reserve_in, release_in, add_vendor_in, add_licence_in, order_in}
 use Rattle.registry_wire.specs.Record.{accepted_fields, with_fields, accepted_data, kept_import_in, kept_order_in, kept_request_in}
 use Rattle.registry_laws.specs.Records.{IsAccepted}
 use Rattle.registry_laws.proofs.KindLemmas.{slug_back, key_back, title_back, link_back, span_back, items_back}
@@ -39,6 +39,14 @@ enrol_back org title site o t s caller key reply c k = rw (slug_back caller c, k
 amend_org_back : (org title site : List ℕ) → IsSlug org → IsTitle title → IsLink site → IsReadBack (orders.AmendOrg (record { org = org; title = title; site = site }))
 unfolding kept_request_in kept_order_in order_in field_in amend_org_in link_in
 amend_org_back org title site o t s caller key reply c k = rw (slug_back caller c, key_back key k, slug_back org o, title_back title t, link_back site s) refl
+
+hand_over_back : (org keeper : List ℕ) → IsSlug org → IsSlug keeper → IsReadBack (orders.HandOver (record { org = org; keeper = keeper }))
+unfolding kept_request_in kept_order_in order_in field_in hand_over_in
+hand_over_back org keeper o p caller key reply c k = rw (slug_back caller c, key_back key k, slug_back org o, slug_back keeper p) refl
+
+correct_org_back : (org title site : List ℕ) → IsSlug org → IsTitle title → IsLink site → IsReadBack (orders.CorrectOrg (record { org = org; title = title; site = site }))
+unfolding kept_request_in kept_order_in order_in field_in correct_org_in link_in
+correct_org_back org title site o t s caller key reply c k = rw (slug_back caller c, key_back key k, slug_back org o, title_back title t, link_back site s) refl
 
 ask_back : (org title licence site source : List ℕ) (want vendor : Option ℕ) → IsSlug org → IsTitle title → IsTitle licence → IsLink site → IsLink source → IsIdIfAny want → IsIdIfAny vendor
     → IsReadBack (orders.Ask (record { org = org; want = want; title = title; terms = record { licence = licence; site = site; source = source }; vendor = vendor }))
@@ -78,6 +86,19 @@ unfolding kept_request_in kept_order_in order_in field_in return_in optional_in
 return_back number None n v caller key reply c k = rw (slug_back caller c, key_back key k, digits_read number n) refl
 return_back number (Some vid) n v caller key reply c k = rw (slug_back caller c, key_back key k, digits_read number n, digits_read vid v) refl
 
+correct_back : (number : ℕ) (title licence site source : List ℕ) (vendor : Option ℕ) → IsId number → IsTitle title → IsTitle licence → IsLink site → IsLink source → IsIdIfAny vendor
+    → IsReadBack (orders.Correct (record { number = number; title = title; terms = record { licence = licence; site = site; source = source }; vendor = vendor }))
+unfolding kept_request_in kept_order_in order_in field_in correct_in terms_in link_in optional_in
+correct_back number title licence site source None n t l s u v caller key reply c k =
+    rw (slug_back caller c, key_back key k, digits_read number n, title_back title t, title_back licence l, link_back site s, link_back source u) refl
+correct_back number title licence site source (Some vid) n t l s u v caller key reply c k =
+    rw (slug_back caller c, key_back key k, digits_read number n, title_back title t, title_back licence l, link_back site s, link_back source u, digits_read vid v) refl
+
+revoke_back : (number : ℕ) (reason : List ℕ) (vendor : Option ℕ) → IsId number → IsTitle reason → IsIdIfAny vendor → IsReadBack (orders.Revoke (record { number = number; reason = reason; vendor = vendor }))
+unfolding kept_request_in kept_order_in order_in field_in revoke_in optional_in
+revoke_back number reason None n r v caller key reply c k = rw (slug_back caller c, key_back key k, digits_read number n, title_back reason r) refl
+revoke_back number reason (Some vid) n r v caller key reply c k = rw (slug_back caller c, key_back key k, digits_read number n, title_back reason r, digits_read vid v) refl
+
 reserve_back : (span : Span) (vendor : Option ℕ) → IsId span.first → IsId span.last → IsIdIfAny vendor → IsReadBack (orders.Reserve (record { span = span; vendor = vendor }))
 unfolding kept_request_in kept_order_in order_in field_in reserve_in span_in optional_in
 reserve_back span None f l v caller key reply c k = rw (slug_back caller c, key_back key k, digits_read span.first f, digits_read span.last l, span_back span) refl
@@ -104,12 +125,16 @@ add_licence_back licence l caller key reply c k = rw (slug_back caller c, key_ba
 order_back : (order : Order) → IsOrder order → IsReadBack order
 order_back (orders.Enrol it) v = enrol_back it.org it.title it.site v.0 v.1 v.2
 order_back (orders.AmendOrg it) v = amend_org_back it.org it.title it.site v.0 v.1 v.2
+order_back (orders.HandOver it) v = hand_over_back it.org it.keeper v.0 v.1
+order_back (orders.CorrectOrg it) v = correct_org_back it.org it.title it.site v.0 v.1 v.2
 order_back (orders.Ask it) v = ask_back it.org it.title it.terms.licence it.terms.site it.terms.source it.want it.vendor v.0 v.2 v.3.licence v.3.site v.3.source v.1 v.4
 order_back (orders.Grant it) v = grant_back it.petition it.number v.0 v.1
 order_back (orders.Decline it) v = decline_back it.petition v
 order_back (orders.Withdraw it) v = withdraw_back it.petition v
 order_back (orders.Amend it) v = amend_back it.number it.title it.terms.licence it.terms.site it.terms.source it.vendor v.0 v.1 v.2.licence v.2.site v.2.source v.3
 order_back (orders.Return it) v = return_back it.number it.vendor v.0 v.1
+order_back (orders.Correct it) v = correct_back it.number it.title it.terms.licence it.terms.site it.terms.source it.vendor v.0 v.1 v.2.licence v.2.site v.2.source v.3
+order_back (orders.Revoke it) v = revoke_back it.number it.reason it.vendor v.0 v.2 v.1
 order_back (orders.Reserve it) v = reserve_back it.span it.vendor v.0 v.1 v.2
 order_back (orders.Release it) v = release_back it.span it.vendor v.0 v.1 v.2
 order_back (orders.Import it) v = import_back it.org it.items it.vendor v.0 v.1 v.2

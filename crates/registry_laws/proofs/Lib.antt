@@ -7,3 +7,4 @@ pub mod KindLemmas
 pub mod AcceptedLemmas
 pub mod LineLemmas
 pub mod WholeLemmas
+pub mod ValidLemmas

@@ -101,6 +101,7 @@ field_utf8 fields.Key = IsUtf8-are_ascii (codes "key") refl
 field_utf8 fields.Order = IsUtf8-are_ascii (codes "order") refl
 field_utf8 fields.Org = IsUtf8-are_ascii (codes "org") refl
 field_utf8 fields.Title = IsUtf8-are_ascii (codes "title") refl
+field_utf8 fields.Keeper = IsUtf8-are_ascii (codes "keeper") refl
 field_utf8 fields.Site = IsUtf8-are_ascii (codes "site") refl
 field_utf8 fields.Number = IsUtf8-are_ascii (codes "number") refl
 field_utf8 fields.Licence = IsUtf8-are_ascii (codes "licence") refl
@@ -109,6 +110,7 @@ field_utf8 fields.Petition = IsUtf8-are_ascii (codes "petition") refl
 field_utf8 fields.First = IsUtf8-are_ascii (codes "first") refl
 field_utf8 fields.Last = IsUtf8-are_ascii (codes "last") refl
 field_utf8 fields.Vendor = IsUtf8-are_ascii (codes "vendor") refl
+field_utf8 fields.Reason = IsUtf8-are_ascii (codes "reason") refl
 field_utf8 fields.Name = IsUtf8-are_ascii (codes "name") refl
 field_utf8 fields.Items = IsUtf8-are_ascii (codes "items") refl
 field_utf8 fields.Done = IsUtf8-are_ascii (codes "done") refl
@@ -165,6 +167,8 @@ terms_plain terms valid = (valid.licence.utf8, (link_is_utf8 terms.site valid.si
 order_plain : (order : Order) → IsOrder order → ValuesArePlain 2 (order_fields order)
 order_plain (orders.Enrol it) v = (IsUtf8-are_ascii (codes "enrol") refl, (slug_is_utf8 it.org v.0, (v.1.utf8, (link_is_utf8 it.site v.2, tt))))
 order_plain (orders.AmendOrg it) v = (IsUtf8-are_ascii (codes "amend-org") refl, (slug_is_utf8 it.org v.0, (v.1.utf8, (link_is_utf8 it.site v.2, tt))))
+order_plain (orders.HandOver it) v = (IsUtf8-are_ascii (codes "hand-over") refl, (slug_is_utf8 it.org v.0, (slug_is_utf8 it.keeper v.1, tt)))
+order_plain (orders.CorrectOrg it) v = (IsUtf8-are_ascii (codes "correct-org") refl, (slug_is_utf8 it.org v.0, (v.1.utf8, (link_is_utf8 it.site v.2, tt))))
 order_plain (orders.Ask it) v =
     let vendor = named_plain fields.Vendor it.vendor v.4 in
     let want = append_plain 2 (digits_if_named fields.Number it.want) (digits_if_named fields.Vendor it.vendor) (named_plain fields.Number it.want v.1) vendor in
@@ -180,6 +184,11 @@ order_plain (orders.Amend it) v =
     let terms = append_plain 2 (fields_of_terms it.terms) (digits_if_named fields.Vendor it.vendor) (terms_plain it.terms v.2) vendor in
     (IsUtf8-are_ascii (codes "amend") refl, (digits_utf8 it.number v.0.within, (v.1.utf8, terms)))
 order_plain (orders.Return it) v = (IsUtf8-are_ascii (codes "return") refl, (digits_utf8 it.number v.0.within, named_plain fields.Vendor it.vendor v.1))
+order_plain (orders.Correct it) v =
+    let vendor = named_plain fields.Vendor it.vendor v.3 in
+    let terms = append_plain 2 (fields_of_terms it.terms) (digits_if_named fields.Vendor it.vendor) (terms_plain it.terms v.2) vendor in
+    (IsUtf8-are_ascii (codes "correct") refl, (digits_utf8 it.number v.0.within, (v.1.utf8, terms)))
+order_plain (orders.Revoke it) v = (IsUtf8-are_ascii (codes "revoke") refl, (digits_utf8 it.number v.0.within, (v.2.utf8, named_plain fields.Vendor it.vendor v.1)))
 order_plain (orders.Reserve it) v =
     (IsUtf8-are_ascii (codes "reserve") refl, (digits_utf8 it.span.first v.0.within, (digits_utf8 it.span.last v.1.within, named_plain fields.Vendor it.vendor v.2)))
 order_plain (orders.Release it) v =
@@ -227,12 +236,16 @@ order_named d others ms = stays_with (codes "order") others (put (codes "order")
 has_order : (order : Order) (ms : Members) → is_some (get_member (codes "order") (with_fields (order_fields order) ms)) ≡ true
 has_order (orders.Enrol it) ms = order_named (first_value (order_fields (orders.Enrol it))) (later_fields (order_fields (orders.Enrol it))) ms
 has_order (orders.AmendOrg it) ms = order_named (first_value (order_fields (orders.AmendOrg it))) (later_fields (order_fields (orders.AmendOrg it))) ms
+has_order (orders.HandOver it) ms = order_named (first_value (order_fields (orders.HandOver it))) (later_fields (order_fields (orders.HandOver it))) ms
+has_order (orders.CorrectOrg it) ms = order_named (first_value (order_fields (orders.CorrectOrg it))) (later_fields (order_fields (orders.CorrectOrg it))) ms
 has_order (orders.Ask it) ms = order_named (first_value (order_fields (orders.Ask it))) (later_fields (order_fields (orders.Ask it))) ms
 has_order (orders.Grant it) ms = order_named (first_value (order_fields (orders.Grant it))) (later_fields (order_fields (orders.Grant it))) ms
 has_order (orders.Decline it) ms = order_named (first_value (order_fields (orders.Decline it))) (later_fields (order_fields (orders.Decline it))) ms
 has_order (orders.Withdraw it) ms = order_named (first_value (order_fields (orders.Withdraw it))) (later_fields (order_fields (orders.Withdraw it))) ms
 has_order (orders.Amend it) ms = order_named (first_value (order_fields (orders.Amend it))) (later_fields (order_fields (orders.Amend it))) ms
 has_order (orders.Return it) ms = order_named (first_value (order_fields (orders.Return it))) (later_fields (order_fields (orders.Return it))) ms
+has_order (orders.Correct it) ms = order_named (first_value (order_fields (orders.Correct it))) (later_fields (order_fields (orders.Correct it))) ms
+has_order (orders.Revoke it) ms = order_named (first_value (order_fields (orders.Revoke it))) (later_fields (order_fields (orders.Revoke it))) ms
 has_order (orders.Reserve it) ms = order_named (first_value (order_fields (orders.Reserve it))) (later_fields (order_fields (orders.Reserve it))) ms
 has_order (orders.Release it) ms = order_named (first_value (order_fields (orders.Release it))) (later_fields (order_fields (orders.Release it))) ms
 has_order (orders.Import it) ms = order_named (first_value (order_fields (orders.Import it))) (later_fields (order_fields (orders.Import it))) ms

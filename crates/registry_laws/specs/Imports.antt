@@ -47,7 +47,8 @@ AreFree h vid doc = (pid : ℕ) → is_some (find_mid vid pid doc) ≡ true → 
 abbrev pub entry_listed : List ℕ → ℕ → List TopEntry → Number → Option Entry
 entry_listed org vid doc n = if nat_eq vid n.vid then option_map (entry_imported org) (find_mid vid n.pid doc) else None
 
--- the request leads to a new deed; after it each number has its entry from the list, or else its earlier entry
+-- The request leads to a new deed. After it each number has its entry from the list, or else its earlier entry, and each vendor is
+-- as before; which numbers are reserved is not said.
 pub record IsTakenOver (h : History) (request : Request) (org : List ℕ) (vid : ℕ) (doc : List TopEntry) : Type 0 where
   pub deed : Deed
   pub new : verdict h request ≡ New deed

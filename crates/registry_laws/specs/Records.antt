@@ -4,7 +4,7 @@ use Rattle.std.specs.Str.{IsUtf8}
 use Rattle.usbnum_core.specs.Number.{IsId}
 use Rattle.usbnum_core.specs.Spans.{IsSpread}
 use Rattle.usbnum_core.specs.Text.{IsSlug, IsKey, IsTitle}
-use Rattle.registry_rules.specs.Accepted.{accepted_of}
+use Rattle.registry_rules.specs.Accepted.{AreValid, accepted_of}
 use Rattle.registry_rules.specs.History.{History, founded}
 use Rattle.registry_rules.specs.Laws.{requests_of_record, replies_in}
 use Rattle.registry_rules.specs.Orders.{IsOrder}
@@ -12,6 +12,7 @@ use Rattle.registry_rules.specs.Run.{Legal, after, replies_to}
 use Rattle.registry_rules.specs.Texts.{IsCurators, IsLicences}
 use Rattle.registry_rules.specs.declared.accepted.Accepted.{Accepted}
 use Rattle.registry_rules.specs.declared.founding.Founding.{Founding}
+use Rattle.registry_rules.specs.declared.order.Request.{Request}
 use Rattle.registry_wire.specs.Record.{accepted_line, founding_line, record_reading}
 use Rattle.registry_wire.specs.declared.record.RecordLine.{RecordLine}
 use Rattle.registry_wire.specs.declared.record.RecordLine.TheVariants as lines
@@ -68,3 +69,14 @@ pub record IsKeptWhole (h : History) : Type 0 where
 -- the record of a legal history keeps the whole history
 abbrev pub KeepsWholeHistory : Type 0
 KeepsWholeHistory = (h : History) → Legal h → IsValidFounding h.founding → All IsAccepted (accepted_of h.deeds) → IsKeptWhole h
+
+-- the request has valid fields
+pub record IsValidRequest (r : Request) : Type 0 where
+  pub caller : IsSlug r.caller
+  pub key : IsKey r.key
+  pub order : IsOrder r.order
+
+-- a history whose requests have valid fields, after more requests with valid fields, is such a history; a founded one is
+abbrev pub KeepsValid : Type 0
+KeepsValid =
+    ((founding : Founding) → AreValid (founded founding).deeds) × ((h : History) (rs : List Request) → AreValid h.deeds → All IsValidRequest rs → AreValid (after h rs).deeds)

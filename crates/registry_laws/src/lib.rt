@@ -3,7 +3,7 @@
 
 ghost use Rattle.registry_laws.specs.Exports.{ReadsAsItself, IsReadBack};
 ghost use Rattle.registry_laws.specs.Imports.{TakesOver, CompletesList, GivesSameList};
-ghost use Rattle.registry_laws.specs.Records.{ReadsAccepted, ReadsFoundingLine, HasOwnLine, HasOwnFoundingLine, KeepsWholeHistory};
+ghost use Rattle.registry_laws.specs.Records.{ReadsAccepted, ReadsFoundingLine, HasOwnLine, HasOwnFoundingLine, KeepsValid, KeepsWholeHistory};
 
 /// The text of an exported list is the text of that list.
 pub fn reads_as_itself()
@@ -57,4 +57,11 @@ pub fn has_own_founding_line()
 /// same history of a new registry, with the same replies.
 pub fn keeps_whole_history()
     ensures { KeepsWholeHistory }
+{}
+
+/// The record of a new registry has valid requests, and requests with valid fields keep it so.
+/// This is the premise of what is said of a record. The types of the fields of a `Request` give each
+/// one of them that it is valid.
+pub fn keeps_valid()
+    ensures { KeepsValid }
 {}
