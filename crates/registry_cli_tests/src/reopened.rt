@@ -81,7 +81,7 @@ fn apply_first<D: Crash + Drop>(
         &errors.into_inner(),
         text,
     );
-    opened
+    opened.ok()
 }
 
 fn apply_twice<D: Crash + Drop>(
@@ -158,7 +158,7 @@ fn serve_first<D: Crash + Drop>(
     };
     let _whole = add_end(served, &mut connections.text)
         && text.push_str(connections.text.as_str()).is_ok();
-    opened
+    opened.ok()
 }
 
 fn serve_twice<D: Crash + Drop>(

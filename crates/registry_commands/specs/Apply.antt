@@ -28,7 +28,8 @@ use Rattle.registry_commands.specs.Shown.{HidesNoForeign}
 abbrev pub lines_between : History → List Request → ℕ → ℕ → List ℕ
 lines_between h rs a n = reply_lines (drop a (replies_to h (take n rs)))
 
--- What a failure of a run says of the output. File: one write failed. Any other: none did, and whole reply lines were written.
+-- What a failure of a run says of the output. File: one write failed. Any other: none did, and the lines of some replies were
+-- written whole; whose they are is not said.
 abbrev pub IsOfReplies : Output → Failure → Type 0
 IsOfReplies out failure =
     IsOfOutput out.old.failures out.new.failures failure × (failure ≢ File → (replies : List Reply) × Appends out.old.contents out.new.contents (reply_lines replies))

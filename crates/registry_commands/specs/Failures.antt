@@ -36,7 +36,8 @@ IsOfOpening Taken = ⊥
 IsOfOpening Poisoned = ⊥
 IsOfOpening _ = ⊤
 
--- The failures of closing a store, by the errors that may stop it. Memory: the store was out of memory. Store: another error.
+-- The failures of closing a store, by the errors that it may have. Memory: that it is out of memory may be its error. Store: another
+-- one may be. That the close had this error is not said.
 abbrev pub IsOfClosing : (Error → Type 0) → Failure → Type 0
 IsOfClosing May Store = (error : Error) × (error ≢ SqliteFailure OutOfMemory) × May error
 IsOfClosing May Memory = May (SqliteFailure OutOfMemory)
@@ -46,10 +47,10 @@ IsOfClosing May _ = ⊥
 abbrev pub IsOfMemory : Failure → Type 0
 IsOfMemory failure = failure ≡ Memory
 
--- File: one read of the input failed between these two counts of failures, or it gives more than 4,294,967,295 bytes.
--- Memory: out of memory, and the input did not fail.
+-- File: one read of the input failed between these two counts of failures; or none did, and it gives more than 4,294,967,295
+-- bytes. Memory: out of memory, and the input did not fail.
 abbrev pub IsOfInput : ℕ → ℕ → List ℕ → Failure → Type 0
-IsOfInput old new bytes File = FailsOnce old new ⊎ IsTooLong bytes
+IsOfInput old new bytes File = FailsOnce old new ⊎ (IsTooLong bytes × (new ≡ old))
 IsOfInput old new bytes Memory = new ≡ old
 IsOfInput old new bytes _ = ⊥
 

@@ -1,5 +1,5 @@
 -- What a replay of a record does.
-use Rattle.std.specs.Prelude.{◌≡◌, ◌≢◌, ◌⊎◌, ◌≤◌, ◌+◌, ◌^◌, ◌-◌, ⊤, ℕ, Bool, true, false, IsTrue, All, List, [], ◌∷◌, ◌++◌, length, map, Option, Some, None, Result, Ok, Err}
+use Rattle.std.specs.Prelude.{◌≡◌, ◌≢◌, ◌⊎◌, ◌≤◌, ◌+◌, ◌^◌, ◌-◌, ⊤, ℕ, Bool, true, false, IsTrue, All, List, [], ◌∷◌, ◌++◌, length, map, Option, Some, None, Result, Ok, Err, OnOk}
 use Rattle.sqlite.specs.Store.{Ghosts}
 use Rattle.sqlite.specs.Held.{Held, state}
 use Rattle.sqlite.specs.State.{State, HasCleanDisk, IsLive, Survives}
@@ -39,7 +39,7 @@ use Rattle.registry_commands.specs.declared.status.ExitStatus.TheVariants.{Faile
 use Rattle.registry_commands.specs.Ends.{Output}
 use Rattle.registry_commands.specs.Failures.{IsOfOpening, Prints}
 use Rattle.registry_commands.specs.Messages.{failure_line}
-use Rattle.registry_commands.specs.RecordLines.{HasReadTo, MayHaveLines, Passes}
+use Rattle.registry_commands.specs.RecordLines.{HasPassed, HasReadTo, MayHaveLines, Passes}
 use Rattle.registry_commands.specs.Shown.{HoldsOfHistory, IsOfReading}
 use Rattle.registry_commands.specs.Stops.{TellsStop}
 
@@ -177,7 +177,7 @@ module _ {S : Type 0} {g : Ghosts S} where
   IsLeftReplayed (Err (stop.Failure failure)) new h rest =
       Leaves newest (state_of new) (λ x. (x ≡ h) ⊎ ((accepted : Accepted) × FirstSays rest (says.Accepted accepted) × (x ≡ after_one h accepted.request)))
 
-  -- Nothing was acted on: the registry is the same, no accepted request was passed, and none got another reply.
+  -- The registry is the same, the lines that were passed have no accepted request, and no other reply ended the replay.
   pub record ActsOnNone (front : List (List ℕ)) (it new : Registry S g) (result : Result (Unit {0}) ReplayStop) : Type 0 where
     pub same : new ≡ it
     pub passed : accepted_in front ≡ []
@@ -195,7 +195,8 @@ module _ {S : Type 0} {g : Ghosts S} where
     pub cause : (failure : Failure) → result ≡ Err (stop.Failure failure) → IsOfReplay (before + length front) failures failures_new it new failure
     pub poisoned : is_poisoned it ≡ true → ActsOnNone front it new result
 
-  -- The lines that were to come were replayed. Unless it ended with Foreign, no request found the rows of no history, if none had before.
+  -- The lines that were to come were replayed, up to the one that ended it. Which lines are still to come, and how many were counted,
+  -- is not said. Unless it ended with Foreign, no request found the rows of no history, if none had before.
   pub record IsReplayOf (to_come : Option (List ℕ)) (before failures failures_new : ℕ) (it new : Registry S g) (result : Result (Unit {0}) ReplayStop) : Type 0 where
     pub lines : List (List ℕ)
     pub come : MayHaveLines to_come lines
@@ -231,10 +232,11 @@ module _ {S : Type 0} {g : Ghosts S} where
     pub poisoned : is_poisoned it ≡ true → (new ≡ it) × (result ≡ Err (stop.Failure Poisoned))
 
   -- If a read failed, that ended the replay, and all whole lines that had been read were acted on. Any read may fail, so none is
-  -- made before that.
+  -- made before that. After a whole replay the lines that were to come were passed and counted.
   pub record ReadsLineByLine (to_come now : Option (List ℕ)) (unread : Unread) (before failures failures_new : ℕ) (it new : Registry S g) (result : Result (Unit {0}) ReplayStop) : Type 0 where
     pub kept : result ≢ Err (stop.Failure File) → failures_new ≡ failures
     pub waits : result ≡ Err (stop.Failure File) → HasAllLines before to_come unread ⊎ HasFollowed to_come now unread it new
+    pub passed : OnOk result (HasPassed to_come now before unread)
 
   -- once the founding was checked, the lines were replayed; or that ended it
   abbrev pub ThenReplays : Option (List ℕ) → Option (List ℕ) → Unread → ℕ → ℕ → ℕ → Registry S g → Registry S g → Result (Unit {0}) ReplayStop → Result (Unit {0}) ReplayStop → Type 0

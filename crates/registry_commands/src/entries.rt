@@ -109,6 +109,7 @@ pub(crate) fn next_entry<R: Source>(
 ) -> Result<Entry, ReadAllFault>
     ensures taken { IfOk result (λ entry. TakesEntry (ahead (R.remaining source.old) unread.old) (ahead (R.remaining source.new) unread.new)
         unread.old.lines unread.new.lines entry) }
+    ensures end { IfOk result (λ entry. entry ≡ Entry.End → Consumes (ahead (R.remaining source.old) unread.old) (ahead (R.remaining source.new) unread.new) []) }
     ensures lines { OnErr result (unread.new.lines ≡ unread.old.lines) }
     ensures countable { OnOk result (unread.old.lines < 2 ^ 64 - 1) }
     ensures kept { OnOk result (R.failures source.new ≡ R.failures source.old) }

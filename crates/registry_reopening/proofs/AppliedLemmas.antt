@@ -1,6 +1,6 @@
 -- What is opened after request lines were acted on.
-use Rattle.std.proofs.Common.{◌≡◌, inl, inr, ℕ, ◌+◌, List, length, take, drop, Option, Some, None, refl, sym, ap, subst, ◌∙◌, arith}
-use Rattle.std.specs.Prelude.{Result, Ok, Err, IfSome}
+use Rattle.std.proofs.Common.{◌≡◌, inl, inr, ℕ, ◌+◌, List, length, take, drop, refl, sym, ap, subst, ◌∙◌, arith}
+use Rattle.std.specs.Prelude.{Result, Ok, Err, IfOk, IfErr, MatchResult}
 use Rattle.std.proofs.Math.Logic.{∥∥₁_map}
 use Rattle.std.proofs.lemmas.List.{take_all}
 use Rattle.std.specs.Io.KnownBytes.{Appends}
@@ -12,7 +12,7 @@ use Rattle.registry_rules.specs.Run.{Legal, after}
 use Rattle.registry_rules.proofs.RunLemmas.{legal_after}
 use Rattle.registry_tables.specs.Rows.{newest}
 use Rattle.registry_store.specs.declared.registry.Registry.{Registry}
-use Rattle.registry_store.specs.Promise.{Leaves, Represents, state_of}
+use Rattle.registry_store.specs.Promise.{IsNew, Leaves, Represents, state_of}
 use Rattle.registry_store.specs.Files.{IsEither}
 use Rattle.registry_store.specs.Run.{HasAnswered, HasAnsweredNone, IsAfterOrNext}
 use Rattle.registry_store.proofs.RunLemmas.{leaves_weaker}
@@ -23,7 +23,8 @@ use Rattle.registry_commands.specs.Ends.{Ends, Output, effect}
 use Rattle.registry_commands.specs.Messages.{reply_lines}
 use Rattle.registry_commands.specs.Apply.{IsApplied, IsRun, lines_between}
 use Rattle.registry_reopening.specs.Applied.{IsReopenedAfter, IsReopenedAfterLines}
-use Rattle.registry_commands.proofs.ApplyLemmas.{keeps_same, prefix_of_any}
+use Rattle.registry_reopening.specs.Opening.{ComesAfter}
+use Rattle.registry_commands.proofs.ApplyLemmas.{applied_endures, keeps_same, prefix_of_any}
 
 module _ {S : Type 0} {g : Ghosts S} where
   -- the opened registry represents one of the histories that the last one left
@@ -92,13 +93,20 @@ module _ {S : Type 0} {g : Ghosts S} where
       reopened (Err bad) a is = (is.silent, as_before is.same)
       reopened (Ok rs) a is = (λ more. let rejected = is.0 more in (rejected.silent, as_before rejected.same), λ within. ran (drop a rs) (is.1 within))
 
-  abbrev pub MayOpen : Registry S g → Option (Registry S g) → Type 0
+  abbrev pub MayOpen : {E : Type 0} → Registry S g → Result (Registry S g) E → Type 0
   MayOpen last opened = (h next : History) → Legal h → Legal next → (HasCleanDisk (state_of last) → Leaves newest (state_of last) (IsEither h next))
-      → IfSome opened (λ it. HasCleanDisk (state_of it) → ∥ ((x : History) × IsEither h next x × Represents it x) ∥₁)
+      → IfOk opened (λ it. HasCleanDisk (state_of it) → ∥ ((x : History) × IsEither h next x × Represents it x) ∥₁)
 
-  -- the same if a registry is opened
-  pub if_reopened : (OfInput : Failure → Type 0) (first last : Registry S g) (read : Result (List Request) BadLine) (a : ℕ) (ends : Ends) (errors : Output) → IsApplied OfInput (effect first last ends) read a
-      → (opened : Option (Registry S g)) → MayOpen last opened → IfSome opened (λ it. HasCleanDisk (state_of it) → HasCleanDisk (state_of last))
-      → IfSome opened (IsReopenedAfterLines first read a (record ends { errors = errors }))
-  if_reopened OfInput first last read a ends errors is None opens before = tt
-  if_reopened OfInput first last read a ends errors is (Some it) opens before = reopened first last it opens before OfInput ends errors read a is
+  abbrev pub MayLeave : {E : Type 0} → (History → History → E → Type 0) → Registry S g → Result (Registry S g) E → Type 0
+  MayLeave Left last opened = (h next : History) → Legal h → Legal next → (HasCleanDisk (state_of last) → Leaves newest (state_of last) (IsEither h next)) → IfErr opened (Left h next)
+
+  -- the same if a registry is opened; otherwise what is left is what the last registry left
+  pub if_reopened : {E : Type 0} (OfInput : Failure → Type 0) (first last : Registry S g) (read : Result (List Request) BadLine) (a : ℕ) (ends : Ends) (errors : Output) → IsApplied OfInput (effect first last ends) read a
+      → (Left : History → History → E → Type 0) (opened : Result (Registry S g) E) → MayOpen last opened → IfOk opened (λ it. HasCleanDisk (state_of it) → HasCleanDisk (state_of last)) → IfOk opened IsNew → MayLeave Left last opened
+      → MatchResult opened (λ it. IsReopenedAfterLines first read a (record ends { errors = errors }) it × ComesAfter first it)
+      (λ e. (h next : History) → Legal h → Legal next → (HasCleanDisk (state_of last) → Leaves newest (state_of last) (IsEither h next)) → Left h next e)
+  if_reopened OfInput first last read a ends errors is Left (Err e) opens before new leaves = leaves
+  if_reopened OfInput first last read a ends errors is Left (Ok it) opens before new leaves = (
+    reopened first last it opens before OfInput ends errors read a is,
+    (new, λ clean. let was : HasCleanDisk (state_of last) = before clean in omega (arith, was, (applied_endures OfInput (effect first last ends) read a is).clean)),
+  )

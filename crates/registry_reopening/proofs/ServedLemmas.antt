@@ -1,6 +1,6 @@
 -- What is opened after connections were served.
-use Rattle.std.proofs.Common.{◌≡◌, ℕ, inl, inr, List, [], ◌∷◌, Option, Some, None, sym, subst}
-use Rattle.std.specs.Prelude.{Result, Ok, Err, IfSome}
+use Rattle.std.proofs.Common.{◌≡◌, ℕ, inl, inr, List, [], ◌∷◌, Option, Some, None, sym, subst, arith}
+use Rattle.std.specs.Prelude.{Result, Ok, Err, IfOk, IfErr, MatchResult}
 use Rattle.std.proofs.Math.Logic.{∥∥₁_map}
 use Rattle.sqlite.specs.Store.{Ghosts}
 use Rattle.sqlite.specs.State.{HasCleanDisk}
@@ -11,7 +11,7 @@ use Rattle.registry_rules.proofs.RunLemmas.{legal_after_one}
 use Rattle.registry_tables.specs.Rows.{newest}
 use Rattle.registry_store.specs.declared.fault.Fault.{Fault}
 use Rattle.registry_store.specs.declared.registry.Registry.{Registry as TheRegistry}
-use Rattle.registry_store.specs.Promise.{Leaves, Represents, state_of}
+use Rattle.registry_store.specs.Promise.{Endures, IsNew, Leaves, Represents, state_of}
 use Rattle.registry_store.specs.Files.{IsEither}
 use Rattle.registry_store.proofs.RunLemmas.{leaves_weaker}
 use Rattle.registry_http.specs.declared.refusal.HttpRefusal.{HttpRefusal}
@@ -21,6 +21,7 @@ use Rattle.registry_desk.specs.declared.serve.Served.{Served}
 use Rattle.registry_desk.specs.Acting.{after_message}
 use Rattle.registry_desk.specs.Serving.{IsNext}
 use Rattle.registry_desk.specs.Server.{Visit, IsTurn, Turns, EndsServing, IsLeftAfter}
+use Rattle.registry_reopening.specs.Opening.{ComesAfter}
 use Rattle.registry_reopening.specs.Served.{IsReopenedAfterServing}
 use Rattle.registry_desk.proofs.ServerLemmas.{in_part}
 
@@ -66,13 +67,21 @@ module _ {S : Type 0} {g : Ghosts S} where
       let after = legal_next ends.middle ends.last.bytes _ ends.halted.next before ends.halted.next_is in
       ∥∥₁_map (opens ends.middle ends.halted.next before after (λ _. ends.halted.left.leaves) clean) (λ found. (found.0, inr (in_part last h visits fault ends found.0 found.1), found.2))
 
-  abbrev MayOpen : TheRegistry S g → Option (TheRegistry S g) → Type 0
-  MayOpen last it = (h next : History) → Legal h → Legal next → (HasCleanDisk (state_of last) → Leaves newest (state_of last) (IsEither h next))
-      → IfSome it (λ it. HasCleanDisk (state_of it) → ∥ ((x : History) × IsEither h next x × Represents it x) ∥₁)
+  abbrev MayOpen : {E : Type 0} → TheRegistry S g → Result (TheRegistry S g) E → Type 0
+  MayOpen last opened = (h next : History) → Legal h → Legal next → (HasCleanDisk (state_of last) → Leaves newest (state_of last) (IsEither h next))
+      → IfOk opened (λ it. HasCleanDisk (state_of it) → ∥ ((x : History) × IsEither h next x × Represents it x) ∥₁)
 
-  pub if_reopened : (first last : TheRegistry S g) (visits : List Visit) (fault : Option Fault)
-      → ((h : History) → Represents first h → HasCleanDisk (state_of last) → EndsServing last h visits fault × Leaves newest (state_of last) (IsLeftAfter h visits))
-      → (it : Option (TheRegistry S g)) → MayOpen last it → IfSome it (λ it. HasCleanDisk (state_of it) → HasCleanDisk (state_of last)) → IfSome it (IsReopenedAfterServing first visits)
-  if_reopened first last visits fault served None opens before = tt
-  if_reopened first last visits fault served (Some it) opens before =
-      λ h stands clean. opened last it h visits fault stands.legal_with.legal (served h stands (before clean)).0 opens clean
+  abbrev MayLeave : {E : Type 0} → (History → History → E → Type 0) → TheRegistry S g → Result (TheRegistry S g) E → Type 0
+  MayLeave Left last opened = (h next : History) → Legal h → Legal next → (HasCleanDisk (state_of last) → Leaves newest (state_of last) (IsEither h next)) → IfErr opened (Left h next)
+
+  -- if a registry is opened, it is this one; otherwise what is left is what the last registry left
+  pub if_reopened : {E : Type 0} (first last : TheRegistry S g) (visits : List Visit) (fault : Option Fault)
+      → ((h : History) → Represents first h → HasCleanDisk (state_of last) → EndsServing last h visits fault × Leaves newest (state_of last) (IsLeftAfter h visits)) → Endures (state_of first) (state_of last)
+      → (Left : History → History → E → Type 0) (opened : Result (TheRegistry S g) E) → MayOpen last opened → IfOk opened (λ it. HasCleanDisk (state_of it) → HasCleanDisk (state_of last)) → IfOk opened IsNew → MayLeave Left last opened
+      → MatchResult opened (λ it. IsReopenedAfterServing first visits it × ComesAfter first it)
+      (λ e. (h next : History) → Legal h → Legal next → (HasCleanDisk (state_of last) → Leaves newest (state_of last) (IsEither h next)) → Left h next e)
+  if_reopened first last visits fault served endures Left (Err e) opens before new leaves = leaves
+  if_reopened first last visits fault served endures Left (Ok it) opens before new leaves = (
+    λ h stands clean. opened last it h visits fault stands.legal_with.legal (served h stands (before clean)).0 opens clean,
+    (new, λ clean. let was : HasCleanDisk (state_of last) = before clean in omega (arith, was, endures.clean)),
+  )

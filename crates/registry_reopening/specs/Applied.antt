@@ -19,15 +19,16 @@ use Rattle.registry_commands.specs.Failures.{IsOfInput, IsOfStore, IsTooLong, Pr
 use Rattle.registry_commands.specs.Apply.{IsApplied, IsUnread, lines_between}
 use Rattle.registry_commands.specs.Lines.{requests_in}
 
--- Closing a store leaves the status and the error output as they were; or, if the status was Success, it fails, and the error
--- output says why.
+-- Closing a store leaves the status and the error output as they were; or, if the status was Success, it is said to fail, and the
+-- error output names the store or memory.
 abbrev pub EndsClosing : {E : Type 0} → sink.Ghosts E → ExitStatus → E → E → ExitStatus → Type 0
 EndsClosing s acted errors errors_new status =
     ((status ≡ acted) × (errors_new ≡ errors)) ⊎ ((acted ≡ Success) × (status ≡ Failed) × PrintsFailure IsOfStore (output_of s errors errors_new))
 
 module _ {S : Type 0} {g : Ghosts S} where
-  -- The requests of these bytes were acted on over the first registry as `apply_lines` says, which left some registry, and
-  -- ended so. The reads of the input had failed so often before, and so often after that.
+  -- The requests of these bytes were acted on over the first registry as `apply_lines` says, and it ended so. The last registry is
+  -- one of which that is true; nobody sees whether it is the one that was let go. The reads of the input had failed so often before,
+  -- and so often after that.
   pub record IsAppliedOver (failures failures_new : ℕ) (bytes : List ℕ) (first : Registry S g) (a : ℕ) (ends : Ends) : Type 0 where
     pub last : Registry S g
     pub applied : IsApplied (IsOfInput failures failures_new bytes) (effect first last ends) (requests_in bytes) a
@@ -39,7 +40,8 @@ module _ {S : Type 0} {g : Ghosts S} where
   IsReopenedAsBefore first it out = ReceivesNothing out × ((h : History) → Represents first h → HasCleanDisk (state_of it) → ∥ Represents it h ∥₁)
 
   -- The reply lines of the requests up to the n-th are written; at the status Success these are all requests. The opened
-  -- registry has acted on these n requests, and on at most one more: on that one if anything of its line is written.
+  -- registry has acted on these n requests, and on at most one more: on that one if anything of its line is written. With n of 0 it
+  -- also holds where the input was not read to its end.
   pub record IsReopenedAfter (it : Registry S g) (h : History) (rs : List Request) (ends : Ends) : Type 0 where
     pub n : ℕ
     pub within : n ≤ length rs

@@ -2,3 +2,4 @@ pub mod Runs
 pub mod Recovery
 pub mod Applied
 pub mod Served
+pub mod Opening

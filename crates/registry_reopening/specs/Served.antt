@@ -10,7 +10,8 @@ use Rattle.registry_store.specs.Promise.{Leaves, Represents, is_poisoned, state_
 use Rattle.registry_desk.specs.Server.{Visit, AreTurnedAway, EndsServing, IsLeftAfter}
 
 module _ {S : Type 0} {g : Ghosts S} where
-  -- These connections were served over the first registry as `serve_all` says, which left some registry, perhaps with a fault.
+  -- These connections were served over the first registry as `serve_all` says, perhaps with a fault. The last registry is one of
+  -- which that is true; nobody sees whether it is the one that was let go.
   pub record AreServedOver (first : TheRegistry S g) (visits : List Visit) (fault : Option Fault) : Type 0 where
     pub last : TheRegistry S g
     pub served : (h : History) → Represents first h → HasCleanDisk (state_of last) → EndsServing last h visits fault × Leaves newest (state_of last) (IsLeftAfter h visits)

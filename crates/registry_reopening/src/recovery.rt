@@ -1,7 +1,7 @@
 //! The headline for every crash: whatever a crash leaves of the files, the next opening finds the
 //! requests that were answered, and at most one more.
 
-ghost use Rattle.std.specs.Prelude.{◌≡◌, ◌⊎◌, ◌+◌, ◌<◌, ℕ, IsTrue, IfSome, None, length, take};
+ghost use Rattle.std.specs.Prelude.{◌≡◌, ◌⊎◌, ◌+◌, ◌<◌, ℕ, IsTrue, IfSome, IfOk, MatchResult, None, length, take};
 ghost use Rattle.sqlite.specs.State.{HasCleanDisk};
 ghost use Rattle.sqlite.specs.Files.{image_of};
 ghost use Rattle.sqlite.specs.WalReads.{AreClean};
@@ -9,11 +9,12 @@ ghost use Rattle.registry_rules.specs.History.{History};
 ghost use Rattle.registry_rules.specs.Run.{Legal, after, replies_to};
 ghost use Rattle.registry_tables.specs.Rows.{newest};
 ghost use Rattle.registry_store.specs.declared.fault.Fault.TheVariants as faults;
-ghost use Rattle.registry_store.specs.Promise.{Represents, state_of};
+ghost use Rattle.registry_store.specs.Promise.{IsNew, Represents, state_of};
+ghost use Rattle.registry_reopening.specs.Opening.{LeavesFilesOf, OpensIn};
 ghost use Rattle.registry_reopening.specs.Recovery.{MayLeave, RepresentsPrefix};
 ghost use Rattle.registry_store.specs.Files.{IsEither, HoldEither, FilesHoldEither};
 
-use crate::opening::{leave, open_files};
+use crate::opening::{Unopened, leave, open_files};
 use crate::runs::{RunEnd, run_from};
 use registry_rules::Request;
 use registry_store::Registry;
@@ -31,7 +32,7 @@ pub struct Abandoned<D: Disk> {
 }
 
 /// Acts on the requests, abandons the registry, and opens the one in `found`: the files that the
-/// next process finds. Returns `None` in its place after a fault of the opening.
+/// next process finds. Returns those in its place, as `open_files` does, if no registry is opened.
 ///
 /// The contract is the headline for every crash. It is about each state of the two files that a
 /// crash may leave after the run, and not about one crash: if `found` is such a state, then the
@@ -43,10 +44,10 @@ pub fn run_and_recover<D: Disk + Drop>(
     requests: &[Request],
     found: Files<D>,
     options: Options,
-) -> (Abandoned<D>, Option<Registry<FileStore<D>>>)
+) -> (Abandoned<D>, Result<Registry<FileStore<D>>, Unopened<D>>)
     requires { IsTrue (D.Disk.is_usable found.log) × IsTrue (D.Disk.is_usable found.db) }
     ensures recovered { (h : History) → Represents first h → AreClean D.Disk result.0.files.log result.0.files.db → MayLeave D.Disk result.0.files found
-        → IfSome result.1 (λ it. HasCleanDisk (state_of it) → RepresentsPrefix it h requests.now (length result.0.run.replies.items)) }
+        → IfOk result.1 (λ it. HasCleanDisk (state_of it) → RepresentsPrefix it h requests.now (length result.0.run.replies.items)) }
 
     // The replies are those to the first requests, and to all of them only if there was no fault.
     ensures answered { (h : History) → Represents first h → AreClean D.Disk result.0.files.log result.0.files.db → result.0.run.replies.items ≡ take (length result.0.run.replies.items) (replies_to h requests.now) }
@@ -58,8 +59,11 @@ pub fn run_and_recover<D: Disk + Drop>(
     // opened is what was found.
     ensures left { (h : History) → Represents first h → AreClean D.Disk result.0.files.log result.0.files.db
         → HoldEither D.Disk newest result.0.files (after h (take (length result.0.run.replies.items) requests.now)) (after h (take (length result.0.run.replies.items + 1) requests.now)) }
+    ensures opens { MatchResult result.1 (OpensIn D.Disk found) (LeavesFilesOf D.Disk found) }
+    ensures is_new { IfOk result.1 IsNew }
+    ensures clean { IfOk result.1 (λ it. HasCleanDisk (state_of it) → AreClean D.Disk found.log found.db) }
     ensures opened { (from : ℕ) (h next : History) → Legal h → Legal next → (AreClean D.Disk found.log found.db → FilesHoldEither from (image_of D.Disk found) h next)
-        → IfSome result.1 (λ it. HasCleanDisk (state_of it) → ∥ ((x : History) × IsEither h next x × Represents it x) ∥₁) }
+        → IfOk result.1 (λ it. HasCleanDisk (state_of it) → ∥ ((x : History) × IsEither h next x × Represents it x) ∥₁) }
 {
     let mut registry = first;
     let run = run_from(alloc, &mut registry, requests, 0);

@@ -66,8 +66,8 @@ pub fn run_through<D: Crash + Drop>(
             Some(_) => {}
         }
         registry = match crash_until_open(alloc, registry, options, stops) {
-            Some(registry) => registry,
-            None => return Err(replies),
+            Ok(registry) => registry,
+            Err(_) => return Err(replies),
         };
     }
     let_go(registry);
@@ -91,9 +91,11 @@ pub fn crash_and_run_through<D: Crash + Drop>(
     ensures ended { (from : ℕ) (h : History) → Legal h → (HasCleanDisk (file_state conn) → LeavesFrom from (file_state conn) (IsEither h h))
         → IfSome result (λ end. HasCleanDisk (state_of end.1) → ∥ ((end.0.items ≡ replies_to h requests.now) × Represents end.1 (after h requests.now)) ∥₁) }
 {
-    let registry = open_through(alloc, leave_store(conn), options, stops)?;
-    match run_through(alloc, registry, requests, options, stops) {
-        Ok(end) => Some(end),
+    match open_through(alloc, leave_store(conn), options, stops) {
+        Ok(registry) => match run_through(alloc, registry, requests, options, stops) {
+            Ok(end) => Some(end),
+            Err(_) => None,
+        },
         Err(_) => None,
     }
 }

@@ -1,10 +1,12 @@
 //! Serves connections and opens the store again, as two runs of the program do.
 
-ghost use Rattle.std.specs.Prelude.{◌≡◌, ◌≤◌, List, length, IfSome, OnOk};
+ghost use Rattle.std.specs.Prelude.{◌≡◌, ◌≤◌, List, length, MatchResult, OnOk};
 ghost use Rattle.registry_desk.specs.Server.{Visit, HaveVisited, EndsConnections, fault_in};
+ghost use Rattle.registry_reopening.specs.Opening.{ComesAfter, LeavesFilesAfter};
 ghost use Rattle.registry_reopening.specs.Served.{AreServedOver, IsReopenedAfterServing};
 
 use crate::crashing::{close_and_open, crash_and_open, leave_and_open};
+use crate::opening::Unopened;
 use registry_desk::{Connections, ServerStop, serve_all};
 use registry_store::Registry;
 use sqlite::{FileStore, Options};
@@ -15,21 +17,24 @@ use std::alloc::Global;
 ///
 /// The opened registry represents the history after the messages of all connections that were acted
 /// on, or, if the registry had a fault at the last one, perhaps of all but that one. So it holds each message
-/// whose response was written whole with a status other than 503. Returns no registry if opening
-/// fails.
+/// whose response was written whole with a status other than 503. Returns the files in place of the
+/// registry, as `open_files` does, if it is not opened.
 pub fn serve_and_crash<C: Connections, D: Crash + Drop>(
     alloc: Global,
     connections: &mut C,
     first: Registry<FileStore<D>>,
     count: u64,
     options: Options,
-) -> (Result<(), ServerStop>, Option<Registry<FileStore<D>>>)
+) -> (
+    Result<(), ServerStop>,
+    Result<Registry<FileStore<D>>, Unopened<D>>,
+)
     ensures { (visits : List Visit) × (middle : C)
         × HaveVisited C.opens C.closes C.Reader.remaining C.Reader.failures C.Writer.contents C.Writer.failures connections.old middle visits
         × EndsConnections C.fails middle connections.new result.0
         × (length visits ≤ count) × OnOk result.0 (length visits ≡ count)
-        × AreServedOver first visits (fault_in result.0)
-        × IfSome result.1 (IsReopenedAfterServing first visits) }
+        × (over : AreServedOver first visits (fault_in result.0))
+        × MatchResult result.1 (λ it. IsReopenedAfterServing first visits it × ComesAfter first it) (LeavesFilesAfter D.Disk over.last) }
 {
     let mut registry = first;
     let served = serve_all(alloc, connections, &mut registry, count);
@@ -44,13 +49,16 @@ pub fn serve_and_open<C: Connections, D: Disk + Drop>(
     first: Registry<FileStore<D>>,
     count: u64,
     options: Options,
-) -> (Result<(), ServerStop>, Option<Registry<FileStore<D>>>)
+) -> (
+    Result<(), ServerStop>,
+    Result<Registry<FileStore<D>>, Unopened<D>>,
+)
     ensures { (visits : List Visit) × (middle : C)
         × HaveVisited C.opens C.closes C.Reader.remaining C.Reader.failures C.Writer.contents C.Writer.failures connections.old middle visits
         × EndsConnections C.fails middle connections.new result.0
         × (length visits ≤ count) × OnOk result.0 (length visits ≡ count)
-        × AreServedOver first visits (fault_in result.0)
-        × IfSome result.1 (IsReopenedAfterServing first visits) }
+        × (over : AreServedOver first visits (fault_in result.0))
+        × MatchResult result.1 (λ it. IsReopenedAfterServing first visits it × ComesAfter first it) (LeavesFilesAfter D.Disk over.last) }
 {
     let mut registry = first;
     let served = serve_all(alloc, connections, &mut registry, count);

@@ -73,8 +73,8 @@ fn act_around_a_crash<D: Crash + Drop>(
 ) -> Option<(Outcome, Outcome)> {
     let before = act_twice(&mut registry, request);
     match crash_until_open(alloc, registry, PLAIN, 2) {
-        Some(registry) => Some((before, act_again(registry, request))),
-        None => None,
+        Ok(registry) => Some((before, act_again(registry, request))),
+        Err(_) => None,
     }
 }
 

@@ -1,6 +1,6 @@
 //! A run, and the opening of the files that a crash left.
 
-use registry_reopening::{leave, open_files, run_and_recover};
+use registry_reopening::{Unopened, leave, open_files, run_and_recover};
 use registry_rules::Request;
 use registry_store::Registry;
 use sqlite::{FileStore, Files};
@@ -16,8 +16,8 @@ use store_visits::values::{founding, lines_of, requests_of};
 use store_visits::visits::{Seen, unseen};
 
 // Notes the lists of the registry that was found, if any.
-fn note<D: Disk + Drop>(recovered: Option<Registry<FileStore<D>>>, seen: &mut Seen) {
-    if let Some(mut registry) = recovered {
+fn note<D: Disk + Drop>(recovered: Result<Registry<FileStore<D>>, Unopened<D>>, seen: &mut Seen) {
+    if let Ok(mut registry) = recovered {
         seen.is_open = write_listing(&mut registry, &mut seen.lists);
         drop(leave(registry));
     }
@@ -51,7 +51,7 @@ fn recover_over<D: Disk + Drop>(
     if !files.may_be_used() {
         return;
     }
-    if let Some(first) = open_files(alloc, files, PLAIN) {
+    if let Ok(first) = open_files(alloc, files, PLAIN) {
         recover_in(alloc, first, requests, found, seen);
     }
 }

@@ -1,8 +1,8 @@
 //! The ways to close and reopen a registry, and runs that go on through stops.
 
 use registry_reopening::{
-    abandon, close_and_open, crash_and_open, crash_and_open_store, crash_until_open, leave,
-    leave_and_open, open_files, open_files_or_return, open_on, open_on_or_return, open_through,
+    Unopened, abandon, close_and_open, crash_and_open, crash_and_open_store, crash_until_open,
+    leave, leave_and_open, open_files, open_on, open_through, run_and_crash, run_and_crash_twice,
     run_in_memory, run_through,
 };
 use registry_rules::{Founding, Reply, Request};
@@ -29,12 +29,12 @@ enum Way {
     Crash,
     CrashUntilOpen,
     Stop,
-    StopOrReturn,
     OpenThrough,
     CloseStore,
     CrashStore,
     OpenOn,
-    OpenOnOrReturn,
+    RunAndCrash,
+    RunAndCrashTwice,
 }
 
 const WAYS: [Way; 11] = [
@@ -43,56 +43,63 @@ const WAYS: [Way; 11] = [
     Way::Crash,
     Way::CrashUntilOpen,
     Way::Stop,
-    Way::StopOrReturn,
     Way::OpenThrough,
     Way::CloseStore,
     Way::CrashStore,
     Way::OpenOn,
-    Way::OpenOnOrReturn,
+    Way::RunAndCrash,
+    Way::RunAndCrashTwice,
 ];
 
-fn open_again<D: Disk + Drop>(alloc: Global, files: Files<D>) -> Option<Registry<FileStore<D>>> {
+fn open_again<D: Disk + Drop>(
+    alloc: Global,
+    files: Files<D>,
+) -> Result<Registry<FileStore<D>>, Unopened<D>> {
     if files.may_be_used() {
         open_files(alloc, files, PLAIN)
     } else {
-        None
-    }
-}
-
-fn open_or_return<D: Disk + Drop>(
-    alloc: Global,
-    files: Files<D>,
-) -> Option<Registry<FileStore<D>>> {
-    if !files.may_be_used() {
-        return None;
-    }
-    match open_files_or_return(alloc, files, PLAIN) {
-        Ok(registry) => Some(registry),
-        Err(_) => None,
+        Err(Unopened::Registry(files))
     }
 }
 
 fn close_store_and_open<D: Disk + Drop>(
     alloc: Global,
     conn: Connection<FileStore<D>>,
-) -> Option<Registry<FileStore<D>>> {
+) -> Result<Registry<FileStore<D>>, Unopened<D>> {
     let Closed { files, error } = close_files(conn);
     match error {
         None => open_again(alloc, files),
-        Some(_) => None,
+        Some(_) => Err(Unopened::Store(files)),
     }
 }
 
-fn open_on_or_none<D: Disk + Drop>(
+fn open_or_leave<D: Disk + Drop>(
     alloc: Global,
     conn: Connection<FileStore<D>>,
-) -> Option<Registry<FileStore<D>>> {
-    match open_on_or_return(alloc, conn) {
-        Ok(registry) => Some(registry),
-        Err(conn) => {
-            drop(leave_store(conn));
-            None
-        }
+) -> Result<Registry<FileStore<D>>, Unopened<D>> {
+    match open_on(alloc, conn) {
+        Ok(registry) => Ok(registry),
+        Err(conn) => Err(Unopened::Registry(leave_store(conn))),
+    }
+}
+
+fn run_nothing_and_crash<D: Crash + Drop>(
+    alloc: Global,
+    registry: Registry<FileStore<D>>,
+) -> Result<Registry<FileStore<D>>, Unopened<D>> {
+    match run_and_crash(alloc, registry, &[], PLAIN) {
+        Ok((_run, registry)) => Ok(registry),
+        Err(left) => Err(left),
+    }
+}
+
+fn run_nothing_twice<D: Crash + Drop>(
+    alloc: Global,
+    registry: Registry<FileStore<D>>,
+) -> Result<Registry<FileStore<D>>, Unopened<D>> {
+    match run_and_crash_twice(alloc, registry, &[], &[], PLAIN) {
+        Ok((_first, _second, registry)) => Ok(registry),
+        Err(left) => Err(left),
     }
 }
 
@@ -101,19 +108,19 @@ fn go_through<D: Crash + Drop>(
     alloc: Global,
     registry: Registry<FileStore<D>>,
     way: Way,
-) -> Option<Registry<FileStore<D>>> {
+) -> Result<Registry<FileStore<D>>, Unopened<D>> {
     match way {
         Way::Close => close_and_open(alloc, registry, PLAIN),
         Way::Leave => leave_and_open(alloc, registry, PLAIN),
         Way::Crash => crash_and_open(alloc, registry, PLAIN),
         Way::CrashUntilOpen => crash_until_open(alloc, registry, PLAIN, 1),
         Way::Stop => open_again(alloc, abandon(registry).close()),
-        Way::StopOrReturn => open_or_return(alloc, leave(registry)),
         Way::OpenThrough => open_through(alloc, leave(registry), PLAIN, 1),
         Way::CloseStore => close_store_and_open(alloc, registry.into_connection()),
         Way::CrashStore => crash_and_open_store(alloc, registry.into_connection(), PLAIN),
-        Way::OpenOn => open_on(alloc, registry.into_connection()),
-        Way::OpenOnOrReturn => open_on_or_none(alloc, registry.into_connection()),
+        Way::OpenOn => open_or_leave(alloc, registry.into_connection()),
+        Way::RunAndCrash => run_nothing_and_crash(alloc, registry),
+        Way::RunAndCrashTwice => run_nothing_twice(alloc, registry),
     }
 }
 
@@ -139,7 +146,7 @@ fn act_through<D: Crash + Drop>(
 ) {
     act_in(alloc, &mut registry, acts, seen);
     seen.is_open = false;
-    if let Some(registry) = go_through(alloc, registry, way) {
+    if let Ok(registry) = go_through(alloc, registry, way) {
         go_on(alloc, registry, rest, seen);
     }
 }
@@ -152,7 +159,7 @@ fn act_through_in<D: Crash + Drop>(
     rest: &Visit<'_>,
     seen: &mut Seen,
 ) {
-    if let Some(registry) = open_again(alloc, files) {
+    if let Ok(registry) = open_again(alloc, files) {
         act_through(alloc, registry, acts, way, rest, seen);
     }
 }
@@ -294,7 +301,7 @@ fn open_and_run_through<D: Crash + Drop>(
     rounds: u64,
     seen: &mut Seen,
 ) {
-    if let Some(registry) = open_again(alloc, files) {
+    if let Ok(registry) = open_again(alloc, files) {
         run_through_in(alloc, registry, requests, rounds, seen);
     }
 }

@@ -40,7 +40,7 @@ fn feed_next<R: Source, I: Intake>(
 }
 
 /// Feeds all bytes of the source, also those after a faulty line. Returns `Broken` only if a read
-/// failed, the last one, or if the source has more than 4,294,967,295 bytes.
+/// failed, the last one, or if none failed and the source has more than 4,294,967,295 bytes.
 pub fn feed_all<R: Source, I: Intake>(
     source: &mut R,
     intake: &mut I,
@@ -50,7 +50,8 @@ pub fn feed_all<R: Source, I: Intake>(
     ensures ok { OnOk result ((bytes : List ℕ) × MayGive (R.remaining source.old) bytes × (length bytes ≤ most_bytes)
         × ((wanted : I.Wanted) (t : List ℕ) → I.was_fed intake.old wanted t → I.was_fed intake.new wanted (t ++ bytes))) }
     ensures kept { OnOk result (R.failures source.new ≡ R.failures source.old) }
-    ensures err { OnErr result ((bytes : List ℕ) × MayGive (R.remaining source.old) bytes × (FailsOnce (R.failures source.old) (R.failures source.new) ⊎ (most_bytes < length bytes))) }
+    ensures err { OnErr result ((bytes : List ℕ) × MayGive (R.remaining source.old) bytes × (FailsOnce (R.failures source.old) (R.failures source.new)
+        ⊎ ((most_bytes < length bytes) × (R.failures source.new ≡ R.failures source.old)))) }
 {
     let mut total = 0usize;
     while total <= MOST {

@@ -11,7 +11,7 @@ use Rattle.registry_commands.specs.Replayed.{IsOfActing}
 use Rattle.registry_commands.specs.declared.messages.Failure.{Failure}
 use Rattle.registry_commands.specs.declared.messages.Failure.TheVariants.{File}
 use Rattle.registry_commands.proofs.BeginLemmas.{file_input, kept_unless_file}
-use Rattle.registry_commands.proofs.RecordLineLemmas.{may_have, read_on}
+use Rattle.registry_commands.proofs.RecordLineLemmas.{may_have, read_on, same_lines}
 use Rattle.registry_commands.proofs.following.follow_lines.Goals as goal
 
 pub loop-accepted-init : goal.loop-accepted-init
@@ -24,6 +24,13 @@ pub returns-in-Ok-End-clause-replays : goal.returns-in-Ok-End-clause-replays
 returns-in-Ok-End-clause-replays g c =
     at_end _ _ _ _ _ _ c.loop-accepted.invariant.so_far (g.R.Source.failures c.args.source.now) (g.R.Source.failures c.next_entry.new.source)
     (none_left _ (rw c.in-Ok-End.field-0-is at c.in-Ok-End.ensures.taken).0)
+
+pub returns-in-Ok-End-clause-passed : goal.returns-in-Ok-End-clause-passed
+returns-in-Ok-End-clause-passed g c =
+    let so_far = c.loop-accepted.invariant.so_far in
+    let end = c.in-Ok-End.ensures.end c.in-Ok-End.field-0-is in
+    let taken = rw c.in-Ok-End.field-0-is at c.in-Ok-End.ensures.taken in
+    (so_far.front, λ rest has. so_far.passed rest (same_lines _ _ rest end has), taken.1 ∙ so_far.counted)
 
 pub returns-in-Ok-Some-clause-replays : goal.returns-in-Ok-Some-clause-replays
 returns-in-Ok-Some-clause-replays g c =

@@ -18,7 +18,7 @@ returns-clause-err g c =
     let bytes = c.loop-source.bytes.items in
     let all = all_of _ _ bytes c.loop-source.invariant.read in
     let long : most_bytes < length (bytes ++ all.0) = omega (arith, length-append bytes all.0) in
-    (bytes ++ all.0, all.1, inr long)
+    (bytes ++ all.0, all.1, inr (long, c.loop-source.invariant.same_failures))
 
 pub returns-in-Err-clause-err : goal.returns-in-Err-clause-err
 returns-in-Err-clause-err g c =

@@ -33,23 +33,23 @@ stops-init g c =
 
 pub stops-preserved : goal.stops-preserved
 stops-preserved g c = record {
-  clean = λ clean. c.stops.invariant.clean (omega (arith, c.in-Some-crash_until_open.ensures.clean clean, c.run_from-more.ensures.endures.clean));
+  clean = λ clean. c.stops.invariant.clean (omega (arith, c.in-Ok.ensures.clean clean, c.run_from-more.ensures.endures.clean));
   at = λ h stands clean.
       let old = c.stops.replies.items in
       let more = c.run_from-more.result.replies.items in
       let rs = c.args.requests.now in
       let last = c.run_from-more.new.registry in
-      let mid : HasCleanDisk (state_of last) = c.in-Some-crash_until_open.ensures.clean clean in
+      let mid : HasCleanDisk (state_of last) = c.in-Ok.ensures.clean clean in
       let early : HasCleanDisk (state_of c.stops.registry) = omega (arith, mid, c.run_from-more.ensures.endures.clean) in
       let pushed : c.append.new.self.items ≡ old ++ more = search rules in
       let count : c.len-in-stops.result ≡ length old = search rules in
-      let now = c.in-Some-crash_until_open.registry in
+      let now = c.in-Ok.registry in
       let legal = stands.legal_with.legal in
       ∥∥₁_elim (c.stops.invariant.at h stands early) squash₁ (λ inv.
       let end = ends_next h rs old more c.stops.registry last c.len-in-stops.result c.run_from-more.result.fault count inv.0 (λ x at. c.run_from-more.ensures.run x at mid) in
       let stopped : EndsNext h rs old more last (Some c.in-Some.field-0) = rw c.in-Some.is at end in
       let place = length old + length more in
-      ∥∥₁_map (c.in-Some-crash_until_open.ensures.represents (after h (take place rs)) (after h (take (place + 1) rs)) (legal_after h (take place rs) legal) (legal_after h (take (place + 1) rs) legal) (λ _. leaves_so_far h rs old more inv.1 last _ stopped) clean)
+      ∥∥₁_map (c.in-Ok.ensures.represents (after h (take place rs)) (after h (take (place + 1) rs)) (legal_after h (take place rs) legal) (legal_after h (take (place + 1) rs) legal) (λ _. leaves_so_far h rs old more inv.1 last _ stopped) clean)
       (λ it. subst (λ y. HasAnswered now h rs (length y) × (y ≡ take (length y) (replies_to h rs))) (sym pushed)
       (goes_on h rs old more inv.1 last _ stopped now it.0 it.1 it.2)));
 }
@@ -70,8 +70,8 @@ pub returns-clause-unfinished : goal.returns-clause-unfinished
 returns-clause-unfinished g c h stands word =
     ∥∥₁_map (c.stops.invariant.at h stands (always_clean word (connection_of c.stops.registry).store)) (λ inv. inv.1)
 
-pub returns-in-None-crash_until_open-clause-unfinished : goal.returns-in-None-crash_until_open-clause-unfinished
-returns-in-None-crash_until_open-clause-unfinished g c h stands word =
+pub returns-in-Err-clause-unfinished : goal.returns-in-Err-clause-unfinished
+returns-in-Err-clause-unfinished g c h stands word =
     let old = c.stops.replies.items in
     let more = c.run_from-more.result.replies.items in
     let rs = c.args.requests.now in

@@ -1,4 +1,6 @@
 use Rattle.registry_desk.specs.Server.{fault_in}
+use Rattle.registry_tables.specs.Rows.{newest}
+use Rattle.registry_reopening.specs.Opening.{StillHolds}
 use Rattle.registry_reopening.proofs.ServedLemmas.{if_reopened}
 use Rattle.registry_reopening.proofs.serving.serve_and_crash.Goals as goal
 
@@ -6,5 +8,13 @@ pub returns : goal.returns
 returns g c =
     let run = c.serve_all-served in
     let it = run.ensures.served in
-    let opening = c.crash_and_open in
-    (it.0, it.1, it.2, it.3, it.4, it.5, record { last = run.new.registry; served = it.6; poisoned = λ e. (it.7 e).0 }, if_reopened c.args.first run.new.registry it.0 (fault_in run.result) it.6 opening.result opening.ensures.represents opening.ensures.clean)
+    let opening = c.crash_and_open in (
+      it.0,
+      it.1,
+      it.2,
+      it.3,
+      it.4,
+      it.5,
+      record { last = run.new.registry; served = it.6; poisoned = λ e. (it.7 e).0 },
+      if_reopened c.args.first run.new.registry it.0 (fault_in run.result) it.6 run.ensures.endures (StillHolds g.D.Disk newest) opening.result opening.ensures.represents opening.ensures.clean opening.ensures.is_new opening.ensures.holds,
+    )

@@ -22,4 +22,4 @@ returns-in_err-count-clause-err g c =
 pub returns-clause-err : goal.returns-clause-err
 returns-clause-err g c =
     let some = feeds_some _ _ _ _ _ c.args.intake.now c.loop-total.intake c.loop-total.total c.loop-total.invariant.feeds in
-    (some.0, some.1, inr (let k = some.2 in omega arith))
+    (some.0, some.1, inr (let k = some.2 in omega arith, c.loop-total.invariant.same_failures))

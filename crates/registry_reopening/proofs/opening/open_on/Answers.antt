@@ -6,7 +6,7 @@ use Rattle.registry_tables.specs.Rows.{Rows}
 use Rattle.registry_store.specs.Promise.{IsFreshAt}
 use Rattle.registry_store.proofs.CrashLemmas.{later_from}
 use Rattle.registry_store.proofs.OpeningLemmas.{either_legal}
-use Rattle.registry_reopening.proofs.opening.open_on_or_return.Goals as goal
+use Rattle.registry_reopening.proofs.opening.open_on.Goals as goal
 
 pub returns-in-Ok-clause-represents : goal.returns-in-Ok-clause-represents
 returns-in-Ok-clause-represents g c from image h next legal legal_next opened clean =
