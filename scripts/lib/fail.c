@@ -1,6 +1,6 @@
 // Preloaded before a program: makes each call of a kind fail with an error of the system. FAIL_OPEN, FAIL_READ, FAIL_WRITE
 // and FAIL_SYNC have the number of the error for files that are opened to be written, reads at a place, writes at a place
-// and changes of a length, and syncs.
+// and changes of a length, and syncs. FAIL_SKIP has how many of these calls are let through first.
 #define _GNU_SOURCE
 #include <dlfcn.h>
 #include <errno.h>
@@ -11,8 +11,9 @@
 #include <unistd.h>
 
 static int fails(const char *kind) {
-    const char *number = getenv(kind);
-    if (!number) return 0;
+    static long passed;
+    const char *number = getenv(kind), *skip = getenv("FAIL_SKIP");
+    if (!number || (skip && passed++ < atol(skip))) return 0;
     errno = atoi(number);
     return 1;
 }

@@ -170,6 +170,7 @@ fn trouble_of(error: io::Error) -> Trouble {
     match error.kind() {
         ErrorKind::AlreadyExists => Trouble::Known("the log beside it belongs to another file"),
         ErrorKind::NotFound => Trouble::Known("its folder does not exist"),
+        ErrorKind::PermissionDenied => Trouble::Folder,
         _ => Trouble::System(error),
     }
 }

@@ -7,7 +7,7 @@ ghost use Rattle.registry_commands.specs.Failures.{IsOfStore};
 ghost use Rattle.registry_program.specs.Opening.{IsOfFiles};
 
 use crate::blank::make_store;
-use crate::look::{look, why_missing, why_unsupported};
+use crate::look::{has_meta, look, why_missing, why_unsupported};
 use crate::notes::{Noted, Notes, Trouble};
 use byte_streams::{Broken, Inlet};
 use registry_commands::Failure;
@@ -16,9 +16,9 @@ use sqlite::{FileFrom, Files, Options, Start};
 use sqlite_std_file::OpenError;
 use std::alloc::Global;
 use std::fs;
-use std::fs::File;
+use std::fs::{File, OpenOptions};
 use std::hash::{BuildHasher, RandomState};
-use std::io::{ErrorKind, IsTerminal};
+use std::io::{Error, ErrorKind, IsTerminal};
 use std::net::{Ipv4Addr, TcpListener};
 
 /// This machine, for a command that opens at most one store, whose files hold what `S` says.
@@ -27,6 +27,8 @@ pub struct Machine<'a, S: Start> {
     pub(crate) rt: &'a HostRuntime,
     pub(crate) notes: &'a Notes,
     start: Option<S>,
+    /// Whether the store that was opened had no registry then.
+    was_empty: bool,
     pub(crate) listener: Option<TcpListener>,
 }
 
@@ -42,6 +44,7 @@ impl<'a, S: Start> Machine<'a, S> {
             rt,
             notes,
             start: Some(start),
+            was_empty: false,
             listener: None,
         }
     }
@@ -60,11 +63,49 @@ fn options(rt: &HostRuntime, notes: &Notes) -> Result<Options, Failure>
     }
 }
 
+/// Returns what is denied where the files of a store may not be opened: the file itself, or what is
+/// to stand beside it.
+fn denied(rt: &HostRuntime, path: &str, error: Error) -> Trouble {
+    match OpenOptions::new().read(true).write(true).open(rt, path) {
+        Ok(_) if is_log_denied(rt, path) => Trouble::Known(
+            "permission denied for the log beside it",
+        ),
+        Ok(_) => Trouble::Folder,
+        Err(_) => Trouble::System(error),
+    }
+}
+
+/// Returns whether the log of a store is there, and may not be opened.
+fn is_log_denied(rt: &HostRuntime, path: &str) -> bool {
+    let Ok(log) = format!(in rt.alloc(); "{path}-wal") else {
+        return false;
+    };
+    match OpenOptions::new()
+        .read(true)
+        .write(true)
+        .open(rt, log.as_str())
+    {
+        Ok(_) => false,
+        Err(error) => error.kind() == ErrorKind::PermissionDenied,
+    }
+}
+
+/// Returns the folder of a path, as it is shown.
+fn folder_of(path: &str) -> &str {
+    match path.rsplit_once('/') {
+        Some((folder, _)) => { if folder.is_empty() { "/" } else { folder } }
+        None => ".",
+    }
+}
+
 /// Returns why the engine does not open the files of a store.
 fn trouble_of(rt: &HostRuntime, path: &str, error: OpenError) -> Trouble {
     match error {
         OpenError::Io(error) if error.kind() == ErrorKind::Unsupported => {
             Trouble::Known(why_unsupported(rt, path))
+        }
+        OpenError::Io(error) if error.kind() == ErrorKind::PermissionDenied => {
+            denied(rt, path, error)
         }
         OpenError::Io(error) => Trouble::System(error),
         OpenError::OutOfMemory => Trouble::Known("out of memory"),
@@ -121,6 +162,14 @@ fn find_store(rt: &HostRuntime, notes: &Notes, path: &str, may_make: bool) -> Re
     Err(Failure::File)
 }
 
+/// Returns the number of bytes of a file, or 0 if it is a pipe or a device.
+fn length_of(file: &File) -> u64 {
+    match file.metadata() {
+        Ok(found) if found.is_file() => found.len(),
+        _ => 0,
+    }
+}
+
 /// Returns what the failed calls of the files of a store met.
 fn trouble_in<S: Start>(files: &Files<FileFrom<S>>) -> Option<Trouble> {
     let tally = files.tally();
@@ -165,6 +214,7 @@ impl<'a, S: Start> Host for Machine<'a, S> {
     ) -> Result<(Files<FileFrom<S>>, Options), Failure> {
         find_store(self.rt, self.notes, path, may_make)?;
         let options = options(self.rt, self.notes)?;
+        self.was_empty = may_make && !has_meta(self.rt, self.rt.alloc(), path).unwrap_or(true);
         let Some(start) = self.start.take() else {
             return Err(Failure::Store);
         };
@@ -174,9 +224,17 @@ impl<'a, S: Start> Host for Machine<'a, S> {
         }
     }
 
-    fn open_input(&mut self, path: &str) -> Result<Inlet<Noted<'a, File>>, Failure> {
+    fn open_input(&mut self, path: &str, most: u64) -> Result<Inlet<Noted<'a, File>>, Failure> {
         match fs::open(self.rt, path) {
-            Ok(file) => Ok(Inlet::new(Noted::new(file, About::Input, self.notes))),
+            Ok(file) => {
+                let length = length_of(&file);
+                if length > most {
+                    self.notes
+                        .note(About::Input, Trouble::TooLong(length, most));
+                    return Err(Failure::File);
+                }
+                Ok(Inlet::new(Noted::new(file, About::Input, self.notes)))
+            }
             Err(error) => {
                 self.notes.note(About::Input, Trouble::System(error));
                 Err(Failure::File)
@@ -201,16 +259,21 @@ impl<'a, S: Start> Host for Machine<'a, S> {
     }
 
     fn cause(&self, alloc: Global, store: Option<&str>) -> Option<Cause> {
-        if let Ok(Some(cause)) = self.notes.cause(alloc) {
+        if let Ok(Some(cause)) = self.notes.cause(alloc, folder_of(store.unwrap_or("."))) {
             return Some(cause);
         }
-        match look(self.rt, alloc, store?) {
+        let store = store?;
+        match look(self.rt, alloc, store) {
             Ok(Some(words)) => Some(Cause {
                 about: About::Store,
                 words,
             }),
             _ => None,
         }
+    }
+
+    fn shows_registry(&self, alloc: Global, path: &str) -> bool {
+        self.was_empty && has_meta(self.rt, alloc, path).unwrap_or(false)
     }
 
     fn take_kept(&self, _alloc: Global) -> Option<Vec<u8>> {

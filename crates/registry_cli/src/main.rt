@@ -6,6 +6,7 @@ ghost use Rattle.std.specs.IoError.{error_kind};
 
 mod blank;
 mod connections;
+mod database;
 mod look;
 mod machine;
 mod notes;

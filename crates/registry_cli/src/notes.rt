@@ -17,6 +17,10 @@ pub enum Trouble {
     System(io::Error),
     /// What is known of it, in a few words.
     Known(&'static str),
+    /// The folder of the store may not be written.
+    Folder,
+    /// The input has so many bytes, more than so many.
+    TooLong(u64, u64),
 }
 
 /// The most bytes that are kept of an input.
@@ -65,11 +69,11 @@ impl Notes {
         }
     }
 
-    /// Returns what is noted, in words.
-    pub fn cause(&self, alloc: Global) -> Result<Option<Cause>, AllocError> {
+    /// Returns what is noted, in words, of a store in this folder.
+    pub fn cause(&self, alloc: Global, folder: &str) -> Result<Option<Cause>, AllocError> {
         match self.last.get() {
             Some((about, trouble)) => {
-                let words = words_of(alloc, trouble)?;
+                let words = words_of(alloc, trouble, folder)?;
                 Ok(Some(Cause { about, words }))
             }
             None => Ok(None),
@@ -96,8 +100,12 @@ fn words_of_kind(kind: ErrorKind) -> Option<&'static str> {
     }
 }
 
-fn words_of(alloc: Global, trouble: Trouble) -> Result<String, AllocError> {
+fn words_of(alloc: Global, trouble: Trouble, folder: &str) -> Result<String, AllocError> {
     match trouble {
+        Trouble::Folder => format!(in alloc; "permission denied in its folder {folder}"),
+        Trouble::TooLong(length, most) => {
+            format!(in alloc; "has {length} bytes; it may have at most {most}")
+        }
         Trouble::Known(words) => String::from_str(alloc, words),
         Trouble::System(error) => match words_of_kind(error.kind()) {
             Some(words) => String::from_str(alloc, words),

@@ -37,11 +37,11 @@ use Rattle.registry_commands.proofs.ApplyLemmas.{applied_endures}
 use Rattle.registry_desk.specs.declared.server.Connections as connections
 use Rattle.registry_desk.specs.Server.{fault_in}
 use Rattle.registry_program.specs.declared.host.Host as host
-use Rattle.registry_program.specs.Commands.{ActsOnFile, Applies, ExportsAs, FoundsBy, FoundsIn, ImportsAs, ImportsFile, IsFoundedOn, ReadsFoundingAt, ReportsAs, WritesList, WritesRecord, WritesReport}
+use Rattle.registry_program.specs.Commands.{ActsOnFile, ActsOnLines, Applies, ExportsAs, FoundsBy, FoundsIn, ImportsAs, ImportsFile, ImportsList, IsFoundedOn, ReadsFoundingAt, ReportsAs, RunsReading, WritesList, WritesRecord, WritesReport}
 use Rattle.registry_program.specs.Outputs.{earlier, later}
 use Rattle.registry_program.specs.Serving.{Serves, ServesOn}
 use Rattle.registry_program.specs.Stores.{ClosesStore, IsRunOver, Runs, TheRegistry}
-use Rattle.registry_program.specs.Whole.{AppliesWholly, AreLeftAfter, ExportsWhollyAs, FoundsWholly, ImportsWhollyAs, IsAfterImport, IsAfterLines, IsAppliedTo, IsCarriedOn, IsFoundedWholly, IsImportedTo, IsListed, IsRecordedOn, IsReportedOn, IsServedTo, IsUnbegun, IsUsed, LeadsFilesTo, ReportsWholly, ServesWholly, Stays, UnlessStopped}
+use Rattle.registry_program.specs.Whole.{AppliesWholly, AreLeftAfter, ExportsWhollyAs, FoundsWholly, ImportsWhollyAs, IsAfterImport, IsAfterLines, IsAppliedTo, IsCarriedOn, IsFoundedWholly, IsGivenBy, IsImportedTo, IsListed, IsRecordedOn, IsReportedOn, IsServedTo, IsUnbegun, IsUsed, LeadsFilesTo, ReportsWholly, ServesWholly, Stays, UnlessStopped}
 use Rattle.registry_program.proofs.LeavesLemmas.{success_or, same_of_either, LeavesSome, leaves_itself, stayed, applied, unacted, LeavesImport, imported, import_endures, served}
 
 module _ {H F I : Type 0} (m : host.Ghosts H F I) (d : disk.Ghosts F) where
@@ -135,48 +135,71 @@ module _ {H F I : Type 0} (m : host.Ghosts H F I) (d : disk.Ghosts F) where
       let is = over.does.1 in (is.left, λ h stands clean success. is.whole success h stands clean))
 
   module _ (s : source.Ghosts I) where
-    pub apply_whole : (old new : H) (path file : List ℕ) (a : ℕ) (ends : Ends) → Applies m d s old new path file a ends → AppliesWholly m d s old new path file a ends
-    apply_whole old new path file a ends = runs_whole old new path ends (ActsOnFile m s file a) (IsAppliedTo m d s old new path file a ends ⊎ IsUnbegun m d old new path ends) (λ over same. elim over.does [
-      | inl read ↦
+    module _ {R : Type 0} (r : source.Ghosts R) (input input_new : R) where
+      -- the same without what became of the standard input
+      reading_or : (old new : H) (path : List ℕ) (ends : Ends) (Does : H → H → TheRegistry m d → TheRegistry m d → Ends → Type 0) → RunsReading m d s r input input_new old new path ends Does → Runs m d old new path ends Does
+      reading_or old new path ends Does is = elim is [ inl not ↦ inl (not.0, not.1, not.2) | inr over ↦ inr over ]
+
+      -- the lines that this source gave were acted on
+      acted_on : {X : Type 0} (x : source.Ghosts X) (first last : X) (old new : H) (path file : List ℕ) (a : ℕ) (ends : Ends) (over : IsRunOver m d old new path ends (ActsOnFile m s r file a input input_new))
+          → ends.status ≡ over.before → (did : ActsOnLines x first last a over.it over.after (earlier ends over.errors over.before)) → IsGivenBy m d s r input file did.0 → IsAppliedTo m d s r input old new path file a ends
+      acted_on x first last old new path file a ends over same lines given =
           let did = effect over.it over.after (earlier ends over.errors over.before) in
-          let was_clean : HasCleanDisk (state_of over.after) → HasCleanDisk (state_of over.it) = λ clean. omega (arith, (applied_endures _ did _ a read.3.2).clean, clean) in
-          inl (record {
-            bytes = read.3.0;
-            read = record { reading = over.opened; read = over.done; input = read.0; reads = read.2; gives = read.3.1 };
+          let was_clean : HasCleanDisk (state_of over.after) → HasCleanDisk (state_of over.it) = λ clean. omega (arith, (applied_endures _ did _ a lines.2).clean, clean) in
+          record {
+            bytes = lines.0;
+            read = given;
             files = over.closes.files;
-            used = used old new path ends (ActsOnFile m s file a) over;
+            used = used old new path ends (ActsOnFile m s r file a input input_new) over;
             holds = λ h rs parsed within.
-                files_lead_to old new path ends (ActsOnFile m s file a) over same was_clean h (after h (take 1 (drop a rs))) (IsAfterLines h (drop a rs) ends.out ends.status)
+                files_lead_to old new path ends (ActsOnFile m s r file a input input_new) over same was_clean h (after h (take 1 (drop a rs))) (IsAfterLines h (drop a rs) ends.out ends.status)
                 (λ x is stands clean. subst (λ (status : ExitStatus). LeavesSome over.after (IsAfterLines h (drop a rs) ends.out status)) (sym same)
-                (applied _ did _ a read.3.2 h rs parsed within (at_place over.it h (drop a rs) 0 x is stands) clean));
+                (applied _ did _ a lines.2 h rs parsed within (at_place over.it h (drop a rs) 0 x is stands) clean));
             stays = λ none h.
-                files_lead_to old new path ends (ActsOnFile m s file a) over same was_clean h h (Stays h)
-                (λ x is stands clean. stayed over.it over.after h (unacted _ did _ a read.3.2 none) (subst (Represents over.it) (same_of_either h x is) stands) clean);
-          })
-      | inr not ↦ inr (unread old new path ends (ActsOnFile m s file a) over same not.2.0 not.2.1.1 not.2.1.0)
-    ])
+                files_lead_to old new path ends (ActsOnFile m s r file a input input_new) over same was_clean h h (Stays h)
+                (λ x is stands clean. stayed over.it over.after h (unacted _ did _ a lines.2 none) (subst (Represents over.it) (same_of_either h x is) stands) clean);
+          }
 
-    import_whole : (old new : H) (path list : List ℕ) (import : Import) (ends : Ends) → Runs m d old new path ends (ImportsFile m s list import)
-        → UnlessStopped m d old new path ends (ImportsFile m s list import) (IsImportedTo m d s old new path list import ends ⊎ IsUnbegun m d old new path ends)
-    import_whole old new path list import ends = runs_whole old new path ends (ImportsFile m s list import) (IsImportedTo m d s old new path list import ends ⊎ IsUnbegun m d old new path ends) (λ over same. elim over.does [
-      | inl read ↦
+      pub apply_whole : (old new : H) (path file : List ℕ) (a : ℕ) (ends : Ends) → Applies m d s r input input_new old new path file a ends → AppliesWholly m d s r input input_new old new path file a ends
+      apply_whole old new path file a ends is = runs_whole old new path ends (ActsOnFile m s r file a input input_new) (IsAppliedTo m d s r input old new path file a ends ⊎ IsUnbegun m d old new path ends) (λ over same. elim over.does [
+        | inl standard ↦ inl (acted_on r input input_new old new path file a ends over same standard.2 (inl (standard.0, standard.2.1)))
+        | inr named ↦ elim named.2 [
+          | inl read ↦ inl (acted_on s read.0 read.1 old new path file a ends over same read.3
+              (inr (named.0, record { reading = over.opened; read = over.done; input = read.0; reads = read.2; gives = read.3.1 })))
+          | inr not ↦ inr (unread old new path ends (ActsOnFile m s r file a input input_new) over same not.2.0 not.2.1.1 not.2.1.0)
+        ]
+      ]) (reading_or old new path ends (ActsOnFile m s r file a input input_new) is)
+
+      -- the list that this source gave was imported
+      imported_by : {X : Type 0} (x : source.Ghosts X) (first last : X) (old new : H) (path list : List ℕ) (import : Import) (ends : Ends) (over : IsRunOver m d old new path ends (ImportsFile m s r list import input input_new))
+          → ends.status ≡ over.before → (did : ImportsList x first last import over.it over.after (earlier ends over.errors over.before)) → IsGivenBy m d s r input list did.0 → IsImportedTo m d s r input old new path list import ends
+      imported_by x first last old new path list import ends over same read given =
           let did = effect over.it over.after (earlier ends over.errors over.before) in
-          let was_clean : HasCleanDisk (state_of over.after) → HasCleanDisk (state_of over.it) = λ clean. omega (arith, (import_endures _ did import read.3.0 read.3.2).clean, clean) in
-          inl (record {
-            bytes = read.3.0;
-            read = record { reading = over.opened; read = over.done; input = read.0; reads = read.2; gives = read.3.1 };
-            carried = carried old new path ends (ImportsFile m s list import) over same was_clean
-                (λ h x y. Stays h x y ⊎ IsAfterImport read.3.0 import ends.out ends.status h x y)
-                (λ h stands clean. subst (λ (status : ExitStatus). LeavesImport over.after read.3.0 import ends.out status h) (sym same)
-                (imported _ did import read.3.0 read.3.2 h stands clean));
-          })
-      | inr not ↦ inr (unread old new path ends (ImportsFile m s list import) over same not.2.0 not.2.1.1 not.2.1.0)
-    ])
+          let was_clean : HasCleanDisk (state_of over.after) → HasCleanDisk (state_of over.it) = λ clean. omega (arith, (import_endures _ did import read.0 read.2).clean, clean) in
+          record {
+            bytes = read.0;
+            read = given;
+            carried = carried old new path ends (ImportsFile m s r list import input input_new) over same was_clean
+                (λ h x y. Stays h x y ⊎ IsAfterImport read.0 import ends.out ends.status h x y)
+                (λ h stands clean. subst (λ (status : ExitStatus). LeavesImport over.after read.0 import ends.out status h) (sym same)
+                (imported _ did import read.0 read.2 h stands clean));
+          }
 
-    pub imports_whole : (old new : H) (path list : List ℕ) (asked : Result Import (Rejection BadArgument)) (ends : Ends) → ImportsAs m d s old new path list asked ends → ImportsWhollyAs m d s old new path list asked ends
-    imports_whole old new path list (Ok import) ends is = import_whole old new path list import ends is
-    imports_whole old new path list (Err (Refused argument)) ends is = is
-    imports_whole old new path list (Err NoMemory) ends is = is
+      import_whole : (old new : H) (path list : List ℕ) (import : Import) (ends : Ends) → RunsReading m d s r input input_new old new path ends (ImportsFile m s r list import input input_new)
+          → UnlessStopped m d old new path ends (ImportsFile m s r list import input input_new) (IsImportedTo m d s r input old new path list import ends ⊎ IsUnbegun m d old new path ends)
+      import_whole old new path list import ends is = runs_whole old new path ends (ImportsFile m s r list import input input_new) (IsImportedTo m d s r input old new path list import ends ⊎ IsUnbegun m d old new path ends) (λ over same. elim over.does [
+        | inl standard ↦ inl (imported_by r input input_new old new path list import ends over same standard.2 (inl (standard.0, standard.2.1)))
+        | inr named ↦ elim named.2 [
+          | inl read ↦ inl (imported_by s read.0 read.1 old new path list import ends over same read.3
+              (inr (named.0, record { reading = over.opened; read = over.done; input = read.0; reads = read.2; gives = read.3.1 })))
+          | inr not ↦ inr (unread old new path ends (ImportsFile m s r list import input input_new) over same not.2.0 not.2.1.1 not.2.1.0)
+        ]
+      ]) (reading_or old new path ends (ImportsFile m s r list import input input_new) is)
+
+      pub imports_whole : (old new : H) (path list : List ℕ) (asked : Result Import (Rejection BadArgument)) (ends : Ends) → ImportsAs m d s r input input_new old new path list asked ends → ImportsWhollyAs m d s r input input_new old new path list asked ends
+      imports_whole old new path list (Ok import) ends is = import_whole old new path list import ends is
+      imports_whole old new path list (Err (Refused argument)) ends is = (is.0, is.2)
+      imports_whole old new path list (Err NoMemory) ends is = (is.0, is.2)
 
     pub exports_whole : (old new : H) (path : List ℕ) (read : Result (Option Moment) BadArgument) (ends : Ends) → ExportsAs m d s old new path read ends → ExportsWhollyAs m d old new path read ends
     exports_whole old new path (Ok stamp) ends is = list_whole old new path stamp ends is

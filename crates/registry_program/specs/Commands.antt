@@ -1,5 +1,6 @@
 -- What each command asks of the machine, in which order, what it writes, and its exit status.
-use Rattle.std.specs.Prelude.{◌≡◌, ◌≢◌, ◌⊎◌, true, ℕ, List, Option, Some, None, Result, Ok, Err}
+use Rattle.std.specs.Prelude.{◌≡◌, ◌≢◌, ◌⊎◌, Bool, true, false, ℕ, List, codes, Option, Some, None, Result, Ok, Err}
+use Rattle.std.specs.Str.{bytes_eq}
 use Rattle.sqlite_disk.specs.declared.Disk as disk
 use Rattle.sqlite_store.specs.declared.store.FileStore.{FileStore}
 use Rattle.sqlite.specs.Files.{over_files}
@@ -37,7 +38,7 @@ use Rattle.registry_commands.specs.Shown.{IsExported}
 use Rattle.registry_commands.specs.Trial.{IsOfStart, IsTrialOf}
 use Rattle.registry_program.specs.declared.host.Host as host
 use Rattle.registry_program.specs.Outputs.{IsFailure, IsRejection, earlier, later}
-use Rattle.registry_program.specs.Stores.{Closes, IsConnected, IsUnconnected, Runs}
+use Rattle.registry_program.specs.Stores.{Closes, IsConnected, IsMissed, IsRunOver, IsUnconnected, Runs, TheRegistry}
 
 -- ---- inputs
 
@@ -46,6 +47,18 @@ module _ {H F I : Type 0} (m : host.Ghosts H F I) where
   abbrev pub ReadsFrom : H → H → List ℕ → (I → I → Type 0) → (Failure → Type 0) → Type 0
   ReadsFrom old new path Does Fails =
       ((input : I) × (input_new : I) × m.reads old new path input × Does input input_new) ⊎ ((failure : Failure) × m.lacks old new path failure × Fails failure)
+
+-- the input of this name is the standard input
+abbrev pub is_standard : List ℕ → Bool
+is_standard name = bytes_eq name (codes "-")
+
+module _ {H F I R : Type 0} (m : host.Ghosts H F I) where
+  -- the first was done with the standard input, and no file was opened; or the name is that of a file, the standard input was
+  -- left alone, and the others are so
+  abbrev pub ReadsNamed : R → R → H → H → List ℕ → (R → R → Type 0) → (I → I → Type 0) → (Failure → Type 0) → Type 0
+  ReadsNamed input input_new old new name DoesStandard Does Fails =
+      ((is_standard name ≡ true) × (new ≡ old) × DoesStandard input input_new)
+      ⊎ ((is_standard name ≡ false) × (input_new ≡ input) × ReadsFrom m old new name Does Fails)
 
 -- ---- trial
 
@@ -67,22 +80,31 @@ ActsOnLines s old new answered it after ends =
     × (IsTooLong bytes → (ends.status ≡ Failed) × IsUnread (IsOfInput (s.failures old) (s.failures new) bytes) (effect it after ends))
     × TellsFailedReads (ends.status ≡ Failed) ends.errors (s.failures old) (s.failures new) bytes
 
-module _ {H F I : Type 0} (m : host.Ghosts H F I) (s : source.Ghosts I) where
-  -- those of the file at this path are; or it could not be opened
-  abbrev pub ActsOnFile : {S : Type 0} {g : store.Ghosts S} → List ℕ → ℕ → H → H → Registry S g → Registry S g → Ends → Type 0
-  ActsOnFile path answered old new it after ends =
-      ReadsFrom m old new path (λ input input_new. ActsOnLines s input input_new answered it after ends) (λ failure. (after ≡ it) × IsFailure failure ends)
+module _ {H F I R : Type 0} (m : host.Ghosts H F I) (s : source.Ghosts I) (r : source.Ghosts R) where
+  -- those of the standard input, or of the file of this name, are; or it could not be opened
+  abbrev pub ActsOnFile : {S : Type 0} {g : store.Ghosts S} → List ℕ → ℕ → R → R → H → H → Registry S g → Registry S g → Ends → Type 0
+  ActsOnFile name answered input input_new old new it after ends =
+      ReadsNamed m input input_new old new name
+      (λ first last. ActsOnLines r first last answered it after ends)
+      (λ first last. ActsOnLines s first last answered it after ends)
+      (λ failure. (after ≡ it) × IsFailure failure ends)
 
 -- ---- import
 
-module _ {H F I : Type 0} (m : host.Ghosts H F I) (s : source.Ghosts I) where
-  -- the list in the file at this path is imported; or it could not be opened
-  abbrev pub ImportsFile : {S : Type 0} {g : store.Ghosts S} → List ℕ → Import → H → H → Registry S g → Registry S g → Ends → Type 0
-  ImportsFile path import old new it after ends =
-      ReadsFrom m old new path
-      (λ input input_new. (bytes : List ℕ) × MayGive (s.remaining input) bytes
-      × IsImported (IsOfInput (s.failures input) (s.failures input_new) bytes) (effect it after ends) import bytes
-      × TellsFailedReads (ends.status ≡ Failed) ends.errors (s.failures input) (s.failures input_new) bytes)
+-- the list that a source gives is imported
+abbrev pub ImportsList : {I : Type 0} → source.Ghosts I → {S : Type 0} {g : store.Ghosts S} → I → I → Import → Registry S g → Registry S g → Ends → Type 0
+ImportsList s old new import it after ends =
+    (bytes : List ℕ) × MayGive (s.remaining old) bytes
+    × IsImported (IsOfInput (s.failures old) (s.failures new) bytes) (effect it after ends) import bytes
+    × TellsFailedReads (ends.status ≡ Failed) ends.errors (s.failures old) (s.failures new) bytes
+
+module _ {H F I R : Type 0} (m : host.Ghosts H F I) (s : source.Ghosts I) (r : source.Ghosts R) where
+  -- that of the standard input, or of the file of this name, is; or it could not be opened
+  abbrev pub ImportsFile : {S : Type 0} {g : store.Ghosts S} → List ℕ → Import → R → R → H → H → Registry S g → Registry S g → Ends → Type 0
+  ImportsFile name import input input_new old new it after ends =
+      ReadsNamed m input input_new old new name
+      (λ first last. ImportsList r first last import it after ends)
+      (λ first last. ImportsList s first last import it after ends)
       (λ failure. (after ≡ it) × IsFailure failure ends)
 
 -- ---- lists and reports
@@ -169,19 +191,25 @@ module _ {H F I : Type 0} (m : host.Ghosts H F I) (d : disk.Ghosts F) (s : sourc
     pub reads : ReadsFoundingAt m s old read founding (record { old = ends.errors.old; new = errors }) first
     pub goes_on : FoundsBy m d first errors read new path ends
 
-  -- apply STORE FILE
-  abbrev pub Applies : H → H → List ℕ → List ℕ → ℕ → Ends → Type 0
-  Applies old new path file answered ends = Runs m d old new path ends (ActsOnFile m s file answered)
+  module _ {R : Type 0} (r : source.Ghosts R) where
+    -- The registry was opened, and this was done, which may read the standard input. Or it could not be opened, and nothing was read.
+    abbrev pub RunsReading : R → R → H → H → List ℕ → Ends → (H → H → TheRegistry m d → TheRegistry m d → Ends → Type 0) → Type 0
+    RunsReading input input_new old new path ends Does =
+        ((failure : Failure) × IsMissed m d old new path failure × IsFailure failure ends × (input_new ≡ input)) ⊎ IsRunOver m d old new path ends Does
 
-  -- import STORE LIST, with what is asked for
-  abbrev pub ImportsAs : H → H → List ℕ → List ℕ → Result Import (Rejection BadArgument) → Ends → Type 0
-  ImportsAs old new path list (Ok import) ends = Runs m d old new path ends (ImportsFile m s list import)
-  ImportsAs old new path list (Err (Refused argument)) ends = (new ≡ old) × IsRejection argument ends
-  ImportsAs old new path list (Err NoMemory) ends = (new ≡ old) × IsFailure Memory ends
+    -- apply STORE FILE
+    abbrev pub Applies : R → R → H → H → List ℕ → List ℕ → ℕ → Ends → Type 0
+    Applies input input_new old new path file answered ends = RunsReading input input_new old new path ends (ActsOnFile m s r file answered input input_new)
 
-  abbrev pub Imports : H → H → List ℕ → List ℕ → List ℕ → List ℕ → List ℕ → Option (List ℕ) → Ends → Type 0
-  Imports old new path list caller key org vendor ends =
-      (asked : Result Import (Rejection BadArgument)) × AsksFor caller key org vendor asked × ImportsAs old new path list asked ends
+    -- import STORE LIST, with what is asked for
+    abbrev pub ImportsAs : R → R → H → H → List ℕ → List ℕ → Result Import (Rejection BadArgument) → Ends → Type 0
+    ImportsAs input input_new old new path list (Ok import) ends = RunsReading input input_new old new path ends (ImportsFile m s r list import input input_new)
+    ImportsAs input input_new old new path list (Err (Refused argument)) ends = (new ≡ old) × (input_new ≡ input) × IsRejection argument ends
+    ImportsAs input input_new old new path list (Err NoMemory) ends = (new ≡ old) × (input_new ≡ input) × IsFailure Memory ends
+
+    abbrev pub Imports : R → R → H → H → List ℕ → List ℕ → List ℕ → List ℕ → List ℕ → Option (List ℕ) → Ends → Type 0
+    Imports input input_new old new path list caller key org vendor ends =
+        (asked : Result Import (Rejection BadArgument)) × AsksFor caller key org vendor asked × ImportsAs input input_new old new path list asked ends
 
   -- export STORE
   abbrev pub ExportsAs : H → H → List ℕ → Result (Option Moment) BadArgument → Ends → Type 0

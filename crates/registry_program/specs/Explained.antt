@@ -1,4 +1,4 @@
--- The line that says why a command failed, or what a founding ignored.
+-- The line that says why a command failed, or what one that succeeded passed over.
 use Rattle.std.specs.Prelude.{◌≡◌, ◌≢◌, ◌⊎◌, ◌==◌, ◌||◌, ◌++◌, ⊤, ℕ, Bool, true, nat_lt, List, map, codes, if◌then◌else◌}
 use Rattle.registry_arguments.specs.declared.command.Command.{Command}
 use Rattle.registry_arguments.specs.declared.command.Command.TheVariants as command
@@ -24,12 +24,16 @@ cause_line words = (codes "usbreg: " ++ map shown words) ++ codes "\n"
 abbrev pub MayExplain : Sunk → Sunk → Type 0
 MayExplain told new = (new ≡ told) ⊎ ((words : List ℕ) × Prints (record { old = told; new = new }) (cause_line words))
 
--- the command founds a registry
-abbrev pub FoundsRegistry : Command (List ℕ) → Type 0
-FoundsRegistry (command.Found path founding) = ⊤
-FoundsRegistry _ = ⊥
+-- the command founds a registry, acts on request lines or imports a list
+abbrev pub HasRemarks : Command (List ℕ) → Type 0
+HasRemarks command.Trial = ⊤
+HasRemarks (command.Found path founding) = ⊤
+HasRemarks (command.Apply path file answered) = ⊤
+HasRemarks (command.Import path list caller key org vendor) = ⊤
+HasRemarks _ = ⊥
 
--- The line is said only if causes are asked for, and the command did not do what it was asked for or founds a registry. After
--- a founding that succeeded it names keys of the founding file, which are ignored.
+-- The line is said only if causes are asked for, and the command did not do what it was asked for, founds a registry, acts on
+-- request lines or imports a list. After a founding that succeeded it names keys of the founding file, which are ignored, after
+-- request lines their fields that are ignored, and after an import a list that has nothing of the vendor.
 abbrev pub IsExplained : Bool → Command (List ℕ) → ExitStatus → Sunk → Sunk → Type 0
-IsExplained verbose command status told new = (new ≡ told) ⊎ ((verbose ≡ true) × ((status ≢ Success) ⊎ FoundsRegistry command) × MayExplain told new)
+IsExplained verbose command status told new = (new ≡ told) ⊎ ((verbose ≡ true) × ((status ≢ Success) ⊎ HasRemarks command) × MayExplain told new)

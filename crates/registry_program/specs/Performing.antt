@@ -14,14 +14,15 @@ use Rattle.registry_program.specs.Commands.{Applies, Exports, FoundsIn, Imports,
 use Rattle.registry_program.specs.Replaying.{ReplaysRecord}
 use Rattle.registry_program.specs.Serving.{Serves, limit_of}
 
--- What is asked of the machine, and what is written where, by the command. Only a trial and a replay read the standard input.
+-- What is asked of the machine, and what is written where, by the command. A trial reads the standard input. So may `apply`,
+-- `import` and `replay`, by the name of what they read; each other command leaves it alone.
 abbrev pub Performs : {H F I R W IN : Type 0} → host.Ghosts H F I → disk.Ghosts F → source.Ghosts I → connections.Ghosts H R W → source.Ghosts R → sink.Ghosts W
     → source.Ghosts IN → Command (List ℕ) → H → H → IN → IN → Ends → Type 0
 Performs m d s c r w i command.Trial old new input input_new ends = (new ≡ old) × Tries i input input_new ends
 Performs m d s c r w i (command.Found path founding) old new input input_new ends = (input_new ≡ input) × FoundsIn m d s old new path founding ends
-Performs m d s c r w i (command.Apply path file answered) old new input input_new ends = (input_new ≡ input) × Applies m d s old new path file answered ends
+Performs m d s c r w i (command.Apply path file answered) old new input input_new ends = Applies m d s i input input_new old new path file answered ends
 Performs m d s c r w i (command.Import path list caller key org vendor) old new input input_new ends =
-    (input_new ≡ input) × Imports m d s old new path list caller key org vendor ends
+    Imports m d s i input input_new old new path list caller key org vendor ends
 Performs m d s c r w i (command.Replay path file) old new input input_new ends = ReplaysRecord m d s i input input_new old new path file ends
 Performs m d s c r w i (command.Serve path port count) old new input input_new ends = (input_new ≡ input) × Serves m d c r w old new path port (limit_of count) ends
 Performs m d s c r w i (command.Export path stamp) old new input input_new ends = (input_new ≡ input) × Exports m d s old new path stamp ends

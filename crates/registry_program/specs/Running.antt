@@ -44,7 +44,7 @@ module _ {H F I R W IN : Type 0} (m : host.Ghosts H F I) (d : disk.Ghosts F) (s 
     pub prompted : IsPrompted is_waited_for command (record { old = ends.errors.old; new = begun })
     pub told : Sunk
     pub performs : Performs m d s c r w i command old new input input_new (earlier (later ends begun) told ends.status)
-    pub whole : IsWhole m d s c r w i command old new input (earlier (later ends begun) told ends.status)
+    pub whole : IsWhole m d s c r w i command old new input input_new (earlier (later ends begun) told ends.status)
     pub explained : IsExplained says_causes command ends.status told ends.errors.new
 
 -- ---- they are none

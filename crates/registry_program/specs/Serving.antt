@@ -49,8 +49,9 @@ module _ {H F I R W : Type 0} (m : host.Ghosts H F I) (c : connections.Ghosts H 
         × (length visits ≤ limit) × OnOk end (length visits ≡ limit)
         × ((h : History) → Represents it h → HasCleanDisk (state_of after) → EndsServing after h visits (fault_in end) × Leaves newest (state_of after) (IsLeftAfter h visits))
         × (is_poisoned it ≡ true → AreTurnedAway visits (fault_in end) × (after ≡ it))
-    -- Whatever the store holds: a fault was told at the last connection, and after none the registry is not poisoned and no call of it
-    -- found the rows of no history, if none had before.
+    -- Whatever the store holds: a fault was told at the last of some connections that came and were served in this time; that they are
+    -- those of `served` is not said. After none the registry is not poisoned and no call of it found the rows of no history, if none
+    -- had before.
     pub told : is_poisoned it ≡ false → IfSome (fault_in end) (λ fault. (visits : List Visit) × (middle : H) × (last : Visit)
         × HaveVisited c.opens c.closes r.remaining r.failures w.contents w.failures old middle visits
         × IsVisit c.opens c.closes r.remaining r.failures w.contents w.failures middle new last × IsToldAt last (Some fault))

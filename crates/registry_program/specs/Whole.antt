@@ -53,7 +53,7 @@ use Rattle.registry_views.specs.Reports.{IsReport}
 use Rattle.registry_desk.specs.declared.server.Connections as connections
 use Rattle.registry_desk.specs.Server.{HaveVisited, IsLeftAfter, Visit}
 use Rattle.registry_program.specs.declared.host.Host as host
-use Rattle.registry_program.specs.Commands.{ActsOnFile, ImportsFile, IsStampOf, WritesList, WritesRecord, WritesReport}
+use Rattle.registry_program.specs.Commands.{ActsOnFile, ImportsFile, IsStampOf, WritesList, WritesRecord, WritesReport, is_standard}
 use Rattle.registry_program.specs.Opening.{HoldsNoHistory}
 use Rattle.registry_program.specs.Outputs.{IsFailure, IsRejection}
 use Rattle.registry_program.specs.Replaying.{IsReplayedIn, ReplaysLines}
@@ -132,7 +132,8 @@ module _ {H F I : Type 0} (m : host.Ghosts H F I) (d : disk.Ghosts F) where
       Legal h → Legal next → (from : ℕ) → FilesHoldEither from (m.holds old path) h next → AreClean d files.log files.db
       → ∥ ((x : History) × (y : History) × After x y × HoldEither d newest files x y) ∥₁
 
-  -- the files of the store at the path were opened, perhaps made, and are these when they are closed
+  -- The files of the store at the path were opened, perhaps made, and the machine lets these files go at the end. `performs` says what
+  -- became of the files in between.
   pub record IsUsed (old new : H) (path : List ℕ) (may_make : Bool) (files : Files F) : Type 0 where
     pub opened : H
     pub first : Files F
@@ -146,8 +147,8 @@ module _ {H F I : Type 0} (m : host.Ghosts H F I) (d : disk.Ghosts F) where
     pub used : IsUsed old new path false files
     pub holds : (h : History) → LeadsFilesTo old path files h h (After h)
 
-  -- The input could not be opened, or the port not be listened on, and the history is as before. `performs` says what was
-  -- printed.
+  -- The status is Failed, nothing went to the output, and the history is as before, as where the input could not be opened, or the
+  -- port not be listened on. `performs` says which, and what was printed.
   abbrev pub IsUnbegun : H → H → List ℕ → Ends → Type 0
   IsUnbegun old new path ends = (ends.status ≡ Failed) × (ends.out.new ≡ ends.out.old) × IsCarriedOn old new path Stays
 
@@ -160,7 +161,8 @@ module _ {H F I : Type 0} (m : host.Ghosts H F I) (d : disk.Ghosts F) where
   UnlessStopped old new path ends Does P = ((failure : Failure) × IsMissed m d old new path failure × IsFailure failure ends) ⊎ EndsUnclosed old new path ends Does ⊎ P
 
   module _ (s : source.Ghosts I) where
-    -- the file at a path was opened, and these are all bytes that it would give
+    -- The file at a path was opened in some state of the machine, and these are all bytes that it would give then. `performs` says
+    -- which files are opened, in which order.
     pub record IsReadFrom (path bytes : List ℕ) : Type 0 where
       pub reading : H
       pub read : H
@@ -168,35 +170,42 @@ module _ {H F I : Type 0} (m : host.Ghosts H F I) (d : disk.Ghosts F) where
       pub reads : m.reads reading read path input
       pub gives : MayGive (s.remaining input) bytes
 
-    -- The lines came from the file at the second path. The requests after the first `answered` ones were acted on, whatever
-    -- history the store's files held. An earlier run may have acted on the first of these already.
-    pub record IsAppliedTo (old new : H) (path file : List ℕ) (answered : ℕ) (ends : Ends) : Type 0 where
-      pub bytes : List ℕ
-      pub read : IsReadFrom file bytes
-      pub files : Files F
-      pub used : IsUsed old new path false files
-      pub holds : (h : History) (rs : List Request) → requests_in bytes ≡ Ok rs → answered ≤ length rs
-          → LeadsFilesTo old path files h (after h (take 1 (drop answered rs))) (IsAfterLines h (drop answered rs) ends.out ends.status)
-      -- otherwise nothing was acted on
-      pub stays : ((rs : List Request) → requests_in bytes ≡ Ok rs → length rs < answered) → (h : History) → LeadsFilesTo old path files h h (Stays h)
+    module _ {R : Type 0} (r : source.Ghosts R) where
+      -- these are all bytes that the standard input would give, if that is the name, or the file of this name, which was opened
+      abbrev pub IsGivenBy : R → List ℕ → List ℕ → Type 0
+      IsGivenBy input name bytes = ((is_standard name ≡ true) × MayGive (r.remaining input) bytes) ⊎ ((is_standard name ≡ false) × IsReadFrom name bytes)
 
-    abbrev pub AppliesWholly : H → H → List ℕ → List ℕ → ℕ → Ends → Type 0
-    AppliesWholly old new path file answered ends = UnlessStopped old new path ends (ActsOnFile m s file answered) (IsAppliedTo old new path file answered ends ⊎ IsUnbegun old new path ends)
+      -- The lines came from the standard input or from the file. The requests after the first `answered` ones were acted on,
+      -- whatever history the store's files held. An earlier run may have acted on the first of these already.
+      pub record IsAppliedTo (input : R) (old new : H) (path file : List ℕ) (answered : ℕ) (ends : Ends) : Type 0 where
+        pub bytes : List ℕ
+        pub read : IsGivenBy input file bytes
+        pub files : Files F
+        pub used : IsUsed old new path false files
+        pub holds : (h : History) (rs : List Request) → requests_in bytes ≡ Ok rs → answered ≤ length rs
+            → LeadsFilesTo old path files h (after h (take 1 (drop answered rs))) (IsAfterLines h (drop answered rs) ends.out ends.status)
+        -- otherwise nothing was acted on
+        pub stays : ((rs : List Request) → requests_in bytes ≡ Ok rs → length rs < answered) → (h : History) → LeadsFilesTo old path files h h (Stays h)
 
-    -- the list came from the file at the second path
-    pub record IsImportedTo (old new : H) (path file : List ℕ) (import : Import) (ends : Ends) : Type 0 where
-      pub bytes : List ℕ
-      pub read : IsReadFrom file bytes
-      pub carried : IsCarriedOn old new path (λ h x y. Stays h x y ⊎ IsAfterImport bytes import ends.out ends.status h x y)
+      abbrev pub AppliesWholly : R → R → H → H → List ℕ → List ℕ → ℕ → Ends → Type 0
+      AppliesWholly input input_new old new path file answered ends =
+          UnlessStopped old new path ends (ActsOnFile m s r file answered input input_new) (IsAppliedTo input old new path file answered ends ⊎ IsUnbegun old new path ends)
 
-    abbrev pub ImportsWhollyAs : H → H → List ℕ → List ℕ → Result Import (Rejection BadArgument) → Ends → Type 0
-    ImportsWhollyAs old new path list (Ok import) ends = UnlessStopped old new path ends (ImportsFile m s list import) (IsImportedTo old new path list import ends ⊎ IsUnbegun old new path ends)
-    ImportsWhollyAs old new path list (Err (Refused argument)) ends = (new ≡ old) × IsRejection argument ends
-    ImportsWhollyAs old new path list (Err NoMemory) ends = (new ≡ old) × IsFailure Memory ends
+      -- the list came from the standard input or from the file
+      pub record IsImportedTo (input : R) (old new : H) (path file : List ℕ) (import : Import) (ends : Ends) : Type 0 where
+        pub bytes : List ℕ
+        pub read : IsGivenBy input file bytes
+        pub carried : IsCarriedOn old new path (λ h x y. Stays h x y ⊎ IsAfterImport bytes import ends.out ends.status h x y)
 
-    abbrev pub ImportsWholly : H → H → List ℕ → List ℕ → List ℕ → List ℕ → List ℕ → Option (List ℕ) → Ends → Type 0
-    ImportsWholly old new path list caller key org vendor ends =
-        (asked : Result Import (Rejection BadArgument)) × AsksFor caller key org vendor asked × ImportsWhollyAs old new path list asked ends
+      abbrev pub ImportsWhollyAs : R → R → H → H → List ℕ → List ℕ → Result Import (Rejection BadArgument) → Ends → Type 0
+      ImportsWhollyAs input input_new old new path list (Ok import) ends =
+          UnlessStopped old new path ends (ImportsFile m s r list import input input_new) (IsImportedTo input old new path list import ends ⊎ IsUnbegun old new path ends)
+      ImportsWhollyAs input input_new old new path list (Err (Refused argument)) ends = (new ≡ old) × IsRejection argument ends
+      ImportsWhollyAs input input_new old new path list (Err NoMemory) ends = (new ≡ old) × IsFailure Memory ends
+
+      abbrev pub ImportsWholly : R → R → H → H → List ℕ → List ℕ → List ℕ → List ℕ → List ℕ → Option (List ℕ) → Ends → Type 0
+      ImportsWholly input input_new old new path list caller key org vendor ends =
+          (asked : Result Import (Rejection BadArgument)) × AsksFor caller key org vendor asked × ImportsWhollyAs input input_new old new path list asked ends
 
     -- the founding file came from the second path, before the store was opened, and the closed files hold the new registry
     pub record IsFoundedWholly (old new : H) (path founding : List ℕ) : Type 0 where
@@ -252,15 +261,16 @@ module _ {H F I : Type 0} (m : host.Ghosts H F I) (d : disk.Ghosts F) where
       pub used : IsUsed old new path may_make files
       pub holds : (h : History) → LeadsFilesTo old path files h h (IsAfterRecord lines ends.status h)
 
-    -- the lines were replayed with the status Success, and closing the store then failed
+    -- The lines were replayed with the status Success, and then the status is that of a store that failed to close. The sources and
+    -- what was unread then are some of which that is true.
     abbrev pub EndsReplayUnclosed : H → H → List ℕ → Ends → Type 0
     EndsReplayUnclosed old new path ends =
         (middle : R) × (last : R) × (begun : Unread)
         × (EndsUnclosed old new path ends (ReplaysLines r middle last begun)
         ⊎ ((founding : Founding) × (on : IsReplayedIn m d r founding middle last begun old new path ends) × (on.before ≡ Success) × (ends.status ≡ Failed)))
 
-    -- No store was opened, since the beginning of the record is refused or could not be read; or the store could not be opened, or
-    -- not be closed after the status Success; or the lines were replayed.
+    -- The machine is as before, as where the beginning of the record is refused or could not be read; or the store could not be opened,
+    -- or not be closed after the status Success; or the lines were replayed.
     abbrev pub ReplaysWhollyFrom : R → H → H → List ℕ → Ends → Type 0
     ReplaysWhollyFrom source old new path ends =
         (new ≡ old)
@@ -270,7 +280,8 @@ module _ {H F I : Type 0} (m : host.Ghosts H F I) (d : disk.Ghosts F) where
         ⊎ ((may_make : Bool) × IsReplayedTo source old new path may_make ends)
 
   module _ {R W : Type 0} (c : connections.Ghosts H R W) (r : source.Ghosts R) (w : sink.Ghosts W) where
-    -- these connections came to the port and were served; `performs` has their number
+    -- The port was listened on in some state of the machine, these connections came after that and were served, and the history is one
+    -- that they leave. `performs` has their number, and says when the port was listened on.
     pub record IsServedTo (old new : H) (path : List ℕ) (port : ℕ) : Type 0 where
       pub before : H
       pub listening : H
@@ -293,14 +304,14 @@ ReplaysWholly {H} {F} {I} m d s r input old new path file ends =
 -- What holds from the files before a command to the files after it. A trial and a look-up open no store, so nothing is said of
 -- them.
 abbrev pub IsWhole : {H F I R W IN : Type 0} → host.Ghosts H F I → disk.Ghosts F → source.Ghosts I → connections.Ghosts H R W → source.Ghosts R → sink.Ghosts W
-    → source.Ghosts IN → Command (List ℕ) → H → H → IN → Ends → Type 0
-IsWhole m d s c r w i command.Trial old new input ends = ⊤
-IsWhole m d s c r w i (command.Found path founding) old new input ends = FoundsWholly m d s old new path founding ends
-IsWhole m d s c r w i (command.Apply path file answered) old new input ends = AppliesWholly m d s old new path file answered ends
-IsWhole m d s c r w i (command.Import path list caller key org vendor) old new input ends = ImportsWholly m d s old new path list caller key org vendor ends
-IsWhole m d s c r w i (command.Replay path file) old new input ends = ReplaysWholly m d s i input old new path file ends
-IsWhole m d s c r w i (command.Serve path port count) old new input ends = ServesWholly m d c r w old new path port (limit_of count) ends
-IsWhole m d s c r w i (command.Export path stamp) old new input ends = ExportsWholly m d old new path stamp ends
-IsWhole m d s c r w i (command.Report path name) old new input ends = ReportsWholly m d old new path (report_named name) ends
-IsWhole m d s c r w i (command.History path from) old new input ends = PrintsRecordWholly m d old new path from ends
-IsWhole m d s c r w i (command.Lookup list vid pid) old new input ends = ⊤
+    → source.Ghosts IN → Command (List ℕ) → H → H → IN → IN → Ends → Type 0
+IsWhole m d s c r w i command.Trial old new input input_new ends = ⊤
+IsWhole m d s c r w i (command.Found path founding) old new input input_new ends = FoundsWholly m d s old new path founding ends
+IsWhole m d s c r w i (command.Apply path file answered) old new input input_new ends = AppliesWholly m d s i input input_new old new path file answered ends
+IsWhole m d s c r w i (command.Import path list caller key org vendor) old new input input_new ends = ImportsWholly m d s i input input_new old new path list caller key org vendor ends
+IsWhole m d s c r w i (command.Replay path file) old new input input_new ends = ReplaysWholly m d s i input old new path file ends
+IsWhole m d s c r w i (command.Serve path port count) old new input input_new ends = ServesWholly m d c r w old new path port (limit_of count) ends
+IsWhole m d s c r w i (command.Export path stamp) old new input input_new ends = ExportsWholly m d old new path stamp ends
+IsWhole m d s c r w i (command.Report path name) old new input input_new ends = ReportsWholly m d old new path (report_named name) ends
+IsWhole m d s c r w i (command.History path from) old new input input_new ends = PrintsRecordWholly m d old new path from ends
+IsWhole m d s c r w i (command.Lookup list vid pid) old new input input_new ends = ⊤

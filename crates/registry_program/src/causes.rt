@@ -1,19 +1,23 @@
-//! Says why a command failed, or what a founding ignored, in one more line of the error output.
+//! Says why a command failed, what a founding or a request line ignored, or that a list has nothing of the
+//! vendor that was to be imported, in one more line of the error output.
 
 ghost use Rattle.std.specs.Prelude.{◌≡◌, ◌⊎◌, IfOk, map};
 ghost use Rattle.registry_arguments.specs.Commands.{texts};
 ghost use Rattle.registry_commands.specs.Ends.{output_of, sunk};
 ghost use Rattle.registry_commands.specs.Failures.{Prints};
-ghost use Rattle.registry_program.specs.Explained.{FoundsRegistry, MayExplain, cause_line, shown};
+ghost use Rattle.registry_program.specs.Explained.{HasRemarks, MayExplain, cause_line, shown};
 
+use crate::field_remarks::remark_on_fields;
 use crate::host::{About, Cause, Host};
 use crate::last_line::LastLine;
-use crate::remarks::{remark_on_founding, remark_on_keys, remark_on_lines};
+use crate::line_remarks::{count_lines, remark_on_lines};
+use crate::list_remarks::{remark_on_list, remark_on_vendor};
+use crate::remarks::{remark_on_founding, remark_on_keys};
 use byte_streams::{Broken, Sink, put_all};
 use registry_arguments::Command;
 use registry_commands::{BadArgument, Failure};
 use std::alloc::Global;
-use usbnum_core::NoMemory;
+use usbnum_core::{NoMemory, Vid};
 
 const FAILURES: [Failure; 6] = [
     Failure::Store,
@@ -79,29 +83,36 @@ fn store_of<'a>(command: Command<&'a str>) -> Option<&'a str> {
     }
 }
 
-/// Returns the path of the file that a command reads, or the name of the standard input.
+/// Returns the name of an input, or the words for the standard input.
+fn named<'a>(name: &'a str) -> &'a str {
+    if name == "-" { "standard input" } else { name }
+}
+
+/// Returns the path of the file that a command reads, or the words for the standard input.
 fn input_of<'a>(command: Command<&'a str>) -> &'a str {
     match command {
         Command::Found { founding, .. } => founding,
-        Command::Apply { file, .. } => file,
-        Command::Import { list, .. } => list,
+        Command::Apply { file, .. } => named(file),
+        Command::Import { list, .. } => named(list),
         Command::Lookup { list, .. } => list,
-        Command::Replay { record, .. } => {
-            if record == "-" {
-                "standard input"
-            } else {
-                record
-            }
-        }
+        Command::Replay { record, .. } => named(record),
         _ => "standard input",
     }
+}
+
+/// Returns a path as it is shown: an empty one in quotes.
+fn shown_path<'a>(path: &'a str) -> &'a str {
+    if path.is_empty() { "\"\"" } else { path }
 }
 
 /// Returns what a failure of a command is about: an argument or a stream.
 fn subject_of(alloc: Global, command: Command<&str>, about: About) -> Result<String, NoMemory> {
     match about {
-        About::Store => Ok(String::from_str(alloc, store_of(command).unwrap_or("the store"))?),
-        About::Input => Ok(String::from_str(alloc, input_of(command))?),
+        About::Store => Ok(String::from_str(
+            alloc,
+            shown_path(store_of(command).unwrap_or("the store")),
+        )?),
+        About::Input => Ok(String::from_str(alloc, shown_path(input_of(command)))?),
         About::Output => Ok(String::from_str(alloc, "standard output")?),
         About::Port => match command {
             Command::Serve { port, .. } => Ok(format!(in alloc; "port {port}")?),
@@ -134,6 +145,23 @@ fn words_or(
     }
 }
 
+/// Returns the words for a failure of the store.
+fn why_store_failed<H: Host>(
+    alloc: Global,
+    host: &H,
+    command: Command<&str>,
+) -> Result<String, NoMemory> {
+    let cause = host.cause(alloc, store_of(command));
+    let otherwise = "no cause is known; look for errors of its disk, and compare it with a backup";
+    let words = words_or(alloc, command, cause, About::Store, otherwise)?;
+    match command {
+        Command::Found { store, .. } if host.shows_registry(alloc, store) => Ok(format!(in alloc;
+            "{words}; the registry is founded, and this failed when its store was closed"
+        )?),
+        _ => Ok(words),
+    }
+}
+
 /// Returns the words for a failure.
 fn why_failed<H: Host>(
     alloc: Global,
@@ -143,20 +171,17 @@ fn why_failed<H: Host>(
 ) -> Result<String, NoMemory> {
     match failure {
         Failure::Memory => Ok(String::from_str(alloc, "out of memory")?),
-        Failure::Store => {
-            let cause = host.cause(alloc, store_of(command));
-            let otherwise =
-                "no cause is known; look for errors of its disk, and compare it with a backup";
-            words_or(alloc, command, cause, About::Store, otherwise)
-        }
+        Failure::Store => why_store_failed(alloc, host, command),
         Failure::File => {
             let cause = host.cause(alloc, None);
             let otherwise = "no cause is known; it may have at most 4294967295 bytes";
             words_or(alloc, command, cause, About::Input, otherwise)
         }
         Failure::Foreign => {
-            let words = "a database that holds no registry, or that of a later version of usbreg";
-            words_of(alloc, command, About::Store, words)
+            let cause = host.cause(alloc, store_of(command));
+            let otherwise =
+                "has the tables of a registry, as far as was seen; a value in them is none of a registry; restore a backup";
+            words_or(alloc, command, cause, About::Store, otherwise)
         }
         Failure::Taken => words_of(alloc, command, About::Store, "holds a registry already"),
         Failure::Poisoned => {
@@ -191,6 +216,11 @@ fn words_for_input<H: Host>(
     };
     let words = match command {
         Command::Found { .. } => remark_on_founding(alloc, &bytes, line)?,
+        Command::Import { .. } | Command::Lookup { .. } => remark_on_list(alloc, &bytes, line)?,
+        Command::Apply { answered, .. } if is_message(line, "answered exceeds requests\n") => {
+            let count = count_lines(&bytes);
+            Some(format!(in alloc; "it has {count} requests, and --answered is {answered}")?)
+        }
         _ => remark_on_lines(alloc, &bytes, line)?,
     };
     match words {
@@ -236,6 +266,40 @@ fn words_for_founding<H: Host>(
         return Ok(None);
     };
     match remark_on_keys(alloc, &bytes)? {
+        Some(words) => Ok(Some(words_of(alloc, command, About::Input, words.as_str())?)),
+        None => Ok(None),
+    }
+}
+
+/// Returns the words for the fields of request lines that were ignored, if there are any.
+fn words_for_fields<H: Host>(
+    alloc: Global,
+    host: &H,
+    command: Command<&str>,
+) -> Result<Option<String>, NoMemory> {
+    let Some(bytes) = host.take_kept(alloc) else {
+        return Ok(None);
+    };
+    match remark_on_fields(alloc, &bytes)? {
+        Some(words) => Ok(Some(words_of(alloc, command, About::Input, words.as_str())?)),
+        None => Ok(None),
+    }
+}
+
+/// Returns the words for what the list of an import has where it has nothing of the vendor.
+fn words_for_list<H: Host>(
+    alloc: Global,
+    host: &H,
+    command: Command<&str>,
+    vendor: Option<Vid>,
+) -> Result<Option<String>, NoMemory> {
+    let Some(vendor) = vendor else {
+        return Ok(None);
+    };
+    let Some(bytes) = host.take_kept(alloc) else {
+        return Ok(None);
+    };
+    match remark_on_vendor(alloc, &bytes, vendor)? {
         Some(words) => Ok(Some(words_of(alloc, command, About::Input, words.as_str())?)),
         None => Ok(None),
     }
@@ -288,6 +352,16 @@ fn say<E: Sink>(alloc: Global, errors: &mut E, words: &str)
     }
 }
 
+/// Writes one line with these words, if there are any.
+fn say_if<E: Sink>(alloc: Global, errors: &mut E, words: Result<Option<String>, NoMemory>)
+    ensures { MayExplain (sunk E.Sink errors.old) (sunk E.Sink errors.new) }
+{
+    match words {
+        Ok(Some(words)) => say(alloc, errors, words.as_str()),
+        _ => {}
+    }
+}
+
 /// Says why the command failed or was refused whose message is the last line, if that is known.
 pub(crate) fn explain<H: Host, E: Sink + LastLine>(
     alloc: Global,
@@ -298,27 +372,28 @@ pub(crate) fn explain<H: Host, E: Sink + LastLine>(
     ensures { MayExplain (sunk E.Sink errors.old) (sunk E.Sink errors.new) }
 {
     let words = words_for(alloc, host, command, errors.last_line());
-    match words {
-        Ok(Some(words)) => say(alloc, errors, words.as_str()),
-        _ => {}
-    }
+    say_if(alloc, errors, words)
 }
 
-/// Says what a command that did what it was asked for ignored: a founding, keys of its file.
+/// Says what a command that did what it was asked for passed over: a founding, keys of its file; a
+/// trial or an `apply`, fields of its lines; an import, a list that has nothing of the vendor.
 pub(crate) fn remark<H: Host, E: Sink>(
     alloc: Global,
     host: &H,
     command: Command<&str>,
+    vendor: Option<Vid>,
     errors: &mut E,
 )
     ensures { (sunk E.Sink errors.new ≡ sunk E.Sink errors.old)
-        ⊎ (FoundsRegistry (texts command.entry) × MayExplain (sunk E.Sink errors.old) (sunk E.Sink errors.new)) }
+        ⊎ (HasRemarks (texts command.entry) × MayExplain (sunk E.Sink errors.old) (sunk E.Sink errors.new)) }
 {
     match command {
-        Command::Found { .. } => match words_for_founding(alloc, host, command) {
-            Ok(Some(words)) => say(alloc, errors, words.as_str()),
-            _ => {}
-        },
+        Command::Found { .. } => say_if(alloc, errors, words_for_founding(alloc, host, command)),
+        Command::Trial => say_if(alloc, errors, words_for_fields(alloc, host, command)),
+        Command::Apply { .. } => say_if(alloc, errors, words_for_fields(alloc, host, command)),
+        Command::Import { .. } => {
+            say_if(alloc, errors, words_for_list(alloc, host, command, vendor))
+        }
         _ => {}
     }
 }

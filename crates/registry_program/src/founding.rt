@@ -4,7 +4,7 @@ ghost use Rattle.registry_commands.specs.Ends.{output_of};
 ghost use Rattle.registry_program.specs.Commands.{FoundsIn, FoundsOn, ReadsFoundingAt};
 ghost use Rattle.registry_program.specs.Outputs.{silent_ends};
 
-use crate::host::Host;
+use crate::host::{Host, MOST_INPUT};
 use crate::stores::{close_connection, connect};
 use byte_streams::Sink;
 use registry_commands::{ExitStatus, fail, found_registry, read_founding};
@@ -24,7 +24,7 @@ fn founding_at<H: Host, E: Sink>(
 ) -> Result<Founding, ExitStatus>
     ensures { ReadsFoundingAt H.Host H.Input.Source host.old host.new path.now (output_of E.Sink errors.old errors.new) result }
 {
-    match host.open_input(path) {
+    match host.open_input(path, MOST_INPUT) {
         Ok(mut source) => read_founding(alloc, &mut source, errors),
         Err(failure) => Err(fail(errors, failure)),
     }

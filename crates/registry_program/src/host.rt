@@ -13,6 +13,9 @@ use sqlite::{Files, Options};
 use sqlite_disk::Disk;
 use std::alloc::Global;
 
+/// The most bytes of an input that is read as a whole.
+pub(crate) const MOST_INPUT: u64 = 4_294_967_295;
+
 /// What a failure is about.
 #[derive(Clone, Copy, Debug, PartialEq, Eq)]
 pub enum About {
@@ -85,12 +88,13 @@ pub trait Host {
         ensures usable { IfOk result (λ store. IsTrue (Self.File.Disk.is_usable store.0.log) × IsTrue (Self.File.Disk.is_usable store.0.db)) }
         ensures found { IfOk result (λ store. image_of Self.File.Disk store.0 ≡ holds self.old path.now) };
 
-    /// Opens the file at a path, to be read.
+    /// Opens the file at a path, to be read. One that is known to have more than `most` bytes is not
+    /// opened.
     ///
     /// # Errors
     ///
     /// `File` if that fails.
-    fn open_input(&mut self, path: &str) -> Result<Self::Input, Failure>
+    fn open_input(&mut self, path: &str, most: u64) -> Result<Self::Input, Failure>
         ensures opened { IfOk result (λ source. reads self.old self.new path.now source) }
         ensures missed { IfErr result (λ failure. lacks self.old self.new path.now failure) }
         ensures kind { IfErr result (λ failure. failure ≡ Failure.File) };
@@ -107,6 +111,10 @@ pub trait Host {
     /// Returns why the last call failed that did, as the system named it. If none did, looks at the
     /// store at this path, if one is given. Returns `None` if it knows no cause, or memory runs out.
     fn cause(&self, alloc: Global, store: Option<&str>) -> Option<Cause>;
+
+    /// Returns whether a look at the files of the store at this path shows a registry, and showed none
+    /// when the store was opened. No clause says when it does.
+    fn shows_registry(&self, alloc: Global, path: &str) -> bool;
 
     /// Returns the bytes that were read of the input, if this machine keeps them and has memory for
     /// them. A further call may return `None`.

@@ -6,7 +6,7 @@ use byte_streams::{Broken, Sink};
 
 /// The greatest number of bytes that are kept of a line. Each line that is known begins otherwise
 /// than the others in as many.
-const MOST: usize = 32;
+const MOST: usize = 128;
 
 /// An error output whose last line is known.
 pub trait LastLine {

@@ -3,10 +3,13 @@
 
 mod applying;
 mod causes;
+mod field_remarks;
 mod founding;
 mod host;
 mod importing;
 mod last_line;
+mod line_remarks;
+mod list_remarks;
 mod making;
 mod opening;
 mod performing;

@@ -22,12 +22,15 @@ use registry_arguments::Command;
 use registry_commands::{ExitStatus, import_of_arguments, trial};
 use registry_desk::Connections;
 use std::alloc::Global;
+use usbnum_core::Vid;
 
-/// Does what the command asks for, and returns the exit status.
+/// Does what the command asks for, and returns the exit status. Of an import, `sought` is then the
+/// vendor whose devices are imported.
 fn act_by<H: Host + Connections, R: Source, W: Sink, E: Sink>(
     alloc: Global,
     host: &mut H,
     command: Command<&str>,
+    sought: &mut Option<Vid>,
     input: &mut R,
     output: &mut W,
     errors: &mut E,
@@ -42,7 +45,7 @@ fn act_by<H: Host + Connections, R: Source, W: Sink, E: Sink>(
             store,
             file,
             answered,
-        } => run_apply(alloc, host, store, file, answered, output, errors),
+        } => run_apply(alloc, host, store, file, answered, input, output, errors),
         Command::Import {
             store,
             list,
@@ -52,7 +55,9 @@ fn act_by<H: Host + Connections, R: Source, W: Sink, E: Sink>(
             vendor,
         } => {
             let asked = import_of_arguments(alloc, caller, key, org, vendor);
-            run_import(alloc, host, store, list, asked, output, errors)
+            run_import(
+                alloc, host, store, list, asked, sought, input, output, errors,
+            )
         }
         Command::Replay { store, record } => {
             run_replay(alloc, host, store, record, input, errors)
@@ -72,12 +77,13 @@ fn act_by<H: Host + Connections, R: Source, W: Sink, E: Sink>(
 }
 
 /// Says why a command ended with this status, if causes are asked for and it did not do what it was
-/// asked for. Of a founding that did, says which keys of its file were ignored.
+/// asked for. Of a founding, request lines or an import that did, says what it passed over.
 fn explain_if<H: Host, E: Sink + LastLine>(
     verbose: bool,
     alloc: Global,
     host: &H,
     command: Command<&str>,
+    sought: Option<Vid>,
     status: ExitStatus,
     errors: &mut E,
 )
@@ -87,7 +93,7 @@ fn explain_if<H: Host, E: Sink + LastLine>(
         return;
     }
     match status {
-        ExitStatus::Success => remark(alloc, host, command, errors),
+        ExitStatus::Success => remark(alloc, host, command, sought, errors),
         ExitStatus::Failed => explain(alloc, host, command, errors),
         ExitStatus::Rejected => explain(alloc, host, command, errors),
     }
@@ -97,7 +103,8 @@ fn explain_if<H: Host, E: Sink + LastLine>(
 /// status. The contract says of each command which files it opens, in which order, what it does
 /// over them, and what the outputs gain. If the command fails or is refused and `verbose` is true,
 /// the error output may then get one more line, for the cause. It may also get one after a founding,
-/// for keys that are ignored. What either says is only tested.
+/// for keys that are ignored, after a trial or an `apply`, for fields that are ignored, and after an
+/// import, for a list that has nothing of the vendor. What these say is only tested.
 pub fn perform<H: Host + Connections, R: Source, W: Sink, E: Sink + LastLine>(
     alloc: Global,
     host: &mut H,
@@ -112,12 +119,13 @@ pub fn perform<H: Host + Connections, R: Source, W: Sink, E: Sink + LastLine>(
     ensures performs { (told : Sunk)
         × Performs H.Host H.File.Disk H.Input.Source H.Connections H.Reader.Source H.Writer.Sink R.Source (texts command.entry) host.old host.new input.old input.new
         (earlier (ends_of W.Sink E.Sink output.old output.new errors.old errors.new result) told result)
-        × IsWhole H.Host H.File.Disk H.Input.Source H.Connections H.Reader.Source H.Writer.Sink R.Source (texts command.entry) host.old host.new input.old
+        × IsWhole H.Host H.File.Disk H.Input.Source H.Connections H.Reader.Source H.Writer.Sink R.Source (texts command.entry) host.old host.new input.old input.new
         (earlier (ends_of W.Sink E.Sink output.old output.new errors.old errors.new result) told result)
         × IsExplained verbose (texts command.entry) result told (sunk E.Sink errors.new) }
     ensures status { IsStatus (code result) }
 {
-    let status = act_by(alloc, host, command, input, output, errors);
-    explain_if(verbose, alloc, host, command, status, errors);
+    let mut sought = None;
+    let status = act_by(alloc, host, command, &mut sought, input, output, errors);
+    explain_if(verbose, alloc, host, command, sought, status, errors);
     status
 }

@@ -1,5 +1,5 @@
-//! Says what is wrong in an input, from its bytes: where a line stops being JSON, and what a founding
-//! file has in the place of its keys.
+//! Says what is wrong in a founding file, from its bytes: where it stops being TOML, and what it has in
+//! the place of its keys.
 
 use registry_rules::limits::{MOST_CURATORS, MOST_LICENCES};
 use registry_wire::FoundingFault;
@@ -33,80 +33,6 @@ fn fault_in(line: &[u8]) -> Option<FoundingFault> {
     None
 }
 
-/// Returns the line of the input of which a line begins the message that it is not a JSON object.
-fn bad_json_in(line: &[u8]) -> Option<usize> {
-    let rest = line.strip_prefix("line ".as_bytes())?;
-    let end = rest.iter().position(|byte| *byte == b':')?;
-    let mut number = 0usize;
-    for digit in &rest[..end] {
-        let digit = usize::from(digit.wrapping_sub(b'0'));
-        number = number.saturating_mul(10).saturating_add(digit);
-    }
-    if rest[end..].starts_with(": {\"name\":\"BadJson\"".as_bytes()) {
-        Some(number)
-    } else {
-        None
-    }
-}
-
-/// Returns the line with this number, from 1, without its line feed.
-fn line_at(bytes: &[u8], number: usize) -> Option<&[u8]> {
-    let mut rest = bytes;
-    for _ in 1..number {
-        let end = rest.iter().position(|byte| *byte == b'\n')?;
-        rest = &rest[end + 1..];
-    }
-    match rest.iter().position(|byte| *byte == b'\n') {
-        Some(end) => Some(&rest[..end]),
-        None => Some(rest),
-    }
-}
-
-/// Returns the column, from 1, at which a line that is JSON begins.
-fn begin_of(line: &[u8]) -> usize {
-    match line.iter().position(|byte| !byte.is_ascii_whitespace()) {
-        Some(at) => at.saturating_add(1),
-        None => 1,
-    }
-}
-
-/// Returns the column, from 1, at which a line stops being a JSON object, and why.
-fn json_fault(alloc: Global, line: &[u8]) -> Result<(usize, &'static str), NoMemory> {
-    let text = match std::str::from_utf8(line) {
-        Ok(text) => text,
-        Err(error) => return Ok((error.valid_up_to().saturating_add(1), "invalid UTF-8")),
-    };
-    match serde_json::Value::from_str(alloc, text) {
-        Ok(_) => Ok((begin_of(line), "not an object")),
-        Err(error) => {
-            if error.is_memory() {
-                Err(NoMemory)
-            } else if error.is_eof() {
-                Ok((error.column(), "the line ends inside the JSON"))
-            } else {
-                Ok((error.column(), "invalid JSON"))
-            }
-        }
-    }
-}
-
-/// Returns where the line of an input that a message calls no JSON object stops being one. A column
-/// counts bytes.
-pub(crate) fn remark_on_lines(
-    alloc: Global,
-    bytes: &[u8],
-    message: &[u8],
-) -> Result<Option<String>, NoMemory> {
-    let Some(number) = bad_json_in(message) else {
-        return Ok(None);
-    };
-    let Some(line) = line_at(bytes, number) else {
-        return Ok(None);
-    };
-    let (column, why) = json_fault(alloc, line)?;
-    Ok(Some(format!(in alloc; "line {number}, column {column}: {why}")?))
-}
-
 /// Returns the line and the column, both from 1, of the place after these bytes. A column counts
 /// characters.
 fn place_after(bytes: &[u8]) -> (usize, usize) {
@@ -138,16 +64,21 @@ fn toml_words(
 }
 
 /// Returns the front of a text, in as many characters as are shown.
-fn front_of(alloc: Global, text: &str) -> Result<String, NoMemory> {
+pub(crate) fn front_of(alloc: Global, text: &str) -> Result<String, NoMemory> {
+    front_in(alloc, text, MOST_SHOWN)
+}
+
+/// Returns the front of a text, in at most so many characters.
+pub(crate) fn front_in(alloc: Global, text: &str, most: usize) -> Result<String, NoMemory> {
     let mut front = String::new(alloc);
     let mut count = 0usize;
     for character in text.chars() {
-        if count >= MOST_SHOWN {
+        if count >= most {
             front.push_str("..")?;
             return Ok(front);
         }
         front.push(character)?;
-        count += 1;
+        count = count.saturating_add(1);
     }
     Ok(front)
 }
@@ -183,7 +114,7 @@ fn what_may_be(key: FoundingFault) -> &'static str {
         FoundingFault::Toml => "nothing",
         FoundingFault::Vendor => "a text of four hexadecimal digits, not 0000",
         FoundingFault::Name | FoundingFault::Licences => {
-            "a line of 1 to 200 bytes without a space at either end"
+            "a line of 1 to 200 bytes without a control character, and no space at either end"
         }
         FoundingFault::Curators => "1 to 32 of a-z, 0-9 and -",
         FoundingFault::Fixed => {
@@ -208,6 +139,24 @@ fn rule_of(alloc: Global, key: FoundingFault) -> Result<String, NoMemory> {
         Some(most) => Ok(format!(in alloc; "it must have 1 to {most} texts, each {it}")?),
         None => Ok(format!(in alloc; "it must be {it}")?),
     }
+}
+
+/// Returns the words for what the key with this name must have in the founding of a record, if it is
+/// one of a founding. There the lists are in order.
+pub(crate) fn rule_in_record(alloc: Global, name: &str) -> Result<Option<String>, NoMemory> {
+    for key in FAULTS {
+        if key != FoundingFault::Toml && key.name() == name {
+            let rule = rule_of(alloc, key)?;
+            return match key {
+                FoundingFault::Vendor | FoundingFault::Name => Ok(Some(rule)),
+                FoundingFault::Fixed => Ok(Some(format!(in alloc;
+                    "{rule}; in order, and none that overlaps or touches another"
+                )?)),
+                _ => Ok(Some(format!(in alloc; "{rule}; in order, and without repeats")?)),
+            };
+        }
+    }
+    Ok(None)
 }
 
 /// Returns the words for a value that a key may not have, or an item that its list may not have.
@@ -281,26 +230,36 @@ fn is_known(key: &str) -> bool {
     FAULTS.iter().any(|fault| *fault != FoundingFault::Toml && fault.name() == key)
 }
 
+/// Returns these words with the names, or `None` if there are no names.
+pub(crate) fn listed(
+    alloc: Global,
+    words: &str,
+    names: &[&str],
+) -> Result<Option<String>, NoMemory> {
+    let mut text = String::from_str(alloc, words)?;
+    let mut before = " ";
+    for name in names {
+        if text.len() > MOST_NAMES {
+            text.push_str(", ..")?;
+            return Ok(Some(text));
+        }
+        text.push_str(before)?;
+        text.push_str(if name.is_empty() { "\"\"" } else { "" })?;
+        text.push_str(front_of(alloc, name)?.as_str())?;
+        before = ", ";
+    }
+    Ok(if names.is_empty() { None } else { Some(text) })
+}
+
 /// Returns the names of the keys of a table that no founding has, if there are any.
 fn unknown_keys(alloc: Global, table: &Table) -> Result<Option<String>, NoMemory> {
-    let mut words = String::from_str(alloc, "unknown keys are ignored:")?;
-    let mut are_there = false;
+    let mut names = Vec::new(alloc);
     for key in table.keys() {
-        if is_known(key.as_str()) {
-            continue;
+        if !is_known(key.as_str()) {
+            names.push(key.as_str())?;
         }
-        if words.len() > MOST_NAMES {
-            words.push_str(", ..")?;
-            return Ok(Some(words));
-        }
-        words.push_str(if are_there { ", " } else { " " })?;
-        if key.is_empty() {
-            words.push_str("\"\"")?;
-        }
-        words.push_str(front_of(alloc, key.as_str())?.as_str())?;
-        are_there = true;
     }
-    Ok(if are_there { Some(words) } else { None })
+    listed(alloc, "unknown keys are ignored:", &names)
 }
 
 /// Returns which keys of a founding file are unknown, if it is TOML and any is.

@@ -113,7 +113,7 @@ pub fn run_replay<H: Host, R: Source, E: Sink>(
     if file == "-" {
         return replay_source(alloc, host, store, input, errors);
     }
-    match host.open_input(file) {
+    match host.open_input(file, u64::MAX) {
         Ok(mut source) => replay_source(alloc, host, store, &mut source, errors),
         Err(failure) => fail(errors, failure),
     }

@@ -73,17 +73,39 @@ fn obey<H: Host + Connections, R: Source, W: Sink, E: Sink + LastLine>(
     perform(alloc, host, asked.command, verbose, input, output, errors)
 }
 
+/// Returns a line that follows the text of `clap` where that misleads: these arguments are asked for
+/// in another way.
+fn hint_for(arguments: &[String]) -> &'static str {
+    match arguments {
+        [_, first, ..] if first.as_str() == "--verbose" => {
+            "usbreg: --verbose follows a command, as in usbreg trial --verbose\n"
+        }
+        [_, first, second, ..]
+            if first.as_str() == "help"
+                && (second.as_str() == "--help" || second.as_str() == "-h") => {
+            "usbreg: usbreg help COMMAND prints the help of a command, and usbreg --help that of the program\n"
+        }
+        _ => "",
+    }
+}
+
 /// Prints the text of an error of `clap`, and returns the exit status. The help and the version go
-/// to the output.
+/// to the output. After a refusal the line of a hint may follow.
 fn show<W: Sink, E: Sink>(
     alloc: Global,
     error: &Error,
+    arguments: &[String],
     output: &mut W,
     errors: &mut E,
 ) -> ExitStatus
     ensures { IsUsageTold error.now (ends_of W.Sink E.Sink output.old output.new errors.old errors.new result) }
 {
-    let Ok(text) = format!(in alloc; "{error}") else {
+    let hint = if error.use_stderr() {
+        hint_for(arguments)
+    } else {
+        ""
+    };
+    let Ok(text) = format!(in alloc; "{error}{hint}") else {
         return fail(errors, Failure::Memory);
     };
     if error.use_stderr() {
@@ -101,13 +123,14 @@ fn show<W: Sink, E: Sink>(
 fn answer<W: Sink, E: Sink>(
     alloc: Global,
     usage: &Usage,
+    arguments: &[String],
     output: &mut W,
     errors: &mut E,
 ) -> ExitStatus
     ensures { IsUsage usage.now (ends_of W.Sink E.Sink output.old output.new errors.old errors.new result) }
 {
     match usage {
-        Usage::Refused(error) => show(alloc, error, output, errors),
+        Usage::Refused(error) => show(alloc, error, arguments, output, errors),
         Usage::NoMemory => fail(errors, Failure::Memory),
     }
 }
@@ -132,6 +155,6 @@ pub fn run_over<H: Host + Connections, R: Source, W: Sink, E: Sink + LastLine>(
 {
     match invocation_of(alloc, arguments) {
         Ok(asked) => obey(alloc, host, asked, terminals, input, output, errors),
-        Err(usage) => answer(alloc, &usage, output, errors),
+        Err(usage) => answer(alloc, &usage, arguments, output, errors),
     }
 }

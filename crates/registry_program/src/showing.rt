@@ -6,7 +6,7 @@ ghost use Rattle.registry_reports.specs.Kinds.{report_named};
 ghost use Rattle.registry_commands.specs.Ends.{ends_of};
 ghost use Rattle.registry_program.specs.Commands.{Exports, IsStampOf, LooksUp, PrintsRecord, ReportsAs};
 
-use crate::host::Host;
+use crate::host::{Host, MOST_INPUT};
 use crate::stores::{close_registry, open_registry};
 use byte_streams::Sink;
 use registry_commands::{
@@ -121,7 +121,7 @@ pub fn run_lookup<H: Host, W: Sink, E: Sink>(
     let Some(code) = parse_code(pid.as_bytes()) else {
         return reject_argument(errors, BadArgument::Pid);
     };
-    match host.open_input(list) {
+    match host.open_input(list, MOST_INPUT) {
         Ok(mut source) => look_up(alloc, &mut source, vendor, code, output, errors),
         Err(failure) => fail(errors, failure),
     }

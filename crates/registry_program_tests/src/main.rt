@@ -2,8 +2,9 @@
 //! and `message TEXT` give the machine a file and a connection, and `run ARGUMENTS` runs the
 //! program: the line that is printed has the exit status, what was opened in which order and how
 //! the store was closed, the output and the error output. `terminals ARGUMENTS` does the same with
-//! terminals as its input and its error output. `stands STORE LOG` prints what is done about a store
-//! that may be made: each of the two is `none`, `other` or the number of bytes of a file.
+//! terminals as its input and its error output, and `piped NAME ARGUMENTS` with the bytes of that file
+//! as its standard input. `stands STORE LOG` prints what is done about a store that may be made: each
+//! of the two is `none`, `other` or the number of bytes of a file.
 #![tactic(auto)]
 
 mod room;
@@ -58,16 +59,16 @@ fn status_of(
     room: &mut Room<'_>,
     words: &[String],
     terminals: Terminals,
+    given: &[u8],
     output: &mut Outlet<Vec<u8>>,
     errors: &mut Heard<Outlet<Vec<u8>>>,
 ) -> u8 {
-    let nothing: &[u8] = &[];
     run_over(
         alloc,
         room,
         words,
         terminals,
-        &mut Inlet::new(nothing),
+        &mut Inlet::new(given),
         output,
         errors,
     )
@@ -79,6 +80,7 @@ fn run(
     room: &mut Room<'_>,
     line: &str,
     terminals: Terminals,
+    given: &[u8],
 ) -> Result<String, RowFault> {
     let words = words_of(alloc, line)?;
     let mut output = Outlet::new(Vec::new(alloc));
@@ -90,6 +92,7 @@ fn run(
         room,
         words.as_slice(),
         terminals,
+        given,
         &mut output,
         &mut errors,
     );
@@ -116,19 +119,41 @@ fn making(alloc: Global, line: &str) -> Result<String, RowFault> {
     Ok(format!(in alloc; "{making:?}")?)
 }
 
+/// Runs the program with a file as its standard input. The name of the file is that of the program too.
+fn run_piped(alloc: Global, room: &mut Room<'_>, line: &str) -> Result<String, RowFault> {
+    let terminals = Terminals {
+        input: false,
+        errors: false,
+    };
+    let Some((name, _)) = line.split_once(' ') else {
+        return Err(RowFault::BadRow);
+    };
+    let inputs = room.inputs;
+    for input in inputs {
+        if input.name.as_str() == name {
+            room.piped = Some(input.bytes.as_slice());
+            let text = run(alloc, room, line, terminals, input.bytes.as_slice());
+            room.piped = None;
+            return text;
+        }
+    }
+    Err(RowFault::BadRow)
+}
+
 fn text_of(alloc: Global, room: &mut Room<'_>, line: &str) -> Result<String, RowFault> {
     let Some((kind, rest)) = line.split_once(' ') else {
         return Err(RowFault::BadRow);
     };
     match kind {
         "stands" => making(alloc, rest),
+        "piped" => run_piped(alloc, room, rest),
         _ => {
             let is_terminal = kind == "terminals";
             let terminals = Terminals {
                 input: is_terminal,
                 errors: is_terminal,
             };
-            run(alloc, room, line, terminals)
+            run(alloc, room, line, terminals, &[])
         }
     }
 }
@@ -163,6 +188,7 @@ fn main(rt: HostRuntime) -> io::Result<()> {
         calls: String::new(rt.alloc()),
         missed: None,
         read: None,
+        piped: None,
     };
     for line in &lines.runs {
         match text_of(rt.alloc(), &mut room, line) {

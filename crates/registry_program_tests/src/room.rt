@@ -36,6 +36,8 @@ pub struct Room<'a> {
     pub missed: Option<About>,
     /// The bytes of the last file that was opened.
     pub read: Option<&'a [u8]>,
+    /// The bytes of the standard input, if it has any.
+    pub piped: Option<&'a [u8]>,
 }
 
 impl Room<'_> {
@@ -102,10 +104,10 @@ impl<'a> Host for Room<'a> {
         }
     }
 
-    fn open_input(&mut self, path: &str) -> Result<Inlet<&'a [u8]>, Failure> {
+    fn open_input(&mut self, path: &str, most: u64) -> Result<Inlet<&'a [u8]>, Failure> {
         let inputs = self.inputs;
         for input in inputs {
-            if input.name.as_str() == path {
+            if input.name.as_str() == path && input.bytes.len() as u64 <= most {
                 self.note("input ");
                 self.read = Some(input.bytes.as_slice());
                 return Ok(Inlet::new(input.bytes.as_slice()));
@@ -135,9 +137,13 @@ impl<'a> Host for Room<'a> {
         }
     }
 
+    fn shows_registry(&self, _alloc: Global, _path: &str) -> bool {
+        self.store.is_some()
+    }
+
     fn take_kept(&self, alloc: Global) -> Option<Vec<u8>> {
         let mut bytes = Vec::new(alloc);
-        bytes.extend_from_slice(self.read?).ok()?;
+        bytes.extend_from_slice(self.read.or(self.piped)?).ok()?;
         Some(bytes)
     }
 

@@ -9,10 +9,10 @@ pub returns-in-Found : goal.returns-in-Found
 returns-in-Found g c = rw c.in-Found.is (refl, c.run_found.ensures (sunk g.W.Sink c.args.output.now))
 
 pub returns-in-Apply : goal.returns-in-Apply
-returns-in-Apply g c = rw c.in-Apply.is (refl, c.run_apply.ensures)
+returns-in-Apply g c = rw c.in-Apply.is c.run_apply.ensures
 
 pub returns-in-Import : goal.returns-in-Import
-returns-in-Import g c = rw c.in-Import.is (refl, (c.import_of_arguments-asked.result, c.import_of_arguments-asked.ensures, c.run_import.ensures))
+returns-in-Import g c = rw c.in-Import.is (c.import_of_arguments-asked.result, c.import_of_arguments-asked.ensures, c.run_import.ensures)
 
 pub returns-in-Replay : goal.returns-in-Replay
 returns-in-Replay g c = rw c.in-Replay.is (c.run_replay.ensures (sunk g.W.Sink c.args.output.now))
