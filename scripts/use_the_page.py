@@ -9,6 +9,7 @@ script skipped. The exit status is 0 if all of this holds. Each option does some
 
   --pictures FOLDER  takes pictures of the main views
   --many             times the table and the search over all 65,535 numbers, and compares the times with the limits
+  --heard            writes cases/heard.txt, what a screen reader is told of each view
   --planted [WORDS]  puts bugs into the page, those whose names have the words, and sees that a part notices each"""
 
 import argparse
@@ -21,6 +22,7 @@ import sys
 import time
 
 from lib.browsing import Browser, Page, missing
+from lib.page_heard import is_heard, writes_heard
 from lib.page_story import STORY
 from lib.planted import PLANTED
 from lib.proxy import Recipe
@@ -38,12 +40,12 @@ TABLE, SEARCH = 1000, 100
 LIST = 8190
 
 
-def tell(usbreg, keep=lambda part, stage: None):
+def tell(usbreg, keep=lambda part, stage: None, parts=STORY):
     """Tells the story, and calls `keep` before each part. Returns the name of the part that failed and why; None if all
     parts passed."""
     with folder() as room, Stage(usbreg, room, Recipe) as stage, Browser(room) as browser:
         page = Page(browser, f"http://{HOST}:{stage.recipe.port}/", PATIENCE)
-        for part, _ in STORY:
+        for part, _ in parts:
             keep(part.__name__, stage)
             began = time.monotonic()
             try:
@@ -221,6 +223,7 @@ def main():
     options.add_argument("program", nargs="?")
     options.add_argument("--pictures", metavar="FOLDER")
     options.add_argument("--many", action="store_true")
+    options.add_argument("--heard", action="store_true")
     options.add_argument("--planted", nargs="?", const="", metavar="WORDS")
     given = options.parse_args()
     usbreg = program(*filter(None, [given.program]))
@@ -232,6 +235,10 @@ def main():
         time_many(usbreg)
     elif given.planted is not None:
         plant(usbreg, given.planted)
+    elif given.heard:
+        parts = [(writes_heard if part is is_heard else part, who) for part, who in STORY]
+        if failed := tell(usbreg, parts=parts):
+            sys.exit(f"{failed[0]}: {failed[1]}")
     elif failed := shutil.which("node") and read_in_node():
         sys.exit(failed)
     elif failed := tell(usbreg):

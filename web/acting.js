@@ -9,12 +9,12 @@ import { foundingVendor, learnOrder } from './registry.js';
 
 // The words of a reply, with links. That to a new licence has its name, which is anybody's text.
 export function reply(done) {
-  const { deed, vendor, number, org, petition } = readReply(done) ?? {};
+  const { deed, vendor, number, org, keeper, petition } = readReply(done) ?? {};
   if (number) {
     const by = petition ? [' to ', orgLink(org), ' by ', petitionLink(petition)] : [];
     return [`${deed} `, numberLink(vendor ?? foundingVendor(), number), ...by];
   }
-  if (org) return [`${deed} `, orgLink(org)];
+  if (org) return [`${deed} `, orgLink(org), keeper && ` over to ${keeper}`].filter(Boolean);
   return petition ? [deed, petitionLink(petition)] : [written(done)];
 }
 

@@ -15,6 +15,7 @@ const FORMS = {
   petition: [{ petition: 'petition' }, {}],
   record: [{ 'place?': 'petition' }, {}],
   me: [{}, {}],
+  rules: [{}, {}],
   decide: [{}, { q: 'text', vendor: 'id', sort: 'text', ...page }],
   do: [{ 'order?': 'text' }, {}],
 };

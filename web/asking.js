@@ -36,12 +36,13 @@ function tellDown(it) {
   for (const listener of listeners) listener(it);
 }
 
-// Whether the server answered: null where that is not known, as for a file and for what the proxy kept.
+// Whether the server answered: null where that is not known, as for a file, also one that is missing, and for what the
+// proxy kept.
 function isReached(status, headers) {
   if ([0, 502, 504].includes(status)) return false;
   const cache = headers.get('cache-status');
   if (cache === 'STALE') return false;
-  return headers.has('etag') || cache === 'HIT' || cache === 'UPDATING' ? null : true;
+  return status === 204 || headers.has('etag') || cache === 'HIT' || cache === 'UPDATING' ? null : true;
 }
 
 // Asks once. A body that is cut is no answer: fetch fails then, since its length is known.

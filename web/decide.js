@@ -42,7 +42,8 @@ class Card {
     this.box = h('input', { type: 'checkbox', 'aria-label': `Choose petition ${id}`, onchange: () => queue.choose() });
     this.end = h('p', { class: 'soft' });
     this.element = h('article', { class: 'card', 'aria-label': `Petition ${id}`, tabindex: -1 },
-      h('h2', {}, this.box, ' ', h('a', { href: `#/petition/${id}` }, `Petition ${id}`), ': ', written(listed.title)),
+      h('div', { class: 'head' }, this.box,
+        h('h2', {}, h('a', { href: `#/petition/${id}` }, `Petition ${id}`), ': ', written(listed.title))),
       warnings(listed, queue.open), waiting, this.end);
     this.fill(waiting).catch(why => waiting.replaceWith(fault(why.message)));
   }
@@ -196,6 +197,7 @@ class Queue {
 
 const OTHER_ORDERS = [
   orderLink('reserve', 'Reserve numbers'), orderLink('release', 'Release numbers'),
+  orderLink('revoke', 'Revoke a number'), orderLink('correct', 'Correct a number'),
   orderLink('add-licence', 'Allow a licence'), orderLink('add-vendor', 'Add a vendor'),
 ];
 

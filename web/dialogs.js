@@ -21,7 +21,11 @@ function show(parts) {
 // after the key Escape. Nothing stays of them: a password may have been among them.
 export const asked = (...parts) => before = before.then(() => show(parts));
 
-export const close = (value = '') => byId('dialog').close(value);
+// What was in it goes at once: the event comes later.
+export function close(value = '') {
+  byId('dialog').close(value);
+  byId('dialog').replaceChildren();
+}
 
 // Asks a question, and says whether the answer was yes. The parts stand between the question and the buttons; the one
 // that says no is chosen first.

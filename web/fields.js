@@ -2,13 +2,14 @@
 
 import { button, h, orgLink, petitionLink, soft, state, written } from './elements.js';
 import { numberIn, valueIn, wrongIn } from './orders.js';
-import { foundingVendor, known, openPetitions, orgsKeptBy } from './registry.js';
+import { foundingVendor, isCurator, known, openPetitions, orgsKeptBy } from './registry.js';
 import { STATES, hex } from './vendor.js';
 import { me } from './session.js';
 
-// The values that a field may have, or null if it is free.
+// The values that a field may have, or null if it is free. A curator may hand any organisation over.
 const CHOICES = {
   orgs: () => me() && orgsKeptBy(me().name).length ? orgsKeptBy(me().name).map(it => [it, it]) : null,
+  handed: () => isCurator(me()?.name) ? null : CHOICES.orgs(),
   licences: () => known.founding.licences.map(it => [it, it]),
   vendors: () => [...known.vendors.values()].map(it => [it.vid, `${it.vid} ${it.name}`]),
 };

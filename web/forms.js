@@ -13,8 +13,8 @@ import { Field, FreeNumbers } from './fields.js';
 
 // What is there already, for an order that changes it.
 async function whatIsThere(kind, given) {
-  if (kind === 'amend-org' && given.org) return { ...await orgNow(given.org), ...given };
-  if (kind !== 'amend' || !given.number) return given;
+  if (['amend-org', 'correct-org'].includes(kind) && given.org) return { ...await orgNow(given.org), ...given };
+  if (!['amend', 'correct'].includes(kind) || !given.number) return given;
   return { ...await numberNow(given.vendor ?? foundingVendor(), given.number), ...given };
 }
 
@@ -144,7 +144,7 @@ class OrderForm {
 }
 
 // Whether the form has choices among all numbers and organisations.
-const needsAll = kind => ORDERS[kind].fields.some(it => it.from === 'free' || it.from === 'orgs');
+const needsAll = kind => ORDERS[kind].fields.some(it => ['free', 'orgs', 'handed'].includes(it.from));
 
 // The view of an order's form, or of all orders.
 export async function orderView({ order: kind }, given) {

@@ -4,7 +4,7 @@ import {
   addressOf, button, choices, counted, facts, h, later, orderLink, orgLink, note, outside, paged, petitionLink,
   searchBar, searchBox, soft, table, written,
 } from './elements.js';
-import { founded, known, loaded, numberNow, openPetitions, orgNow, orgsKeptBy } from './registry.js';
+import { founded, isCurator, known, loaded, numberNow, openPetitions, orgNow, orgsKeptBy } from './registry.js';
 import { HELD } from './vendor.js';
 import { me, signIn } from './session.js';
 import { numbersTable, wish } from './pieces.js';
@@ -53,7 +53,12 @@ function openList(open) {
 }
 
 const forKeeper = org => choices(
-  orderLink('ask', 'Ask for a number', { org }), orderLink('amend-org', 'Change the organisation', { org }));
+  orderLink('ask', 'Ask for a number', { org }), orderLink('amend-org', 'Change the organisation', { org }),
+  orderLink('hand-over', 'Hand it over', { org }));
+
+const forCurator = (org, isKeeper) => choices(
+  orderLink('correct-org', 'Correct the organisation', { org }),
+  !isKeeper && orderLink('hand-over', 'Hand it over', { org }));
 
 // What an organisation has: all that is known of its numbers, and its open petitions.
 const numbersOf = slug => later('The numbers are read …', async () => {
@@ -79,7 +84,7 @@ export async function orgView({ org: slug }) {
   const past = h('div', {}, button('Show all its petitions', all));
   return [
     written(got.title), facts(['Short name', got.org], ['Web page', outside(got.site)], ['Keeper', got.keeper]),
-    isKeeper && forKeeper(slug),
+    isKeeper && forKeeper(slug), isCurator(me()?.name) && forCurator(slug, isKeeper),
     h('h2', {}, 'Numbers'), numbersOf(slug), h('h2', {}, 'Open petitions'), openOf(slug), past,
   ];
 }

@@ -99,6 +99,8 @@ function deeds(got, vid, owner) {
   if (got.state === 'held' && isKeeper) {
     links.push(orderLink('amend', 'Change what it says', given), orderLink('return', 'Return it', given));
   }
+  if (isCurator(me()?.name) && got.org) links.push(orderLink('correct', 'Correct it', given));
+  if (isCurator(me()?.name) && got.state === 'held') links.push(orderLink('revoke', 'Revoke it', given));
   const span = { first: got.number, last: got.number, vendor: vid };
   if (isCurator(me()?.name) && got.state === 'free') links.push(orderLink('reserve', 'Reserve it', span));
   if (isCurator(me()?.name) && got.state === 'reserved') links.push(orderLink('release', 'Release it', span));

@@ -46,7 +46,8 @@ const field = (name, kind, label, hint, more = {}) => ({ name, kind, label, hint
 const DIGITS = 'Four hexadecimal digits.';
 const newOrg = field('org', 'slug', 'Short name',
   'It stands in addresses and lists, and stays for good: a to z, 0 to 9 and -.');
-const org = field('org', 'slug', 'Organisation', 'Its short name.', { from: 'orgs' });
+const orgFrom = from => field('org', 'slug', 'Organisation', 'Its short name.', { from });
+const org = orgFrom('orgs');
 const orgTitle = field('title', 'title', 'Name', 'The name that people see, at most 200 bytes.');
 const title = field('title', 'title', 'Title', 'The name of the product, as hosts show it; at most 200 bytes.');
 const site = field('site', 'link', 'Web page', 'It begins with https:// or http://.');
@@ -62,6 +63,8 @@ const wanted = field('number', 'id', 'Number',
 const granted = field('number', 'id', 'Number',
   'Leave it empty for the one that is wanted, or the least free one.', { optional: true });
 const petition = field('petition', 'petition', 'Petition', 'Its number.');
+const keeper = field('keeper', 'slug', 'New keeper', 'The name that this person signs in with.');
+const reason = field('reason', 'title', 'Reason', 'It stands in the record, for all to read; at most 200 bytes.');
 const first = field('first', 'id', 'First number', DIGITS);
 const last = field('last', 'id', 'Last number', DIGITS);
 
@@ -76,6 +79,8 @@ export const ORDERS = {
   enrol: order('Enrol an organisation', 'You become its keeper: only you can ask for numbers for it.',
     [newOrg, orgTitle, site]),
   'amend-org': order('Change an organisation', 'Only its keeper can.', [org, orgTitle, site]),
+  'hand-over': order('Hand an organisation over', 'Its keeper can, and so can a curator if the keeper is gone.',
+    [orgFrom('handed'), keeper], sure('Hand this organisation over?')),
   ask: order('Ask for a number', 'A curator looks at your petition, and grants or declines it.',
     [org, vendor, wanted, ...terms]),
   amend: order('Change what a number says', 'Only the keeper of its organisation can.', [vendor, number, ...terms]),
@@ -87,6 +92,12 @@ export const ORDERS = {
     sure('Grant this petition?', curators)),
   decline: order('Decline a petition', 'The registry keeps no reason: write to the maker.', [petition],
     sure('Decline this petition?', curators)),
+  correct: order('Correct a number', 'It puts right what the number of any organisation says.',
+    [vendor, number, ...terms], curators),
+  'correct-org': order('Correct an organisation', 'It puts right the name or the web page of any organisation.',
+    [orgFrom(null), orgTitle, site], curators),
+  revoke: order('Revoke a number', 'Its organisation no longer holds it, and nobody else can get it.',
+    [vendor, number, reason], sure('Revoke this number?', curators)),
   reserve: order('Reserve numbers', 'Nobody gets a reserved number until it is released.', [vendor, first, last],
     curators),
   release: order('Release numbers', 'Released numbers are free again.', [vendor, first, last], curators),

@@ -13,11 +13,12 @@ import { petitionView } from './petition.js';
 import { recordView } from './record.js';
 import { decideView } from './decide.js';
 import { orderView } from './forms.js';
+import { rules, rulesView } from './rules.js';
 
 // Each view takes the values of its address, and returns a heading and elements, or null.
 const VIEWS = {
   numbers: numbersView, number: numberView, map: mapView, orgs: orgsView, org: orgView, petition: petitionView,
-  record: recordView, me: mineView, decide: decideView, do: orderView,
+  record: recordView, me: mineView, decide: decideView, do: orderView, rules: rulesView,
 };
 
 const NONE = ['No such page', h('p', {}, h('a', { href: '#/' }, 'All numbers'))];
@@ -27,7 +28,7 @@ const kindOf = address => address?.view === 'do' ? `do/${address.values.order}` 
 
 async function viewNow(address) {
   try {
-    return address ? await VIEWS[address.view](address.values, address.given) ?? NONE : NONE;
+    return address && await VIEWS[address.view](address.values, address.given) || NONE;
   } catch (why) {
     const words = why instanceof Refused ? why.message : `A fault of the page: ${why.message}`;
     return ['This cannot be shown', h('p', { class: 'fault', role: 'alert' }, words), button('Try again', () => go())];
@@ -88,5 +89,6 @@ document.querySelector('.skip').addEventListener('click', event => {
 if (addressAt(location.pathname)) history.replaceState(null, '', `/${location.hash || addressAt(location.pathname)}`);
 const showName = () => { document.querySelector('.brand a').textContent = nameOfAll(); };
 founded().then(showName, () => { /* the view says so */ });
+rules().then(text => { byId('to-rules').hidden = text === ''; });
 showSession();
 go();

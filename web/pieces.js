@@ -52,26 +52,36 @@ export const termsOf = it => [
 // An organisation in a question, where nothing is a link.
 const named = (slug, org) => org ? [written(org.title), ` (${slug})`] : slug;
 
-// What a question about a petition says.
-export function aboutPetition(it, org = known.orgs.get(it.org)) {
+// What a question about a petition says, and more facts of the order.
+export function aboutPetition(it, org = known.orgs.get(it.org), ...more) {
   const wants = it.want ? `${it.vid}:${it.want}, now ${standingOf(it.vid, it.want).state}` : `any number of ${it.vid}`;
   return facts(['Petition', String(it.id)], ['Organisation', named(it.org, org)], ['Title', written(it.title)],
-    ['Wants', wants]);
+    ['Wants', wants], ...more);
 }
 
-// What a question about a number says.
-function aboutNumber(vid, it, org) {
+// What a question about a number says, and more facts of the order.
+function aboutNumber(vid, it, org, ...more) {
   return facts(['Number', `${vid}:${it.number}`], ['State', it.state],
-    ['Title', it.title == null ? null : written(it.title)], ['Organisation', it.org ? named(it.org, org) : null]);
+    ['Title', it.title == null ? null : written(it.title)], ['Organisation', it.org ? named(it.org, org) : null],
+    ...more);
 }
 
-// What a question about an order says of the number or the petition that it names, as the registry says it now.
+// What a question about handing an organisation over says.
+async function aboutKeeper({ org: slug, keeper }) {
+  const org = await orgNow(slug);
+  return facts(['Organisation', named(slug, org)], ['Keeper', org.keeper], ['New keeper', keeper]);
+}
+
+// What a question about an order says of the number, the organisation or the petition that it names, as the registry
+// says it now.
 export async function about(body) {
+  if (body.keeper) return aboutKeeper(body);
   if (body.petition) {
     const it = await petitionNow(body.petition), org = await orgNow(it.org);
-    return [aboutPetition(it, org), body.number ? facts(['Number to grant', `${it.vid}:${body.number}`]) : ''];
+    return aboutPetition(it, org, ['Number to grant', body.number ? `${it.vid}:${body.number}` : null]);
   }
   if (!body.number) return null;
   const vid = body.vendor ?? foundingVendor(), it = await numberNow(vid, body.number);
-  return aboutNumber(vid, it, it.org ? await orgNow(it.org) : null);
+  const org = it.org ? await orgNow(it.org) : null;
+  return aboutNumber(vid, it, org, ['Reason', body.reason ? written(body.reason) : null]);
 }

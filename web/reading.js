@@ -59,8 +59,9 @@ export function jsonOr(text, otherwise) {
 // The forms of the replies that name something, and the names of their parts.
 const REPLIES = [
   [/^(granted) (?:(.{4}):)?([0-9a-f]{4}) to (\S+) by petition (\d+)$/, 'deed', 'vendor', 'number', 'org', 'petition'],
-  [/^(amended|returned) (?:(.{4}):)?([0-9a-f]{4})$/, 'deed', 'vendor', 'number'],
-  [/^(enrolled|amended organisation) (\S+)$/, 'deed', 'org'],
+  [/^(amended|returned|corrected|revoked) (?:(.{4}):)?([0-9a-f]{4})$/, 'deed', 'vendor', 'number'],
+  [/^(enrolled|amended organisation|corrected organisation) (\S+)$/, 'deed', 'org'],
+  [/^(handed) (\S+) over to (\S+)$/, 'deed', 'org', 'keeper'],
   [/^(declined |withdrawn |)petition (\d+)$/, 'deed', 'petition'],
   [/^(reserved|released) (?:(.{4}):)?([0-9a-f]{4})-([0-9a-f]{4})$/, 'deed', 'vendor', 'first', 'last'],
 ];

@@ -76,6 +76,7 @@ function deed(entry) {
   if (order === 'import') parts.push(' for ', orgLink(org), `, from a list of ${counted(items.length, 'item')}`);
   if (title) parts.push(': ', written(title));
   if (order === 'ask') parts.push(' (', written(licence), ')');
+  if (entry.reason) parts.push(': ', written(entry.reason));
   return parts;
 }
 
@@ -153,8 +154,8 @@ function storyOf(isAbout, none) {
   return story(look, () => entryTable('Entries', found), none);
 }
 
-// The entries about a number: who granted it, and who had asked; who amended and returned it; imports for its owner
-// that name it; the spans that were reserved and released.
+// The entries about a number: who granted it, and who had asked; who amended, corrected, returned and revoked it;
+// imports for its owner that name it; the spans that were reserved and released.
 export function storyOfNumber(vid, pid, owner) {
   const petitions = new Set();
   const isOf = entry => (entry.vendor ?? foundingVendor()) === vid;

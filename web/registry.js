@@ -138,7 +138,7 @@ export async function learnOrder(order, reply) {
   const { vendor, number, petition, first, last } = readReply(reply) ?? {}, vid = vendor ?? foundingVendor();
   if (order.petition) closed.add(order.petition);
   if (number) await numberNow(vid, number);
-  if (order.order === 'enrol' || order.order === 'amend-org') await orgNow(order.org);
+  if (['enrol', 'amend-org', 'hand-over', 'correct-org'].includes(order.order)) await orgNow(order.org);
   if (order.order === 'ask') {
     const { org, number: want = null, title } = order;
     opened.push({ at: Date.now(), id: Number(petition), org, want, title, vid: order.vendor ?? foundingVendor() });

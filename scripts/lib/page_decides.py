@@ -90,6 +90,42 @@ def decides_on_many(page, stage):
     same("how it is shown", page.one(".answer").get_attribute("class"), "answer fault")
 
 
+def corrects(page, stage):
+    """What is wrong with a number or an organisation is corrected, a number is revoked with a reason, and an organisation
+    is handed over, each from its page."""
+    page.open("number/1209/0033")
+    page.button("Correct it")
+    page.until(lambda: page.run("return document.querySelector('#f-title')?.value === 'Serial adapter'"), "what it says now")
+    page.fill(title="Serial adaptor")
+    page.submit()
+    page.answer("Done: corrected 1209:0033.")
+    page.open("org/bobs-boards")
+    page.button("Correct the organisation")
+    page.until(lambda: page.run("return document.querySelector('#f-title')?.value === \"Bob's boards\""), "what it says now")
+    page.fill(title="Bob's Boards")
+    page.submit()
+    page.answer("Done: corrected organisation bobs-boards.")
+    page.open("org/bobs-boards")
+    page.button("Hand it over")
+    page.fill(keeper="mallory")
+    page.submit()
+    asked = page.yes()
+    same("what the question says", [it for it in ("Bob's Boards (bobs-boards)", "bob", "mallory") if it not in asked], [])
+    page.answer("Done: handed bobs-boards over to mallory.")
+    page.open("number/1209/0033")
+    page.has("Bob's Boards (bobs-boards), kept by mallory")
+    page.button("Revoke it")
+    page.fill(reason="No product uses it")
+    page.submit()
+    asked = page.yes()
+    same("what the question says", [it for it in ("1209:0033", "Serial adaptor", "No product uses it") if it not in asked], [])
+    page.answer("Done: revoked 1209:0033.")
+    same("what was sent", stage.relay.tries[-1][1], '{"order":"revoke","number":"0033","reason":"No product uses it"}')
+    page.open("number/1209/0033")
+    page.has("Only its owner can get it again.")
+    page.has("curator-1\trevoked 1209:0033: No product uses it", ".story")
+
+
 def curates(page, stage):
     """Numbers are reserved and released on the map, and a licence is added."""
     from selenium.webdriver.common.keys import Keys

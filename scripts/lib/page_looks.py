@@ -1,9 +1,33 @@
-"""What anybody does with the page: look, search, and come by an old link."""
+"""What anybody does with the page: look, search, read the rules, and come by an old link."""
 
+import os
 import re
 
 from lib.staging import sent_by_proxy
-from lib.usbreg import same
+from lib.usbreg import same, write
+
+# Rules that mean harm, and what the page makes of them: the parts and the links.
+RULES = """\
+# Who gets a number
+
+Makers of *open* hardware, <img src=x onerror=alert(1)>
+and <script>window.ran = true</script>\u202egpj.exe.
+- One for each product
+- See [https://good.example/](https://evil.example/x), or [here](javascript:alert(1))
+1. First [the form](#/do/ask)
+### Whom to write to
+https://acme:x@curators.example/?a=<b>.
+"""
+PARTS = [
+    ["h2", "Who gets a number"],
+    ["p", "Makers of *open* hardware, <img src=x onerror=alert(1)> and <script>window.ran = true</script>U+202Egpj.exe."],
+    ["li", "One for each product"],
+    ["li", "See https://good.example/ (https://evil.example/x at evil.example), or [here](javascript:alert(1))"],
+    ["li", "First [the form](#/do/ask)"],
+    ["h3", "Whom to write to"],
+    ["p", "https://acme:x@curators.example/?a= leads to curators.example<b>."],
+]
+LINKS = ["https://evil.example/x", "https://acme:x@curators.example/?a="]
 
 
 def looks(page, stage):
@@ -103,6 +127,24 @@ def comes_by_a_link(page, stage):
     sizes = page.run("return performance.getEntriesByType('resource').filter(it => it.name.includes('/reports/')).map(it => it.encodedBodySize > 0 && it.transferSize < 400)")
     same("reports that were there already", sizes, [True, True])
     stage.unpublish()
+
+
+def reads_the_rules(page, stage):
+    """The rules that the operators wrote are texts and links, whatever is in them. Without any there is no link to them."""
+    is_there = lambda: page.one("#to-rules").is_displayed()
+    page.load("#/rules")
+    same("the rules that nobody wrote", (page.text("h1"), page.run("return fetch('/rules').then(it => it.status)"), is_there()), ("No such page", 204, False))
+    path = write(f"{stage.recipe.folder}/rules.md", RULES)
+    page.load()
+    page.until(is_there, "a link to the rules")
+    page.button("Rules", "nav")
+    page.until(lambda: page.text("h1") == "Rules", "the rules")
+    parts = page.run("return [...document.querySelectorAll('main :is(h2, h3, p, li)')].map(it => [it.localName, it.innerText])")
+    same("what the rules say", parts, PARTS)
+    same("the links of the rules", page.run("return [...document.querySelectorAll('main a')].map(it => it.href)"), LINKS)
+    same("other elements of the rules", [it.tag_name for it in page.all("main :not(h1, h2, h3, p, ul, ol, li, a, bdi, span)")], [])
+    same("what ran", page.run("return window.ran ?? null"), None)
+    os.remove(path)
 
 
 def finds_the_server_down(page, stage):

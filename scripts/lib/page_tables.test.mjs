@@ -12,6 +12,7 @@ const {
   fieldsOf, inWords, jsonOr, readNumbers, readOrganisations, readPetitions, readReply,
 } = await import(`${WEB}/reading.js`);
 const { addressAt, readAddress } = await import(`${WEB}/address.js`);
+const { linksIn, partsOf } = await import(`${WEB}/rules.js`);
 
 const requests = readFileSync(`${TOP}/docs/requests.md`, 'utf8');
 // The rows of the table of orders: name, fields, and a reply as an example.
@@ -32,6 +33,10 @@ test('each reply that names something is read', () => {
   assert.deepEqual(read.grant, { deed: 'granted', vendor: undefined, number: '00ab', org: 'acme', petition: '1' });
   assert.deepEqual(read.return, { deed: 'returned', vendor: undefined, number: '00ab' });
   assert.deepEqual(read['amend-org'], { deed: 'amended organisation', org: 'acme' });
+  assert.deepEqual(read['correct-org'], { deed: 'corrected organisation', org: 'acme' });
+  assert.deepEqual(read['hand-over'], { deed: 'handed', org: 'acme', keeper: 'bob' });
+  assert.deepEqual(read.correct, { deed: 'corrected', vendor: undefined, number: '00ab' });
+  assert.equal(read.revoke.deed, 'revoked');
   assert.deepEqual(read.ask, { deed: '', petition: '1' });
   assert.deepEqual(read.decline, { deed: 'declined ', petition: '2' });
   assert.deepEqual(read.reserve, { deed: 'reserved', vendor: 'cafe', first: '2000', last: '20ff' });
@@ -106,6 +111,19 @@ test('an address is read once, in lower case, or is none', () => {
   assert.equal(addressAt('/1209/00AB/'), '#/number/1209/00AB');
   assert.equal(addressAt('/org/acme'), '#/org/acme');
   for (const it of ['/', '/1209/00110/', '/org/a/b', '/list']) assert.equal(addressAt(it), '', it);
+});
+
+test('rules are read as parts, and links of the web in them', () => {
+  const text = '# One\r\n\r\nTwo\nlines\n- a\n  b\n\nThree\n2) c\n#4\n### Five\nSix';
+  assert.deepEqual(partsOf(text).map(it => [it.kind, it.text]), [
+    ['h2', 'One'], ['p', 'Two lines'], ['ul', 'a b'], ['p', 'Three'], ['ol', 'c #4'], ['h3', 'Five'], ['p', 'Six'],
+  ]);
+  const link = 'https://a.example/';
+  assert.deepEqual(linksIn(`See [it](${link}x), ${link}. [No](ftp://a.example/)`),
+    ['See ', { words: 'it', link: `${link}x` }, ', ', { words: '', link }, '. [No](ftp://a.example/)']);
+  assert.deepEqual(linksIn('[x](javascript:alert(1))'), ['[x](javascript:alert(1))']);
+  assert.deepEqual(linksIn(`(${link}a?b=c), "${link}"`),
+    ['(', { words: '', link: `${link}a?b=c` }, '), "', { words: '', link }, '"']);
 });
 
 test('reports are read by their columns', () => {
