@@ -14,8 +14,8 @@ import time
 
 HERE = os.path.dirname(os.path.abspath(__file__))
 sys.path.insert(0, f"{HERE}/../scripts")
+from lib.second_reader import devices
 from lib.usbreg import content, done, program, write
-from show_in_files import devices
 
 RUNS = int(os.environ.get("TIMES", "200"))
 LIST = "/usr/share/misc/usb.ids"

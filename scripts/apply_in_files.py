@@ -10,32 +10,11 @@ import shutil
 import subprocess
 import sys
 
+from lib.cases import Room
 from lib.usbreg import EXAMPLES, FOUNDING, content, folder, opened, program, run, seal, tables, write
 
 TEN = f"{EXAMPLES}/ten.jsonl"
 REPLIES = [f'{{"done":"enrolled o{number}"}}\n' for number in range(1, 11)]
-
-
-class Room:
-    """A folder with a program, and the number of cases that ran."""
-
-    def __init__(self, usbreg, made):
-        self.program, self.folder, self.seen = usbreg, made, 0
-
-    def file(self, name, text):
-        return write(f"{self.folder}/{name}", text)
-
-    def case(self, words, status=0, output="", errors="", lines=b""):
-        """Checks that these arguments end with this exit status and print these texts."""
-        ended, printed, said = run([self.program, *words], lines)
-        if (ended, printed, said) != (status, output.encode(), errors.encode()):
-            sys.exit(f"usbreg {' '.join(words)}: status {ended}, printed {printed!r} and {said!r}")
-        self.seen += 1
-
-    def founded(self, name):
-        store = f"{self.folder}/{name}.db"
-        self.case(["found", store, FOUNDING])
-        return store
 
 
 def change_from_outside(store, change):
@@ -185,9 +164,15 @@ def words(room):
         room.case(said, output=replies, lines=lines)
     store = room.founded("words")
     room.case(["apply", "--answered=6", store, TEN], output="".join(REPLIES[6:]))
+    room.case(["apply", store, "-"], output="".join(REPLIES), lines=content(TEN))
+    room.case(["apply", store, "-", "--answered", "10"], lines=content(TEN))
+    room.case(["apply", store, f"{room.folder}/-"], 1, errors="fault: file\n", lines=content(TEN))
     listed = room.file("words.ids", "1209  x\n\t0011  Lamp\n")
     said = ["import", store, listed, "--org=-x", "--caller", "cora", "--key=k", "--vendor", "1209"]
     room.case(said, 2, output='{"name":"NoOrg","refused":4}\n')
+    said = ["import", store, "-", "--org", "o1", "--caller", "cora", "--key", "k"]
+    done = '{"done":"imported fresh 1, owned 0, reserved 0, doubled 0, untitled 0, zero 0"}\n'
+    room.case(said, output=done, lines=content(listed))
 
 
 # Arguments, a part of what they print, and the exit status.

@@ -17,13 +17,13 @@ import re
 import sqlite3
 import sys
 
-from compare_with_plain_history import ask, enrol, request, requests_in
+from lib.older_stores import in_order, make, rows_of
 from lib.plain_history import History, line
 from lib.recording import FOLDER, Step, recorded, recording, states, steps_in, told
 from lib.refusing import each
+from lib.requests import ask, enrol, request, requests_in
 from lib.serving import command, exchange, serving
 from lib.usbreg import EXAMPLES, FOUNDING, apply, content, copy, done, folder, found, library, program, remove, rounds, run, write, write_requests
-from open_older_stores import in_order, make, rows_of
 
 STORE = "store.db"
 LOG = f"{STORE}-wal"

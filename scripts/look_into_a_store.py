@@ -14,41 +14,14 @@ Usage: scripts/look_into_a_store.py [PROGRAM [ROWS]], by default the program tha
 examples/orders.rows. The exit status is 0 if all of this holds.
 """
 
-import difflib
 import re
 import sys
 
-from lib.usbreg import EXAMPLES, REPORTS, TEXTS, TOP, apply, content, copy, done, folder, found, opened, program, run, seal, tables, write
+from lib.seen_by_sqlite import asked, documented_texts, same
+from lib.usbreg import EXAMPLES, REPORTS, TEXTS, apply, content, copy, done, folder, found, opened, program, run, seal, tables, write
 
 TABLES = "SELECT name FROM sqlite_schema WHERE type = 'table' ORDER BY name"
 OTHERS = "SELECT type, name FROM sqlite_schema WHERE type NOT IN ('table', 'index') ORDER BY name"
-
-
-def quoted(value):
-    """Returns a value as a statement writes it."""
-    if value is None:
-        return "NULL"
-    if isinstance(value, str):
-        return "'" + value.replace("'", "''") + "'"
-    return f"X'{value.hex()}'" if isinstance(value, bytes) else str(value)
-
-
-def asked(connection, statement):
-    """Returns a line for each row, its values separated by commas."""
-    return [",".join(map(quoted, row)) for row in connection.execute(statement)]
-
-
-def same(what, there, wanted):
-    """Ends the script if the lines are not the wanted ones."""
-    if there != wanted:
-        differences = difflib.unified_diff(wanted, there, "wanted", "there", lineterm="")
-        sys.exit(f"{what}:\n" + "\n".join(differences))
-
-
-def documented_texts():
-    """Returns the lines of the blocks of SQL in docs/schema.md."""
-    blocks = re.findall(r"^```sql\n(.*?)^```$", content(f"{TOP}/docs/schema.md").decode(), re.DOTALL | re.MULTILINE)
-    return [f"'{text}'" for text in "".join(blocks).splitlines()]
 
 
 def statements(rows):

@@ -26,7 +26,7 @@ from lib.usbreg import EXAMPLES, TOP, apply, content, copy, done, folder, found,
 
 USERS = f"{TOP}/scripts/users"
 SOME_LEFT_OUT = 3
-TAKE, MOVE, NEW, OUT, DAILY = "What would be taken", "Take it", "Take what is new", "The way out", "Every day"
+TAKE, MOVE, NEW, OUT = "What would be taken", "Take it", "Take what is new", "The way out"
 ORDERS = [
     {"caller": "ann", "key": "m1", "order": "enrol", "org": "lamps", "title": "yes", "site": "https://lamps.example/"},
     {"caller": "ben", "key": "m2", "order": "ask", "org": "acme", "number": "0013", "title": "Clock: 2", "licence": "MIT", "site": "https://acme.example/", "source": "https://acme.example/"},

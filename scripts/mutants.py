@@ -29,15 +29,12 @@ import threading
 import time
 from pathlib import Path
 
+from lib.edits import Edit, rounds_of
+from lib.ropes import ANSWERS, EDITS, SOURCE
+
 TOP = os.path.dirname(os.path.dirname(os.path.abspath(__file__)))
 KIT = os.path.dirname(subprocess.run(["rt", "doc"], stdout=subprocess.PIPE, text=True, check=True).stdout.strip())
 HEARD = {"stdin": subprocess.DEVNULL, "stdout": subprocess.PIPE, "stderr": subprocess.STDOUT, "errors": "replace"}
-
-# The first line of a function, and the first of what a method stands in, whose type has the name that is found last.
-HEADER = re.compile(r"( *)(?:pub(?:\([a-z]+\))? )?(?:const )?(?:unsafe )?fn (\w+)")
-BLOCK = re.compile(r"( *)(?:pub )?(?:impl|trait)\b(?:<.*?>(?= ))?(?: (?:\w+::)*(\w+).*? for)? &?(?:\w+::)*(\w*)")
-# A constant or a type.
-ITEM = re.compile(r"(?:pub(?:\([a-z]+\))? )?(?:const|static|struct|enum|type) (\w+)")
 
 # What a check prints: its end, what it says of a function, a goal that failed, an error in the proof of a function
 # (which goes on in further lines), and an error of the front end.
@@ -97,108 +94,6 @@ def crates_of(top):
         found[name].own = [found[it] for it in libraries if it in found]
         found[name].of_kit += [it for it in libraries if it not in found]
     return found
-
-
-class Function:
-    """A function of a source file: its lines, counted from 1, where its body begins, and whose method it is."""
-
-    def __init__(self, path, owner, name, lines):
-        self.path, self.owner, self.name = path, owner, name
-        self.first, self.body, self.last = lines
-        self.key = (owner or path, name)
-
-    def has(self, path, line):
-        return path == self.path and self.first <= int(line) <= self.last
-
-    def owns(self, words):
-        """Returns whether this name in what a check prints, or this folder of proofs, is of it or of a closure in it. A
-        method has there the name of its type and behind it that of the trait, maybe in the module of its type."""
-        if self.owner:
-            return any(re.fullmatch(self.owner, one) and two == self.name for one, two in zip(words, words[1:]))
-        module = [it for it in self.path[len("src/") : -len(".rt")].split("/") if it not in ("lib", "main")]
-        return words == [*module, self.name] or words[: len(module) + 2] == [*module, "fn", self.name]
-
-
-def body_of(lines, at, indent):
-    """Returns where the body of the function on this line begins and ends, if it has lines of its own."""
-    for begins in range(at, len(lines)):
-        line = lines[begins]
-        if line.endswith("{") and (begins == at or re.match(rf"{indent}[{{)>w]", line)):
-            return begins, next(it for it in range(begins, len(lines)) if lines[it].startswith(f"{indent}}}"))
-        if line.endswith(";") or begins == at and line.endswith("}"):
-            return None
-    return None
-
-
-def functions_of(path, text):
-    """Yields the functions of a source file, as `rt fmt` lays it out, whose bodies have lines of their own."""
-    lines, block = text.split("\n"), None
-    for at, line in enumerate(lines):
-        block, header = BLOCK.match(line) or block, HEADER.match(line)
-        body = body_of(lines, at, header[1]) if header else None
-        if body:
-            owner = block[3] + (rf"({block[2]}\w*)?" if block[2] else "") if block and block[1] < header[1] else None
-            yield Function(path, owner, header[2], (at + 1, body[0] + 1, body[1] + 1))
-
-
-class Edit:
-    """An edit: the new text of lines, by file and number, and the functions whose goals decide about it."""
-
-    def __init__(self, name, text, crate):
-        self.name, self.functions, self.is_alone = name, [], False
-        self.lines = self.changes(text, crate)
-        for path, line in self.lines:
-            held = [it for it in functions_of(path, crate.texts[path]) if it.has(path, line)]
-            if held and line < held[-1].body:
-                raise ValueError(f"it changes the contract of {held[-1].name}, and not its body")
-            self.is_alone |= not held
-            self.functions += held[-1:] or self.users(crate, path, line)
-        if not self.functions:
-            raise ValueError("no function names what it changes")
-        self.keys = {it.key for it in self.functions}
-
-    @staticmethod
-    def changes(text, crate):
-        """Returns the new text of each changed line, by its file and number."""
-        path, old, made = "", "", dict(crate.texts)
-        for word, colon, rest in (line.partition(":") for line in text.split("\n")):
-            rest = rest.removeprefix(" ")
-            path = rest.strip() if word == "file" and colon else path
-            old = rest if word == "old" and colon else old
-            if word == "new" and colon:
-                count = made.get(path, "").count(old) if old else 0
-                if count != 1:
-                    raise ValueError(f"an 'old:' text is in {path} {count} times, and not once")
-                made[path], old = made[path].replace(old, rest), ""
-        lines = {}
-        for path, now in made.items():
-            both = zip(crate.texts[path].split("\n"), now.split("\n"))
-            lines.update({(path, at): after for at, (before, after) in enumerate(both, 1) if before != after})
-        if not lines:
-            raise ValueError("it changes nothing")
-        return lines
-
-    @staticmethod
-    def users(crate, path, line):
-        """Yields the functions of the crate whose bodies name the constant or type of this line."""
-        above = crate.texts[path].split("\n")[line - 1 :: -1]
-        named = next((found[1] for found in map(ITEM.match, above) if found), None)
-        for file, text in crate.texts.items() if named else ():
-            for it in functions_of(file, text):
-                if re.search(rf"\b{named}\b", "\n".join(text.split("\n")[it.body - 1 : it.last])):
-                    yield it
-
-
-def rounds_of(edits):
-    """Returns the edits in few checks: two of one function apart, and alone an edit outside of functions."""
-    rounds = []
-    for edit in edits:
-        clashes = lambda other: edit.is_alone or other.is_alone or other.keys & edit.keys
-        free = next((it for it in rounds if not any(map(clashes, it))), None)
-        if free is None:
-            rounds.append(free := [])
-        free.append(edit)
-    return rounds
 
 
 def link(one, other):
@@ -311,94 +206,6 @@ def try_all(top, edits, names, jobs):
     return found
 
 
-def main():
-    # a check takes 3 GB at most
-    fit = int(re.search(r"MemAvailable:\s+(\d+)", Path("/proc/meminfo").read_text("ascii"))[1]) // 3_000_000
-    given = argparse.ArgumentParser()
-    given.add_argument("--jobs", type=int, default=max(1, min(len(os.sched_getaffinity(0)), fit)))
-    given.add_argument("--edits", metavar="FOLDER", default=f"{TOP}/mutants")
-    given.add_argument("--self-test", action="store_true")
-    given.add_argument("names", nargs="*", metavar="NAME | NAME/EDIT")
-    given = given.parse_args()
-    if given.self_test:
-        return self_test(given.jobs)
-    found = try_all(TOP, given.edits, given.names, given.jobs)
-    failed = {it: why for it, why in found.items() if why}
-    option = "" if given.edits == f"{TOP}/mutants" else f"--edits {given.edits} "
-    for name, why in failed.items():
-        print(f"FAILED: {name}: {' '.join(why.split())[:300]}; alone: scripts/mutants.py {option}{name}")
-    print(f"{len(found) - len(failed)} passed, {len(failed)} failed")
-    return 1 if failed else 0
-
-
-# The small crate of the self-test.
-SOURCE = """#![tactic(auto)]
-ghost use Rattle.std.specs.Prelude.{◌≡◌, ◌≤◌, ◌*◌};
-
-pub const WHEELS: u32 = 4;
-
-pub struct Rope {
-    length: u32,
-}
-
-impl From<u32> for Rope {
-    fn from(length: u32) -> Rope
-        ensures { result.length ≡ length }
-    {
-        Rope { length }
-    }
-}
-
-impl Rope {
-    pub fn cut(&mut self, length: u32)
-        ensures { self.new.length ≡ length }
-    {
-        self.length = length;
-    }
-}
-
-pub fn wheels() -> u32
-    ensures { result ≡ 8 }
-{
-    2 * WHEELS
-}
-
-pub fn cut_twice(rope: &mut Rope)
-    ensures { rope.new.length ≡ 1 }
-{
-    rope.cut(2);
-    rope.cut(1);
-}
-
-pub fn shorter(first: u32, second: u32) -> u32
-    ensures { result ≤ second }
-{
-    if first < second { first } else { second }
-}
-"""
-ANSWERS = """use Rattle.std.proofs.Common.{rules}
-use Rattle.ropes.proofs.shorter.Goals as goal
-
-pub returns-then-first-second : goal.returns-then-first-second
-returns-then-first-second g = search rules
-"""
-# Its edits: old and new text, and the verdict, which is refused, or failed with these words.
-EDITS = {
-    "a_method": ("self.length = length;", "self.length = length / 2;", "refused"),
-    "another_body_of_it": ("self.length = length;", "self.length = 1;", "refused"),
-    "a_method_of_a_trait": ("        Rope { length }", "        Rope { length: length / 2 }", "refused"),
-    "a_constant": ("WHEELS: u32 = 4;", "WHEELS: u32 = 5;", "refused"),
-    "a_right_body_over_a_wrong_one": ("rope.cut(2);", "rope.cut(3);", "not refused"),
-    "a_right_body_without_the_goal_of_an_answer": ("if first < second {", "if second > first {", "not refused"),
-    "a_text_that_is_gone": ("rope.cut(5);", "rope.cut(6);", "0 times"),
-    "a_text_that_stands_twice": ("rope.cut(", "rope.from(", "2 times"),
-    "a_contract": ("{ result ≡ 8 }", "{ result ≡ 9 }", "it changes the contract"),
-    "another_type": ("    2 * WHEELS", "    true", "src/lib.rt:.*error"),
-    "a_loan_that_moves": ("    rope.cut(1);", "    let _ = (rope, 1);", "the borrow checker does not cover"),
-    "no_change": ("2 * WHEELS", "2 * WHEELS", "it changes nothing"),
-}
-
-
 def self_test(jobs):
     """Tries the edits of the small crate, and compares each verdict."""
     files = {"crates.txt": "ropes:\n", "crates/ropes/src/lib.rt": SOURCE, "crates/ropes/proofs/Lib.antt": ""}
@@ -417,6 +224,26 @@ def self_test(jobs):
     wrong = [f"FAILED: {it}: {told[it]}, and not: {wanted[it]}" for it in wanted if not is_right(it)]
     print("\n".join([*wrong, f"{len(wanted) - len(wrong)} passed, {len(wrong)} failed"]))
     return 1 if wrong else 0
+
+
+def main():
+    # a check takes 3 GB at most
+    fit = int(re.search(r"MemAvailable:\s+(\d+)", Path("/proc/meminfo").read_text("ascii"))[1]) // 3_000_000
+    given = argparse.ArgumentParser()
+    given.add_argument("--jobs", type=int, default=max(1, min(len(os.sched_getaffinity(0)), fit)))
+    given.add_argument("--edits", metavar="FOLDER", default=f"{TOP}/mutants")
+    given.add_argument("--self-test", action="store_true")
+    given.add_argument("names", nargs="*", metavar="NAME | NAME/EDIT")
+    given = given.parse_args()
+    if given.self_test:
+        return self_test(given.jobs)
+    found = try_all(TOP, given.edits, given.names, given.jobs)
+    failed = {it: why for it, why in found.items() if why}
+    option = "" if given.edits == f"{TOP}/mutants" else f"--edits {given.edits} "
+    for name, why in failed.items():
+        print(f"FAILED: {name}: {' '.join(why.split())[:300]}; alone: scripts/mutants.py {option}{name}")
+    print(f"{len(found) - len(failed)} passed, {len(failed)} failed")
+    return 1 if failed else 0
 
 
 if __name__ == "__main__":

@@ -18,14 +18,14 @@ import sqlite3
 import subprocess
 import sys
 
-from compare_with_plain_history import requests_in
 from lib.nearly import Plan, nearly
+from lib.older_stores import COUNTS, in_schema
 from lib.plain_history import History
 from lib.refusing import each
+from lib.requests import requests_in
+from lib.seen_by_sqlite import documented_texts
 from lib.serving import exchange, get, serving
 from lib.usbreg import EXAMPLES, FOUNDING, TOP, content, copy, done, folder, opened, program, run, write, write_requests
-from look_into_a_store import documented_texts
-from open_older_stores import COUNTS, in_schema
 
 TABLE = f"{TOP}/cases/nearly_registries.txt"
 FAULTS = {f"fault: {it}\n".encode(): it for it in ("file", "foreign", "memory", "spent", "store", "taken")}

@@ -19,67 +19,24 @@ builds. The exit status is 0 if all of this holds."""
 import collections
 import copy as copies
 import random
-import re
-import subprocess
 import sys
 import time
 
-from compare_with_plain_history import Chance, Registry, Room, all_cases, request, requests_in
-from lib.plain_history import History
+from lib.beside_plain import Registry, Room
+from lib.older_stores import COUNTS, in_order, in_schema, make, rows_of
+from lib.requests import Chance, all_cases, request, requests_in
+from lib.seen_by_sqlite import asked, documented_texts, same
+from lib.stopping import killed
 from lib.usbreg import (
-    EXAMPLES, FOUNDING, REPORTS, TEXTS, apply, content, copy, declined, done, folder, found, found_without_sums, older, older_text,
-    opened, program, remove, rounds, run, seal, write, write_requests,
+    EXAMPLES, REPORTS, TEXTS, apply, content, copy, declined, done, folder, found, found_without_sums, older, opened, program,
+    rounds, run, seal, write, write_requests,
 )
-from look_into_a_store import asked, documented_texts, same
 
 LINK = "https://acme.example/"
-# The tables of the newest schema that replace older ones, and the numbers of tables of the older schemas.
-NEW = {"vendors", "spans3", "entries3", "petitions3"}
-COUNTS = {1: 9, 2: 10}
-
-
-def in_schema(version, tables):
-    """Returns the rows of the same history in an older schema, from those in the newest."""
-    ((_, _, vendor, name),) = tables["meta"]
-    spans = [row[1:] for row in tables["spans3"]]
-    rows = {it: tables[it] for it in tables if it not in NEW and it != "spans"}
-    rows["meta"] = [(1, version, vendor, name)]
-    rows["entries"] = [row[1:] for row in tables["entries3"]]
-    rows["petitions"] = [(number, *rest) for number, _, *rest in tables["petitions3"]]
-    if version == 1:
-        return rows | {"reserved": [(pid,) for lo, hi in spans for pid in range(lo, hi + 1)]}
-    return rows | {"reserved": [], "spans": spans}
-
-
-def make(store, version, tables):
-    """Makes a store of an older schema with SQLite, from the rows in the newest one, and returns the file's path."""
-    remove(store)
-    with opened(store) as connection:
-        connection.execute("PRAGMA journal_mode = WAL")
-        for text in re.findall(r"^CREATE .*;$", older_text(version), re.MULTILINE):
-            connection.execute(text)
-        for name, rows in in_schema(version, tables).items():
-            for row in rows:
-                connection.execute(f"INSERT INTO {name} VALUES ({', '.join('?' * len(row))})", row)
-        connection.commit()
-    return store
-
-
-def in_order(tables):
-    return {name: sorted(rows, key=repr) for name, rows in tables.items()}
-
-
-def rows_of(store):
-    """Returns the rows of each table. Ends the script if SQLite finds the store unsound."""
-    with opened(store) as connection:
-        if connection.execute("PRAGMA integrity_check").fetchone() != ("ok",):
-            sys.exit(f"{store} is not sound")
-        names = [it for (it,) in connection.execute("SELECT name FROM sqlite_schema WHERE type = 'table'")]
-        return in_order({it: list(connection.execute(f"SELECT * FROM {it}")) for it in names})
 
 
 def rows_as_kept(store):
-    """Returns the same, with the kept requests in the order in which they came."""
+    """Returns the rows of each table, with the kept requests in the order in which they came."""
     with opened(store) as connection:
         return rows_of(store) | {"kept": list(connection.execute("SELECT * FROM kept ORDER BY rowid"))}
 
@@ -222,19 +179,6 @@ def histories(stores):
             store = make(f"{stores.folder}/older.db", version, rows_as_kept(today.store))
             stores.opens_as(what, version, store, today, accepted, more)
     return len(all_histories)
-
-
-def killed(words, seconds):
-    """Runs a command, and kills it after the given seconds. Returns whether it was killed."""
-    with subprocess.Popen(words, stdout=subprocess.DEVNULL) as ran:
-        try:
-            status = ran.wait(seconds)
-        except subprocess.TimeoutExpired:
-            ran.kill()
-            status = ran.wait()
-    if status not in (0, -9):
-        sys.exit(f"{words} ended with status {status}")
-    return status != 0
 
 
 def stops_from(version, stores, today, stops):

@@ -17,14 +17,15 @@ import json
 import os
 import random
 import shutil
-import subprocess
 import sys
 import time
 
-from compare_with_plain_history import Chance, Room, all_cases, enrol, request, requests_in
+from lib.beside_plain import Room
 from lib.machine import Machine, Orders
 from lib.pages import block
 from lib.plain_history import FIELDS, History, items
+from lib.requests import Chance, all_cases, enrol, request, requests_in
+from lib.stopping import killed
 from lib.usbreg import (
     EXAMPLES, FOUNDING, content, done, folder, found, older, opened, program, remove, rounds, run, tables, write,
     write_requests,
@@ -255,17 +256,13 @@ def stopped(records, seed):
     done([records.program, "replay", records.path("db"), path])
     seconds = time.monotonic() - began
     for _ in range(10 * STOPS):
-        running = subprocess.Popen([records.program, "replay", copy, path])
-        try:
-            same("the status of a replay after stops", running.wait(dice.uniform(0, seconds)), 0)
+        if not killed([records.program, "replay", copy, path], dice.uniform(0, seconds)):
             remove(copy)
-        except subprocess.TimeoutExpired:
-            running.kill()
-            running.wait()
-            stops += 1
-            if os.path.exists(copy) and run([records.program, "report", copy, "census"])[0] == 0:
-                there = records.history(copy)
-                same("what a stop leaves", there, record[: len(there)])
+            continue
+        stops += 1
+        if os.path.exists(copy) and run([records.program, "report", copy, "census"])[0] == 0:
+            there = records.history(copy)
+            same("what a stop leaves", there, record[: len(there)])
         if stops == STOPS:
             break
     same("after the stops", run([records.program, "replay", copy, path]), (0, b"", b""))
@@ -293,16 +290,15 @@ def fork(org):
 def follows(usbreg, made):
     """Runs the commands of docs/backup.md for a copy of the record, a second machine and an audit, while orders come."""
     first = Machine(usbreg, f"{made}/first")
-    record = f"{first.lib}-record/record.jsonl"
-    elsewhere = {"https://registry.example": f"http://127.0.0.1:{first.port}", "/etc/usbreg/record.jsonl": record}
-    second, auditor = (Machine(usbreg, f"{made}/{it}", elsewhere) for it in ("second", "auditor"))
+    record, address = f"{first.lib}-record/record.jsonl", {"https://registry.example": f"http://127.0.0.1:{first.port}"}
+    first.places |= address
+    second, auditor = (Machine(usbreg, f"{made}/{it}", address) for it in ("second", "auditor"))
     other, requests = f"{second.lib}/record.jsonl", list(rounds(1, 4 * BEFORE))
     started = (first, "systemctl start usbreg-record.service"), (second, "systemctl start usbreg-follow.service")
     found(usbreg, first.store)
     first.must_run("systemctl start usbreg")
     try:
         first.send(requests[:30])
-        first.must_run(block("Backup"))
         first.must_run(block("A copy of the record"))
         second.must_run(block("A second machine"))
         first.send(requests[30:BEFORE])

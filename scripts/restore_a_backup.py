@@ -25,7 +25,7 @@ import time
 
 from lib.machine import Machine, Orders
 from lib.pages import block
-from lib.usbreg import content, copy, done, folder, form, found, opened, program, rounds, same, write
+from lib.usbreg import content, copy, done, folder, form, found, opened, program, rounds, same
 
 # The backups that are made while orders come, and the rounds of orders that are sent before, and after.
 BACKUPS, ROUNDS = 5, 40
@@ -116,9 +116,7 @@ def forks(usbreg, first, restore, later):
         copied = copy(first.store, f"{first.room}/recorded.db")
         return done([usbreg, "history", copied]).decode()
 
-    begun = write(f"{first.room}/record.jsonl", record())
-    address = {"https://registry.example": f"http://127.0.0.1:{first.port}", "/etc/usbreg/record.jsonl": begun}
-    second = BackedUp(usbreg, f"{first.room}/second", address)
+    second = BackedUp(usbreg, f"{first.room}/second", {"https://registry.example": f"http://127.0.0.1:{first.port}"})
     second.must_run(block("A second machine"))
     follow, kept = "systemctl start usbreg-follow.service", f"{second.lib}/record.jsonl"
     same("what the follower has", content(kept).decode(), record())

@@ -1,7 +1,7 @@
 #!/usr/bin/env python3
-"""Runs what the pages show as it is written: the tour of README.md, the examples of docs/http.md, and the example in the help
-of each command. Each begins in a new folder that has `examples/` of the repository, and its commands run in order, in one
-shell.
+"""Runs what the pages show as it is written: the tour of README.md, the examples of docs/http.md, the request lines of
+docs/requests.md, which get the replies in its table, and the example in the help of each command. The commands begin in a
+new folder that has `examples/` of the repository, and run in order, in one shell.
 
 Each link of a page leads to a file of the repository, and to a heading there. Each command of a page must print what the page shows below it, and end with status 0 if that is no fault. Of a run that
 `head` stops the fault may be missing, as the page says. Each line of a help must end with status 0, and print nothing on its
@@ -11,12 +11,14 @@ Usage: scripts/run_page_examples.py [PROGRAM [README]], by default the program t
 repository. What a page needs and is not installed is said, and the page is skipped. The exit status is 0 if all ran."""
 
 import glob
+import json
 import os
+import re
 import shutil
 import sys
 
-from lib.pages import Shell, broken_links, page, section, shown
-from lib.usbreg import TOP, content, done, folder, program, same
+from lib.pages import Shell, blocks, broken_links, page, section, shown
+from lib.usbreg import TOP, content, done, folder, program, run, same
 
 # The programs that a page needs beside `usbreg`.
 NEEDED = {"README.md": ("curl", "sqlite3"), "docs/http.md": ("curl",)}
@@ -44,6 +46,21 @@ def run_page(usbreg, name, text):
     if not count:
         sys.exit(f"{name}: there is no command")
     return count
+
+
+def run_requests(usbreg):
+    """Acts on the request lines below the table of orders in docs/requests.md, and returns how many there are. Each is
+    accepted, each order of the table is there, and so is each reply."""
+    text = page("docs/requests.md")
+    table = re.findall(r"^\| `([a-z-]+)` \| [a-z?, ]+ \| `([^`]+)` \|$", text, re.MULTILINE)
+    lines = blocks(text, "")[0]
+    status, said, errors = run([usbreg, "trial"], lines.encode())
+    same("the status of the requests in docs/requests.md", (status, errors), (0, b""))
+    orders, replies = ([json.loads(it).get(name) for it in those.splitlines()] for name, those in (("order", lines), ("done", said.decode())))
+    same("the orders of docs/requests.md", set(orders), {order for order, _ in table})
+    same("the replies of docs/requests.md", [it for it in table if it not in zip(orders, replies)], [])
+    same("requests of docs/requests.md that are refused", replies.count(None), 0)
+    return len(orders)
 
 
 def run_helps(usbreg):
@@ -74,6 +91,7 @@ def main():
             print(f"SKIPPED: not installed: {', '.join(lacking)}; so the commands of {name} were not run")
         else:
             print(f"{name}: {run_page(usbreg, name, text)} commands ran as they are written")
+    print(f"docs/requests.md: {run_requests(usbreg)} requests get the replies of the table")
     print(f"the helps of the commands: {run_helps(usbreg)} lines ran as they are written")
 
 

@@ -15,42 +15,38 @@ the server is down for a moment wait for it. docs/contracts.md has the numbers. 
 what is no record and no list of a registry (`lib/upstreams.py`).
 
 The proxy has the list as a file and a compressed one, by contrib/publish-list, and before that it keeps it as it does
-the reports, also while the server is down. What it refuses itself is JSON, also without TLS where there is TLS. Its log
-has the name and the key of each order, and keeps them by contrib/usbreg.logrotate. The history can be kept to some
-addresses. With the configuration of Debian's package around it, it serves the same.
+the reports, also while the server is down. Its log has the name and the key of each order, and keeps them by
+contrib/usbreg.logrotate (`lib/proxy_keeps.py`). What it refuses itself is JSON, also without TLS where there is TLS. The
+history can be kept to some addresses. With the configuration of Debian's package around it, it serves the same.
 
 Usage: scripts/serve_behind_nginx.py [--planted] [PROGRAM [NUMBERS]], by default the one that `make` builds, and 56000 numbers.
-With --planted it takes the limit of each flood out of the configuration, one by one, and checks that this is noticed. If nginx is not installed it says that it was skipped, and likewise for what needs `logrotate` or `openssl`. The exit status
-is 0 if all of this holds."""
+With --planted it takes the limit of each flood out of the configuration, one by one, and checks that this is noticed. If
+nginx is not installed it says that it was skipped, and likewise for what needs `logrotate` or `openssl`. The exit status is 0
+if all of this holds."""
 
 import collections
 import concurrent.futures
-import gzip
 import os
-import re
 import shutil
-import subprocess
 import sys
 import time
-from email.utils import formatdate
 from types import SimpleNamespace
 
 from lib.attackers import Sending
+from lib.desk_orders import ENROL, LIST, ORDER, ask, asked
 from lib.flooded import Stage, filled, half_messages
 from lib.floods import FLOODS, READS, is_noticed, least
-from lib.proxy import CURATOR, DEBIAN, NO_CURATOR, NO_SLUG, ByField, Gate, Guarded, Packaged, Recipe, Small, by_proxy, closing, connected, refusal, shell, signed, told
-from lib.serving import HOST, PATIENCE, command, free_port, get, message, post, serving
+from lib.proxy import CURATOR, DEBIAN, NO_CURATOR, NO_SLUG, ByField, Gate, Guarded, Packaged, Recipe, Small, by_proxy, closing, connected, refusal, signed, told
+from lib.proxy_keeps import a_list_as_a_file, logged, rotated, what_is_kept
+from lib.serving import HOST, command, free_port, get, message, post, serving
 from lib.upstreams import follow_bad_registries, publish_bad_lists
-from lib.usbreg import CONTRIB, content, folder, found, program, same, write
-from talk_to_the_desk import ENROL, LIST, ORDER, ask, asked
+from lib.usbreg import folder, found, program, same, write
 
 FOUNDING = f'vendor = "1209"\nname = "Shared products"\ncurators = ["{CURATOR}"]\nlicences = ["MIT"]\nfixed = ["0001-0010"]\n'
 # The clients that stop in the middle of a head, and those that ask at once, each from one of several addresses.
 HALF, MANY = 600, 240
 # The passwords that an address sends at once, of which so many are checked or wait.
 GUESSES, CHECKED = 60, 31
-# The seconds that a report is kept, and one more; and those that a message waits for a server that is down.
-KEPT, WAITED = 11, 15
 # The numbers of the registry that is flooded.
 NUMBERS = 56000
 
@@ -81,6 +77,8 @@ def names(gate):
     twice = grant.replace(b"registry-caller", b"Registry-Caller: curator-1\r\nREGISTRY-CALLER")
     gate.gives("a curator's name twice", signed("ann", twice), *refusal(2))
     gate.gives("no caller", signed(CURATOR, grant.replace(b"registry-caller: curator-1\r\n", b"")), 200, told("granted 0011 to acme by petition 1"))
+    line = b'{"curators":["curator-1"],"fixed":["0001-0010"],"licences":["MIT"],"name":"Shared products","vendor":"1209"}\n'
+    gate.gives("the first line of the record", get("/history/founding"), 200, line)
     gate.gives("another path", signed(CURATOR, post(CURATOR, "k1", b"{}", "/commands/")), *refusal(24))
     gate.gives("another path to the same", signed(CURATOR, post(CURATOR, "k1", b"{}", "//commands")), *refusal(24))
     if "www-authenticate: basic realm=\"usbreg\"" not in gate.ask(command(ENROL))[2]:
@@ -142,6 +140,15 @@ def odd_messages(gate):
         gate.gives(what, sent, *by_proxy(status), has=("content-type: application/json",))
     for path in ("/imports", "/reports", "/history", "/web"):
         gate.gives(path, get(path), *refusal(24))
+
+
+def own_rules(gate, recipe):
+    """Checks that the registry's own rules are served as a text, if there are some."""
+    gate.gives("no rules", get("/rules"), 204, b"")
+    write(f"{recipe.folder}/rules.md", "# <b>Rules</b>\n")
+    gate.gives("rules", get("/rules"), 200, b"# <b>Rules</b>\n", has=("content-type: text/plain; charset=utf-8", "x-content-type-options: nosniff"))
+    gate.gives("another path of the rules", get("/rules/rules.md"), *refusal(24))
+    gate.gives("an order to the rules", message("POST", "/rules", b""), *by_proxy(405))
 
 
 def tried_at_once(gate, sent, address):
@@ -209,114 +216,12 @@ def networks(gate):
         same(f"a guess of {other}", gate.ask(guess(other))[0], 401)
 
 
-def what_is_kept(gate, server, census, began):
-    """Checks that the proxy keeps the list and the reports, also while the server is down and when they are too old; and
-    not that of a number."""
-    listed = b"# List of USB numbers in the syntax of usb.ids\n\n1209  Shared products\n\t0011  Lamp\n"
-    for what in ("miss", "hit"):
-        for target, wanted in (("/list", listed), ("/reports/holders", b"acme                                 1     0\n")):
-            status, body, lines = gate.ask(get(target))
-            if (status, body) != (200, wanted) or f"cache-status: {what}" not in lines:
-                sys.exit(f"{target}: status {status}, {lines}, {body!r}, where a {what} is wanted")
-    status, body, _ = gate.ask(message("HEAD", "/list"))
-    same("the head of the list", (status, body), (200, b""))
-    server.kill()
-    gate.gives("the list without the server", get("/list"), 200, listed)
-    killed = time.monotonic()
-    gate.gives("a number without the server", get("/numbers/0011"), *by_proxy(502))
-    if not WAITED - 5 < time.monotonic() - killed < WAITED + 10:
-        sys.exit(f"a message waits {time.monotonic() - killed:.1f} s for a server that is down")
-    time.sleep(max(0, began + KEPT - time.monotonic()))
-    status, body, lines = gate.ask(get("/reports/census"))
-    if (status, body) != (200, census) or "cache-status: stale" not in lines:
-        sys.exit(f"an old report without the server: status {status}, {lines}, {body!r}, where {census!r} is wanted")
-
-
-def logged(recipe):
-    """Checks that the log says who ordered what, and has nothing else. nginx writes a line once the response is gone."""
-    until = time.monotonic() + 5
-    while not re.search(r'^\S+T\S+ 127\.0\.0\.1 "ann" "k2" "POST /commands" 200 ', recipe.log(), re.MULTILINE):
-        if time.monotonic() > until:
-            sys.exit(f"the log has no order of ann: {recipe.log()[:2000]}")
-        time.sleep(0.01)
-    others = [it for it in recipe.log().splitlines() if not re.search(r'^\S+ \S+ "(ann|bob|curator-1)" "\w+" "(POST /(commands|imports/acme)|-)" ', it) or " 429 " in it]
-    same("other lines of the log", others, [])
-
-
-def rotated(gate, recipe):
-    """Checks that the log goes on in a new file, by contrib/usbreg.logrotate, and that the old one stays."""
-    if not shutil.which("logrotate"):
-        print("SKIPPED: logrotate is not installed, so contrib/usbreg.logrotate was not run")
-        return
-    order, before = signed("ann", command(ask("k2", number="0011"))), recipe.log()
-    again = recipe.stop.replace("-s stop", "-s reopen")
-    stanza = content(f"{CONTRIB}/usbreg.logrotate").decode()
-    for text, other in (("/var/log/usbreg", recipe.folder), (" www-data adm", ""), ("invoke-rc.d nginx rotate > /dev/null 2>&1", f'cd "{recipe.folder}" && {again}')):
-        if text not in stanza:
-            sys.exit(f"contrib/usbreg.logrotate has no {text!r}")
-        stanza = stanza.replace(text, other)
-    write(f"{recipe.folder}/rotate", stanza)
-    os.chmod(f"{recipe.folder}/rotate", 0o644)
-    shell("PATH=$PATH:/usr/sbin logrotate --force --state state rotate", recipe.folder)
-    until, sent = time.monotonic() + 5, 0
-    while not recipe.log():
-        gate.gives("an order while the log is rotated", order, 200, told("petition 1"))
-        sent += 1
-        if time.monotonic() > until:
-            sys.exit("the log does not go on in a new file")
-        time.sleep(0.1)
-    (old,) = (it for it in os.listdir(recipe.folder) if it.startswith("orders.log-"))
-    whole = content(f"{recipe.folder}/{old}").decode()
-    same("the old log", (whole.startswith(before), (whole + recipe.log()).count("\n")), (True, before.count("\n") + sent))
-
-
-def a_list_as_a_file(gate, recipe, server):
-    """Checks what hosts get of the list once it is a file, also while the server is down."""
-    at = f"{recipe.folder}/usbreg-list"
-    os.mkdir(at)
-
-    def publish():
-        ran = subprocess.run([f"{CONTRIB}/publish-list", f"http://{HOST}:{server.port}/list", at], capture_output=True, check=False, timeout=PATIENCE)
-        return ran.returncode
-
-    def asks(*fields):
-        return gate.ask(get("/list").replace(b"\r\n", b"".join(f"\r\n{it}".encode() for it in fields) + b"\r\n", 1))
-
-    def both(titles):
-        """Returns the tag of the list, which must have these titles, and of the compressed one."""
-        listed = b"# List of USB numbers in the syntax of usb.ids\n\n1209  Shared products\n\t0011  %s\n" % titles
-        tags = []
-        for fields, read in (((), bytes), (("accept-encoding: gzip",), gzip.decompress)):
-            status, body, lines = asks(*fields)
-            same(f"the list as a file, {fields}", (status, read(body), "content-type: text/plain; charset=utf-8" in lines), (200, listed, True))
-            tags += [it.removeprefix("etag: ") for it in lines if it.startswith("etag: ")]
-            for known in (f"if-none-match: {tags[-1]}", f"if-modified-since: {formatdate(os.stat(f'{at}/list').st_mtime, usegmt=True)}"):
-                same(f"a list that is known by {known}", asks(*fields, known)[:2], (304, b""))
-        same("a part of the list", asks("range: bytes=2-5")[:2], (206, listed[2:6]))
-        return tags
-
-    same("the list is published", publish(), 0)
-    first, times = both(b"Lamp"), [os.stat(f"{at}/{it}").st_mtime_ns for it in ("list", "list.gz")]
-    same("the list is published again", publish(), 0)
-    same("the times of a list that is as before", [os.stat(f"{at}/{it}").st_mtime_ns for it in ("list", "list.gz")], times)
-    gate.gives("the head of the file", message("HEAD", "/list"), 200, b"")
-    gate.gives("an order to the list", message("POST", "/list", b""), *by_proxy(405))
-    amended = asked("t1", "amend", number="0011", title="Blinker", licence="MIT", site="https://acme.example/", source="https://acme.example/")
-    gate.gives("a title", signed("ann", command(amended)), 200, told("amended 0011"))
-    same("another list is published", publish(), 0)
-    if set(both(b"Blinker")) & set(first):
-        sys.exit("another list has the tag of the first")
-    server.kill()
-    same("the list is not published without the server", publish(), 1)
-    both(b"Blinker")
-
-
 def guarded(recipe):
     """Checks a proxy with TLS that keeps the history to some addresses."""
     gate = Gate(recipe.port, has_tls=True)
     gate.gives("over TLS", get("/numbers/0012"), 200, b'{"number":"0012","state":"free"}\n')
     Gate(recipe.port).gives("without TLS", get("/numbers/0012"), *by_proxy(400))
-    for path in ("/history/0", "/%68istory/0", "//history/0", "/orgs/../history/0"):
+    for path in ("/history/0", "/history/founding", "/%68istory/0", "//history/0", "/orgs/../history/0"):
         gate.gives(f"{path} from elsewhere", get(path), *by_proxy(403), address="127.0.0.9")
         if gate.ask(get(path))[1] == by_proxy(403)[1]:
             sys.exit(f"{path}: the history is refused to all")
@@ -364,6 +269,7 @@ def main():
             began, census = time.monotonic(), gate.ask(get("/reports/census"))[1]
             for cases in (names, sizes, odd_messages, slow_clients, many_clients):
                 cases(gate)
+            own_rules(gate, recipe)
             logged(recipe)
             rotated(gate, recipe)
             what_is_kept(gate, server, census, began)

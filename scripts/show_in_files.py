@@ -4,11 +4,11 @@
 Usage: scripts/show_in_files.py [PROGRAM], by default the one that `make` builds. The exit status is 0 if every case
 passes."""
 
-import json
-import re
 import sys
 
-from apply_in_files import Room
+from lib.cases import Room
+from lib.requests import line
+from lib.second_reader import devices
 from lib.usbreg import EXAMPLES, content, folder, program, run, tables
 
 HEADER = "# List of USB numbers in the syntax of usb.ids\n"
@@ -22,10 +22,6 @@ LISTED = f"# Version: 2024.01.30\n{VENDOR}\t0011  Blinker\n{OTHER_KINDS}"
 ORPHAN = "1209  A\n\t\t01  x\n"
 USUAL = "1209  One\n\t0011  First\n\t0011  Second\n1210  Two\n\t0012  Other\n1209  Again\n\t0012  Late\n\t0000  \n"
 FAULTY = "1209  One\n\t0011  First\n\t11  x\n"
-
-
-def line(caller, key, order, **fields):
-    return json.dumps({"caller": caller, "key": key, "order": order, **fields}) + "\n"
 
 
 def ask(key, title, **fields):
@@ -200,21 +196,6 @@ def look_ups(room):
     for vid, pid, bad in (("0000", "0011", "vid"), ("12g9", "12g4", "vid"), ("1209", "12g4", "pid")):
         room.case(["lookup", usual, vid, pid], 2, errors=f"bad word: {bad}\n")
     room.case(["lookup", f"{room.folder}/none.ids", "1209", "0011"], 1, errors="fault: file\n")
-
-
-def devices(text):
-    """Returns the devices of a list as `lsusb` reads one: a vendor is four digits and two spaces, a device a tab before
-    them. An entry of another kind has no devices."""
-    found, vendor = {}, None
-    for it in text.split("\n"):
-        entry = re.fullmatch(r"(\t?)([0-9a-f]{4})  (.*)", it)
-        if entry and not entry[1]:
-            vendor = entry[2]
-        elif entry and vendor:
-            found.setdefault((vendor, entry[2]), entry[3])
-        elif it[:1] not in ("", "\t", "#"):
-            vendor = None
-    return found
 
 
 def second_reader(room):

@@ -9,14 +9,13 @@ Usage: scripts/stop_and_go_on.py [STOPS [PROGRAM]], by default 100 stops of the 
 The exit status is 0 if all of this holds.
 """
 
-import json
 import random
-import subprocess
 import sys
 import tempfile
 import time
 
-from lib.usbreg import copy, folder, found, opened, program, rounds, tables, write_requests
+from lib.stopping import kept, killed, look
+from lib.usbreg import folder, found, program, rounds, tables, write_requests
 
 ENROLMENTS = 1500
 
@@ -25,38 +24,10 @@ def apply_until(usbreg, store, lines, answered, seconds=None):
     """Returns the whole reply lines of a run that is killed after the given seconds, and whether it was."""
     words = [usbreg, "apply", store, lines, "--answered", str(answered)]
     with tempfile.TemporaryFile() as printed:
-        run = subprocess.Popen(words, stdout=printed)
-        try:
-            status = run.wait(seconds)
-            if status:
-                sys.exit(f"a run from {answered} ended with status {status}")
-        except subprocess.TimeoutExpired:
-            run.kill()
-            status = run.wait()
+        was_killed = killed(words, seconds, stdout=printed)
         printed.seek(0)
         whole = printed.read().split(b"\n")[:-1]
-    return whole, status != 0
-
-
-def kept(store, room):
-    """Returns the caller, the key and the reply of each order that a copy of the store keeps, in the order of commits."""
-    with opened(copy(store, f"{room}/copy.db")) as connection:
-        if connection.execute("PRAGMA integrity_check").fetchone() != ("ok",):
-            sys.exit("the store that a stop left is not sound")
-        return {(caller, key): reply for caller, key, reply in connection.execute("SELECT caller, request_key, reply FROM kept")}
-
-
-def look(store, room, asked, replies):
-    """Ends the script if the store is not right after these replies."""
-    there = kept(store, room)
-    if len(there) not in (len(replies), len(replies) + 1):
-        sys.exit(f"{len(replies)} replies were printed, and {len(there)} orders are kept")
-    for request, reply in zip(asked, replies):
-        if there.get((request["caller"], request["key"])) != json.loads(reply)["done"]:
-            sys.exit(f"the printed reply to {request} was not kept")
-    more = asked[: len(there)]
-    if any((it["caller"], it["key"]) not in there for it in more):
-        sys.exit("the orders that are kept are not the first of the requests")
+    return whole, was_killed
 
 
 def main():
@@ -72,13 +43,13 @@ def main():
         wanted, _ = apply_until(usbreg, other, lines, 0)
         whole = time.monotonic() - began
 
-        replies, killed, between = [], 0, 0
-        while killed < stops and len(replies) < len(asked):
+        replies, count, between = [], 0, 0
+        while count < stops and len(replies) < len(asked):
             # from the start, before anything is acted on, to a few dozen requests later
             printed, was_killed = apply_until(usbreg, store, lines, len(replies), random.uniform(0, 0.2 + 2 * whole / stops))
             replies += printed
             if was_killed:
-                killed += 1
+                count += 1
                 look(store, room, asked, replies)
                 between += len(kept(store, room)) > len(replies)
         printed, _ = apply_until(usbreg, store, lines, len(replies))
@@ -87,7 +58,7 @@ def main():
             sys.exit("the replies are not those of a run without stops")
         if tables(store) != tables(other):
             sys.exit("the tables are not those of a run without stops")
-    print(f"{killed} stops in {len(asked)} requests, {between} of them between a commit and its reply: each printed reply was kept, and the end is that of a run without stops (seed {seed})")
+    print(f"{count} stops in {len(asked)} requests, {between} of them between a commit and its reply: each printed reply was kept, and the end is that of a run without stops (seed {seed})")
 
 
 if __name__ == "__main__":

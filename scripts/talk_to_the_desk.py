@@ -1,18 +1,18 @@
 #!/usr/bin/env python3
 """Talks HTTP to `usbreg serve`, as real clients do, and compares the responses to the byte.
 
-`curl` gets each refusal that docs/requests.md lists with a status, except for those that need a message that `curl` does
-not send. A client of its own sends each byte alone, sends half of a message and closes, sends nothing, sends a message and
-more after it, sends 5 MB that are refused unread, and makes 200 connections one after another. A port that is taken, a
-count of connections, a store that is already open and a file that can grow no more end the program as docs/requests.md
-says. The script also kills the program as `kill -9` does, in the middle of commands: each command whose response came was
-acted on, at most one more was, and in the end the tables are those of a run without stops.
+Each refusal that docs/requests.md lists with a status is met (`lib/desk_refusals.py`). A client of its own sends each byte
+alone, sends half of a message and closes, sends nothing, sends a message and more after it, sends 5 MB that are refused
+unread, and makes 200 connections one after another. A port that is taken, a count of connections, a store that is already
+open and a file that can grow no more end the program as docs/requests.md says. A record that begins with the founding's line
+can be replayed, and the list and the reports are those after the orders so far. The script also kills the program as
+`kill -9` does, in the middle of commands: each command whose response came was acted on, at most one more was, and in the
+end the tables are those of a run without stops.
 
 Usage: scripts/talk_to_the_desk.py [STOPS [PROGRAM]], by default 20 stops of the program that `make` builds. If curl is not
 installed it says so and skips only what needs it. The exit status is 0 if all of this holds."""
 
 import contextlib
-import itertools
 import json
 import os
 import random
@@ -24,153 +24,16 @@ import sys
 import threading
 import time
 
-from lib.plain_history import MOST_OPEN
-from lib.serving import PATIENCE, TEXT, command, connected, done, exchange, free_port, get, message, post, read_to_end, refusals, refused, response, serving
-from lib.usbreg import apply, done as printed, folder, found, program, rounds, run, same, tables, write, write_requests
-from stop_and_go_on import kept, look
+from lib.desk_orders import ENROL, ENROLLED, LINK, ask, asked
+from lib.desk_refusals import Desk, each_refusal, fields
+from lib.serving import PATIENCE, TEXT, command, connected, done, exchange, free_port, get, message, post, read_to_end, refused, response, serving
+from lib.stopping import kept, look
+from lib.usbreg import REPORTS, apply, done as printed, folder, found, program, rounds, run, same, tables, write, write_requests
 
-LINK = "https://acme.example/"
-ENROL = {"caller": "ann", "key": "k1", "order": "enrol", "org": "acme", "title": "Acme Tools", "site": LINK}
-ENROLLED = done("enrolled acme")
-# Refusals that no message alone causes: a fault of the store, and out of memory.
-OF_RESOURCES = {30, 31}
-# The greatest numbers of bytes of a message's head, of an order and of a list.
-HEAD, ORDER, LIST = 8192, 16384, 4194304
 # The most lines of a page of the record.
 PAGE = 1000
 # The number of connections made one after another, and of organisations that enrol, ask and are granted during the kills.
 MANY, ROUNDS = 200, 100
-
-
-def asked(key, order, caller="ann", **fields):
-    return {"caller": caller, "key": key, "order": order, **fields}
-
-
-def ask(key, **fields):
-    return asked(key, "ask", **{"org": "acme", "title": "Lamp", "licence": "MIT", "site": LINK, "source": LINK, **fields})
-
-
-# Refusals.
-
-
-class Desk:
-    """A server, and the refusals that it has sent."""
-
-    def __init__(self, server, room):
-        self.port, self.room, self.seen = server.port, room, set()
-        self.has_curl = shutil.which("curl")
-
-    def send(self, request, wanted):
-        same(f"{request}", exchange(self.port, command(request)), wanted)
-
-    def curl(self, *words):
-        """Returns what curl gets, with the head."""
-        status, output, errors = run(["curl", "-si", "--max-time", "60", *words[:-1], f"127.0.0.1:{self.port}{words[-1]}"])
-        if status or errors:
-            sys.exit(f"curl {' '.join(words)}: status {status}, {errors!r}")
-        return output
-
-    def refuses(self, number, *words, detail=None, allow=None):
-        self.seen.add(number)
-        if self.has_curl:
-            same(f"curl {' '.join(words)}", self.curl(*words), refused(number, detail, allow))
-
-    def refuses_order(self, number, request, detail=None):
-        body = json.dumps({name: value for name, value in request.items() if name not in ("caller", "key")})
-        self.refuses(number, *fields(request["caller"], request["key"]), "-d", body, "/commands", detail=detail)
-
-    def refuses_list(self, number, text, *more, caller="cora", path="/imports/acme", detail=None):
-        listed = write(f"{self.room}/list.ids", text)
-        self.refuses(number, *fields(caller, "list"), *more, "--data-binary", f"@{listed}", path, detail=detail)
-
-    def refuses_bytes(self, number, sent, last=True, detail=None):
-        """Sends a message that curl doesn't send, and checks its refusal."""
-        self.seen.add(number)
-        same(f"{sent[:120]!r}", exchange(self.port, sent, last), refused(number, detail))
-
-
-def fields(caller, key):
-    return "-H", f"registry-caller: {caller}", "-H", f"registry-key: {key}"
-
-
-def by_rules(desk):
-    """Sends orders that the rules refuse, in a sequence in which each refusal can occur."""
-    desk.refuses_order(4, ask("k2"))
-    desk.send(ENROL, ENROLLED)
-    desk.refuses_order(1, asked("k1", "amend-org", org="acme", title="Acme", site=LINK))
-    desk.refuses_order(5, asked("k2", "enrol", org="acme", title="Acme", site=LINK))
-    desk.refuses_order(3, ask("k2") | {"caller": "bob"})
-    desk.refuses_order(34, ask("k2", vendor="cafe"))
-    desk.refuses_order(13, ask("k2", licence="BSD"))
-    desk.refuses_order(8, ask("k2", number="0010"))
-    desk.send(ask("k2", number="0011"), done("petition 1"))
-    desk.refuses_order(2, asked("k3", "grant", petition=1))
-    desk.refuses_order(6, asked("k3", "grant", "cora", petition=2))
-    desk.send(asked("k3", "grant", "cora", petition=1), done("granted 0011 to acme by petition 1"))
-    desk.refuses_order(7, asked("k4", "grant", "cora", petition=1))
-    desk.refuses_order(10, ask("k4", number="0011"))
-    desk.send(asked("k4", "enrol", "bob", org="bolt", title="Bolt", site=LINK), done("enrolled bolt"))
-    desk.refuses_order(9, ask("k5", org="bolt", number="0011") | {"caller": "bob"}, "acme")
-    desk.refuses_order(11, asked("k5", "return", number="0012"))
-    desk.refuses_order(15, asked("k5", "reserve", "cora", first="0011", last="0020"), "0011")
-    desk.refuses_order(16, asked("k5", "reserve", "cora", first="0010", last="0020"))
-    desk.refuses_order(17, asked("k5", "release", "cora", first="0012", last="0020"))
-    desk.refuses_order(35, asked("k5", "add-licence", "cora", licence="MIT"))
-    desk.refuses_order(33, asked("k5", "add-vendor", "cora", vendor="1209", name="Other"))
-    desk.refuses_list(19, "1209  x\n" + "\t0000  y\n" * 8193)
-
-
-def by_limits(desk):
-    """Tries a vendor without free numbers, the most open petitions, and 256 vendors."""
-    desk.send(asked("r1", "reserve", "cora", first="0012", last="ffff"), done("reserved 0012-ffff"))
-    for number in range(2, MOST_OPEN + 2):
-        desk.send(ask(f"a{number}"), done(f"petition {number}"))
-    desk.refuses_order(14, ask("a1"))
-    desk.refuses_order(12, asked("g2", "grant", "cora", petition=2))
-    for number in range(1, 256):
-        desk.send(asked(f"v{number}", "add-vendor", "cora", vendor=f"{number:04x}", name="Other"), done(f"added vendor {number:04x}"))
-    desk.refuses_order(18, asked("v256", "add-vendor", "cora", vendor="cafe", name="Other"))
-
-
-def by_messages(desk):
-    """Sends messages that are refused before any rule is checked."""
-    enrol = fields("ann", "k9")
-    desk.refuses(20, *itertools.chain(*(("-H", f"x-{number}: 1") for number in range(65))), "/list")
-    desk.refuses(20, "-H", "x: " + "a" * HEAD, "/list")
-    for path in ("/", "/lists", "/list/", "/numbers/12", "/numbers/0000", "/orgs/Acme", "/petitions/0", "/petitions/01", "/reports/all", "/history", "/history/", "/history/01", "/history/-1", "/history/4294967296", "/founding/", "/numbers/%30%30%31%31"):
-        desk.refuses(24, path)
-    desk.refuses(24, "-d", "", "/imports/Acme")
-    for method, path, allow in (("DELETE", "/list", "GET"), ("POST", "/numbers/0011", "GET"), ("POST", "/history/0", "GET"), ("POST", "/founding", "GET"), ("GET", "/commands", "POST"), ("PUT", "/imports/acme", "POST")):
-        desk.refuses(25, "-X", method, path, allow=allow)
-    desk.refuses(21, *enrol, "-H", "transfer-encoding: chunked", "-d", "{}", "/commands")
-    desk.refuses(21, *enrol, "-X", "POST", "/commands")
-    for length in ("99999999999", "-1", "+2", ""):
-        desk.refuses_bytes(21, message("POST", "/commands", content_length=length))
-    desk.refuses_bytes(21, post("ann", "k9", b"{}").replace(b"content-length", b"content-length: 2\r\ncontent-length"))
-    large = write(f"{desk.room}/large", "x" * (ORDER + 1))
-    desk.refuses(22, *enrol, "--data-binary", f"@{large}", "/commands")
-    desk.refuses_bytes(22, message("POST", "/imports/acme", content_length=LIST + 1))
-    for words, field in ((("-H", "registry-key: k9"), "caller"), (fields("Ann", "k9"), "caller"), (fields("ann", "k 9"), "key"), (("-H", "registry-caller: ann"), "key")):
-        desk.refuses(26, *words, "-d", "{}", "/commands", detail=f"registry-{field}")
-    desk.refuses(26, *enrol, *enrol, "-d", "{}", "/commands", detail="registry-caller")
-    desk.refuses_bytes(23, command(ENROL)[:-1])
-    desk.refuses(27, *enrol, "-d", "[]", "/commands")
-    desk.refuses(27, *enrol, "-d", "", "/commands")
-    desk.refuses_order(28, asked("k9", "withdraw", petition=0), "petition")
-    desk.refuses_order(28, asked("k9", "import"), "order")
-    desk.refuses_list(29, "1209  A\n\t\t01  x\n", detail="line 2: NoParent")
-    desk.refuses_list(29, "1209  A\n\t11  x", path="/imports/acme/1209", detail="line 2: BadCode")
-
-
-def each_refusal(usbreg, room):
-    with serving(usbreg, found(usbreg, f"{room}/refused.db")).up() as server:
-        desk = Desk(server, room)
-        for cases in (by_rules, by_messages, by_limits):
-            cases(desk)
-    missing = set(refusals()) - desk.seen - OF_RESOURCES
-    if missing:
-        sys.exit(f"docs/http.md has refusals that no message met: {missing}")
-    return len(desk.seen)
 
 
 # A client of its own.
@@ -250,6 +113,48 @@ def record(port):
         lines.append(record_line(request, "amended organisation acme"))
     for after in (0, 1, 63, 64, 65, 10, 11, len(lines) - 1, len(lines), 10**6, 2**32 - 1):
         same(f"the record after {after}", exchange(port, get(f"/history/{after}")), response(b"".join(lines[after : after + PAGE]), kind=TEXT))
+
+
+def first_line(usbreg, room):
+    """Asks for the founding of the record before and after a licence was added, and after a refused order. A record that
+    begins with it is the one that `usbreg history` prints, and can be replayed."""
+    store = found(usbreg, f"{room}/first.db")
+    line = compact({name: it for name, it in FOUNDED.items() if name != "vendors"}) + b"\n"
+    with serving(usbreg, store).up() as server:
+        port = server.port
+        same("the first line", exchange(port, get("/history/founding")), response(line, kind=TEXT))
+        same("a new licence", exchange(port, command(asked("l1", "add-licence", "cora", licence="0BSD"))), done("added licence 0BSD"))
+        same("an old licence", exchange(port, command(asked("l2", "add-licence", "cora", licence="MIT"))), refused(35))
+        now = compact({**FOUNDED, "licences": ["0BSD", *FOUNDED["licences"]]}) + b"\n"
+        same("the founding with the new licence", exchange(port, get("/founding")), response(now))
+        same("the first line after it", exchange(port, get("/history/founding")), response(line, kind=TEXT))
+        rest = exchange(port, get("/history/0")).partition(b"\r\n\r\n")[2]
+    same("the record", printed([usbreg, "history", store]), line + rest)
+    printed([usbreg, "replay", f"{room}/second.db", write(f"{room}/record.jsonl", (line + rest).decode())])
+    same("the tables of the record", tables(f"{room}/second.db"), tables(store))
+
+
+def texts(usbreg, room):
+    """Asks for the list and the reports before and after a refused order, a repeated and a new one: each shows what the
+    orders so far made."""
+    with serving(usbreg, found(usbreg, f"{room}/texts.db")).up() as server:
+        port = server.port
+        grant = asked("g1", "grant", "cora", petition=1)
+        for request in (ENROL, ask("k2"), ask("k3")):
+            exchange(port, command(request))
+
+        def all_texts():
+            return [exchange(port, get(path)) for path in ("/list", *(f"/reports/{it}" for it in REPORTS))]
+
+        before = all_texts()
+        same("the kept texts", all_texts(), before)
+        same("a refused order", exchange(port, command(asked("g2", "grant", "cora", petition=9))), refused(6))
+        same("the texts after it", all_texts(), before)
+        same("an order", exchange(port, command(grant))[:15], b"HTTP/1.1 200 OK")
+        after = all_texts()
+        same("the texts that differ", [one != other for one, other in zip(before, after)], [True, True, True, True, True, False])
+        same("the order once more", exchange(port, command(grant))[:15], b"HTTP/1.1 200 OK")
+        same("the texts after that", all_texts(), after)
 
 
 def own_client(usbreg, room):
@@ -392,6 +297,8 @@ def main():
             print("SKIPPED: curl is not installed, so no message was sent by it")
         print(f"{each_refusal(usbreg, room)} refusals")
         own_client(usbreg, room)
+        first_line(usbreg, room)
+        texts(usbreg, room)
         ends(usbreg, room)
         print(f"a store that failed after {full(usbreg, room)} commands")
         print(f"{killed(usbreg, room, stops)}: each one whose response came was kept, and the end is that of a run without stops")

@@ -7,8 +7,9 @@ usb.ids. The exit status is 0 if all results are right, or if the list does not 
 import os
 import sys
 
+from lib.requests import line
+from lib.second_reader import devices
 from lib.usbreg import content, done, folder, found, program, run, write
-from show_in_files import devices, line
 
 LIST = "/usr/share/misc/usb.ids"
 LOOK_UPS = 10

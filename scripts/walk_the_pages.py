@@ -110,6 +110,7 @@ def set_up(first, room, package):
     same("a grant", first.order("curator-1", given["curator-1"], "walk-3", {"order": "grant", "petition": 1}), '{"done":"granted 0011 to acme by petition 1"}\n')
     same("the list as a file", first.step("The list").lower().count("content-encoding: gzip"), 1)
     first.step("The reports")
+    same("the rules", first.step("The rules").splitlines()[:1], ["# Who gets a number"])
     return given
 
 
@@ -151,7 +152,6 @@ def keep(first, room):
     first.must_run("touch -d '2 days ago' /var/backups/usbreg/*.ids")
     same("an old backup", first.watched()["backup"], False)
     first.must_run("touch /var/backups/usbreg/*.ids")
-    first.take("/var/lib/usbreg-record/record.jsonl", f"{room}/record.jsonl")
     for ending in ("", ".sha256"):
         first.take(f"/mnt/archives/usbreg-{first.must_run('date +%F').strip()}.tar.gz{ending}", f"{room}/archive{ending}")
 
@@ -172,8 +172,6 @@ def follow(first, second, room, package):
     second.install(package)
     trusts(second, room)
     second.knows(first, "registry.example")
-    second.must_run("mkdir -p /etc/usbreg")
-    second.put(f"{room}/record.jsonl", "/etc/usbreg/record.jsonl")
     second.step("A second machine")
     same("what the second machine watches", {name: is_ok for name, is_ok in second.watched().items() if name.startswith("follower")}, {"follower": True, "follower_agreement": True})
     host = second.step("The names on a host")

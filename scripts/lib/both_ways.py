@@ -5,18 +5,19 @@ import json
 import os
 import random
 import re
-import signal
 import subprocess
 import sys
-import time
 
 from lib.made_up_pages import VENDOR
+from lib.stopping import killed
 from lib.usbreg import TOP, apply, content, done, run, same, write, write_requests
 
 USERS = f"{TOP}/scripts/users"
 GITHUB = ("GitHub", "noreply@github.com")
 ANN, BOB, EVE, CORA, DAN = (("Ann", "ann@a.example"), ("Bob", "bob@b.example"), ("Eve", "eve@e.example"), ("Cora", "cora@c.example"), ("Dan Dell", "dan@d.example"))
 DAILY = "Every day"
+# The orders that change what no page says.
+ON_NO_PAGE = ("ask", "hand-over")
 
 
 class Repository:
@@ -118,20 +119,19 @@ def commit_each_request(mover, repository, count):
     chance = random.Random(1209)
     # a killed run leaves all commits or none
     for at in range(3 if count < 100 else 20):
-        process = subprocess.Popen(words, env=mover.env, cwd=mover.room, stdout=subprocess.DEVNULL, stderr=subprocess.DEVNULL, start_new_session=True)
-        time.sleep(chance.random() * (at + 1) / 4)
-        if process.poll() is None:
-            os.killpg(process.pid, signal.SIGKILL)
-        process.wait()
+        killed(words, chance.random() * (at + 1) / 4, env=mover.env, cwd=mover.room, stderr=subprocess.DEVNULL)
         there = int(mover.runs("git -C mirror rev-list --count HEAD")) - before
         same("the commits after a kill", there in (0, wanted), True)
+    # git leaves its locks where it is killed
+    for it in ("index.lock", "HEAD.lock", "refs/heads/main.lock"):
+        write(f"{mover.path('mirror')}/.git/{it}", "")
     status, said, errors = run(words, env=mover.env)
     same("the last run", (status, errors), (0, b""))
     same("the commits at the end", int(mover.runs("git -C mirror rev-list --count HEAD")) - before, wanted)
     same("what is not committed", mover.runs("git -C mirror status --porcelain"), "")
     heads = mover.runs(f"git -C mirror log -{wanted} --reverse --format=%an:%s").splitlines()
     replies = [json.loads(it) for it in content(mover.path("record.jsonl")).decode().splitlines()[1:]]
-    same("who made the commits", heads, [f"{it['caller']}:{it['done']}" for it in replies[-len(requests) :] if it["order"] in ("enrol", "grant", "amend", "return")])
+    same("who made the commits", heads, [f"{it['caller']}:{it['done']}" for it in replies[-len(requests) :] if it["order"] not in ON_NO_PAGE])
     compare_trees(mover)
     compare_callers(mover)
     same("a run with nothing new", run(words, env=mover.env)[1], b"0 commits\n")
@@ -156,7 +156,8 @@ def compare_trees(mover):
 
 
 def made_up_requests(mover, count):
-    """Returns requests of one organisation that is granted numbers, amends and returns them, and how many change a page."""
+    """Returns requests about one organisation and its numbers, which are granted, amended, corrected, returned and revoked, and how
+    many change a page."""
     petitions = sum(json.loads(it)["order"] == "ask" for it in done([mover.usbreg, "history", mover.path("numbers.db"), "--after", "0"]).decode().splitlines())
     site = "https://daily.example/"
     requests = [{"caller": "daily", "key": "e", "order": "enrol", "org": "daily", "title": "Daily", "site": site}]
@@ -168,14 +169,23 @@ def made_up_requests(mover, count):
             {"caller": "curator-1", "key": f"g{at}", "order": "grant", "petition": petitions + at + 1},
             {"caller": "daily", "key": f"m{at}", "order": "amend", "number": code, "title": f"Lamp: {at}", **terms},
         ]
-        if at % 2:
+        if at % 4 == 1:
             requests.append({"caller": "daily", "key": f"r{at}", "order": "return", "number": code})
-    return requests, sum(it["order"] != "ask" for it in requests)
+        elif at % 4 == 2:
+            requests.append({"caller": "curator-1", "key": f"c{at}", "order": "correct", "number": code, "title": f"Lamp; {at}", **terms})
+        elif at % 4 == 3:
+            requests.append({"caller": "curator-1", "key": f"v{at}", "order": "revoke", "number": code, "reason": "No product uses it"})
+    requests += [
+        {"caller": "curator-1", "key": "o", "order": "correct-org", "org": "daily", "title": "Every day", "site": site},
+        {"caller": "daily", "key": "h", "order": "hand-over", "org": "daily", "keeper": "weekly"},
+        {"caller": "weekly", "key": "m", "order": "amend", "number": "e000", "title": "Lamp of every day", **terms},
+    ]
+    return requests, sum(it["order"] not in ON_NO_PAGE for it in requests)
 
 
 def change_pages(made, repository):
     """Changes pages in a branch: new ones, others that say something else, other owners, and one that goes. Returns the paths of one that
-    changes and of the one that goes, and the commit."""
+    changes, of the one that goes and of one that changes with its owner, and the commit."""
     repository.git("checkout", "-q", "-b", "change")
 
     def page(path, **fields):
@@ -191,32 +201,35 @@ def change_pages(made, repository):
     page(plain, layout="pid", title="Changed", owner="Acme_Labs", **terms)
     page(other, layout="pid", title="Taken", owner="Works0", **terms)
     repository.git("rm", "-q", gone)
-    for name in os.listdir(f"{repository.top}/{VENDOR}"):
-        path = f"{repository.top}/{VENDOR}/{name}/index.md"
-        if os.path.exists(path) and b"\nowner: Works1\n" in (text := content(path)):
-            made.write(os.path.relpath(path, repository.top), text.replace(b"\nowner: Works1\n", b"\nowner: Works2\n"))
-    return plain, gone, repository.commit("Change pages", author=EVE)[:10]
+    paths = sorted(f"{VENDOR}/{it}/index.md" for it in os.listdir(f"{repository.top}/{VENDOR}"))
+    handed = [it for it in paths if os.path.exists(f"{repository.top}/{it}") and b"\nowner: Works1\n" in content(f"{repository.top}/{it}")]
+    for path in handed:
+        made.write(path, content(f"{repository.top}/{path}").replace(b"\nowner: Works1\n", b"\nowner: Works2\n"))
+    page(handed[0], layout="pid", title="Handed over", owner="Works2", **terms)
+    page(f"{VENDOR}/d0d4/index.md", layout="pid", title="One more", owner="Works1", **terms)
+    return plain, gone, handed[0], repository.commit("Change pages", author=EVE)[:10]
 
 
 def say_a_branch(mover, made, repository):
-    """Has the requests that a branch means printed, and acts on them. Returns how many there are."""
+    """Has the requests that a branch means printed, and acts on them: each is accepted. Returns how many there are."""
     mover.runs("git -C pages pull -q ../mirror main")
     keepers = {slug: keeper for slug, keeper, _ in mover.table("moved/names.tsv")}
-    plain, gone, commit = change_pages(made, repository)
+    plain, gone, handed, commit = change_pages(made, repository)
     ask, grant = mover.block(DAILY, 1).split("\nusbreg apply", 1)
     same("what is printed besides", mover.runs(ask, 3, (b"no owner that can be taken", b"its number comes by `usbreg import` alone", b"its number belongs to acme-labs-2")), "")
     requests = mover.requests("orders.jsonl")
-    numbers = {it: os.path.basename(os.path.dirname(it)) for it in (plain, gone)}
+    numbers = {it: os.path.basename(os.path.dirname(it)).lower() for it in (plain, gone, handed)}
     wanted = [
-        ("curator-1", "add-licence", "EUPL-1.2"), ("makers", "enrol", "makers"), (keepers["nosite"], "amend-org", "nosite"), ("curator-1", "hand-over", "works1"),
-        (keepers["acme-labs-2"], "amend", numbers[plain]), ("makers", "ask", "d0d1"), (keepers["acme-labs-2"], "return", numbers[gone]),
+        ("curator-1", "add-licence", "EUPL-1.2"), ("makers", "enrol", "makers"), (keepers["nosite"], "amend-org", "nosite"),
+        (keepers["acme-labs-2"], "amend", numbers[plain]), ("makers", "ask", "d0d1"), (keepers["works1"], "ask", "d0d4"), (keepers["acme-labs-2"], "return", numbers[gone]),
+        ("curator-1", "hand-over", "works1"), (keepers["works2"], "amend", numbers[handed]),
     ]
     same("the requests of a branch", [(it["caller"], it["order"], it.get("number", it.get("org", it.get("licence")))) for it in requests], wanted)
     same("the commit in their keys", all(commit in it["key"] for it in requests), True)
-    hand_over = [it for it in requests if it["order"] == "hand-over"]
-    if b'"order"' in run([mover.usbreg, "trial"], json.dumps(hand_over[0]).encode())[2]:
-        write_requests(mover.path("orders.jsonl"), [it for it in requests if it not in hand_over])
     mover.runs(f"usbreg apply{grant}")
+    replies = mover.requests("replies.jsonl")
+    same("the orders of a branch that are refused", [it for it in replies if "done" not in it], [])
+    same("the organisation with another keeper", [it["done"] for it in replies if it["done"].startswith("handed ")], [f"handed works1 over to {keepers['works2']}"])
     states = mover.states("numbers.db")
-    same("the states after the branch", [states.get((VENDOR, int(it, 16))) for it in ("d0d1", "d0d2", numbers[plain], numbers[gone])], ["held", None, "held", "returned"])
+    same("the states after the branch", [states.get((VENDOR, int(it, 16))) for it in ("d0d1", "d0d2", "d0d4", *numbers.values())], ["held", None, "held", "held", "returned", "held"])
     return len(requests)

@@ -15,10 +15,12 @@ REFUSALS = {
 }
 # The fields of an order in the sequence of its canonical form. Each item of a list is a field there.
 FIELDS = {
-    "enrol": ("org", "title", "site"), "amend-org": ("org", "title", "site"),
+    "enrol": ("org", "title", "site"), "amend-org": ("org", "title", "site"), "hand-over": ("org", "keeper"),
+    "correct-org": ("org", "title", "site"),
     "ask": ("org", "number", "title", "licence", "site", "source", "vendor"), "grant": ("petition", "number"),
     "decline": ("petition",), "withdraw": ("petition",),
     "amend": ("number", "title", "licence", "site", "source", "vendor"), "return": ("number", "vendor"),
+    "correct": ("number", "title", "licence", "site", "source", "vendor"), "revoke": ("number", "reason", "vendor"),
     "reserve": ("first", "last", "vendor"), "release": ("first", "last", "vendor"),
     "import": ("org", "vendor", "list"), "add-vendor": ("vendor", "name"), "add-licence": ("licence",),
 }
@@ -26,7 +28,7 @@ FIELDS = {
 OPTIONAL = {"ask": ("number",), "grant": ("number",)}
 OPEN, GRANTED, DECLINED, WITHDRAWN = range(4)
 STATES = {"grant": GRANTED, "decline": DECLINED, "withdraw": WITHDRAWN}
-CURATORS_ORDERS = {"grant", "decline", "reserve", "release", "import", "add-vendor", "add-licence"}
+CURATORS_ORDERS = {"grant", "decline", "correct", "correct-org", "revoke", "reserve", "release", "import", "add-vendor", "add-licence"}
 TERMS = ("title", "licence", "site", "source")
 # The most open petitions of one organisation.
 MOST_OPEN = 16
@@ -81,8 +83,9 @@ class History:
         return [*self.founding["licences"], *(it["licence"] for it in self.of_order("add-licence"))]
 
     def keeper(self, org):
-        """Returns the caller that enrolled the organisation."""
-        return next((it["caller"] for it in self.of_order("enrol") if it["org"] == org), None)
+        """Returns who got the organisation last: by a hand-over, or by enrolling it."""
+        told = [it.get("keeper", it["caller"]) for it in self.of_order("enrol", "hand-over") if it["org"] == org]
+        return told[-1] if told else None
 
     def petition(self, number):
         asked = self.of_order("ask")
@@ -170,12 +173,24 @@ class History:
         return {"reply": f"enrolled {request['org']}"}
 
     def check_keeper(self, request, org):
-        check(self.keeper(org) is not None, 4)
+        self.check_org(org)
         check(self.keeper(org) == request["caller"], 3)
 
     def amend_org(self, request, _):
         self.check_keeper(request, request["org"])
         return {"reply": f"amended organisation {request['org']}"}
+
+    def check_org(self, org):
+        check(self.keeper(org) is not None, 4)
+
+    def hand_over(self, request, _):
+        self.check_org(request["org"])
+        check(request["caller"] in (self.keeper(request["org"]), *self.founding["curators"]), 3)
+        return {"reply": f"handed {request['org']} over to {request['keeper']}"}
+
+    def correct_org(self, request, _):
+        self.check_org(request["org"])
+        return {"reply": f"corrected organisation {request['org']}"}
 
     def check_given(self, number, org):
         """Checks that the organisation may get the number."""
@@ -234,6 +249,17 @@ class History:
         self.check_held(request, number)
         return {"reply": f"returned {self.shown(number)}", "returns": number}
 
+    def correct(self, request, vid):
+        number = (vid, int(request["number"], 16))
+        check(self.owner(number) is not None, 11)
+        check(request["licence"] in self.licences(), 13)
+        return {"reply": f"corrected {self.shown(number)}", "amends": number}
+
+    def revoke(self, request, vid):
+        number = (vid, int(request["number"], 16))
+        check(self.is_held(number), 11)
+        return {"reply": f"revoked {self.shown(number)}", "returns": number}
+
     def numbers(self, request, vid):
         """Returns the numbers of a span of a vendor, and checks that none is fixed."""
         check(vid in self.vendors(), 34)
@@ -251,7 +277,7 @@ class History:
         return {"reply": f"released {self.shown((vid, 0), request['first'] + '-' + request['last'])}"}
 
     def import_(self, request, vid):
-        check(self.keeper(request["org"]) is not None, 4)
+        self.check_org(request["org"])
         check(vid in self.vendors(), 34)
         listed = items(request["list"])
         check(len(listed) <= 8192, 19)
@@ -314,7 +340,7 @@ class History:
         return last
 
     def described(self, org):
-        last = [it for it in self.of_order("enrol", "amend-org") if it["org"] == org][-1]
+        last = [it for it in self.of_order("enrol", "amend-org", "correct-org") if it["org"] == org][-1]
         return org, last["title"], last["site"], self.keeper(org)
 
     def petition_row(self, number, asked):

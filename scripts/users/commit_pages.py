@@ -11,6 +11,7 @@ The caller of a request is the author of its commit, with an address at a host t
 not at all: run it again after a stop. The exit status is 0 if the checkout says what the record says."""
 
 import calendar
+import glob
 import os
 import re
 import subprocess
@@ -30,6 +31,13 @@ def git(top, *words, **given):
     if ran.returncode:
         sys.exit(f"git {words[0]} in {top} ended with status {ran.returncode}: {ran.stderr.decode(errors='replace')}")
     return ran.stdout.decode(errors="replace").strip()
+
+
+def unlock(top):
+    """Removes the locks that a stopped run left in a clone."""
+    where = git(top, "rev-parse", "--absolute-git-dir")
+    for it in (*glob.glob(f"{where}/*.lock"), *glob.glob(f"{where}/refs/heads/**/*.lock", recursive=True)):
+        os.remove(it)
 
 
 def requests_done(top):
@@ -85,6 +93,7 @@ def main():
         sys.exit(__doc__)
     record, top = words[:2]
     yaml()
+    unlock(top)
     git(top, "reset", "-q", "--hard")
     with open(0 if record == "-" else record, encoding="utf-8") as file:
         commits = list(stream(file, top, Names(*words[2:]), os.environ.get("USBREG", "usbreg"), "--start" in sys.argv))

@@ -5,7 +5,7 @@ import os
 import sys
 
 from links import line_of
-from move_orders import key_of, takes
+from move_orders import key_of
 from move_report import write_table
 
 
@@ -65,9 +65,8 @@ class Move:
             yield from self.orders.ask(it, self.there.orgs[it.owner], self.keeper(it))
         for it in self.beside.amended:
             yield self.orders.amend(it, self.keeper(it))
-        revokes = bool(self.beside.back) and takes(self.given.program, "revoke")
         for it in self.beside.back:
-            yield self.orders.take_back(it, self.keeper(it), revokes)
+            yield self.orders.revoke(it)
 
     def lines(self):
         return [line_of(request) for request, _ in self.first + self.last]

@@ -2,10 +2,6 @@
 
 import hashlib
 import json
-import subprocess
-
-# The program takes this order or not: a curator takes a number back. Until it does, the keeper returns it.
-REVOKE = "revoke"
 
 
 def digits_of(content):
@@ -17,13 +13,6 @@ def key_of(kind, name, content, commit=""):
     """Returns a key of at most 64 letters: the kind of a request, what it is about, the commit that it comes from, and the digits of
     what it says. The same page makes the same key, and another page another one."""
     return "-".join(it for it in (kind, name, commit[:10], digits_of(content)) if it)
-
-
-def takes(program, order):
-    """Returns whether the program knows an order: it then misses one of its fields, and not the order."""
-    line = json.dumps({"caller": "a", "key": "a", "order": order}) + "\n"
-    ran = subprocess.run([program, "trial"], input=line.encode(), capture_output=True, check=False)
-    return b'"detail":"order"' not in ran.stderr
 
 
 class Orders:
@@ -63,13 +52,10 @@ class Orders:
         order = {"order": "amend", "number": number.code, "title": number.title, **number.terms()}
         return self.request(keeper, "amend", number.code, order, f"amended {number.code}", number.page)
 
-    def take_back(self, number, keeper, revokes):
-        """Returns the request by which a withdrawn number goes back: `revoke` by a curator, with what the page says, if the program
-        takes that order, and else `return` by the keeper."""
-        code, page = number.code, number.page
-        if revokes:
-            return self.request(self.curator, REVOKE, code, {"order": REVOKE, "number": code, "reason": number.withdrawn}, f"revoked {code}", page)
-        return self.request(keeper, "return", code, {"order": "return", "number": code}, f"returned {code}", page)
+    def revoke(self, number):
+        """Returns the request by which a curator takes a withdrawn number back, with what its page says as the reason."""
+        order = {"order": "revoke", "number": number.code, "reason": number.withdrawn}
+        return self.request(self.curator, "revoke", number.code, order, f"revoked {number.code}", number.page)
 
     def hand_over(self, slug, keeper):
         order = {"order": "hand-over", "org": slug, "keeper": keeper}

@@ -23,7 +23,7 @@ import tempfile
 
 from beside_a_registry import Beside
 from links import Links, line_of
-from move_orders import Orders, takes
+from move_orders import Orders
 from move_report import Report
 from page_history import git
 from page_text import write, yaml
@@ -108,7 +108,7 @@ class Branch:
         return now, before
 
     def keep_changed(self, now):
-        """Drops from what is read what the branch does not change. Returns the organisations that all changed numbers name."""
+        """Drops from what is read what the branch does not change."""
         now.numbers = {number: it for number, it in now.numbers.items() if it.page in self.difference.paths}
         owners = {it.owner for it in now.numbers.values()}
         now.orgs = {name: it for name, it in now.orgs.items() if name in owners or it.page in self.difference.paths}
@@ -122,44 +122,48 @@ class Branch:
         now, before = self.read(room)
         everywhere = dict(now.numbers)
         self.keep_changed(now)
-        handed = dict(self.handed_over(now, everywhere))
+        handed, moved = self.handed_over(now, everywhere)
         sorted_out = Changed(now, self.registry, before)
         sorted_out.sort()
         now.settle(self.registry.vendors, self.registry.entries)
+        amended = list(sorted_out.amended)
+        for subject, it in moved:
+            sorted_out.sort_known(subject, it, self.registry.entries[subject], self.registry.entries[subject]["org"])
         # what has no page comes from the same commit
         orders = Orders(self.given.curator, 0, {path: self.difference.commit for path in (*self.difference.paths, "")})
         made = [orders.add_licence(it) for it in sorted({it.licence for it in sorted_out.asked + sorted_out.amended} - self.registry.licences)]
         made += [orders.enrol(it) for it in sorted_out.enrolled] + [orders.amend_org(it, sorted_out.keeper(it)) for it in sorted_out.amended_orgs]
-        made += [orders.hand_over(slug, keeper) for slug, keeper in handed.items()]
-        made += [orders.amend(it, sorted_out.keeper(now.orgs[it.owner])) for it in sorted_out.amended]
+        made += [orders.amend(it, sorted_out.keeper(now.orgs[it.owner])) for it in amended]
         made += [orders.ask_alone(it, now.orgs[it.owner], sorted_out.keeper(now.orgs[it.owner])) for it in sorted_out.asked]
         made += self.given_back(orders, sorted_out, everywhere)
+        # the keeper of before gives the orders above, and the new one those below
+        made += [orders.hand_over(slug, keeper) for slug, keeper in handed.items()]
+        made += [orders.amend(it, sorted_out.keeper(now.orgs[it.owner])) for it in sorted_out.amended[len(amended) :]]
         for slug, numbers in sorted_out.lists.items():
             for it in numbers:
                 self.report.refuse(it.page, False, "list needed", org=slug)
         return [request for request, _ in made]
 
     def handed_over(self, now, everywhere):
-        """Yields the slug of each organisation whose numbers all name another owner now, with the keeper of that one, and drops the
-        numbers whose owner changed: it stays the one in the registry."""
-        moved = {}
+        """Returns the new keeper of each organisation whose numbers all name another owner now, which is the keeper of that one, and
+        those of these numbers whose pages changed, with what these say. They are dropped from what is read: their owner stays."""
+        moved, handed, dropped = {}, {}, []
         for number, it in list(now.numbers.items()):
             known = self.registry.entries.get((now.vendor, number))
-            if known and known["org"] != now.orgs[it.owner].slug:
+            if known and known["held"] and known["org"] != now.orgs[it.owner].slug:
                 moved.setdefault(known["org"], {}).setdefault(it.owner, []).append(number)
         for slug, owners in sorted(moved.items()):
             own = {number for (vendor, number), it in self.registry.entries.items() if it["org"] == slug and it["held"] and vendor == now.vendor}
             if len(owners) == 1 and own <= {number for number, it in everywhere.items() if it.owner in owners}:
                 ((name, numbers),) = owners.items()
-                for it in numbers:
-                    del now.numbers[it]
+                dropped += [((now.vendor, it), now.numbers.pop(it)) for it in numbers]
                 org = now.orgs[name]
-                yield slug, self.registry.orgs[org.slug]["keeper"] if org.slug in self.registry.orgs else org.keeper
+                handed[slug] = self.registry.orgs[org.slug]["keeper"] if org.slug in self.registry.orgs else org.keeper
+        return handed, dropped
 
     def given_back(self, orders, sorted_out, everywhere):
         """Returns the requests for numbers whose pages were removed or are withdrawn now, and tells of removed organisations."""
-        revokes, made = takes(self.given.program, "revoke"), []
-        made += [orders.take_back(it, sorted_out.keeper(sorted_out.there.orgs[it.owner]), revokes) for it in sorted_out.back]
+        made = [orders.revoke(it) for it in sorted_out.back]
         for path in sorted(it for it, status in self.difference.paths.items() if status == "D"):
             said = re.fullmatch(f"{self.registry.vendor}/([0-9a-fA-F]{{4}})/index.md", path)
             known = said and self.registry.entries.get((self.registry.vendor, int(said[1], 16)))
