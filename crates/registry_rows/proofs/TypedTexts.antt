@@ -7,7 +7,7 @@ use Rattle.usbnum_core.specs.declared.number.Number.{Number}
 use Rattle.table_laws.proofs.FailLemmas.{IsTyped, never_overflows}
 use Rattle.registry_schema.specs.Schema.{schema_3}
 use Rattle.registry_rows.specs.Rows.{whole}
-use Rattle.registry_rows.proofs.ReadTexts.{find_meta_text, find_meta_query, list_curators_text, list_curators_query, list_licences_text, list_licences_query, list_fixed_text, list_fixed_query, find_org_text, find_org_query, list_orgs_text, list_orgs_query, find_kept_text, find_kept_query, kept_after_text, kept_after_query, replies_within_text, replies_within_query, list_vendors_text, list_vendors_query, list_spans_text, list_spans_query, find_entries_text, find_entries_query, find_entry_text, find_entry_query, list_entries_text, list_entries_query, find_petition_text, find_petition_query, list_petitions_text, list_petitions_query, find_petitions_text, find_petitions_query}
+use Rattle.registry_rows.proofs.ReadTexts.{find_meta_text, find_meta_query, list_curators_text, list_curators_query, list_licences_text, list_licences_query, list_fixed_text, list_fixed_query, find_org_text, find_org_query, list_orgs_text, list_orgs_query, find_kept_text, find_kept_query, kept_after_text, kept_after_query, replies_within_text, replies_within_query, list_vendors_text, list_vendors_query, list_spans_text, list_spans_query, find_entries_text, find_entries_query, find_entry_text, find_entry_query, list_entries_text, list_entries_query, find_petition_text, find_petition_query, list_petitions_text, list_petitions_query, find_petitions_text, find_petitions_query, open_petitions_text, open_petitions_query}
 use Rattle.registry_rows.proofs.SpanTexts.{find_spans_text, find_spans_query}
 
 pub find_meta_typed : IsTyped schema_3 find_meta_text find_meta_query ([])
@@ -73,6 +73,10 @@ find_petition_typed id = record { one = (refl, refl); accepted = refl; counts = 
 pub list_petitions_typed : IsTyped schema_3 list_petitions_text list_petitions_query ([])
 unfolding understood everything
 list_petitions_typed = record { one = (refl, refl); accepted = refl; counts = never_overflows 19 list_petitions_query ([]) }
+
+pub open_petitions_typed : (code : ℕ) → IsTyped schema_3 open_petitions_text open_petitions_query (whole code ∷ [])
+unfolding understood everything
+open_petitions_typed code = record { one = (refl, refl); accepted = refl; counts = never_overflows 19 open_petitions_query (whole code ∷ []) }
 
 pub find_petitions_typed : (low high : ℕ) → IsTyped schema_3 find_petitions_text find_petitions_query (whole low ∷ whole high ∷ [])
 unfolding understood everything

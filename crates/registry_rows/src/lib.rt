@@ -9,7 +9,9 @@ pub use kept::{KeptRow, find_kept, kept_after, kept_with_replies, put_kept};
 pub use meta::{Meta, list_metas, put_meta};
 pub use names::{list_curators, list_licences, put_curator, put_licence};
 pub use orgs::{find_org, list_orgs, put_org};
-pub use petitions::{find_petition, find_petitions, list_petitions, put_petition};
+pub use petitions::{
+    find_petition, find_petitions, list_open_petitions, list_petitions, put_petition,
+};
 pub use spans::{cut_spans, find_spans, list_spans, put_span};
 pub use vendors::{list_vendors, put_vendor};
 

@@ -44,7 +44,7 @@ fn judged_by_facts<S: Alter>(
 
 /// Returns the verdict on a request, from the row of its key, and from other rows only if that row
 /// and the caller do not decide it.
-fn judged<S: Alter>(
+pub(crate) fn judged<S: Alter>(
     alloc: Global,
     tx: &mut Transaction<'_, S>,
     totals: &Totals,

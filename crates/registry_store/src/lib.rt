@@ -2,6 +2,7 @@
 #![tactic(auto)]
 
 mod attempt;
+mod dry_run;
 pub mod fault;
 mod history;
 pub mod leaving;

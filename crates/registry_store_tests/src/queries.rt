@@ -53,12 +53,19 @@ const STEPS: &[Step] = &[
         r#"{"caller":"cora","key":"c6","order":"add-licence","licence":"CERN-OHL-S-2.0"}"#,
         r#"{"done":"added licence CERN-OHL-S-2.0"}"#,
     ),
+    (
+        r#"{"caller":"ann","key":"a7","order":"ask","org":"acme","title":"Fan","licence":"MIT","site":"https://a.example","source":"https://a.example"}"#,
+        r#"{"done":"petition 3"}"#,
+    ),
 ];
 
 const NUMBERS: &str =
     "1000:0001 acme Lamp, terms, returned\n1209:0011 acme Blinker, terms, held\n1209:0012 acme New board, no terms, held\n";
 
-const PETITIONS: &str = "1 1209 acme Blinker, granted 17\n2 1000 acme Lamp, granted 1\n";
+const PETITIONS: &str =
+    "1 1209 acme Blinker, granted 17\n2 1000 acme Lamp, granted 1\n3 1209 acme Fan, granted 0\n";
+
+const OPEN: &str = "3 1209 acme Fan, granted 0\n";
 
 const ORGS: &str = "acme ann\nbolt bob\n";
 
@@ -71,6 +78,7 @@ const RESERVED: usize = 16 + 256;
 const RECORD: &str = "cora i1: imported fresh 1, owned 1, reserved 0, doubled 1, untitled 0, zero 0
 ann a5: returned 1000:0001
 cora c6: added licence CERN-OHL-S-2.0
+ann a7: petition 3
 1209 Shared products: GPL-3.0-only MIT
 ";
 
@@ -84,7 +92,7 @@ const FOUND: &str = "1209:0010 true true
 cafe:0001 false false
 1 1209 acme Blinker
 2 1000 acme Lamp
-3
+3 1209 acme Fan
 4294967295
 acme Acme Tools, ann
 bolt Bolt, bob
@@ -124,6 +132,13 @@ fn list_numbers<S: Alter>(registry: &mut Registry<S>, text: &mut String) -> bool
 
 fn list_petitions<S: Alter>(registry: &mut Registry<S>, text: &mut String) -> bool {
     match registry.petitions() {
+        Ok(petitions) => add_petitions(petitions.as_slice(), text),
+        Err(_) => false,
+    }
+}
+
+fn list_open<S: Alter>(registry: &mut Registry<S>, text: &mut String) -> bool {
+    match registry.open_petitions() {
         Ok(petitions) => add_petitions(petitions.as_slice(), text),
         Err(_) => false,
     }
@@ -306,6 +321,7 @@ fn ask<S: Alter>(
     if run.is_ok()
         && list_numbers(registry, text)
         && list_petitions(registry, text)
+        && list_open(registry, text)
         && list_orgs(registry, text)
         && list_vendors(registry, text)
         && count_reserved(registry, vid, text)
@@ -375,7 +391,7 @@ fn answers_what_it_was_asked_to_do(rt: HostRuntime) -> Result<(), Fail> {
     let mut wanted = String::new(alloc);
     write!(
         &mut wanted,
-        "{NUMBERS}{PETITIONS}{ORGS}{VENDORS}{RESERVED}\n{RECORD}{FOUND}{replies}"
+        "{NUMBERS}{PETITIONS}{OPEN}{ORGS}{VENDORS}{RESERVED}\n{RECORD}{FOUND}{replies}"
     )?;
     assert_eq!(rt; text.as_str(), wanted.as_str());
     Ok(())
@@ -395,5 +411,22 @@ fn acts_on_one_request(rt: HostRuntime) -> Result<(), Fail> {
     let _conn = registry.into_connection();
     assert!(rt; matches!(&reply, Reply::Done(text) if text.as_str() == "enrolled acme"));
     assert_eq!(rt; orgs.len(), 1);
+    Ok(())
+}
+
+#[test]
+fn tells_what_a_request_would_be_answered(rt: HostRuntime) -> Result<(), Fail> {
+    let alloc = rt.alloc();
+    let founding = founding(alloc)?;
+    let (enrol, _) = ENROL;
+    let request = request(alloc, enrol)?;
+    let conn = Connection::open_in_memory(alloc).expect(&rt, "memory");
+    let found = Registry::found(alloc, conn, &founding);
+    let mut registry = found.ok().expect(&rt, "a registry");
+    let reply = registry.dry_run(&request).expect(&rt, "a reply");
+    let orgs = registry.orgs().expect(&rt, "organisations");
+    let _conn = registry.into_connection();
+    assert!(rt; matches!(&reply, Reply::Done(text) if text.as_str() == "enrolled acme"));
+    assert_eq!(rt; orgs.len(), 0);
     Ok(())
 }

@@ -3,7 +3,7 @@
 ghost use Rattle.std.specs.Prelude.{◌≡◌, false};
 ghost use Rattle.sqlite.specs.Held.{state};
 ghost use Rattle.registry_tables.specs.Calls.{IsLookUp, IsStoreFault};
-ghost use Rattle.registry_tables.specs.Lists.{IsOrgList, IsPetitionList, IsNumberList, IsVendorList};
+ghost use Rattle.registry_tables.specs.Lists.{IsOrgList, IsPetitionList, IsOpenPetitionList, IsNumberList, IsVendorList};
 
 use crate::TableFault;
 use crate::beginning::begin;
@@ -49,6 +49,28 @@ pub fn list_petitions<S: Alter>(
 {
     let mut tx = begin(conn);
     let petitions = registry_rows::list_petitions(alloc, &mut tx);
+    tx.rollback();
+    petitions
+}
+
+/// Returns the open petitions, in order of number. Commits nothing.
+///
+/// # Errors
+///
+/// `TableFault::Foreign` only if the tables hold the rows of no history in the newest schema,
+/// `TableFault::NoMemory` if out of memory for the rows or the list, `TableFault::Store` if the
+/// store refuses or fails.
+pub fn list_open_petitions<S: Alter>(
+    alloc: Global,
+    conn: &mut Connection<S>,
+) -> Result<Vec<(u32, Petition)>, TableFault>
+    requires { conn.old.in_transaction ≡ false }
+    ensures idle { conn.new.in_transaction ≡ false }
+    ensures looked_up { IsLookUp (state S.Store conn.old) (state S.Store conn.new) result (λ h list. IsOpenPetitionList h list.items) }
+    ensures store { IsStoreFault (state S.Store conn.old) (state S.Store conn.new) result }
+{
+    let mut tx = begin(conn);
+    let petitions = registry_rows::list_open_petitions(alloc, &mut tx);
     tx.rollback();
     petitions
 }

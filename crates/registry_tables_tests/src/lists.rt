@@ -49,6 +49,7 @@ const STEPS: &[Step<'static>] = &[
     Step::Ask(QUERIES),
     Step::Orgs,
     Step::Petitions,
+    Step::OpenPetitions,
     Step::Numbers,
     Step::Vendors,
     Step::Totals,
@@ -73,6 +74,7 @@ acme|Acme Tools|https://acme.example/|ann|
 4|4617|acme|NULL|Probe|MIT|https://acme.example/|https://acme.example/|0|NULL|
 [Org { slug: "acme", title: "Acme Tools", site: "https://acme.example/", keeper: "ann" }]
 [(1, Petition { vid: Vid { number: 4617 }, org: "acme", want: None, title: "Probe", terms: Terms { licence: "MIT", site: "https://acme.example/", source: "https://acme.example/" }, state: Granted(Pid { number: 17 }) }), (2, Petition { vid: Vid { number: 4617 }, org: "acme", want: None, title: "Probe", terms: Terms { licence: "MIT", site: "https://acme.example/", source: "https://acme.example/" }, state: Declined }), (3, Petition { vid: Vid { number: 4617 }, org: "acme", want: None, title: "Probe", terms: Terms { licence: "MIT", site: "https://acme.example/", source: "https://acme.example/" }, state: Withdrawn }), (4, Petition { vid: Vid { number: 4617 }, org: "acme", want: None, title: "Probe", terms: Terms { licence: "MIT", site: "https://acme.example/", source: "https://acme.example/" }, state: Open })]
+[(4, Petition { vid: Vid { number: 4617 }, org: "acme", want: None, title: "Probe", terms: Terms { licence: "MIT", site: "https://acme.example/", source: "https://acme.example/" }, state: Open })]
 [(Number { vid: Vid { number: 4617 }, pid: Pid { number: 17 } }, Entry { org: "acme", held: true, card: Card { title: "Tester", terms: Some(Terms { licence: "MIT", site: "https://acme.example/", source: "https://acme.example/" }) } }), (Number { vid: Vid { number: 51966 }, pid: Pid { number: 17 } }, Entry { org: "acme", held: false, card: Card { title: "Blinker", terms: Some(Terms { licence: "MIT", site: "https://acme.example/", source: "https://acme.example/" }) } })]
 [Vendor { vid: Vid { number: 4617 }, name: "InterBiometrics" }, Vendor { vid: Vid { number: 51966 }, name: "Cafe boards" }]
 InterBiometrics ["cora"] ["BSD", "MIT"]

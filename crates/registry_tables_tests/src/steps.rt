@@ -5,8 +5,8 @@ use crate::values::{Asked, Put, changes, request_of};
 use registry_rules::{Change, Facts, Founding, ReplyText, Request, Totals};
 use registry_schema::{is_empty, version_of};
 use registry_tables::{
-    TableFault, create, facts_for, has_meta, keep_reply, kept_reply, list_numbers, list_orgs,
-    list_petitions, list_vendors, migrate, store, totals,
+    TableFault, create, facts_for, has_meta, keep_reply, kept_reply, list_numbers,
+    list_open_petitions, list_orgs, list_petitions, list_vendors, migrate, store, totals,
 };
 use sqlite::{Alter, Connection, Transaction};
 use std::alloc::Global;
@@ -41,6 +41,7 @@ pub enum Step<'a> {
     Migrate,
     Orgs,
     Petitions,
+    OpenPetitions,
     Numbers,
     Vendors,
     /// Adds the totals.
@@ -71,6 +72,7 @@ pub fn perform<S: Alter>(
         Step::Migrate => add_line(migrate_in(alloc, conn), text),
         Step::Orgs => add_orgs(alloc, conn, text),
         Step::Petitions => add_petitions(alloc, conn, text),
+        Step::OpenPetitions => add_open_petitions(alloc, conn, text),
         Step::Numbers => add_numbers(alloc, conn, text),
         Step::Vendors => add_vendors(alloc, conn, text),
         Step::Totals => add_totals(alloc, conn, given.founding, text),
@@ -153,6 +155,20 @@ fn add_petitions<S: Alter>(alloc: Global, conn: &mut Connection<S>, text: &mut S
         return false;
     }
     match list_petitions(alloc, conn) {
+        Ok(petitions) => writeln!(text, "{petitions:?}").is_ok(),
+        Err(_) => false,
+    }
+}
+
+fn add_open_petitions<S: Alter>(
+    alloc: Global,
+    conn: &mut Connection<S>,
+    text: &mut String,
+) -> bool {
+    if !conn.is_autocommit() {
+        return false;
+    }
+    match list_open_petitions(alloc, conn) {
         Ok(petitions) => writeln!(text, "{petitions:?}").is_ok(),
         Err(_) => false,
     }
