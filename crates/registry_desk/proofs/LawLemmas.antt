@@ -8,18 +8,15 @@ use Rattle.std.proofs.lemmas.Bool.{cases_lt, cases_eq}
 use Rattle.std.proofs.lemmas.Cmp.{nat_list_cmp_total}
 use Rattle.std.proofs.lemmas.List.{length-take}
 use Rattle.std.proofs.lemmas.List.Elements.{All-head, All-tail}
-use Rattle.std.proofs.lemmas.Map.Keys.{sorted_from_strictly_increasing}
 use Rattle.std.proofs.lemmas.Map.Text.{is_eq-slice_cmp}
 use Rattle.usbnum_core.specs.Spans.{spans_have}
 use Rattle.usbnum_core.specs.declared.number.Number.{Number}
 use Rattle.usbnum_core.specs.declared.number.Span.{Span}
 use Rattle.registry_rules.specs.History.{History}
 use Rattle.registry_rules.specs.Number.{number}
-use Rattle.registry_rules.specs.FactsOf.{IsCurrentFounding}
-use Rattle.registry_rules.specs.Texts.{AreSorted, IsLicences}
+use Rattle.registry_rules.specs.Texts.{AreSorted}
 use Rattle.registry_rules.specs.declared.founding.Founding.{Founding}
 use Rattle.registry_rules.specs.declared.record.Entry.{Entry}
-use Rattle.registry_rules.specs.declared.record.Petition.{Petition}
 use Rattle.registry_rules.specs.declared.record.Vendor.{Vendor}
 use Rattle.registry_rules.proofs.OpenLemmas.{count_alike}
 use Rattle.registry_reports.specs.Census.{census_lines, census_of, free_count, held_count, returned_count, reserved_count, passes, listed}
@@ -28,8 +25,7 @@ use Rattle.registry_reports.specs.Petitions.{petition_lines}
 use Rattle.registry_reports.specs.Numbers.{line_at, lines_to, number_lines}
 use Rattle.registry_reports.specs.Organisations.{org_lines}
 use Rattle.registry_reports.specs.Pages.{FitPage, IsPage, lines_text}
-use Rattle.registry_reports.proofs.UniqueLemmas.{list_is_one, one_list}
-use Rattle.registry_tables.specs.Lists.{IsPetitionList, IsVendorList}
+use Rattle.registry_reports.proofs.UniqueLemmas.{one_list}
 use Rattle.registry_tables.proofs.AscendLemmas.{one_order}
 use Rattle.registry_tables.proofs.ViewLemmas.{same_bytes}
 use Rattle.registry_views.specs.Records.{IsPageText, lines_after}
@@ -44,15 +40,7 @@ use Rattle.registry_http.specs.Responses.{text_response}
 use Rattle.usbids_text.specs.Entries.{TopEntry}
 use Rattle.usbids_text.specs.Writing.{written}
 use Rattle.registry_desk.specs.Acting.{IsDetermined, IsFoundingResponse, IsQueryResponse, HasOneResponse}
-use Rattle.registry_desk.proofs.OnceLemmas.{one_number_list, one_org_list}
-
-one_vendor_list : (h : History) (a b : List Vendor) → IsVendorList h a → IsVendorList h b → a ≡ b
-one_vendor_list h a b is_a is_b =
-    list_is_one (λ (v : Vendor). v.vid) a b (sorted_from_strictly_increasing _ is_a.ascend) (sorted_from_strictly_increasing _ is_b.ascend) (λ vid. is_a.each vid ∙ sym (is_b.each vid))
-
-one_petition_list : (h : History) (a b : List (ℕ × Petition)) → IsPetitionList h a → IsPetitionList h b → a ≡ b
-one_petition_list h a b is_a is_b =
-    list_is_one (λ (p : ℕ × Petition). p.0) a b (sorted_from_strictly_increasing _ is_a.ascend) (sorted_from_strictly_increasing _ is_b.ascend) (λ i. is_a.each i ∙ sym (is_b.each i))
+use Rattle.registry_views.proofs.OnceLemmas.{one_founding, one_number_list, one_org_list, one_petition_list, one_vendor_list}
 
 -- ---- reports
 
@@ -141,19 +129,6 @@ one_organisations_text : (h : History) (a b : List ℕ) → IsOrganisationsRepor
 one_organisations_text h a b is_a is_b = is_a.lines ∙ (ap org_lines (one_org_list h is_a.orgs is_b.orgs is_a.all_orgs is_b.all_orgs) ∙ sym is_b.lines)
 
 -- ---- the founding
-
--- a founding of these values
-abbrev of_values : ℕ → List ℕ → List (List ℕ) → List (List ℕ) → List Span → Founding
-of_values vendor name curators licences fixed = record { vendor = vendor; name = name; curators = curators; licences = licences; fixed = fixed }
-
-one_founding : (h : History) (a b : Founding) → IsCurrentFounding h a → IsCurrentFounding h b → IsLicences a.licences → IsLicences b.licences → a ≡ b
-one_founding h a b is_a is_b sorted_a sorted_b =
-    let licences : a.licences ≡ b.licences = one_order (slice_cmp nat_cmp) nat_list_cmp_total bytes_eq is_eq-slice_cmp same_bytes a.licences b.licences sorted_a.ascending sorted_b.ascending (λ text. is_a.allowed text ∙ sym (is_b.allowed text)) in
-    ap (λ (v : ℕ). of_values v a.name a.curators a.licences a.fixed) (is_a.vendor ∙ sym is_b.vendor)
-    ∙ (ap (λ (n : List ℕ). of_values b.vendor n a.curators a.licences a.fixed) (is_a.name ∙ sym is_b.name)
-    ∙ (ap (λ (c : List (List ℕ)). of_values b.vendor b.name c a.licences a.fixed) (is_a.curators ∙ sym is_b.curators)
-    ∙ (ap (λ (l : List (List ℕ)). of_values b.vendor b.name b.curators l a.fixed) licences
-    ∙ ap (λ (f : List Span). of_values b.vendor b.name b.curators b.licences f) (is_a.fixed ∙ sym is_b.fixed))))
 
 one_founding_response : (h : History) (a b : Response) → IsFoundingResponse h a → IsFoundingResponse h b → a ≡ b
 one_founding_response h a b is_a is_b =

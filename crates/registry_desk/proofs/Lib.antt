@@ -2,7 +2,6 @@ pub mod AnsweredLemmas
 pub mod AskLemmas
 pub mod CacheLemmas
 pub mod LawLemmas
-pub mod OnceLemmas
 pub mod QueryLemmas
 pub mod ServeLemmas
 pub mod ServerLemmas

@@ -2,3 +2,4 @@ pub mod ReportLemmas
 pub mod ViewLemmas
 pub mod RecordLemmas
 pub mod PieceLemmas
+pub mod OnceLemmas

@@ -53,7 +53,7 @@ fn petitions_of<S: Alter>(alloc: Global, registry: &mut Registry<S>) -> Result<S
     ensures { IsQuery registry.old registry.new result (λ h text. IsPetitionsReport h (string_bytes text)) }
 {
     let founding = registry.founding().vendor;
-    let petitions = registry.petitions()?;
+    let petitions = registry.open_petitions()?;
     Ok(open_petitions(alloc, founding, petitions.as_slice())?)
 }
 

@@ -1,4 +1,4 @@
--- Two lists that ascend by a key, and give the same under each key, are equal.
+-- A history has one list of each kind: two lists that ascend by a key, and give the same under each key, are equal.
 use Rattle.std.proofs.Common.{◌≡◌, ℕ, Bool, true, false, List, [], ◌∷◌, Option, Some, None, find, Ordering, Less, Equal, Greater, is_eq, refl, sym, ap, subst, ◌∙◌, arith}
 use Rattle.std.specs.Ordering.{nat_cmp, ordering_reverse}
 use Rattle.std.specs.List.{AllByRecursion}
@@ -7,16 +7,24 @@ use Rattle.std.specs.Prelude.{map, bytes_eq}
 use Rattle.std.specs.Cmp.{IsTotalOrder}
 use Rattle.std.specs.Cmp.Lexicographic.{slice_cmp}
 use Rattle.std.proofs.lemmas.Cmp.{nat_list_cmp_total, on_total}
+use Rattle.std.proofs.lemmas.Map.Keys.{sorted_from_strictly_increasing}
 use Rattle.std.proofs.lemmas.Map.Text.{is_eq-slice_cmp}
 use Rattle.sqlite_keyed.proofs.ListLemmas.{all_weaker}
 use Rattle.usbnum_core.specs.declared.number.Number.{Number}
+use Rattle.usbnum_core.specs.declared.number.Span.{Span}
+use Rattle.registry_rules.specs.FactsOf.{IsCurrentFounding}
 use Rattle.registry_rules.specs.Number.{number_eq}
 use Rattle.registry_rules.specs.History.{History}
-use Rattle.registry_rules.specs.Texts.{IsAscending}
+use Rattle.registry_rules.specs.Texts.{IsAscending, IsLicences}
+use Rattle.registry_rules.specs.declared.founding.Founding.{Founding}
 use Rattle.registry_rules.specs.declared.record.Entry.{Entry}
 use Rattle.registry_rules.specs.declared.record.Org.{Org}
+use Rattle.registry_rules.specs.declared.record.Petition.{Petition}
+use Rattle.registry_rules.specs.declared.record.Vendor.{Vendor}
+use Rattle.registry_reports.proofs.UniqueLemmas.{list_is_one}
 use Rattle.registry_rows.specs.Rows.{by_number, by_slug}
-use Rattle.registry_tables.specs.Lists.{IsNumberList, IsOrgList}
+use Rattle.registry_tables.specs.Lists.{IsNumberList, IsOrgList, IsPetitionList, IsVendorList}
+use Rattle.registry_tables.proofs.AscendLemmas.{one_order}
 use Rattle.registry_tables.proofs.ListLemmas.{both_equal, level, number_total}
 use Rattle.registry_tables.proofs.ViewLemmas.{same_bytes, bytes_same, same_number, number_same}
 
@@ -127,3 +135,28 @@ pub one_org_list : (h : History) (a b : List Org) → IsOrgList h a → IsOrgLis
 one_org_list h a b is_a is_b =
     one_list (λ (org : Org). org.slug) by_slug (on_total (λ (org : Org). org.slug) nat_list_cmp_total) (λ k slug. bytes_eq slug k) slug_told (λ k slug is. sym (same_bytes slug k is)) a b (up_by_slug a is_a.ascend) (up_by_slug b is_b.ascend)
     (λ slug. is_a.each slug ∙ sym (is_b.each slug))
+
+-- ---- the vendors and the petitions of a history
+
+pub one_vendor_list : (h : History) (a b : List Vendor) → IsVendorList h a → IsVendorList h b → a ≡ b
+one_vendor_list h a b is_a is_b =
+    list_is_one (λ (v : Vendor). v.vid) a b (sorted_from_strictly_increasing _ is_a.ascend) (sorted_from_strictly_increasing _ is_b.ascend) (λ vid. is_a.each vid ∙ sym (is_b.each vid))
+
+pub one_petition_list : (h : History) (a b : List (ℕ × Petition)) → IsPetitionList h a → IsPetitionList h b → a ≡ b
+one_petition_list h a b is_a is_b =
+    list_is_one (λ (p : ℕ × Petition). p.0) a b (sorted_from_strictly_increasing _ is_a.ascend) (sorted_from_strictly_increasing _ is_b.ascend) (λ i. is_a.each i ∙ sym (is_b.each i))
+
+-- ---- its founding, as it is now
+
+-- a founding of these values
+abbrev of_values : ℕ → List ℕ → List (List ℕ) → List (List ℕ) → List Span → Founding
+of_values vendor name curators licences fixed = record { vendor = vendor; name = name; curators = curators; licences = licences; fixed = fixed }
+
+pub one_founding : (h : History) (a b : Founding) → IsCurrentFounding h a → IsCurrentFounding h b → IsLicences a.licences → IsLicences b.licences → a ≡ b
+one_founding h a b is_a is_b sorted_a sorted_b =
+    let licences : a.licences ≡ b.licences = one_order (slice_cmp nat_cmp) nat_list_cmp_total bytes_eq is_eq-slice_cmp same_bytes a.licences b.licences sorted_a.ascending sorted_b.ascending (λ text. is_a.allowed text ∙ sym (is_b.allowed text)) in
+    ap (λ (v : ℕ). of_values v a.name a.curators a.licences a.fixed) (is_a.vendor ∙ sym is_b.vendor)
+    ∙ (ap (λ (n : List ℕ). of_values b.vendor n a.curators a.licences a.fixed) (is_a.name ∙ sym is_b.name)
+    ∙ (ap (λ (c : List (List ℕ)). of_values b.vendor b.name c a.licences a.fixed) (is_a.curators ∙ sym is_b.curators)
+    ∙ (ap (λ (l : List (List ℕ)). of_values b.vendor b.name b.curators l a.fixed) licences
+    ∙ ap (λ (f : List Span). of_values b.vendor b.name b.curators b.licences f) (is_a.fixed ∙ sym is_b.fixed))))
