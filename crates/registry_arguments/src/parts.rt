@@ -102,6 +102,18 @@ pub(crate) fn with_arg<'a>(command: Command<'a>, arg: Arg<'a>) -> Result<Command
     command.arg(arg)
 }
 
+/// Adds `--check`, by which nothing is changed.
+pub(crate) fn with_check<'a>(
+    alloc: Global,
+    command: Command<'a>,
+    help: &'a str,
+) -> Result<Command<'a>, AllocError>
+    ensures app { IfOk result (λ c. app_of c ≡ with_rule (app_of command.entry) (flag (codes "check"))) }
+    ensures local { IfOk result (λ c. (out-Command c).has_globals ≡ (out-Command command.entry).has_globals) }
+{
+    with_arg(command, flag(alloc, "check", help))
+}
+
 /// Adds `--verbose`, which each subcommand has.
 pub(crate) fn with_verbose<'a>(
     alloc: Global,

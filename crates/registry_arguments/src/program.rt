@@ -3,11 +3,11 @@
 ghost use Rattle.std.specs.Prelude.{◌≡◌, IfOk, Some, false, codes, option_copied};
 ghost use Rattle.clap.specs.Words.{app_of, new_app, with_rule, with_subcommand};
 ghost use Rattle.clap.specs.declared.builder.command.Command.TheViews.{out-Command};
-ghost use Rattle.registry_arguments.specs.Commands.{apply_app, export_app, found_app, history_app, import_app, lookup_app, needed_option, replay_app, report_app, serve_app, trial_app, usbreg_app, versioned};
+ghost use Rattle.registry_arguments.specs.Commands.{apply_app, check_app, export_app, flag, found_app, history_app, import_app, lookup_app, needed_option, option, replay_app, report_app, serve_app, trial_app, usbreg_app, versioned};
 
 use crate::parts::{
     MOST_CONNECTIONS, MOST_PASSED, MOST_PORT, needed_option, numeric, option, positional,
-    subcommand, with_arg, with_command, with_verbose,
+    subcommand, with_arg, with_check, with_command, with_verbose,
 };
 use clap::Command;
 use std::alloc::{AllocError, Global};
@@ -37,7 +37,9 @@ fn found<'a>(alloc: Global) -> Result<Command<'a>, AllocError>
         "found",
         "Create a registry in a new file",
         "FOUNDING names the vendor, its name, the curators, the licences that are allowed and the \
-         numbers that stay reserved.\n\nExample:\n  usbreg found numbers.db examples/founding.toml",
+         numbers that stay reserved. A number that is not among them may be given away, so run it with \
+         --check first.\n\nExample:\n  usbreg found numbers.db examples/founding.toml --check\n  usbreg found \
+         numbers.db examples/founding.toml",
     );
     let command = with_arg(
         command,
@@ -51,6 +53,11 @@ fn found<'a>(alloc: Global) -> Result<Command<'a>, AllocError>
             "FOUNDING",
             "A TOML file with the founding",
         ),
+    )?;
+    let command = with_check(
+        alloc,
+        command,
+        "Only check FOUNDING and its keys; STORE is not used",
     )?;
     with_verbose(alloc, command)
 }
@@ -98,6 +105,7 @@ fn import<'a>(alloc: Global) -> Result<Command<'a>, AllocError>
         "Import the devices of a list that are still free, for an organisation",
         "Example:\n  usbreg found numbers.db examples/founding.toml\n  usbreg apply numbers.db \
          examples/first.jsonl\n  usbreg import numbers.db examples/devices.ids --caller cora --key \
+         first-list --org acme --check\n  usbreg import numbers.db examples/devices.ids --caller cora --key \
          first-list --org acme",
     );
     let command = with_arg(
@@ -109,9 +117,22 @@ fn import<'a>(alloc: Global) -> Result<Command<'a>, AllocError>
         positional(alloc, "list", "LIST", "A list as in usb.ids"),
     )?;
     let command = with_sender(alloc, command)?;
+    let command = with_vendor(alloc, command)?;
+    with_verbose(alloc, command)
+}
+
+/// Adds the option for the vendor, and the flag for a dry run.
+fn with_vendor<'a>(alloc: Global, command: Command<'a>) -> Result<Command<'a>, AllocError>
+    ensures app { IfOk result (λ c. app_of c ≡ with_rule (with_rule (app_of command.entry) (option (codes "vendor"))) (flag (codes "check"))) }
+    ensures local { IfOk result (λ c. (out-Command c).has_globals ≡ (out-Command command.entry).has_globals) }
+{
     let vendor = option(alloc, "vendor", "V", "The vendor, if not the founding one");
     let command = with_arg(command, vendor)?;
-    with_verbose(alloc, command)
+    with_check(
+        alloc,
+        command,
+        "Only print the reply, and import nothing; fails if nothing would be imported",
+    )
 }
 
 /// Adds the options for the caller, the key and the organisation.
@@ -251,6 +272,26 @@ fn history<'a>(alloc: Global) -> Result<Command<'a>, AllocError>
     with_verbose(alloc, command)
 }
 
+#[tactic(auto, unfolding(crate::specs::Commands::check_app))]
+fn check<'a>(alloc: Global) -> Result<Command<'a>, AllocError>
+    ensures app { IfOk result (λ c. app_of c ≡ check_app) }
+    ensures local { IfOk result (λ c. (out-Command c).has_globals ≡ false) }
+{
+    let command = subcommand(
+        alloc,
+        "check",
+        "Compare the rows of a registry with those that its record makes",
+        "It runs the record over a registry in memory, and names the first reply or row that is \
+         another.\n\nExample:\n  usbreg found numbers.db examples/founding.toml\n  usbreg apply numbers.db \
+         examples/first.jsonl\n  usbreg check numbers.db",
+    );
+    let command = with_arg(
+        command,
+        positional(alloc, "store", "STORE", "The registry's file"),
+    )?;
+    with_verbose(alloc, command)
+}
+
 #[tactic(auto, unfolding(crate::specs::Commands::lookup_app))]
 fn lookup<'a>(alloc: Global) -> Result<Command<'a>, AllocError>
     ensures app { IfOk result (λ c. app_of c ≡ lookup_app) }
@@ -285,8 +326,9 @@ fn bare<'a>(alloc: Global) -> Command<'a>
         .about("A registry of shared USB product numbers that never loses or duplicates a grant")
         .after_help(
             "Without a command, `usbreg` runs `trial`. `found`, `apply`, `import`, `replay` and `serve` \
-             change a registry. `export`, `report` and `history` only show one, but they need to write its \
-             files too: they bring the store of an older version to the newest first.\n\nExit status: 0 on \
+             change a registry. `export`, `report`, `history` and `check` only read one, but they need to write \
+             its files too: they bring the store of an older version to the newest first. With `--check`, `found` \
+             and `import` change no registry, and say what they would do.\n\nExit status: 0 on \
              success; 1 after a fault of the store, of memory, of a file or of a socket; 2 if arguments, an \
              input, a line of a record or an import are refused, or if no device is found.",
         )
@@ -304,15 +346,16 @@ fn with_requests<'a>(alloc: Global, program: Command<'a>) -> Result<Command<'a>,
     with_command(program, replay(alloc)?)
 }
 
-/// Adds `serve`, `export`, `report`, `history` and `lookup`.
+/// Adds `serve`, `export`, `report`, `history`, `check` and `lookup`.
 fn with_views<'a>(alloc: Global, program: Command<'a>) -> Result<Command<'a>, AllocError>
-    ensures { IfOk result (λ c. app_of c ≡ with_subcommand (with_subcommand (with_subcommand (with_subcommand (with_subcommand
-        (app_of program.entry) serve_app.top) export_app.top) report_app.top) history_app.top) lookup_app.top) }
+    ensures { IfOk result (λ c. app_of c ≡ with_subcommand (with_subcommand (with_subcommand (with_subcommand (with_subcommand (with_subcommand
+        (app_of program.entry) serve_app.top) export_app.top) report_app.top) history_app.top) check_app.top) lookup_app.top) }
 {
     let program = with_command(program, serve(alloc)?)?;
     let program = with_command(program, export(alloc)?)?;
     let program = with_command(program, report(alloc)?)?;
     let program = with_command(program, history(alloc)?)?;
+    let program = with_command(program, check(alloc)?)?;
     with_command(program, lookup(alloc)?)
 }
 

@@ -275,7 +275,7 @@ fn contents_of(alloc: Global, database: &Database) -> io::Result<Option<String>>
         }
         None => Ok(Some(String::from_str(
             alloc,
-            "a database without tables; usbreg found makes a registry of it",
+            "a database without tables, as an empty file becomes one; if it had a registry, restore a backup",
         )?)),
     }
 }

@@ -5,6 +5,7 @@ ghost use Rattle.std.specs.Prelude.{◌≡◌, ◌≢◌};
 ghost use Rattle.std.specs.IoError.{error_kind};
 
 mod blank;
+mod cells;
 mod connections;
 mod database;
 mod look;
@@ -50,7 +51,7 @@ fn run(rt: &HostRuntime) -> ExitStatus {
 /// Returns whether the cause of a failure may be said, so that what is read of an input is kept.
 fn may_explain(arguments: &[String], terminals: Terminals) -> bool {
     for argument in arguments {
-        if argument.as_str() == "--verbose" {
+        if argument.as_str() == "--verbose" || argument.as_str() == "--check" {
             return true;
         }
     }

@@ -11,3 +11,5 @@ pub mod EntryLemmas
 pub mod ReplayLemmas
 pub mod BeginLemmas
 pub mod FoundOrOpenLemmas
+pub mod KeyLemmas
+pub mod CheckLemmas

@@ -17,3 +17,6 @@ pub mod RecordLines
 pub mod Entries
 pub mod Stops
 pub mod Replayed
+pub mod Keys
+pub mod DryRuns
+pub mod Checks

@@ -1,5 +1,5 @@
 -- What the program prints.
-use Rattle.std.specs.Prelude.{List, [], ◌∷◌, ◌++◌, ℕ, codes}
+use Rattle.std.specs.Prelude.{◌==◌, ◌||◌, List, [], ◌∷◌, ◌++◌, ℕ, codes, nat_lt, if◌then◌else◌}
 use Rattle.std.specs.Fmt.{decimal}
 use Rattle.serde_json.specs.Written.{compact_text}
 use Rattle.registry_rules.specs.declared.verdict.Reply.{Reply}
@@ -12,6 +12,10 @@ use Rattle.registry_commands.specs.declared.input.ReadAllFault.TheVariants as in
 use Rattle.registry_commands.specs.declared.lines.BadLine.{BadLine}
 use Rattle.registry_commands.specs.declared.messages.Failure.{Failure}
 use Rattle.registry_commands.specs.declared.messages.Failure.TheVariants.{Store, Memory, Foreign, Taken, Poisoned, File}
+
+-- a byte as it is shown: a control character of ASCII, as a line feed, is a question mark
+abbrev pub shown : ℕ → ℕ
+shown b = if nat_lt b 32 || b == 127 then 63 else b
 
 -- a reply as a line
 unfoldable pub reply_line : Reply → List ℕ

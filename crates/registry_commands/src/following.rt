@@ -44,7 +44,7 @@ fn is_as_recorded(reply: &Reply, accepted: &Accepted) -> bool
 }
 
 /// Acts on an accepted request. Returns its reply if that is not the one in the record.
-fn follow<S: Alter>(
+pub(crate) fn follow<S: Alter>(
     registry: &mut Registry<S>,
     accepted: &Accepted,
 ) -> Result<Option<Reply>, Failure>

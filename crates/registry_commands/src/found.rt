@@ -31,7 +31,11 @@ pub(crate) fn reject<E: Sink>(alloc: Global, errors: &mut E, refusal: WireRefusa
 }
 
 /// Reads the founding that the bytes of a founding file list.
-fn founding_in<E: Sink>(alloc: Global, bytes: &[u8], errors: &mut E) -> Result<Founding, ExitStatus>
+pub(crate) fn founding_in<E: Sink>(
+    alloc: Global,
+    bytes: &[u8],
+    errors: &mut E,
+) -> Result<Founding, ExitStatus>
     ensures { ReadsFounding IsOfMemory (founding_listed bytes.now) (output_of E.Sink errors.old errors.new) result }
 {
     match founding_from_toml(alloc, bytes) {

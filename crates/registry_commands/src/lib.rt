@@ -4,11 +4,15 @@
 
 mod apply;
 mod arguments;
+mod checking;
 mod closing;
+mod comparing;
+mod dry_import;
 mod entries;
 mod exporting;
 mod following;
 mod found;
+mod founding_check;
 mod importing;
 mod input;
 mod lines;
@@ -27,16 +31,20 @@ mod unread;
 
 pub use apply::apply_lines;
 pub use arguments::{BadArgument, reject_argument};
+pub use checking::{CheckStop, Counts, check};
 pub use closing::close_store;
+pub use comparing::Difference;
+pub use dry_import::try_list;
 pub use entries::{Entry, LineRefusal};
 pub use exporting::export;
 pub use following::{ReplayStop, follow_lines};
 pub use found::{found_registry, read_founding};
+pub use founding_check::{check_founding, is_known_key};
 pub use importing::{Import, import_list, import_of_arguments};
 pub use input::{ReadAllFault, read_all};
 pub use lines::{BadLine, requests_in};
 pub use looking::look_up;
-pub use messages::{Failure, fail, failure_of, store_failure, tell};
+pub use messages::{Failure, fail, failure_of, shown_bytes, store_failure, tell, tell_bytes};
 pub use record_lines::Found;
 pub use recording::history;
 pub use replaying::{replay, replay_on, take_founding};

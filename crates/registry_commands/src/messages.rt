@@ -1,12 +1,12 @@
 //! What the program prints: replies, and why it rejects an input or fails.
 
-ghost use Rattle.std.specs.Prelude.{◌≡◌, ◌≢◌, ◌⊎◌, IfErr, IfOk, OnOk, OnErr, Err};
+ghost use Rattle.std.specs.Prelude.{◌≡◌, ◌≢◌, ◌⊎◌, IfErr, IfOk, OnOk, OnErr, Err, map};
 ghost use Rattle.std.specs.String.{string_bytes};
 ghost use Rattle.std.specs.Io.KnownBytes.{Appends};
 ghost use Rattle.byte_streams.specs.Streams.{AppendsPrefix};
 ghost use Rattle.registry_commands.specs.Ends.{output_of};
 ghost use Rattle.registry_commands.specs.Failures.{IsOfOutput, Prints};
-ghost use Rattle.registry_commands.specs.Messages.{bad_line_text, failure_line, failure_of, input_failure, refusal_line, reply_line};
+ghost use Rattle.registry_commands.specs.Messages.{bad_line_text, failure_line, failure_of, input_failure, refusal_line, reply_line, shown};
 
 use crate::input::ReadAllFault;
 use crate::lines::BadLine;
@@ -141,14 +141,39 @@ pub(crate) fn bad_line_text(alloc: Global, bad: BadLine) -> Result<String, NoMem
     Ok(format!(in alloc; "line {number}: {line}")?)
 }
 
+/// Returns a byte as it is shown.
+fn shown(byte: u8) -> u8
+    ensures { result ≡ shown byte }
+{
+    if byte < 32 || byte == 127 { b'?' } else { byte }
+}
+
+/// Returns bytes as they are shown, in one line: with a question mark for each control character.
+pub fn shown_bytes(alloc: Global, bytes: &[u8]) -> Result<Vec<u8>, NoMemory>
+    ensures { IfOk result (λ list. list.items ≡ map shown bytes.now) }
+{
+    let mut list = Vec::new(alloc);
+    for byte in bytes {
+        list.push(shown(*byte))?;
+    }
+    Ok(list)
+}
+
+/// Writes bytes to the error output: all of them, or a prefix if the error output fails.
+pub fn tell_bytes<E: Sink>(errors: &mut E, bytes: &[u8])
+    ensures told { Prints (output_of E.Sink errors.old errors.new) bytes.now }
+{
+    match put_all(errors, bytes) {
+        Ok(()) => {}
+        Err(Broken) => {}
+    }
+}
+
 /// Writes a text to the error output: all of it, or a prefix if the error output fails.
 pub fn tell<E: Sink>(errors: &mut E, text: &str)
     ensures told { Prints (output_of E.Sink errors.old errors.new) text.now }
 {
-    match put_all(errors, text.as_bytes()) {
-        Ok(()) => {}
-        Err(Broken) => {}
-    }
+    tell_bytes(errors, text.as_bytes());
 }
 
 /// Prints why the command fails, and returns the exit status. The error output gets the whole line,

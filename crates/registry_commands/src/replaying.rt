@@ -83,7 +83,7 @@ fn check_founding<S: Alter>(
 }
 
 /// Returns whether two foundings have the same line, and so are the same.
-fn has_same_line(alloc: Global, a: &Founding, b: &Founding) -> Result<bool, NoMemory>
+pub(crate) fn has_same_line(alloc: Global, a: &Founding, b: &Founding) -> Result<bool, NoMemory>
     ensures same { result ≡ Ok true → founding_line a.now ≡ founding_line b.now }
     ensures other { result ≡ Ok false → founding_line a.now ≢ founding_line b.now }
 {

@@ -38,10 +38,12 @@ use Rattle.registry_desk.specs.declared.server.Connections as connections
 use Rattle.registry_desk.specs.Server.{fault_in}
 use Rattle.registry_program.specs.declared.host.Host as host
 use Rattle.registry_program.specs.Commands.{ActsOnFile, ActsOnLines, Applies, ExportsAs, FoundsBy, FoundsIn, ImportsAs, ImportsFile, ImportsList, IsFoundedOn, ReadsFoundingAt, ReportsAs, RunsReading, WritesList, WritesRecord, WritesReport}
+use Rattle.registry_program.specs.DryRuns.{TriesFile, TriesImportAs, TriesList}
 use Rattle.registry_program.specs.Outputs.{earlier, later}
 use Rattle.registry_program.specs.Serving.{Serves, ServesOn}
 use Rattle.registry_program.specs.Stores.{ClosesStore, IsRunOver, Runs, TheRegistry}
-use Rattle.registry_program.specs.Whole.{AppliesWholly, AreLeftAfter, ExportsWhollyAs, FoundsWholly, ImportsWhollyAs, IsAfterImport, IsAfterLines, IsAppliedTo, IsCarriedOn, IsFoundedWholly, IsGivenBy, IsImportedTo, IsListed, IsRecordedOn, IsReportedOn, IsServedTo, IsUnbegun, IsUsed, LeadsFilesTo, ReportsWholly, ServesWholly, Stays, UnlessStopped}
+use Rattle.registry_program.specs.Whole.{AppliesWholly, AreLeftAfter, ExportsWhollyAs, ForetellsWhollyAs, Foretells, FoundsWholly, ImportsWhollyAs, IsAfterImport, IsAfterLines, IsAppliedTo, IsCarriedOn, IsForetoldOf, IsForetoldTo, IsFoundedWholly, IsGivenBy, IsImportedTo, IsListed, IsRecordedOn, IsReportedOn, IsServedTo, IsUnbegun, IsUsed, LeadsFilesTo, ReportsWholly, ServesWholly, Stays, UnlessStopped}
+use Rattle.registry_program.proofs.ForetoldLemmas.{import_said}
 use Rattle.registry_program.proofs.LeavesLemmas.{success_or, same_of_either, LeavesSome, leaves_itself, stayed, applied, unacted, LeavesImport, imported, import_endures, served}
 
 module _ {H F I : Type 0} (m : host.Ghosts H F I) (d : disk.Ghosts F) where
@@ -195,6 +197,40 @@ module _ {H F I : Type 0} (m : host.Ghosts H F I) (d : disk.Ghosts F) where
           | inr not ↦ inr (unread old new path ends (ImportsFile m s r list import input input_new) over same not.2.0 not.2.1.1 not.2.1.0)
         ]
       ]) (reading_or old new path ends (ImportsFile m s r list import input input_new) is)
+
+      -- the reply to the import of the list that this source gave was foretold
+      foretold_by : {X : Type 0} (x : source.Ghosts X) (first last : X) (old new : H) (path list : List ℕ) (import : Import) (ends : Ends) (over : IsRunOver m d old new path ends (TriesFile m s r list import input input_new))
+          → ends.status ≡ over.before → (did : TriesList x first last import over.it over.after (earlier ends over.errors over.before)) → IsGivenBy m d s r input list did.0 → IsForetoldTo m d s r input old new path list import ends
+      foretold_by x first last old new path list import ends over same read given =
+          let did = effect over.it over.after (earlier ends over.errors over.before) in
+          let said = import_said _ did import read.0 read.2 in
+          record {
+            bytes = read.0;
+            read = given;
+            carried = carried old new path ends (TriesFile m s r list import input input_new) over same said.clean (IsForetoldOf read.0 import ends)
+                (λ h stands clean. (
+                  h,
+                  h,
+                  ((refl, refl), λ other. subst (λ (status : ExitStatus). Foretells read.0 import ends.out status h) (sym same) (said.says h stands clean (λ failed. other (same ∙ failed)))),
+                  leaves_itself over.after h (said.stays h stands) clean,
+                ));
+          }
+
+      foretell_whole : (old new : H) (path list : List ℕ) (import : Import) (ends : Ends) → RunsReading m d s r input input_new old new path ends (TriesFile m s r list import input input_new)
+          → UnlessStopped m d old new path ends (TriesFile m s r list import input input_new) (IsForetoldTo m d s r input old new path list import ends ⊎ IsUnbegun m d old new path ends)
+      foretell_whole old new path list import ends is = runs_whole old new path ends (TriesFile m s r list import input input_new) (IsForetoldTo m d s r input old new path list import ends ⊎ IsUnbegun m d old new path ends) (λ over same. elim over.does [
+        | inl standard ↦ inl (foretold_by r input input_new old new path list import ends over same standard.2 (inl (standard.0, standard.2.1)))
+        | inr named ↦ elim named.2 [
+          | inl read ↦ inl (foretold_by s read.0 read.1 old new path list import ends over same read.3
+              (inr (named.0, record { reading = over.opened; read = over.done; input = read.0; reads = read.2; gives = read.3.1 })))
+          | inr not ↦ inr (unread old new path ends (TriesFile m s r list import input input_new) over same not.2.0 not.2.1.1 not.2.1.0)
+        ]
+      ]) (reading_or old new path ends (TriesFile m s r list import input input_new) is)
+
+      pub foretells_whole : (old new : H) (path list : List ℕ) (asked : Result Import (Rejection BadArgument)) (ends : Ends) → TriesImportAs m d s r input input_new old new path list asked ends → ForetellsWhollyAs m d s r input input_new old new path list asked ends
+      foretells_whole old new path list (Ok import) ends is = foretell_whole old new path list import ends is
+      foretells_whole old new path list (Err (Refused argument)) ends is = (is.0, is.2)
+      foretells_whole old new path list (Err NoMemory) ends is = (is.0, is.2)
 
       pub imports_whole : (old new : H) (path list : List ℕ) (asked : Result Import (Rejection BadArgument)) (ends : Ends) → ImportsAs m d s r input input_new old new path list asked ends → ImportsWhollyAs m d s r input input_new old new path list asked ends
       imports_whole old new path list (Ok import) ends is = import_whole old new path list import ends is

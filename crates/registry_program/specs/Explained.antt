@@ -1,20 +1,17 @@
 -- The line that says why a command failed, or what one that succeeded passed over.
-use Rattle.std.specs.Prelude.{◌≡◌, ◌≢◌, ◌⊎◌, ◌==◌, ◌||◌, ◌++◌, ⊤, ℕ, Bool, true, nat_lt, List, map, codes, if◌then◌else◌}
+use Rattle.std.specs.Prelude.{◌≡◌, ◌≢◌, ◌⊎◌, ◌||◌, ◌++◌, ⊤, ℕ, Bool, true, false, List, map, codes}
 use Rattle.registry_arguments.specs.declared.command.Command.{Command}
 use Rattle.registry_arguments.specs.declared.command.Command.TheVariants as command
 use Rattle.registry_commands.specs.declared.status.ExitStatus.{ExitStatus}
 use Rattle.registry_commands.specs.declared.status.ExitStatus.TheVariants.{Success}
 use Rattle.registry_commands.specs.Ends.{Sunk}
 use Rattle.registry_commands.specs.Failures.{Prints}
+use Rattle.registry_commands.specs.Messages.{shown}
 use Rattle.registry_program.specs.declared.last_line.Heard.{Heard}
 
 -- the sink that everything is passed on to
 abbrev pub sink_of : {E : Type 0} → Heard E → E
 sink_of heard = heard.sink
-
--- a byte as it is shown: a control character of ASCII, as a line feed, is a question mark
-abbrev pub shown : ℕ → ℕ
-shown b = if nat_lt b 32 || b == 127 then 63 else b
 
 -- one line: what it is about, and the cause
 abbrev pub cause_line : List ℕ → List ℕ
@@ -32,8 +29,14 @@ HasRemarks (command.Apply path file answered) = ⊤
 HasRemarks (command.Import path list caller key org vendor) = ⊤
 HasRemarks _ = ⊥
 
--- The line is said only if causes are asked for, and the command did not do what it was asked for, founds a registry, acts on
--- request lines or imports a list. After a founding that succeeded it names keys of the founding file, which are ignored, after
--- request lines their fields that are ignored, and after an import a list that has nothing of the vendor.
+-- the command changes nothing, and is run for what it says
+abbrev pub is_check : Command (List ℕ) → Bool
+is_check (command.CheckFounding founding) = true
+is_check (command.CheckImport path list caller key org vendor) = true
+is_check _ = false
+
+-- The line is said only if causes are asked for or the command is a check, and the command did not do what it was asked for, founds
+-- a registry, acts on request lines or imports a list. After a founding that succeeded it names keys of the founding file, which are
+-- ignored, after request lines their fields that are ignored, and after an import a list that has nothing of the vendor.
 abbrev pub IsExplained : Bool → Command (List ℕ) → ExitStatus → Sunk → Sunk → Type 0
-IsExplained verbose command status told new = (new ≡ told) ⊎ ((verbose ≡ true) × ((status ≢ Success) ⊎ HasRemarks command) × MayExplain told new)
+IsExplained verbose command status told new = (new ≡ told) ⊎ (((verbose || is_check command) ≡ true) × ((status ≢ Success) ⊎ HasRemarks command) × MayExplain told new)

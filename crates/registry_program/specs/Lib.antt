@@ -4,6 +4,8 @@ pub mod Explained
 pub mod Opening
 pub mod Stores
 pub mod Commands
+pub mod DryRuns
+pub mod Checking
 pub mod Serving
 pub mod Replaying
 pub mod Performing

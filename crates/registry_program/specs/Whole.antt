@@ -13,6 +13,7 @@ use Rattle.usbids_text.specs.Documents.{IsTextOf}
 use Rattle.usbids_text.specs.Entries.{TopEntry}
 use Rattle.usbids_text.specs.Moments.{Moment}
 use Rattle.usbids_text.specs.Reading.{ReadsAs}
+use Rattle.usbids_text.specs.declared.fault.ReadFault.{ReadFault}
 use Rattle.usbids_text.specs.Writing.{written}
 use Rattle.registry_rules.specs.declared.founding.Founding.{Founding}
 use Rattle.registry_rules.specs.declared.rejection.Rejection.{Rejection}
@@ -37,9 +38,12 @@ use Rattle.registry_reports.specs.declared.kinds.ReportKind.{ReportKind}
 use Rattle.registry_commands.specs.Apply.{lines_between}
 use Rattle.registry_commands.specs.declared.status.ExitStatus.{ExitStatus}
 use Rattle.registry_commands.specs.declared.unread.Unread.{Unread}
-use Rattle.registry_commands.specs.declared.status.ExitStatus.TheVariants.{Success, Failed}
+use Rattle.registry_commands.specs.declared.status.ExitStatus.TheVariants.{Success, Failed, Rejected}
+use Rattle.registry_commands.specs.DryRuns.{dry_status_of}
 use Rattle.registry_commands.specs.Ends.{Ends, Receives, Output}
-use Rattle.registry_commands.specs.Failures.{IsOfOpening}
+use Rattle.registry_commands.specs.declared.checking.Counts.{Counts}
+use Rattle.registry_commands.specs.Checks.{IsCountOf, sound_text}
+use Rattle.registry_commands.specs.Failures.{IsOfOpening, IsOfSoundRun, PrintsFailure}
 use Rattle.registry_commands.specs.Imports.{AsksFor, request_of_import, exit_status_of}
 use Rattle.registry_commands.specs.Lines.{requests_in}
 use Rattle.registry_commands.specs.declared.entries.Entry.TheVariants as says
@@ -54,6 +58,8 @@ use Rattle.registry_desk.specs.declared.server.Connections as connections
 use Rattle.registry_desk.specs.Server.{HaveVisited, IsLeftAfter, Visit}
 use Rattle.registry_program.specs.declared.host.Host as host
 use Rattle.registry_program.specs.Commands.{ActsOnFile, ImportsFile, IsStampOf, WritesList, WritesRecord, WritesReport, is_standard}
+use Rattle.registry_program.specs.DryRuns.{TriesFile}
+use Rattle.registry_program.specs.Checking.{ChecksRows}
 use Rattle.registry_program.specs.Opening.{HoldsNoHistory}
 use Rattle.registry_program.specs.Outputs.{IsFailure, IsRejection}
 use Rattle.registry_program.specs.Replaying.{IsReplayedIn, ReplaysLines}
@@ -92,6 +98,13 @@ IsReportedOn name ends h x y = Stays h x y × (ends.status ≡ Success → (text
 abbrev pub IsRecordedOn : Option ℕ → Ends → History → History → History → Type 0
 IsRecordedOn from ends h x y = Stays h x y × (ends.status ≡ Success → AreValid h.deeds → Receives ends.out (record_text h from))
 
+-- A store was checked. If the requests of the history are valid: at the status Success the line with its counts is written, and at any
+-- other the error output has the message of a failure, and so none that the store is not sound.
+abbrev pub IsCheckedOn : Ends → History → History → History → Type 0
+IsCheckedOn ends h x y = Stays h x y
+    × (ends.status ≡ Success → AreValid h.deeds → (counts : Counts) × IsCountOf h counts × Receives ends.out (sound_text counts))
+    × (ends.status ≢ Success → AreValid h.deeds → PrintsFailure IsOfSoundRun ends.errors)
+
 -- The request of the list in these bytes was acted on, perhaps until a failure: y is the history after it, and x is y or the
 -- history before it. Unless the status is Failed, its reply is written and x is y; x is y too if anything is written.
 pub record IsAfterImport (bytes : List ℕ) (import : Import) (out : Output) (status : ExitStatus) (h x y : History) : Type 0 where
@@ -102,6 +115,18 @@ pub record IsAfterImport (bytes : List ℕ) (import : Import) (out : Output) (st
   pub y_is : y ≡ after_one h r
   pub replied : status ≢ Failed → (x ≡ y) × (status ≡ exit_status_of (reply_to h r)) × Receives out (reply_line (reply_to h r))
   pub last : ((x ≡ h) × Keeps out.old.contents out.new.contents) ⊎ (x ≡ y)
+
+-- The bytes are no list, and nothing is written, at the status Rejected; or the reply that the request of the list would get over
+-- this history is written.
+abbrev pub Foretells : List ℕ → Import → Output → ExitStatus → History → Type 0
+Foretells bytes import out status h =
+    ((fault : ReadFault) × ReadsAs bytes (Err fault) × (status ≡ Rejected) × Keeps out.old.contents out.new.contents)
+    ⊎ ((doc : List TopEntry) × ReadsAs bytes (Ok doc) × (status ≡ dry_status_of (reply_to h (request_of_import import h.founding.vendor doc)))
+    × Receives out (reply_line (reply_to h (request_of_import import h.founding.vendor doc))))
+
+-- unless the status is Failed, that is so; the history stays
+abbrev pub IsForetoldOf : List ℕ → Import → Ends → History → History → History → Type 0
+IsForetoldOf bytes import ends h x y = Stays h x y × (ends.status ≢ Failed → Foretells bytes import ends.out ends.status h)
 
 -- each is a history that a crash leaves after these connections
 abbrev pub AreLeftAfter : List Visit → History → History → History → Type 0
@@ -207,6 +232,22 @@ module _ {H F I : Type 0} (m : host.Ghosts H F I) (d : disk.Ghosts F) where
       ImportsWholly input input_new old new path list caller key org vendor ends =
           (asked : Result Import (Rejection BadArgument)) × AsksFor caller key org vendor asked × ImportsWhollyAs input input_new old new path list asked ends
 
+      -- the list came from the standard input or from the file, and nothing of it was imported
+      pub record IsForetoldTo (input : R) (old new : H) (path file : List ℕ) (import : Import) (ends : Ends) : Type 0 where
+        pub bytes : List ℕ
+        pub read : IsGivenBy input file bytes
+        pub carried : IsCarriedOn old new path (IsForetoldOf bytes import ends)
+
+      abbrev pub ForetellsWhollyAs : R → R → H → H → List ℕ → List ℕ → Result Import (Rejection BadArgument) → Ends → Type 0
+      ForetellsWhollyAs input input_new old new path list (Ok import) ends =
+          UnlessStopped old new path ends (TriesFile m s r list import input input_new) (IsForetoldTo input old new path list import ends ⊎ IsUnbegun old new path ends)
+      ForetellsWhollyAs input input_new old new path list (Err (Refused argument)) ends = (new ≡ old) × IsRejection argument ends
+      ForetellsWhollyAs input input_new old new path list (Err NoMemory) ends = (new ≡ old) × IsFailure Memory ends
+
+      abbrev pub ForetellsWholly : R → R → H → H → List ℕ → List ℕ → List ℕ → List ℕ → List ℕ → Option (List ℕ) → Ends → Type 0
+      ForetellsWholly input input_new old new path list caller key org vendor ends =
+          (asked : Result Import (Rejection BadArgument)) × AsksFor caller key org vendor asked × ForetellsWhollyAs input input_new old new path list asked ends
+
     -- the founding file came from the second path, before the store was opened, and the closed files hold the new registry
     pub record IsFoundedWholly (old new : H) (path founding : List ℕ) : Type 0 where
       pub bytes : List ℕ
@@ -234,6 +275,9 @@ module _ {H F I : Type 0} (m : host.Ghosts H F I) (d : disk.Ghosts F) where
   abbrev pub ReportsWholly : H → H → List ℕ → Option ReportKind → Ends → Type 0
   ReportsWholly old new path (Some name) ends = UnlessStopped old new path ends (WritesReport name) (IsCarriedOn old new path (IsReportedOn name ends))
   ReportsWholly old new path None ends = (new ≡ old) × IsRejection Name ends
+
+  abbrev pub ChecksWholly : H → H → List ℕ → Ends → Type 0
+  ChecksWholly old new path ends = UnlessStopped old new path ends ChecksRows (IsCarriedOn old new path (IsCheckedOn ends))
 
   abbrev pub PrintsRecordWholly : H → H → List ℕ → Option ℕ → Ends → Type 0
   PrintsRecordWholly old new path from ends = UnlessStopped old new path ends (WritesRecord from) (IsCarriedOn old new path (IsRecordedOn from ends))
@@ -301,17 +345,20 @@ ReplaysWholly {H} {F} {I} m d s r input old new path file ends =
     × (bytes_eq file (codes "-") ≡ false → ((read : H) × (source : I) × m.reads old read file source × ReplaysWhollyFrom m d s source read new path ends)
     ⊎ ((failure : Failure) × m.lacks old new file failure × IsFailure failure ends))
 
--- What holds from the files before a command to the files after it. A trial and a look-up open no store, so nothing is said of
--- them.
+-- What holds from the files before a command to the files after it. A trial, the check of a founding and a look-up open no store,
+-- so nothing is said of them.
 abbrev pub IsWhole : {H F I R W IN : Type 0} → host.Ghosts H F I → disk.Ghosts F → source.Ghosts I → connections.Ghosts H R W → source.Ghosts R → sink.Ghosts W
     → source.Ghosts IN → Command (List ℕ) → H → H → IN → IN → Ends → Type 0
 IsWhole m d s c r w i command.Trial old new input input_new ends = ⊤
 IsWhole m d s c r w i (command.Found path founding) old new input input_new ends = FoundsWholly m d s old new path founding ends
 IsWhole m d s c r w i (command.Apply path file answered) old new input input_new ends = AppliesWholly m d s i input input_new old new path file answered ends
 IsWhole m d s c r w i (command.Import path list caller key org vendor) old new input input_new ends = ImportsWholly m d s i input input_new old new path list caller key org vendor ends
+IsWhole m d s c r w i (command.CheckFounding founding) old new input input_new ends = ⊤
+IsWhole m d s c r w i (command.CheckImport path list caller key org vendor) old new input input_new ends = ForetellsWholly m d s i input input_new old new path list caller key org vendor ends
 IsWhole m d s c r w i (command.Replay path file) old new input input_new ends = ReplaysWholly m d s i input old new path file ends
 IsWhole m d s c r w i (command.Serve path port count) old new input input_new ends = ServesWholly m d c r w old new path port (limit_of count) ends
 IsWhole m d s c r w i (command.Export path stamp) old new input input_new ends = ExportsWholly m d old new path stamp ends
 IsWhole m d s c r w i (command.Report path name) old new input input_new ends = ReportsWholly m d old new path (report_named name) ends
 IsWhole m d s c r w i (command.History path from) old new input input_new ends = PrintsRecordWholly m d old new path from ends
+IsWhole m d s c r w i (command.Check path) old new input input_new ends = ChecksWholly m d old new path ends
 IsWhole m d s c r w i (command.Lookup list vid pid) old new input input_new ends = ⊤

@@ -1,21 +1,21 @@
 //! Says why a command failed, what a founding or a request line ignored, or that a list has nothing of the
 //! vendor that was to be imported, in one more line of the error output.
 
-ghost use Rattle.std.specs.Prelude.{◌≡◌, ◌⊎◌, IfOk, map};
+ghost use Rattle.std.specs.Prelude.{◌≡◌, ◌⊎◌, IfOk};
 ghost use Rattle.registry_arguments.specs.Commands.{texts};
-ghost use Rattle.registry_commands.specs.Ends.{output_of, sunk};
-ghost use Rattle.registry_commands.specs.Failures.{Prints};
-ghost use Rattle.registry_program.specs.Explained.{HasRemarks, MayExplain, cause_line, shown};
+ghost use Rattle.registry_commands.specs.Ends.{sunk};
+ghost use Rattle.registry_program.specs.Explained.{HasRemarks, MayExplain, cause_line};
 
+use crate::arguments::{argument_in, what_may_be};
 use crate::field_remarks::remark_on_fields;
 use crate::host::{About, Cause, Host};
 use crate::last_line::LastLine;
 use crate::line_remarks::{count_lines, remark_on_lines};
 use crate::list_remarks::{remark_on_list, remark_on_vendor};
 use crate::remarks::{remark_on_founding, remark_on_keys};
-use byte_streams::{Broken, Sink, put_all};
+use byte_streams::Sink;
 use registry_arguments::Command;
-use registry_commands::{BadArgument, Failure};
+use registry_commands::{Failure, shown_bytes, tell_bytes};
 use std::alloc::Global;
 use usbnum_core::{NoMemory, Vid};
 
@@ -28,19 +28,8 @@ const FAILURES: [Failure; 6] = [
     Failure::File,
 ];
 
-const ARGUMENTS: [BadArgument; 8] = [
-    BadArgument::Stamp,
-    BadArgument::Name,
-    BadArgument::Vid,
-    BadArgument::Pid,
-    BadArgument::Caller,
-    BadArgument::Key,
-    BadArgument::Org,
-    BadArgument::Vendor,
-];
-
 /// Returns whether a line, without its line feed, is this message, which has it.
-fn is_message(line: &[u8], message: &str) -> bool {
+pub(crate) fn is_message(line: &[u8], message: &str) -> bool {
     match message.as_bytes() {
         [text @ .., b'\n'] => text == line,
         _ => false,
@@ -57,16 +46,6 @@ fn failure_in(line: &[u8]) -> Option<Failure> {
     None
 }
 
-/// Returns the invalid argument of which a line is the message.
-fn argument_in(line: &[u8]) -> Option<BadArgument> {
-    for argument in ARGUMENTS {
-        if is_message(line, argument.line()) {
-            return Some(argument);
-        }
-    }
-    None
-}
-
 /// Returns the path of the store that a command uses.
 fn store_of<'a>(command: Command<&'a str>) -> Option<&'a str> {
     match command {
@@ -74,11 +53,14 @@ fn store_of<'a>(command: Command<&'a str>) -> Option<&'a str> {
         Command::Found { store, .. } => Some(store),
         Command::Apply { store, .. } => Some(store),
         Command::Import { store, .. } => Some(store),
+        Command::CheckFounding { .. } => None,
+        Command::CheckImport { store, .. } => Some(store),
         Command::Replay { store, .. } => Some(store),
         Command::Serve { store, .. } => Some(store),
         Command::Export { store, .. } => Some(store),
         Command::Report { store, .. } => Some(store),
         Command::History { store, .. } => Some(store),
+        Command::Check { store } => Some(store),
         Command::Lookup { .. } => None,
     }
 }
@@ -91,9 +73,9 @@ fn named<'a>(name: &'a str) -> &'a str {
 /// Returns the path of the file that a command reads, or the words for the standard input.
 fn input_of<'a>(command: Command<&'a str>) -> &'a str {
     match command {
-        Command::Found { founding, .. } => founding,
+        Command::Found { founding, .. } | Command::CheckFounding { founding } => founding,
         Command::Apply { file, .. } => named(file),
-        Command::Import { list, .. } => named(list),
+        Command::Import { list, .. } | Command::CheckImport { list, .. } => named(list),
         Command::Lookup { list, .. } => list,
         Command::Replay { record, .. } => named(record),
         _ => "standard input",
@@ -191,19 +173,6 @@ fn why_failed<H: Host>(
     }
 }
 
-/// Returns the words for an invalid argument: what it may be.
-fn what_may_be(argument: BadArgument) -> &'static str {
-    match argument {
-        BadArgument::Stamp => "a stamp is a time as 2024-01-30 20:34:13",
-        BadArgument::Name => "a report is census, holders, petitions, numbers or organisations",
-        BadArgument::Vid | BadArgument::Pid | BadArgument::Vendor => {
-            "an ID is four hexadecimal digits"
-        }
-        BadArgument::Caller | BadArgument::Org => "a slug is 1 to 32 of a-z, 0-9 and -",
-        BadArgument::Key => "a key is 1 to 64 of A-Z, a-z, 0-9, - and _",
-    }
-}
-
 /// Returns the words for a line of the error output that refuses the input, if they are known.
 fn words_for_input<H: Host>(
     alloc: Global,
@@ -215,8 +184,12 @@ fn words_for_input<H: Host>(
         return Ok(None);
     };
     let words = match command {
-        Command::Found { .. } => remark_on_founding(alloc, &bytes, line)?,
-        Command::Import { .. } | Command::Lookup { .. } => remark_on_list(alloc, &bytes, line)?,
+        Command::Found { .. } | Command::CheckFounding { .. } => {
+            remark_on_founding(alloc, &bytes, line)?
+        }
+        Command::Import { .. } | Command::CheckImport { .. } | Command::Lookup { .. } => {
+            remark_on_list(alloc, &bytes, line)?
+        }
         Command::Apply { answered, .. } if is_message(line, "answered exceeds requests\n") => {
             let count = count_lines(&bytes);
             Some(format!(in alloc; "it has {count} requests, and --answered is {answered}")?)
@@ -229,11 +202,12 @@ fn words_for_input<H: Host>(
     }
 }
 
-/// Returns the words for a line of the error output, if they are known.
+/// Returns the words for a line of the error output, if they are known. The vendor is that of an import.
 fn words_for<H: Host>(
     alloc: Global,
     host: &H,
     command: Command<&str>,
+    vendor: Option<Vid>,
     line: &[u8],
 ) -> Result<Option<String>, NoMemory> {
     if let Some(failure) = failure_in(line) {
@@ -253,11 +227,19 @@ fn words_for<H: Host>(
         )?;
         return Ok(Some(words));
     }
+    if is_message(line, "no fresh number\n") {
+        return words_for_list(alloc, host, command, vendor);
+    }
+    if line.starts_with(b"unsound: ") {
+        let words = "its rows are not those that its record makes; keep it, and restore a backup";
+        return Ok(Some(words_of(alloc, command, About::Store, words)?));
+    }
     words_for_input(alloc, host, command, line)
 }
 
-/// Returns the words for what a founding ignored of its file, if anything.
-fn words_for_founding<H: Host>(
+/// Returns the words for the keys of a founding, or the fields of request lines, that were ignored,
+/// if there are any.
+fn words_for_ignored<H: Host>(
     alloc: Global,
     host: &H,
     command: Command<&str>,
@@ -265,22 +247,11 @@ fn words_for_founding<H: Host>(
     let Some(bytes) = host.take_kept(alloc) else {
         return Ok(None);
     };
-    match remark_on_keys(alloc, &bytes)? {
-        Some(words) => Ok(Some(words_of(alloc, command, About::Input, words.as_str())?)),
-        None => Ok(None),
-    }
-}
-
-/// Returns the words for the fields of request lines that were ignored, if there are any.
-fn words_for_fields<H: Host>(
-    alloc: Global,
-    host: &H,
-    command: Command<&str>,
-) -> Result<Option<String>, NoMemory> {
-    let Some(bytes) = host.take_kept(alloc) else {
-        return Ok(None);
+    let words = match command {
+        Command::Found { .. } => remark_on_keys(alloc, &bytes)?,
+        _ => remark_on_fields(alloc, &bytes)?,
     };
-    match remark_on_fields(alloc, &bytes)? {
+    match words {
         Some(words) => Ok(Some(words_of(alloc, command, About::Input, words.as_str())?)),
         None => Ok(None),
     }
@@ -305,23 +276,6 @@ fn words_for_list<H: Host>(
     }
 }
 
-/// Returns a byte as it is shown.
-fn shown(byte: u8) -> u8
-    ensures { result ≡ shown byte }
-{
-    if byte < 32 || byte == 127 { b'?' } else { byte }
-}
-
-fn shown_bytes(alloc: Global, bytes: &[u8]) -> Result<Vec<u8>, NoMemory>
-    ensures { IfOk result (λ list. list.items ≡ map shown bytes.now) }
-{
-    let mut list = Vec::new(alloc);
-    for byte in bytes {
-        list.push(shown(*byte))?;
-    }
-    Ok(list)
-}
-
 fn cause_line(alloc: Global, words: &str) -> Result<Vec<u8>, NoMemory>
     ensures { IfOk result (λ line. line.items ≡ cause_line words.now) }
 {
@@ -333,21 +287,12 @@ fn cause_line(alloc: Global, words: &str) -> Result<Vec<u8>, NoMemory>
     Ok(line)
 }
 
-fn put_line<E: Sink>(errors: &mut E, line: &[u8])
-    ensures { Prints (output_of E.Sink errors.old errors.new) line.now }
-{
-    match put_all(errors, line) {
-        Ok(()) => {}
-        Err(Broken) => {}
-    }
-}
-
 /// Writes one line with these words. Without memory for it nothing is written.
 fn say<E: Sink>(alloc: Global, errors: &mut E, words: &str)
     ensures { MayExplain (sunk E.Sink errors.old) (sunk E.Sink errors.new) }
 {
     match cause_line(alloc, words) {
-        Ok(line) => put_line(errors, &line),
+        Ok(line) => tell_bytes(errors, &line),
         Err(NoMemory) => {}
     }
 }
@@ -367,11 +312,12 @@ pub(crate) fn explain<H: Host, E: Sink + LastLine>(
     alloc: Global,
     host: &H,
     command: Command<&str>,
+    vendor: Option<Vid>,
     errors: &mut E,
 )
     ensures { MayExplain (sunk E.Sink errors.old) (sunk E.Sink errors.new) }
 {
-    let words = words_for(alloc, host, command, errors.last_line());
+    let words = words_for(alloc, host, command, vendor, errors.last_line());
     say_if(alloc, errors, words)
 }
 
@@ -388,9 +334,9 @@ pub(crate) fn remark<H: Host, E: Sink>(
         ⊎ (HasRemarks (texts command.entry) × MayExplain (sunk E.Sink errors.old) (sunk E.Sink errors.new)) }
 {
     match command {
-        Command::Found { .. } => say_if(alloc, errors, words_for_founding(alloc, host, command)),
-        Command::Trial => say_if(alloc, errors, words_for_fields(alloc, host, command)),
-        Command::Apply { .. } => say_if(alloc, errors, words_for_fields(alloc, host, command)),
+        Command::Found { .. } => say_if(alloc, errors, words_for_ignored(alloc, host, command)),
+        Command::Trial => say_if(alloc, errors, words_for_ignored(alloc, host, command)),
+        Command::Apply { .. } => say_if(alloc, errors, words_for_ignored(alloc, host, command)),
         Command::Import { .. } => {
             say_if(alloc, errors, words_for_list(alloc, host, command, vendor))
         }

@@ -2,7 +2,10 @@
 #![tactic(auto)]
 
 mod applying;
+mod arguments;
 mod causes;
+mod checking;
+mod dry_runs;
 mod field_remarks;
 mod founding;
 mod host;
@@ -21,6 +24,8 @@ mod showing;
 mod stores;
 
 pub use applying::run_apply;
+pub use checking::run_check;
+pub use dry_runs::{run_found_check, run_import_check};
 pub use founding::run_found;
 pub use host::{About, Cause, Host};
 pub use importing::run_import;

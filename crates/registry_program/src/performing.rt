@@ -1,8 +1,9 @@
 //! Does what a command asks for.
 
+ghost use Rattle.std.specs.Prelude.{◌≡◌, ◌||◌};
 ghost use Rattle.registry_arguments.specs.Commands.{texts};
 ghost use Rattle.registry_commands.specs.Ends.{Sunk, code, ends_of, sunk};
-ghost use Rattle.registry_program.specs.Explained.{IsExplained};
+ghost use Rattle.registry_program.specs.Explained.{IsExplained, is_check};
 ghost use Rattle.registry_program.specs.Outputs.{earlier};
 ghost use Rattle.registry_program.specs.Performing.{Performs};
 ghost use Rattle.registry_program.specs.Statuses.{IsStatus};
@@ -10,6 +11,8 @@ ghost use Rattle.registry_program.specs.Whole.{IsWhole};
 
 use crate::applying::run_apply;
 use crate::causes::{explain, remark};
+use crate::checking::run_check;
+use crate::dry_runs::{run_found_check, run_import_check};
 use crate::founding::run_found;
 use crate::host::Host;
 use crate::importing::run_import;
@@ -59,6 +62,20 @@ fn act_by<H: Host + Connections, R: Source, W: Sink, E: Sink>(
                 alloc, host, store, list, asked, sought, input, output, errors,
             )
         }
+        Command::CheckFounding { founding } => run_found_check(alloc, host, founding, errors),
+        Command::CheckImport {
+            store,
+            list,
+            caller,
+            key,
+            org,
+            vendor,
+        } => {
+            let asked = import_of_arguments(alloc, caller, key, org, vendor);
+            run_import_check(
+                alloc, host, store, list, asked, sought, input, output, errors,
+            )
+        }
         Command::Replay { store, record } => {
             run_replay(alloc, host, store, record, input, errors)
         }
@@ -70,14 +87,34 @@ fn act_by<H: Host + Connections, R: Source, W: Sink, E: Sink>(
         Command::History { store, after } => {
             run_history(alloc, host, store, after, output, errors)
         }
+        Command::Check { store } => run_check(alloc, host, store, output, errors),
         Command::Lookup { list, vid, pid } => {
             run_lookup(alloc, host, list, vid, pid, output, errors)
         }
     }
 }
 
-/// Says why a command ended with this status, if causes are asked for and it did not do what it was
-/// asked for. Of a founding, request lines or an import that did, says what it passed over.
+/// Returns whether a command changes nothing, and is run for what it says.
+fn is_check(command: Command<&str>) -> bool
+    ensures { result ≡ is_check (texts command.entry) }
+{
+    match command {
+        Command::CheckFounding { .. } => true,
+        Command::CheckImport { .. } => true,
+        _ => false,
+    }
+}
+
+/// Returns whether causes are said of a command.
+fn says_causes(verbose: bool, command: Command<&str>) -> bool
+    ensures { result ≡ (verbose || is_check (texts command.entry)) }
+{
+    verbose || is_check(command)
+}
+
+/// Says why a command ended with this status, if causes are asked for or it is a check, and it did not
+/// do what it was asked for. Of a founding, request lines or an import that did, says what it passed
+/// over.
 fn explain_if<H: Host, E: Sink + LastLine>(
     verbose: bool,
     alloc: Global,
@@ -89,20 +126,20 @@ fn explain_if<H: Host, E: Sink + LastLine>(
 )
     ensures { IsExplained verbose (texts command.entry) status (sunk E.Sink errors.old) (sunk E.Sink errors.new) }
 {
-    if !verbose {
+    if !says_causes(verbose, command) {
         return;
     }
     match status {
         ExitStatus::Success => remark(alloc, host, command, sought, errors),
-        ExitStatus::Failed => explain(alloc, host, command, errors),
-        ExitStatus::Rejected => explain(alloc, host, command, errors),
+        ExitStatus::Failed => explain(alloc, host, command, sought, errors),
+        ExitStatus::Rejected => explain(alloc, host, command, sought, errors),
     }
 }
 
 /// Does what the command asks for, over a machine and the standard streams, and returns the exit
 /// status. The contract says of each command which files it opens, in which order, what it does
-/// over them, and what the outputs gain. If the command fails or is refused and `verbose` is true,
-/// the error output may then get one more line, for the cause. It may also get one after a founding,
+/// over them, and what the outputs gain. If the command fails or is refused, and `verbose` is true or
+/// it is a check, the error output may then get one more line, for the cause. It may also get one after a founding,
 /// for keys that are ignored, after a trial or an `apply`, for fields that are ignored, and after an
 /// import, for a list that has nothing of the vendor. What these say is only tested.
 pub fn perform<H: Host + Connections, R: Source, W: Sink, E: Sink + LastLine>(

@@ -1,6 +1,7 @@
 //! Says what is wrong in a founding file, from its bytes: where it stops being TOML, and what it has in
 //! the place of its keys.
 
+use registry_commands::is_known_key;
 use registry_rules::limits::{MOST_CURATORS, MOST_LICENCES};
 use registry_wire::FoundingFault;
 use std::alloc::Global;
@@ -226,10 +227,6 @@ fn bad_key(alloc: Global, table: &Table, key: FoundingFault) -> Result<Option<St
     }
 }
 
-fn is_known(key: &str) -> bool {
-    FAULTS.iter().any(|fault| *fault != FoundingFault::Toml && fault.name() == key)
-}
-
 /// Returns these words with the names, or `None` if there are no names.
 pub(crate) fn listed(
     alloc: Global,
@@ -255,7 +252,7 @@ pub(crate) fn listed(
 fn unknown_keys(alloc: Global, table: &Table) -> Result<Option<String>, NoMemory> {
     let mut names = Vec::new(alloc);
     for key in table.keys() {
-        if !is_known(key.as_str()) {
+        if !is_known_key(key.as_str()) {
             names.push(key.as_str())?;
         }
     }

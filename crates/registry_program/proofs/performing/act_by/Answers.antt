@@ -14,6 +14,12 @@ returns-in-Apply g c = rw c.in-Apply.is c.run_apply.ensures
 pub returns-in-Import : goal.returns-in-Import
 returns-in-Import g c = rw c.in-Import.is (c.import_of_arguments-asked.result, c.import_of_arguments-asked.ensures, c.run_import.ensures)
 
+pub returns-in-CheckFounding : goal.returns-in-CheckFounding
+returns-in-CheckFounding g c = rw c.in-CheckFounding.is (refl, c.run_found_check.ensures (sunk g.W.Sink c.args.output.now))
+
+pub returns-in-CheckImport : goal.returns-in-CheckImport
+returns-in-CheckImport g c = rw c.in-CheckImport.is (c.import_of_arguments-asked-in-CheckImport.result, c.import_of_arguments-asked-in-CheckImport.ensures, c.run_import_check.ensures)
+
 pub returns-in-Replay : goal.returns-in-Replay
 returns-in-Replay g c = rw c.in-Replay.is (c.run_replay.ensures (sunk g.W.Sink c.args.output.now))
 
@@ -28,6 +34,9 @@ returns-in-Report g c = rw c.in-Report.is (refl, c.run_report.ensures)
 
 pub returns-in-History : goal.returns-in-History
 returns-in-History g c = rw c.in-History.is (refl, c.run_history.ensures)
+
+pub returns-in-Check : goal.returns-in-Check
+returns-in-Check g c = rw c.in-Check.is (refl, c.run_check.ensures)
 
 pub returns-in-Lookup : goal.returns-in-Lookup
 returns-in-Lookup g c = rw c.in-Lookup.is (refl, c.run_lookup.ensures)
