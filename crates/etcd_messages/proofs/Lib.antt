@@ -1,0 +1,4 @@
+pub mod PageLemmas
+pub mod RequestLemmas
+pub mod StatedLemmas
+pub mod TreeLemmas

@@ -1,0 +1,197 @@
+#!/usr/bin/env python3
+"""Sends the requests in the rows of `etcd_messages_tests` to etcd, and compares its answers with those in the rows.
+
+A row of a request shows the text that `etcd_messages` writes, and the row after it the answer of etcd and what
+`etcd_messages` reads of it; `rt ci` compares both. This script sends each text to one etcd of its own, in the order of the
+rows, and takes its answer for equal if only the names of the machines and the token differ. Between the two groups of rows
+it makes users, so that the second group has a login.
+
+Then it starts three members, and puts a line of 12 MB in, which comes back as it was. It stops two of them, and looks at
+what the third answers without a quorum.
+
+Usage: scripts/ask_etcd.py. If etcd is not installed, it says that it was skipped. The exit status is 0 if all answers
+agree."""
+
+import base64
+import http.client
+import json
+import re
+import shutil
+import signal
+import subprocess
+import sys
+import tempfile
+import time
+
+from lib.serving import HOST, free_port
+from lib.usbreg import TOP
+
+ROWS = f"{TOP}/crates/etcd_messages_tests"
+PATHS = {"append": "/v3/kv/txn", "page": "/v3/kv/range", "head": "/v3/kv/range", "login": "/v3/auth/authenticate"}
+ANSWERS = {"append": "appended", "page": "lines", "head": "top", "login": "token"}
+SECONDS = 60
+# As docs/operating.md starts it: an import is one long line.
+LIMITS = ["--max-request-bytes", "16777216"]
+LONG = 12_000_000
+
+
+class Members:
+    """Members of one etcd, each with a folder of its own below the one that is given."""
+
+    def __init__(self, room, count):
+        ports = [(free_port(), free_port()) for _ in range(count)]
+        self.ports = [client for client, _ in ports]
+        peers = [f"http://{HOST}:{peer}" for _, peer in ports]
+        whole = ",".join(f"m{index}={peer}" for index, peer in enumerate(peers))
+        self.processes = []
+        for index, (client, peer) in enumerate(zip(self.ports, peers)):
+            url = f"http://{HOST}:{client}"
+            words = ["etcd", "--name", f"m{index}", "--data-dir", f"{room}/m{index}", *LIMITS]
+            words += ["--listen-client-urls", url, "--advertise-client-urls", url]
+            words += ["--listen-peer-urls", peer, "--initial-advertise-peer-urls", peer, "--initial-cluster", whole]
+            with open(f"{room}/m{index}.log", "wb") as log:
+                self.processes.append(subprocess.Popen(words, stdout=log, stderr=log))
+
+    def __enter__(self):
+        return self
+
+    def __exit__(self, *_):
+        for process in self.processes:
+            process.send_signal(signal.SIGCONT)
+            process.kill()
+            process.wait()
+
+    def post(self, index, path, text, token=None):
+        """Posts a text to a member, and returns the status and the body of its answer."""
+        connection = http.client.HTTPConnection(HOST, self.ports[index], timeout=SECONDS)
+        try:
+            connection.request("POST", path, text.encode(), {"Authorization": token} if token else {})
+            response = connection.getresponse()
+            return response.status, response.read().decode()
+        finally:
+            connection.close()
+
+    def wait(self, index):
+        """Waits until a member answers a read."""
+        text = json.dumps({"key": in_base64(b"none")})
+        for _ in range(SECONDS * 5):
+            try:
+                if self.post(index, PATHS["page"], text)[0] == 200:
+                    return
+            except (OSError, http.client.HTTPException):
+                pass
+            time.sleep(0.2)
+        sys.exit("FAILED: etcd does not start")
+
+
+def in_base64(value):
+    return base64.b64encode(value).decode()
+
+
+def plain(text):
+    """Returns the bytes of an escaped text, as Latin-1."""
+    escapes = {"n": "\n", "r": "\r", "t": "\t", "\\": "\\"}
+    return re.sub(r"\\(x..|.)", lambda it: escapes.get(it[1]) or chr(int(it[1][1:], 16)), text)
+
+
+def tame(text):
+    """Returns an answer without what differs from one etcd to the next."""
+    text = re.sub(r'"(cluster_id|member_id|raft_term)":"\d+"', r'"\1":"7"', text)
+    return re.sub(r'"token":"[^"]*"', '"token":"t"', text)
+
+
+def groups():
+    """Returns the groups of rows, each with its comment: lists of a kind, a request and the answer's row."""
+    with open(f"{ROWS}/stdin", encoding="latin-1") as file:
+        rows = file.read().splitlines()
+    with open(f"{ROWS}/stdout", encoding="latin-1") as file:
+        shown = file.read().splitlines()
+    found = []
+    for (row, text), after in zip(zip(rows, shown), rows[1:] + [""]):
+        kind = row.split(" ", 1)[0]
+        if kind == "#":
+            found.append([])
+        elif after.split(" ", 1)[0] == ANSWERS.get(kind):
+            found[-1].append((row, plain(text), plain(after)))
+    return [group for group in found if group]
+
+
+def users(members):
+    """Makes a user who may read and write the lines of `reg`, and needs a login from then on."""
+    lines = {"key": in_base64(b"reg/"), "range_end": in_base64(b"reg0"), "permType": "READWRITE"}
+    for path, value in (
+        ("user/add", {"name": "root", "password": "r"}),
+        ("user/grant", {"user": "root", "role": "root"}),
+        ("user/add", {"name": "reg", "password": 'se"cret'}),
+        ("role/add", {"name": "reg"}),
+        ("role/grant", {"name": "reg", "perm": lines}),
+        ("user/grant", {"user": "reg", "role": "reg"}),
+        ("enable", {}),
+    ):
+        status, body = members.post(0, f"/v3/auth/{path}", json.dumps(value))
+        if status != 200:
+            sys.exit(f"FAILED: {path} of etcd: {status} {body}")
+
+
+def compared(members, group):
+    """Sends the requests of a group, and returns how many answers are not those of the rows."""
+    failed, token = 0, None
+    for row, text, wanted in group:
+        # The last request of a group with a login is about a token that is not valid.
+        used = "none" if "invalid auth token" in wanted else token
+        status, body = members.post(0, PATHS[row.split(" ", 1)[0]], text, used)
+        if '"token":"' in body:
+            token = json.loads(body)["token"]
+        if re.split(rf"[| ]{status}\|", tame(wanted), maxsplit=1)[1:] != [tame(body)]:
+            failed += 1
+            print(f"FAILED: {row}: {status} {body}, and the row has {wanted}")
+    return failed
+
+
+def without_a_quorum(members):
+    """Looks at what a member answers that is alone."""
+    for process in members.processes[1:]:
+        process.send_signal(signal.SIGSTOP)
+    status, body = members.post(0, PATHS["page"], json.dumps({"key": in_base64(b"reg/0000000000")}))
+    if (status, json.loads(body)["error"]) != (503, "etcdserver: request timed out"):
+        print(f"FAILED: without a quorum etcd answers {status} {body}")
+        return 1
+    return 0
+
+
+def a_long_line(members):
+    """Puts a long line into the log, and reads it."""
+    key, line = in_base64(b"long/0000000000"), in_base64(b"x" * LONG)
+    put = {"requestPut": {"key": key, "value": line}}
+    status, body = members.post(0, PATHS["append"], json.dumps({"compare": [], "success": [put]}))
+    read = members.post(0, PATHS["page"], json.dumps({"key": key}))
+    if status != 200 or read[0] != 200 or json.loads(read[1])["kvs"][0]["value"] != line:
+        print(f"FAILED: a line of {LONG} bytes: {status} {body}, and it reads back with status {read[0]}")
+        return 1
+    return 0
+
+
+def main():
+    """Compares the answers of etcd with the rows."""
+    if not shutil.which("etcd"):
+        print("SKIPPED: etcd is not installed, so its answers were not compared with those of the rows")
+        return
+    count, failed = 0, 0
+    first, second = groups()
+    with tempfile.TemporaryDirectory() as room:
+        with Members(room, 1) as members:
+            members.wait(0)
+            failed += compared(members, first)
+            users(members)
+            failed += compared(members, second)
+        count = len(first) + len(second)
+    with tempfile.TemporaryDirectory() as room, Members(room, 3) as members:
+        members.wait(0)
+        failed += a_long_line(members)
+        failed += without_a_quorum(members)
+    print(f"{count} answers of etcd")
+    sys.exit(failed > 0)
+
+
+if __name__ == "__main__":
+    main()
