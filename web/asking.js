@@ -45,12 +45,22 @@ function isReached(status, headers) {
   return status === 204 || headers.has('etag') || cache === 'HIT' || cache === 'UPDATING' ? null : true;
 }
 
+// The text of a response, or nothing if `hear` is told it piece by piece, as it comes.
+async function textOf(response, hear) {
+  if (!hear || response.status !== 200) return response.text();
+  const pieces = response.body.getReader(), decoder = new TextDecoder();
+  for (let it = await pieces.read(); !it.done; it = await pieces.read()) {
+    hear(decoder.decode(it.value, { stream: true }));
+  }
+  return '';
+}
+
 // Asks once. A body that is cut is no answer: fetch fails then, since its length is known.
-async function askOnce(path) {
+async function askOnce(path, hear) {
   let status = 0, text = '', headers = new Headers();
   try {
     const response = await fetch(path, { credentials: 'omit', cache: 'no-cache' });
-    text = await response.text();
+    text = await textOf(response, hear);
     ({ status, headers } = response);
   } catch { /* no answer */ }
   const reached = isReached(status, headers);
@@ -59,11 +69,11 @@ async function askOnce(path) {
   return { status, text, headers };
 }
 
-async function ask(path) {
+async function ask(path, hearing) {
   let waits = BUSY, got;
   for (let at = 0; at < waits.length; at += 1) {
     await pause(waits[at]);
-    got = await askOnce(path);
+    got = await askOnce(path, hearing?.());
     if (got.status === 200) return got;
     if (got.status === 0) waits = LOST;
     else if (![429, 503].includes(got.status)) break;
@@ -80,9 +90,10 @@ function ageOf(headers, began) {
   return Date.parse(headers.get('last-modified')) || began - KEPT;
 }
 
-// The text at a path; when it came, and from when it is at least, both by the clock of the proxy.
-export async function readDated(path) {
-  const began = clock(), { text, headers } = await ask(path);
+// The text at a path; when it came, and from when it is at least, both by the clock of the proxy. With `hearing` the
+// text is told piece by piece to what that returns: each try begins anew.
+export async function readDated(path, hearing) {
+  const began = clock(), { text, headers } = await ask(path, hearing);
   return { text, at: clock(), asOf: ageOf(headers, began) };
 }
 

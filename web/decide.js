@@ -9,7 +9,8 @@ import { isCurator, known, loaded, noteClosed, openPetitions, petitionNow } from
 import { me } from './session.js';
 import { Decision } from './decision.js';
 import { aboutPetition, numbersTable, standingOf, termsOf, vendorChoice, wishNow } from './pieces.js';
-import { follow } from './record.js';
+import { follow } from './entries.js';
+import { openInFiles } from './record.js';
 import { wordsIn } from './numbers.js';
 
 const PER_PAGE = 20;
@@ -34,7 +35,7 @@ function warnings(petition, open) {
   return parts;
 }
 
-// A petition of the queue. Its terms are asked for one by one, since no report has them.
+// A petition of the queue. Its terms are asked for by itself where no file has them.
 class Card {
   constructor(listed, queue) {
     Object.assign(this, { listed, queue, decision: null });
@@ -49,7 +50,8 @@ class Card {
   }
 
   async fill(waiting) {
-    const petition = await petitionNow(this.listed.id), owner = known.orgs.get(petition.org);
+    const { id } = this.listed, petition = this.queue.terms.get(id) ?? await petitionNow(id);
+    const owner = known.orgs.get(petition.org);
     const about = facts(['Wants', wishNow(petition)], ...termsOf(petition),
       ['Organisation', [owner && written(owner.title), ' (', orgLink(petition.org), ')']], ['Keeper', owner?.keeper]);
     this.decision = new Decision(petition, {
@@ -84,8 +86,8 @@ class Card {
 const ENDS = { grant: 'granted', decline: 'declined', withdraw: 'withdrawn' };
 
 class Queue {
-  constructor(open, { q = '', vendor = '', sort = '', page = '1' }) {
-    Object.assign(this, { open, vendor, page: Number(page), cards: [], closed: new Set() });
+  constructor(open, terms, { q = '', vendor = '', sort = '', page = '1' }) {
+    Object.assign(this, { open, terms, vendor, page: Number(page), cards: [], closed: new Set() });
     this.query = searchBox(q, () => this.filter());
     const sorts = SORTS.map(([value, words]) => [value, words]);
     this.sort = select({ id: 'sort', onchange: () => this.filter() }, sorts, sort);
@@ -204,7 +206,8 @@ const OTHER_ORDERS = [
 export async function decideView(_, given) {
   await loaded();
   if (!isCurator(me()?.name)) return ['Decide', h('p', {}, 'This page is for curators. Sign in as one.')];
-  const queue = new Queue(await openPetitions(), given);
+  const terms = openInFiles().catch(() => new Map()), open = await openPetitions();
+  const queue = new Queue(open, await terms, given);
   const isWanted = () => queue.list.isConnected || !queue.wasShown;
   follow(isWanted, it => queue.heard(it)).catch(() => { /* a view asks again */ });
   setTimeout(() => { queue.wasShown = true; }, 1000);

@@ -2,11 +2,13 @@
 
 import { Refused } from './asking.js';
 import {
-  addressOf, choices, counted, facts, grouped, h, note, numberLink, orderLink, orgLink, paged, searchBar, searchBox,
-  select, state, table, written,
+  addressOf, choices, counted, facts, fault, grouped, h, note, numberLink, orderLink, orgLink, paged, searchBar,
+  searchBox, select, state, table, written,
 } from './elements.js';
 import { numberIn } from './orders.js';
-import { founded, foundingVendor, isCurator, known, loaded, numberNow, orgNow } from './registry.js';
+import {
+  begun, founded, foundingVendor, isAllKnown, isCurator, known, loaded, numberNow, orgNow,
+} from './registry.js';
 import { FREE, HELD, RESERVED, RETURNED, STATES, hex } from './vendor.js';
 import { me } from './session.js';
 import { orgAndKeeper, standingOf, termsOf, vendorChoice } from './pieces.js';
@@ -34,6 +36,14 @@ class Search {
     this.count = h('p', { role: 'status', id: 'count' });
     this.rows = h('div', { id: 'rows' });
     this.links = h('div');
+    this.all = note();
+    this.show();
+  }
+
+  // Shows all, once all is known.
+  finish() {
+    const vendor = this.vendor = known.vendors.get(this.vendor.vid) ?? this.vendor;
+    this.all.textContent = `${vendor.counts().map((count, at) => `${grouped(count)} ${STATES[at]}`).join(', ')}.`;
     this.show();
     // before the first word is typed
     setTimeout(() => vendor.prepare(known.orgs));
@@ -54,7 +64,7 @@ class Search {
     const { vendor } = this, [, , states] = SHOWN.find(([value]) => value === this.kind.value) ?? SHOWN[0];
     const found = vendor.search(wordsIn(this.query.value), states, known.orgs);
     const { shown, words, links } = paged(found, this.page, PER_PAGE, page => this.address(page));
-    this.count.textContent = `${counted(found.length, 'number')}${words}`;
+    this.count.textContent = isAllKnown() ? `${counted(found.length, 'number')}${words}` : 'The numbers are read …';
     const cells = pid => [
       numberLink(vendor.vid, hex(pid)), written(vendor.titles[pid]),
       vendor.owners[pid] ? orgLink(vendor.owners[pid]) : '', state(STATES[vendor.states[pid]]),
@@ -67,20 +77,22 @@ class Search {
 
   // The one number that is written, whatever its state and its vendor.
   one() {
-    const it = numberIn(this.query.value), vid = it?.vendor ?? this.vendor.vid;
+    const it = isAllKnown() && numberIn(this.query.value), vid = it?.vendor ?? this.vendor.vid;
     if (!it || it.number === '0000' || !known.vendors.has(vid)) return [];
     return [numberLink(vid, it.number), ' is ', state(standingOf(vid, it.number).state), '.'];
   }
 }
 
+// The first table stands there before all numbers are read.
 export async function numbersView({ vendor: vid }, given) {
-  await loaded();
+  await begun();
   const vendor = known.vendors.get(vid ?? foundingVendor());
   if (!vendor) return null;
   const search = new Search(vendor, given);
-  const counts = vendor.counts().map((count, at) => `${grouped(count)} ${STATES[at]}`).join(', ');
+  if (isAllKnown()) search.finish();
+  else loaded().then(() => search.finish(), why => search.count.replaceChildren(fault(why.message)));
   return [
-    ['Numbers of ', written(vendor.name)], note(`${counts}.`),
+    ['Numbers of ', written(vendor.name)], search.all,
     searchBar(vendorChoice(vendor.vid, it => { location.hash = `#/numbers/${it}`; }),
       h('label', { class: 'wide' }, 'Search by number, title or organisation', search.query),
       h('label', {}, 'State', search.kind)),

@@ -63,7 +63,7 @@ const nameOfAll = () => spelt(known.founding?.name ?? 'USB numbers');
 async function showSession() {
   byId('me').hidden = byId('sign-out').hidden = me() === null;
   byId('sign-in').hidden = me() !== null;
-  byId('me').replaceChildren('Signed in as ', h('b', {}, me()?.name ?? ''));
+  byId('me').replaceChildren(h('span', {}, 'Signed in as '), h('b', {}, me()?.name ?? ''));
   if (me()) await founded().catch(() => { /* the view says so */ });
   byId('to-decide').hidden = !isCurator(me()?.name);
 }

@@ -100,3 +100,13 @@ export const readPetitions = text => linesOf(text)
   .map(line => line.match(/^ *(\d+) +(\S+) +(?:([0-9a-f]{4}):)?(any|[0-9a-f]{4}) +([^]*)$/))
   .map(([, id, org, vendor, want, title]) =>
     ({ id: Number(id), org, vendor, want: want === 'any' ? null : want, title }));
+
+// A file of entries: the place up to which it leaves out what is older, and below it each entry behind its number.
+export function readStory(text) {
+  const [left, ...lines] = linesOf(text);
+  const entryOf = line => {
+    const at = line.indexOf(' ');
+    return [Number(line.slice(0, at)) - 1, JSON.parse(line.slice(at + 1))];
+  };
+  return { left: Number(left), list: lines.map(entryOf) };
+}

@@ -18,11 +18,11 @@ let news = [];
 // What was read when, by what it is: `founding` alone, or `all`.
 const readings = {};
 
-function put(founding) {
+// Takes a founding, with the numbers of its vendors that were read.
+function put(founding, vendors = known.vendors) {
   known.founding = founding;
-  for (const { vendor, name } of founding.vendors) {
-    if (!known.vendors.has(vendor)) known.vendors.set(vendor, new Vendor(vendor, name));
-  }
+  const named = ({ vendor, name }) => Object.assign(vendors.get(vendor) ?? new Vendor(vendor), { name });
+  known.vendors = new Map(founding.vendors.map(it => [it.vendor, named(it)]));
 }
 
 async function readFounding() {
@@ -30,16 +30,54 @@ async function readFounding() {
   for (const it of news) it.put();
 }
 
-async function readAll() {
-  const [founding, numbers, organisations] =
-    await Promise.all([read('/founding'), readDated('/reports/numbers'), readDated('/reports/organisations')]);
-  known.vendors = new Map();
-  put(JSON.parse(founding));
-  known.orgs = new Map(readOrganisations(organisations.text));
-  for (const { vid, pid, state, owner, title } of readNumbers(numbers.text)) {
-    known.vendors.get(vid)?.put(pid, state, owner, title);
+// The numbers of vendors, as they come in pieces of the report. `enough` is called once many of them are there.
+const MANY = 1000;
+class Numbers {
+  constructor(enough) {
+    Object.assign(this, { vendors: new Map(), enough, rest: '', count: 0 });
   }
-  const asOf = Math.min(numbers.asOf, organisations.asOf) - WRITTEN;
+
+  hear(piece) {
+    const end = piece.lastIndexOf('\n') + 1, lines = end ? this.rest + piece.slice(0, end) : '';
+    this.rest = end ? piece.slice(end) : this.rest + piece;
+    for (const { vid, pid, state, owner, title } of readNumbers(lines)) {
+      if (!this.vendors.has(vid)) this.vendors.set(vid, new Vendor(vid));
+      this.vendors.get(vid).put(pid, state, owner, title);
+      this.count += 1;
+      if (this.count === MANY) this.enough(this.vendors);
+    }
+  }
+}
+
+// Whether all was read once. Before that, many numbers may be there already.
+let isWhole = false, tellMany;
+const many = new Promise(done => { tellMany = done; });
+export const isAllKnown = () => isWhole;
+
+async function readAll() {
+  const founding = read('/founding').then(JSON.parse);
+  let numbers;
+  const enough = async vendors => {
+    if (isWhole) return;
+    const it = await founding.catch(() => null);
+    // the last ones may be there by now, or another try began
+    if (!it || isWhole || numbers.vendors !== vendors) return;
+    for (const { vendor } of it.vendors) if (!vendors.has(vendor)) vendors.set(vendor, new Vendor(vendor));
+    put(it, vendors);
+    for (const it of news) it.put();
+    tellMany();
+  };
+  const hearing = () => {
+    numbers = new Numbers(enough);
+    return piece => numbers.hear(piece);
+  };
+  const [{ asOf: ofNumbers }, organisations] =
+    await Promise.all([readDated('/reports/numbers', hearing), readDated('/reports/organisations')]);
+  put(await founding, numbers.vendors);
+  known.orgs = new Map(readOrganisations(organisations.text));
+  for (const it of known.vendors.values()) it.text = null;
+  isWhole = true;
+  const asOf = Math.min(ofNumbers, organisations.asOf) - WRITTEN;
   news = news.filter(it => it.at >= asOf);
   for (const it of news) it.put();
 }
@@ -60,6 +98,8 @@ function fresh(what, reading) {
 // The founding alone; and all, of which the founding is a part.
 export const founded = () => readings.all?.now ?? fresh('founding', readFounding);
 export const loaded = () => fresh('all', readAll);
+// Resolves once many numbers are known, if not all.
+export const begun = () => Promise.race([loaded(), many]);
 
 // Has the next view read all anew.
 function renew() {

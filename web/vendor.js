@@ -6,7 +6,7 @@ export const ALL = 65536;
 export const hex = pid => pid.toString(16).padStart(4, '0');
 
 export class Vendor {
-  constructor(vid, name) {
+  constructor(vid, name = '') {
     const texts = () => new Array(ALL).fill('');
     Object.assign(this, { vid, name, states: new Uint8Array(ALL), owners: texts(), titles: texts(), text: null });
   }
@@ -57,7 +57,7 @@ export class Vendor {
 
   // The numbers that have all the words and one of the states, in order.
   search(words, states, orgs) {
-    this.prepare(orgs);
+    if (words.length) this.prepare(orgs);
     const wanted = words.map(word => this.having(word)), found = [];
     for (let pid = 1; pid < ALL; pid += 1) {
       if (states.includes(this.states[pid]) && wanted.every(has => has[pid])) found.push(pid);
