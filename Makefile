@@ -21,7 +21,7 @@ PROGRAM := crates/registry_cli/out/registry_cli
 UNITS ?= /etc/systemd/system
 PROGRAMS := $(shell find contrib -maxdepth 1 -type f -perm -u+x -printf '%f\n' | sort)
 # What is installed names the folder into which it is installed, and the program there.
-PLACED := sed -e 's:/usr/local/:$(PREFIX)/:g' -e 's:\(^\|[ (!]\)usbreg \(export\|history\|replay\) :\1$(PREFIX)/bin/usbreg \2 :'
+PLACED := sed -e 's:/usr/local/:$(PREFIX)/:g' -e 's:\(^\|[ (!]\)usbreg \(check\|export\|history\|replay\) :\1$(PREFIX)/bin/usbreg \2 :'
 
 .PHONY: all trial test mutants install install-service deb release bench
 

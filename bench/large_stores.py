@@ -13,10 +13,11 @@ from lib.usbreg import content, copy, found, opened, put_rows
 from order_cases import KEEPER, RUNS, SCALE, SITE
 
 HERE = os.path.dirname(os.path.abspath(__file__))
-# The accepted requests of the stores that are opened; the open petitions of the one that is reported on, the most of an
-# organisation, and their titles.
+# The accepted requests of the stores that are opened; the petitions of those that are reported on, how many of them are
+# open, the most of an organisation, and their titles.
 REQUESTS = [it // SCALE for it in (20_000, 200_000, 1_000_000)]
 PETITIONS, OF_EACH, TITLE = 1_000_000 // SCALE, 16, "L" * 200
+OPEN = [PETITIONS, 1_000]
 PUT_ORG = "INSERT INTO orgs VALUES (?, 'Workshop', ?, ?)"
 
 
@@ -29,11 +30,13 @@ def with_requests(usbreg, room, count):
     ))
 
 
-def with_petitions(usbreg, room, count):
-    """Makes a store with so many open petitions with the longest titles, and returns its path."""
+def with_petitions(usbreg, room, count, open_ones):
+    """Makes a store with so many petitions with the longest titles, of which the last are open and the others declined, and
+    returns its path."""
     return put_rows(found(usbreg, f"{room}/petitions.db"), (
         (PUT_ORG, ((f"o{it}", SITE, KEEPER) for it in range(count // OF_EACH + 1))),
-        ("INSERT INTO petitions3 VALUES (?, 0x1209, ?, NULL, ?, 'MIT', ?, ?, 0, NULL)", ((it + 1, f"o{it // OF_EACH}", TITLE, SITE, SITE) for it in range(count))),
+        ("INSERT INTO petitions3 VALUES (?, 0x1209, ?, NULL, ?, 'MIT', ?, ?, ?, NULL)",
+         ((it + 1, f"o{it // OF_EACH}", TITLE, SITE, SITE, 2 * (it < count - open_ones)) for it in range(count))),
     ))
 
 
@@ -80,8 +83,15 @@ def timed(run):
 
 
 def report(usbreg, room):
-    """Prints what the report of many open petitions takes, anew and as before, and how long an order waits for it."""
-    store = with_petitions(usbreg, room, PETITIONS)
+    """Prints what the report of many petitions takes, all open or few, anew and as before, and how long an order waits for it."""
+    print("\n| Petitions | Open | File | The report | Anew | As before | An order beside it | Memory above the opening's |\n|---|---|---|---|---|---|---|---|")
+    for open_ones in OPEN:
+        report_on(usbreg, room, open_ones)
+
+
+def report_on(usbreg, room, open_ones):
+    """Prints a row of that table."""
+    store = with_petitions(usbreg, room, PETITIONS, open_ones)
     with serving(usbreg, store).up() as server:
         opened_with, first = most_memory(server), connected(server.port)
         began = time.perf_counter()
@@ -94,11 +104,9 @@ def report(usbreg, room):
         reader.join()
         first.close()
         anew, seconds = taken[0]
-        if not answer.startswith(b"HTTP/1.1 200 ") or anew.count(b"\n") < PETITIONS:
+        if not answer.startswith(b"HTTP/1.1 200 ") or anew.count(b"\n") < open_ones:
             raise RuntimeError(f"an order gets {answer[:200]}, and the report {anew[:200]}")
         again, _ = timed(lambda: exchange(server.port, get("/reports/petitions")))
         peak = most_memory(server)
-    print(f"\n{PETITIONS:,} open petitions with titles of {len(TITLE)} bytes, in a file of {os.path.getsize(store) / 1e6:.1f} MB\n")
-    print("| The report | Anew | As before | An order beside it | Memory above the opening's | Of the report |\n|---|---|---|---|---|---|")
-    more = peak - opened_with
-    print(f"| {len(anew) / 1e6:.1f} MB | {seconds:.2f} s | {again:.2f} s | {waited:.2f} s | {more / 1e6:.1f} MB | {more / len(anew):.2f} |", flush=True)
+    size, more = os.path.getsize(store), peak - opened_with
+    print(f"| {PETITIONS:,} | {open_ones:,} | {size / 1e6:.1f} MB | {len(anew) / 1e6:.1f} MB | {seconds:.2f} s | {again:.2f} s | {waited:.2f} s | {more / 1e6:.1f} MB |", flush=True)

@@ -5,7 +5,7 @@ them. The full store has a vendor whose 65,535 numbers are all owned, one whose 
 petitions, and all organisations, vendors and licences but those that the accepted orders add.
 
 Then it times pages of the record where imports of the most titles, each of the most bytes, stand, beside a page of small
-requests; an opening by the number of accepted requests, with its memory; and the report of a million open petitions
+requests; an opening by the number of accepted requests, with its memory; and the report of a million petitions, all open or few
 (`large_stores.py`).
 
 Prints tables for docs/performance.md: the median of each in milliseconds, with its connection, from a client in Python,

@@ -21,7 +21,7 @@ from lib.usbreg import TOP, done, folder, program, run, same
 
 # What is typed, and what it becomes.
 TYPED = {
-    "usbreg imp": ["import"], "usbreg re": ["replay", "report"], "usbreg report store.db cen": ["census"],
+    "usbreg imp": ["import"], "usbreg che": ["check"], "usbreg re": ["replay", "report"], "usbreg report store.db cen": ["census"],
     "usbreg import --ca": ["--caller"], "usbreg apply store.db --ans": ["--answered"], "usbreg help hist": ["history"],
 }
 PATIENCE = 60

@@ -52,7 +52,7 @@ def move_in(mover, made):
     same("numbers that are not free besides", {it[1] for it in set(states) - set(made.states)}, set(range(1, 0x11)))
     # taken again, each request gets its first reply, and nothing changes
     before = mover.rows("numbers.db")
-    mover.runs(mover.block(MOVE).split("\n", 1)[1])
+    mover.runs(mover.block(MOVE).split("\n", 2)[2])
     same("the rows after the same commands", mover.rows("numbers.db"), before)
     return counts
 

@@ -43,6 +43,8 @@ VERDICT = re.compile(r"^fn \w+::(\S+): (.*)$", re.M)
 GOAL = re.compile(r"^note: (?:\./)?((src/\S+?):(\d+):\d+: it is not proved that .*)$", re.M)
 PROOF = re.compile(r"^(?:\./)?(proofs/(\S+)/(?:Answers|Invariants|Proof)\.antt:\d\S* error: .*(?:\n  .*)*)$", re.M)
 REJECTED = re.compile(r"^(?:\./)?((src/\S+?):(\d+):\d+: error\b.*)$", re.M)
+# The verdict on a body for which an answer fails, and no goal that the check proves by itself: another answer might do.
+BY_PROOF = "refused by its old proof"
 # Errors of a proof that follow from another declaration, or from a name that the edited body no longer has.
 FOLLOWS = re.compile(r"has no field|has no `|is not in scope|is no name|was not admitted|depends? on")
 
@@ -132,23 +134,25 @@ def check(crate, edits):
 
 
 def judge(said, edit):
-    """Returns whether what a check printed shows a bad edit, a refused one or none of these, and the words for it."""
+    """Returns whether what a check printed shows a bad edit, a refused one, also by its old proof alone, or none of these, and
+    the words for it."""
     for it in edit.functions:
         stands = [words for name, words in VERDICT.findall(said) if it.owns(name.split("::"))]
         wrong = [words for words, *at in REJECTED.findall(said) if (at[0], int(at[1])) in edit.lines or it.has(*at)]
         wrong += [words for words in stands if "the borrow checker does not cover this function" in words]
         goals = [words for words, *at in GOAL.findall(said) if it.has(*at)]
-        proofs = [words for words, folder in PROOF.findall(said) if it.owns(folder.split("/"))]
-        goals += [words for words in proofs if not FOLLOWS.search(words)]
         goals += [words for words in stands if "`search` did not prove" in words]
-        if wrong or goals:
-            return ("a bad edit", wrong[0]) if wrong else ("refused", goals[0])
+        proofs = [words for words, folder in PROOF.findall(said) if it.owns(folder.split("/"))]
+        proofs = [words for words in proofs if not FOLLOWS.search(words)]
+        if wrong or goals or proofs:
+            return ("a bad edit", wrong[0]) if wrong else ("refused", goals[0]) if goals else (BY_PROOF, proofs[0])
     is_cut = not ENDED.search(said)
     return ("not tried", f"its check did not end: {said[-400:]}") if is_cut else ("not refused", "; ".join(stands))
 
 
 def try_round(crate, edits):
-    """Tries edits in one check, and in others what it does not decide. Returns by name why each failed, or None."""
+    """Tries edits in one check, and in others what it does not decide. Returns by name why each failed, None for one that is
+    refused, or nothing for one that its old proof alone refuses."""
     begun, said = time.monotonic(), check(crate, edits)
     print(f"{crate.name}: {len(edits)} in one check, {time.monotonic() - begun:.0f} s", flush=True)
     judged = {it: judge(said, it) for it in edits}
@@ -160,7 +164,7 @@ def try_round(crate, edits):
     found = {}
     for it in (it for it in edits if not any(it in others for others in again)):
         verdict, words = judged[it]
-        found[it.name] = None if verdict == "refused" else f"{verdict}: {words}"
+        found[it.name] = {"refused": None, BY_PROOF: ""}.get(verdict, f"{verdict}: {words}")
         print(f"{it.name}: {verdict}: {words.partition(chr(10))[0][:160]}", flush=True)
     for others in again:
         found.update(try_round(crate, others))
@@ -219,8 +223,8 @@ def self_test(jobs):
             Path(top, name).parent.mkdir(parents=True, exist_ok=True)
             Path(top, name).write_text(text, "utf-8")
         found = try_all(top, f"{top}/mutants", [], jobs)
-    told = {it: found.get(it, "missing") or "refused" for it in wanted}
-    is_right = lambda it: re.match(rf"(a bad edit: .*)?{wanted[it]}", told[it])
+    told = {it: {None: "refused", "": BY_PROOF}.get(found.get(it, "missing"), found.get(it)) for it in wanted}
+    is_right = lambda it: re.match(rf"(a bad edit: .*)?{wanted[it]}", told[it]) and (wanted[it] == "refused") == (told[it] == "refused")
     wrong = [f"FAILED: {it}: {told[it]}, and not: {wanted[it]}" for it in wanted if not is_right(it)]
     print("\n".join([*wrong, f"{len(wanted) - len(wrong)} passed, {len(wrong)} failed"]))
     return 1 if wrong else 0
@@ -242,6 +246,9 @@ def main():
     option = "" if given.edits == f"{TOP}/mutants" else f"--edits {given.edits} "
     for name, why in failed.items():
         print(f"FAILED: {name}: {' '.join(why.split())[:300]}; alone: scripts/mutants.py {option}{name}")
+    by_proof = sorted(it for it, why in found.items() if why == "")
+    print("".join(f"{BY_PROOF} alone: {it}\n" for it in by_proof), end="")
+    print(f"{list(found.values()).count(None)} refused by a goal, {len(by_proof)} by their old proofs alone")
     print(f"{len(found) - len(failed)} passed, {len(failed)} failed")
     return 1 if failed else 0
 

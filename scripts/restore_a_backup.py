@@ -45,14 +45,22 @@ class BackedUp(Machine):
             return [tuple(row) for row in connection.execute("SELECT caller, request_key FROM kept ORDER BY rowid")]
 
 
+def must_back_up(machine, commands):
+    """Makes a backup, whose copy is found sound."""
+    ended = machine.runs(commands)
+    if ended[0] or not re.fullmatch(rb"sound: \d+ requests, \d+ numbers held\n", ended[1]):
+        sys.exit(f"{commands}\nended with {ended}")
+
+
 def back_up_in_motion(machine, again):
     """Makes backups while the orders of rounds come, and checks what each holds. Returns the last round, which is whole."""
     requests, earlier = list(rounds(ROUNDS + 1, 100 * ROUNDS)), len(machine.kept())
-    with Orders(machine, requests) as orders:
+    # They come for as long as the backups take.
+    with Orders(machine, requests, 0.005) as orders:
         for _ in range(BACKUPS):
             orders.go_on(5)
             before = orders.done
-            machine.must_run(again)
+            must_back_up(machine, again)
             after, held = orders.done, machine.kept()[earlier:]
             if held != [(it["caller"], it["key"]) for it in requests[: len(held)]] or not before <= len(held) <= after + 1:
                 sys.exit(f"{before} orders were acknowledged before the backup and {after} after it, and it holds {len(held)}: {held[-3:]}")
@@ -165,10 +173,10 @@ def main():
         machine.must_run("systemctl start usbreg")
         try:
             machine.send(rounds(1, ROUNDS))
-            machine.must_run(backup)
+            must_back_up(machine, backup)
             last = back_up_in_motion(machine, again)
             before, later = machine.rows(), list(rounds(last + 1, last + ROUNDS))
-            machine.must_run(again)
+            must_back_up(machine, again)
             machine.send(later)
             restore_twice(machine, restore, later, before)
             forks(usbreg, machine, restore, later)

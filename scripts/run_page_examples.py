@@ -3,7 +3,7 @@
 docs/requests.md, which get the replies in its table, and the example in the help of each command. The commands begin in a
 new folder that has `examples/` of the repository, and run in order, in one shell.
 
-Each link of a page leads to a file of the repository, and to a heading there. Each command of a page must print what the page shows below it, and end with status 0 if that is no fault. Of a run that
+Each link of a page leads to a file of the repository, and to a heading there. Each command of a page must print what the page shows below it, and end with status 0 if that is no fault and no failed check. Of a run that
 `head` stops the fault may be missing, as the page says. Each line of a help must end with status 0, and print nothing on its
 standard error. A server gets a free port, and is waited for.
 
@@ -31,7 +31,7 @@ def is_shown(words, status, output, wanted):
     """Whether a command did what the page shows."""
     if "| head " in words:
         output, wanted = (it.removesuffix(STOPPED) for it in (output, wanted))
-    return output == wanted and (status == 0) == ("fault: " not in output)
+    return output == wanted and (status == 0) == (not any(it in output for it in ("fault: ", "no fresh number")))
 
 
 def run_page(usbreg, name, text):

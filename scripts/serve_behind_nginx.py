@@ -10,9 +10,11 @@ count as one.
 
 Then another user's order comes in time beside each flood of `lib/floods.py`: orders and lists that are refused, a curator's
 orders and lists from many addresses, long queries and pages of the record without end, passwords, more reads than the server
-can have, and a storm of all. Refusals add nothing to the logs, nor do half handshakes and half heads. Messages that come while
-the server is down for a moment wait for it. docs/contracts.md has the numbers. contrib/follow and contrib/publish-list refuse
-what is no record and no list of a registry (`lib/upstreams.py`).
+can have, and a storm of all. Refusals add nothing to the logs, nor do half handshakes and half heads; wrong passwords are
+counted, each of them in few bytes (`lib/wrong_passwords.py`). Messages that come while the server is down for a moment wait for
+it. docs/contracts.md has the numbers. contrib/follow and contrib/publish-list refuse what is no record and no list of a registry
+(`lib/upstreams.py`). contrib/publish-stories writes the same files of a record at once and bit by bit, and keeps them short
+(`lib/stories.py`).
 
 The proxy has the list as a file and a compressed one, by contrib/publish-list, and before that it keeps it as it does
 the reports, also while the server is down. Its log has the name and the key of each order, and keeps them by
@@ -21,8 +23,9 @@ history can be kept to some addresses. With the configuration of Debian's packag
 
 Usage: scripts/serve_behind_nginx.py [--planted] [PROGRAM [NUMBERS]], by default the one that `make` builds, and 56000 numbers.
 With --planted it takes the limit of each flood out of the configuration, one by one, and checks that this is noticed. If
-nginx is not installed it says that it was skipped, and likewise for what needs `logrotate` or `openssl`. The exit status is 0
-if all of this holds."""
+nginx is not installed it says that it was skipped, and likewise for what needs `logrotate` or `openssl`. As root it lets the
+system schedule the proxy, the server and the other user before all else while a flood runs, so that it may run beside other
+work. The exit status is 0 if all of this holds."""
 
 import collections
 import concurrent.futures
@@ -39,6 +42,7 @@ from lib.floods import FLOODS, READS, is_noticed, least
 from lib.proxy import CURATOR, DEBIAN, NO_CURATOR, NO_SLUG, ByField, Gate, Guarded, Packaged, Recipe, Small, by_proxy, closing, connected, refusal, signed, told
 from lib.proxy_keeps import a_list_as_a_file, logged, rotated, what_is_kept
 from lib.serving import HOST, command, free_port, get, message, post, serving
+from lib.stories import publish_stories
 from lib.upstreams import follow_bad_registries, publish_bad_lists
 from lib.usbreg import folder, found, program, same, write
 
@@ -221,7 +225,7 @@ def guarded(recipe):
     gate = Gate(recipe.port, has_tls=True)
     gate.gives("over TLS", get("/numbers/0012"), 200, b'{"number":"0012","state":"free"}\n')
     Gate(recipe.port).gives("without TLS", get("/numbers/0012"), *by_proxy(400))
-    for path in ("/history/0", "/history/founding", "/%68istory/0", "//history/0", "/orgs/../history/0"):
+    for path in ("/history/0", "/history/founding", "/stories/head", "/%68istory/0", "//history/0", "/orgs/../history/0"):
         gate.gives(f"{path} from elsewhere", get(path), *by_proxy(403), address="127.0.0.9")
         if gate.ask(get(path))[1] == by_proxy(403)[1]:
             sys.exit(f"{path}: the history is refused to all")
@@ -290,6 +294,7 @@ def main():
             if not shutil.which(it):
                 sys.exit(f"{it} is not installed")
         publish_bad_lists(room)
+        publish_stories(room)
         refused = follow_bad_registries(usbreg, room)
     print("contrib/nginx.conf: names, sizes, slow and many clients, the list, the reports and the log are as they should be; another")
     print(f"user's order takes at most, and more of each flood:\n{flooded};\n{refused} registries that are none were not followed")

@@ -9,14 +9,18 @@ script skipped. The exit status is 0 if all of this holds. Each option does some
 
   --pictures FOLDER  takes pictures of the main views
   --many             times the table and the search over all 65,535 numbers, and compares the times with the limits
+  --slow             times the first views of 60,000 numbers over a slow line on a slow machine, and compares them with the aims
   --heard            writes cases/heard.txt, what a screen reader is told of each view
-  --planted [WORDS]  puts bugs into the page, those whose names have the words, and sees that a part notices each"""
+  --planted [WORDS]  puts bugs into the page, those whose names have the words, some side by side, and sees that a part
+                     notices each"""
 
 import argparse
+import concurrent.futures
+import contextlib
 import json
 import os
+import queue
 import shutil
-import statistics
 import subprocess
 import sys
 import time
@@ -24,20 +28,19 @@ import time
 from lib.browsing import Browser, Page, missing
 from lib.page_heard import is_heard, writes_heard
 from lib.page_story import STORY
+from lib.page_times import imported, time_many, time_slow
 from lib.planted import PLANTED
 from lib.proxy import Recipe
 from lib.serving import HOST
 from lib.staging import BEFORE, CURATOR, Stage
-from lib.usbreg import TOP, content, copy, done, folder, program, write
+from lib.usbreg import TOP, content, copy, folder, program, write
 
 # The seconds that a person waits for what the page should show, and for what a bug may keep from being shown; in these
 # parts the proxy itself waits for the server.
 PATIENCE, HASTE = 30, 10
 LONG = ("finds_the_server_down",)
-# The milliseconds until the table of all numbers stands there, and until a search is on the screen.
-TABLE, SEARCH = 1000, 100
-# A store takes lists of so many devices.
-LIST = 8190
+# So many bugs are planted side by side.
+SIDE_BY_SIDE = 4
 
 
 def tell(usbreg, keep=lambda part, stage: None, parts=STORY):
@@ -69,16 +72,11 @@ def read_in_node(folder_of_page=f"{TOP}/web"):
 
 class Planting:
     """Parts of the story, each by itself from the store that it begins with, over a page with a bug. One browser is used
-    for all; each stage has a port of its own, so the browser keeps nothing from the one before."""
+    for all; each stage has a port of its own, so the browser keeps nothing from the one before. `stores` has the stores."""
 
-    def __init__(self, usbreg, room, browser):
-        self.usbreg, self.room, self.browser, self.count = usbreg, room, browser, 0
+    def __init__(self, usbreg, stores, room, browser):
+        self.usbreg, self.stores, self.room, self.browser, self.count = usbreg, stores, room, browser, 0
         self.parts = {part.__name__: (part, who) for part, who in STORY}
-        # the workers of nginx are another user
-        os.chmod(room, 0o755)
-
-    def keep(self, part, stage):
-        copy(stage.store, f"{self.room}/{part}.db")
 
     def act(self, name, edits=()):
         """Returns why the part failed, or nothing."""
@@ -86,7 +84,7 @@ class Planting:
         room = f"{self.room}/{self.count}"
         os.mkdir(room)
         part, who = self.parts[name]
-        with Stage(self.usbreg, room, Recipe, edits, store=f"{self.room}/{name}.db") as stage:
+        with Stage(self.usbreg, room, Recipe, edits, store=f"{self.stores}/{name}.db") as stage:
             page = Page(self.browser, f"http://{HOST}:{stage.recipe.port}/", PATIENCE if name in LONG else HASTE)
             self.in_new_window()
             try:
@@ -111,40 +109,63 @@ class Planting:
         self.browser.prepare()
 
 
-def missed(planting, edits):
-    """Returns whether a bug is not noticed, and says what noticed it."""
-    what, catcher, *changes = edits
-    if catcher == "node":
-        with folder() as room:
-            shutil.copytree(f"{TOP}/web", f"{room}/web")
-            for file, old, new in changes:
-                write(f"{room}/web/{file}", content(f"{room}/web/{file}").decode().replace(old, new))
-            why = read_in_node(f"{room}/web")
-    else:
-        why = planting.act(catcher, changes)
-    print(f"{what}: {f'noticed by {catcher}: {why}' if why else 'NOT NOTICED'}", flush=True)
-    return not why
+class Side:
+    """Several plantings side by side, for a `with`."""
+
+    def __init__(self, usbreg, stores):
+        self.usbreg, self.stores, self.free, self.opened = usbreg, stores, queue.Queue(), contextlib.ExitStack()
+        self.pool = concurrent.futures.ThreadPoolExecutor(SIDE_BY_SIDE)
+
+    def __enter__(self):
+        for number in range(SIDE_BY_SIDE):
+            room = f"{self.stores}/{number}"
+            os.mkdir(room)
+            # the workers of nginx are another user
+            os.chmod(room, 0o755)
+            self.free.put(Planting(self.usbreg, self.stores, room, self.opened.enter_context(Browser(room))))
+        return self
+
+    def __exit__(self, *_):
+        self.pool.shutdown(cancel_futures=True)
+        self.opened.close()
+
+    def act(self, catcher, changes=()):
+        """Returns why a part of the story failed, or the tests without a browser, or nothing."""
+        if catcher == "node":
+            with folder() as room:
+                shutil.copytree(f"{TOP}/web", f"{room}/web")
+                for file, old, new in changes:
+                    write(f"{room}/web/{file}", content(f"{room}/web/{file}").decode().replace(old, new))
+                return read_in_node(f"{room}/web")
+        planting = self.free.get()
+        try:
+            return planting.act(catcher, changes)
+        finally:
+            self.free.put(planting)
+
+    def all(self, acts):
+        """Yields what each of these gives, in their order: a catcher, and changes."""
+        yield from self.pool.map(lambda it: self.act(*it), acts)
 
 
 def plant(usbreg, some):
-    """Puts each bug into the page by itself, of those whose name has these words."""
-    bugs = [it for it in PLANTED if some in it[0]]
-    with folder() as room, Browser(room) as browser:
-        planting = Planting(usbreg, room, browser)
-        if failed := tell(usbreg, planting.keep):
+    """Puts each bug into the page by itself, of those whose name has these words, several side by side."""
+    bugs, began = [it for it in PLANTED if some in it[0]], time.monotonic()
+    parts = list(dict.fromkeys(it[1] for it in bugs if it[1] != "node"))
+    with folder() as room:
+        os.chmod(room, 0o755)
+        if failed := tell(usbreg, lambda part, stage: copy(stage.store, f"{room}/{part}.db")):
             sys.exit(f"{failed[0]}: {failed[1]}")
-        for name in dict.fromkeys(it[1] for it in bugs if it[1] != "node"):
-            if why := planting.act(name):
-                sys.exit(f"{name} by itself, without a bug: {why}")
-        left = [it[0] for it in bugs if missed(planting, it)]
-    print(f"{len(bugs) - len(left)} of {len(bugs)} bugs noticed")
+        with Side(usbreg, room) as side:
+            for name, why in zip(parts, side.all((it,) for it in parts)):
+                if why:
+                    sys.exit(f"{name} by itself, without a bug: {why}")
+            left = []
+            for (what, catcher, *_), why in zip(bugs, side.all((it[1], it[2:]) for it in bugs)):
+                print(f"{what}: {f'noticed by {catcher}: {why}' if why else 'NOT NOTICED'}", flush=True)
+                left += [] if why else [what]
+    print(f"{len(bugs) - len(left)} of {len(bugs)} bugs noticed, in {(time.monotonic() - began) / 60:.1f} minutes")
     sys.exit("\n".join(left) or None)
-
-
-def imported(usbreg, store, room, org, pids, title):
-    """Imports numbers with titles for an organisation, as a curator does."""
-    lines = "".join(f"\t{pid:04x}  {title.format(pid)}\n" for pid in pids)
-    done([usbreg, "import", store, write(f"{room}/list.ids", f"1209  x\n{lines}"), "--caller", CURATOR, "--key", f"i{pids[0]}", "--org", org])
 
 
 def lines(*requests):
@@ -187,42 +208,12 @@ def picture(usbreg, into):
             page.picture(f"{into}/web-decide.png", 1100, False, 900)
 
 
-# Resolves to the milliseconds since the page was asked for, once the table stands there.
-UNTIL_TABLE = """const done = arguments[0], look = () => document.querySelector('#rows tbody tr') ? setTimeout(() => done(performance.now())) : requestAnimationFrame(look); look()"""
-# Resolves to the milliseconds until a search is on the screen, and to what it found.
-UNTIL_FOUND = """const [words, done] = arguments, box = document.querySelector('#query'), began = performance.now();
-box.value = words; box.dispatchEvent(new Event('input'));
-requestAnimationFrame(() => setTimeout(() => done([performance.now() - began, document.querySelector('#count').textContent])))"""
-
-
-def time_many(usbreg):
-    """Times the page over a registry in which each number has an owner or is reserved."""
-    with folder() as room, Stage(usbreg, room, Recipe) as stage:
-        stage.kill()
-        for first in range(1, 65536, LIST):
-            imported(usbreg, stage.store, room, "bobs-boards", range(first, min(first + LIST, 65536)), "Logic analyser board {:04x}")
-        stage.start()
-        with Browser(room) as browser:
-            page = Page(browser, f"http://{HOST}:{stage.recipe.port}/", PATIENCE)
-            page.load()
-            times = []
-            for _ in range(5):
-                page.driver.get("about:blank")
-                page.driver.get(page.address)
-                times.append(page.driver.execute_async_script(UNTIL_TABLE))
-            searches = [page.driver.execute_async_script(UNTIL_FOUND, words) for words in ("logic", "board 7f0", "nothing", "bob's", "a", "")]
-    for taken, found in searches:
-        print(f"a search takes {taken:.0f} ms: {found}")
-    print(f"the table stands there after {statistics.median(times):.0f} ms ({', '.join(f'{it:.0f}' for it in times)})")
-    if statistics.median(times) > TABLE or statistics.median(it for it, _ in searches) > SEARCH:
-        sys.exit(f"more than {TABLE} ms for the table, or {SEARCH} ms for a search")
-
-
 def main():
     options = argparse.ArgumentParser(usage=__doc__)
     options.add_argument("program", nargs="?")
     options.add_argument("--pictures", metavar="FOLDER")
     options.add_argument("--many", action="store_true")
+    options.add_argument("--slow", action="store_true")
     options.add_argument("--heard", action="store_true")
     options.add_argument("--planted", nargs="?", const="", metavar="WORDS")
     given = options.parse_args()
@@ -233,6 +224,8 @@ def main():
         picture(usbreg, os.path.abspath(given.pictures))
     elif given.many:
         time_many(usbreg)
+    elif given.slow:
+        time_slow(usbreg)
     elif given.planted is not None:
         plant(usbreg, given.planted)
     elif given.heard:

@@ -120,6 +120,8 @@ def limit(first, given):
     given |= passwords(said)
     same("the names", said.splitlines()[-4:], ["curator-1 open", "curator-2 open", "ann open", "mallory locked"])
     same("a locked name", first.order("mallory", given["mallory"], "walk-1", ENROL), '{"proxy":401}\n')
+    # nginx writes what it counts when it begins a new file, or after a minute
+    first.waits("the count of wrong passwords", "nginx -s reopen; /usr/lib/usbreg/watch | grep -q '^ok  passwords  *1 were wrong'")
     same("a name that is there", first.runs("/usr/lib/usbreg/names add ann")[0], 1)
     same("the hash of a password", "ann:$2y$" in first.must_run("cat /etc/nginx/usbreg.users"), True)
     given |= passwords(first.step("Curators"))

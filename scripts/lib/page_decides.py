@@ -28,6 +28,7 @@ def focused(page):
 def decides(page, stage):
     """The queue shows what one needs to decide, to curators alone; what is granted is what was pressed."""
     page.sign_in(CURATOR)
+    stands_in_one_line(page)
     page.press("#to-decide")
     page.until(lambda: counts(page) == "17 open petitions.", "all petitions in the queue")
     for text in ("1209:0011, now free", "https://acme.example/src at acme.example", "Acme Tools (acme)", "Keeper\nann",
@@ -46,6 +47,15 @@ def decides(page, stage):
     page.open("decide")
     page.has("13 open petitions.", "#count")
     page.has("1209:0011 is not free: it is held.", card(18))
+
+
+def stands_in_one_line(page):
+    """On a screen of 1,100 dots all links of the page stand in one line, also that to the rules."""
+    page.browser.look(1100)
+    tops = page.run("document.querySelector('#to-rules').hidden = false; return [...document.querySelectorAll('header nav a')].map(it => it.offsetTop)")
+    same("the lines of the links", (len(tops), len(set(tops))), (8, 1))
+    page.run("document.querySelector('#to-rules').hidden = true")
+    page.browser.look(1280)
 
 
 def decide(page, stage, petition, words, title, reply, shown):

@@ -12,6 +12,7 @@ from lib.page_orders import (
     amends, asks, asks_of_another_vendor, enrols, goes_on_with_a_form, returns_what_it_names, sees_a_grant_at_once, signs_in,
 )
 from lib.page_reads import by_keyboard, can_be_read, is_kept_in, shows_texts_as_texts
+from lib.page_stories import reads_the_files_of_the_record
 from lib.staging import CURATOR
 
 ANN = "ann"
@@ -23,5 +24,6 @@ STORY = (
     (is_told_by_what_is_kept, ANN), (gives_an_equal_order, ANN), (asks_of_another_vendor, ANN),
     (tells_wherever_one_is, ANN), (decides, ANN), (decides_on_many, CURATOR), (curates, CURATOR), (corrects, CURATOR),
     (sees_a_grant_at_once, CURATOR), (returns_what_it_names, ANN), (amends, ANN), (shows_texts_as_texts, ANN),
-    (by_keyboard, None), (can_be_read, ANN), (is_heard, ANN), (is_kept_in, ANN),
+    (by_keyboard, None), (can_be_read, ANN), (is_heard, ANN), (reads_the_files_of_the_record, ANN),
+    (is_kept_in, ANN),
 )

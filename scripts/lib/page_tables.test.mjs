@@ -9,7 +9,7 @@ import { test } from 'node:test';
 const { WEB, TOP } = process.env;
 const { ORDERS, check, fieldsIn, numberIn, orderOf, valueIn, wordsOf, wrongIn } = await import(`${WEB}/orders.js`);
 const {
-  fieldsOf, inWords, jsonOr, readNumbers, readOrganisations, readPetitions, readReply,
+  fieldsOf, inWords, jsonOr, readNumbers, readOrganisations, readPetitions, readReply, readStory,
 } = await import(`${WEB}/reading.js`);
 const { addressAt, readAddress } = await import(`${WEB}/address.js`);
 const { linksIn, partsOf } = await import(`${WEB}/rules.js`);
@@ -113,6 +113,46 @@ test('an address is read once, in lower case, or is none', () => {
   for (const it of ['/', '/1209/00110/', '/org/a/b', '/list']) assert.equal(addressAt(it), '', it);
 });
 
+test('numbers are read as they come, and again if they are cut', async () => {
+  const { begun, isAllKnown, known, loaded } = await import(`${WEB}/registry.js`);
+  const digits = at => at.toString(16).padStart(4, '0');
+  const line = at => `1209  ${digits(at + 1)}  held      acme                              \u00fcber ${at}\n`;
+  const lines = Array.from({ length: 1500 }, (_, at) => line(at));
+  let tries = 0, goOn;
+  const rest = new Promise(done => { goOn = done; });
+  // the number 0005 is free by the second try
+  const numbers = isCut => {
+    const bytes = new TextEncoder().encode((isCut ? lines : lines.toSpliced(4, 1)).join(''));
+    let at = 0;
+    const pull = async it => {
+      if (at > 0 && isCut) return it.error(new Error('cut'));
+      if (at > 0) await rest;
+      const end = at === 0 ? 75001 : at + 997;
+      it.enqueue(bytes.slice(at, end));
+      at = end;
+      return at < bytes.length || it.close();
+    };
+    return new ReadableStream({ pull });
+  };
+  const vendors = [{ vendor: '1209', name: 'Shared' }, { vendor: 'beef', name: 'Beef' }];
+  const founding = JSON.stringify({ vendor: '1209', curators: [], licences: [], vendors });
+  const org = 'acme                              ann                               Acme\n';
+  globalThis.fetch = async path => {
+    if (path === '/reports/numbers') return new Response(numbers((tries += 1) === 1));
+    return new Response(path === '/founding' ? founding : org);
+  };
+  await begun();
+  assert.equal(isAllKnown(), false);
+  assert.equal(known.vendors.get('1209').titles[1000], '\u00fcber 999');
+  setTimeout(goOn, 700);
+  await loaded();
+  assert.deepEqual([tries, isAllKnown()], [2, true]);
+  const { titles, owners } = known.vendors.get('1209');
+  assert.deepEqual([titles.filter(Boolean).length, titles[5]], [1499, '']);
+  assert.deepEqual([titles[1500], owners[1500]], ['\u00fcber 1499', 'acme']);
+  assert.deepEqual([...known.vendors.keys(), known.orgs.get('acme').title], ['1209', 'beef', 'Acme']);
+});
+
 test('rules are read as parts, and links of the web in them', () => {
   const text = '# One\r\n\r\nTwo\nlines\n- a\n  b\n\nThree\n2) c\n#4\n### Five\nSix';
   assert.deepEqual(partsOf(text).map(it => [it.kind, it.text]), [
@@ -142,6 +182,8 @@ test('reports are read by their columns', () => {
     { id: 12, org: 'bobs-boards', vendor: 'cafe', want: null, title: 'any  thing' },
     { id: 1000000, org: 'acme', vendor: undefined, want: '00ab', title: '\u00e9' },
   ]);
+  assert.deepEqual(readStory('7\n8 {"title":"A  b\u2028"}\n12 {}\n'), { left: 7, list: [[7, { title: 'A  b\u2028' }], [11, {}]] });
+  assert.deepEqual(readStory('0'), { left: 0, list: [] });
   assert.equal(jsonOr('{', 7), 7);
   assert.equal(jsonOr('null', 7), 7);
 });

@@ -146,6 +146,7 @@ DECIDES = (
      ("decision.js",
       "petition: this.petition.id }",
       "petition: Number(document.querySelector('.card h2 a').textContent.slice(9)) }")),
+    ("a link for curators in a second line", "decides", ("style.css", "  #me span { position: absolute;", "  #me i { position: absolute;")),
     ("a focus that stays", "decides", ("decide.js", "if (isOwn && !this.isMany) this.step(card, 1)?.focus();", "")),
     ("a taken number that is not marked", "decides", ("decide.js", "state !== 'free' && !isOwn", "false")),
     ("rivals that are not marked", "decides", ("decide.js", "if (others.length)", "if (false)")),
@@ -171,9 +172,31 @@ TABLES = (
     ("an order without a field", "node", ("orders.js", "[vendor, number, ...terms]", "[number, ...terms]")),
     ("a reply that is not read", "node", ("reading.js", "[/^(reserved|released) ", "[/^(reserved) ")),
     ("a stop behind a number", "node", ("orders.js", ".replace(/[.,;/]+$/, '')", "")),
+    ("a place that is one further", "node", ("reading.js", "Number(line.slice(0, at)) - 1", "Number(line.slice(0, at))")),
+    ("numbers that are put twice after a cut", "node", ("registry.js", "    numbers = new Numbers(enough);\n", "    numbers ??= new Numbers(enough);\n")),
+    ("a line that is cut between two pieces", "node", ("registry.js", "this.rest + piece.slice(0, end)", "piece.slice(0, end)")),
+    ("a first table that waits for all", "node", ("registry.js", "      if (this.count === MANY) this.enough(this.vendors);\n", "")),
     ("a refusal without words", "node",
      ("reading.js", "  35: [() => 'This licence is allowed already.', 'licence'],\n", "")),
     ("a title that is too long", "node", ("orders.js", "if (bytesOf(text) > 200)", "if (text.length > 200)")),
 )
 
-PLANTED = (*KEYS, *QUESTIONS, *FORMS, *LOOKS, *SLOW, *DECIDES, *TABLES)
+FILES = (
+    ("files that are not asked for", "reads_the_files_of_the_record",
+     ("entries.js", "/^\\d+\\n$/.test(text) ? Number(text) : null", "null")),
+    ("files that the proxy does not serve", "reads_the_files_of_the_record",
+     ("usbreg.conf", "try_files $uri =204;", "try_files /none =204;")),
+    ("a story that ends with its file", "reads_the_files_of_the_record",
+     ("entries.js", "...files.flatMap(it => it.list), ...since.list]", "...files.flatMap(it => it.list)]")),
+    ("a grant since without its petition", "reads_the_files_of_the_record",
+     ("record.js", "petition ? [fileOfPetition(petition)] : []", "[]")),
+    ("a file that leaves out without a word", "reads_the_files_of_the_record",
+     ("record.js", "first = files ? files.left", "first = files ? 0")),
+    ("a story without the spans", "reads_the_files_of_the_record", ("record.js", ", `${vid}/spans`]", "]")),
+    ("a list whose length is that of its file", "reads_the_files_of_the_record",
+     ("record.js", "counted(of ?? items.length", "counted(items.length")),
+    ("a queue that asks for each petition", "reads_the_files_of_the_record",
+     ("decide.js", "this.queue.terms.get(id) ?? ", "")),
+)
+
+PLANTED = (*KEYS, *QUESTIONS, *FORMS, *LOOKS, *SLOW, *DECIDES, *TABLES, *FILES)

@@ -117,6 +117,15 @@ class Recipe:
         shell(self.stop, self.folder)
         wait(self.port, False)
 
+    def process(self):
+        """Returns the number of the process that has started the others, which it writes after its port is open."""
+        path, until = f"{self.folder}/nginx.pid", time.monotonic() + PATIENCE
+        while not os.path.exists(path) or not content(path):
+            if time.monotonic() > until:
+                sys.exit(f"{path} is not there after {PATIENCE} seconds")
+            time.sleep(0.01)
+        return int(content(path))
+
     def log(self):
         return content(f"{self.folder}/orders.log").decode()
 

@@ -14,6 +14,7 @@ from lib.desk_orders import ask, asked
 from lib.proxy import by_proxy, shell, signed, told
 from lib.serving import HOST, PATIENCE, command, get, message
 from lib.usbreg import CONTRIB, content, same, write
+from lib.wrong_passwords import counts_at_least, watched
 
 # The seconds that a report is kept, and one more; and those that a message waits for a server that is down.
 KEPT, WAITED = 11, 15
@@ -95,11 +96,13 @@ def logged(recipe):
 
 
 def rotated(gate, recipe):
-    """Checks that the log goes on in a new file, by contrib/usbreg.logrotate, and that the old one stays."""
+    """Checks that the logs go on in new files, by contrib/usbreg.logrotate, and that the old ones stay."""
     if not shutil.which("logrotate"):
         print("SKIPPED: logrotate is not installed, so contrib/usbreg.logrotate was not run")
         return
     order, before = signed("ann", command(ask("k2", number="0011"))), recipe.log()
+    wrong, _ = counts_at_least(recipe, 1)
+    same("what is watched of wrong passwords", watched(recipe.folder), ([("passwords", True, wrong)], [("usbreg_ok", "1"), ("usbreg_value", str(wrong))]))
     again = recipe.stop.replace("-s stop", "-s reopen")
     stanza = content(f"{CONTRIB}/usbreg.logrotate").decode()
     for text, other in (("/var/log/usbreg", recipe.folder), (" www-data adm", ""), ("invoke-rc.d nginx rotate > /dev/null 2>&1", f'cd "{recipe.folder}" && {again}')):
@@ -119,3 +122,7 @@ def rotated(gate, recipe):
     (old,) = (it for it in os.listdir(recipe.folder) if it.startswith("orders.log-"))
     whole = content(f"{recipe.folder}/{old}").decode()
     same("the old log", (whole.startswith(before), (whole + recipe.log()).count("\n")), (True, before.count("\n") + sent))
+    gate.gives("a wrong password in the new log", signed("ann", command(ask("k2")), "bob"), *by_proxy(401))
+    same("wrong passwords in the new log", counts_at_least(recipe, 1)[0], 1)
+    same("the old count is there", len([it for it in os.listdir(recipe.folder) if re.fullmatch(r"wrong-\d{8}\.log\.gz", it)]), 1)
+    same("what is watched of both", watched(recipe.folder)[0], [("passwords", True, wrong + 1)])

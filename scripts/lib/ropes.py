@@ -58,6 +58,7 @@ EDITS = {
     "a_constant": ("WHEELS: u32 = 4;", "WHEELS: u32 = 5;", "refused"),
     "a_right_body_over_a_wrong_one": ("rope.cut(2);", "rope.cut(3);", "not refused"),
     "a_right_body_without_the_goal_of_an_answer": ("if first < second {", "if second > first {", "not refused"),
+    "a_body_that_an_answer_alone_refuses": ("if first < second { first }", "if first < second { u32::MAX }", "refused by its old proof"),
     "a_text_that_is_gone": ("rope.cut(5);", "rope.cut(6);", "0 times"),
     "a_text_that_stands_twice": ("rope.cut(", "rope.from(", "2 times"),
     "a_contract": ("{ result ≡ 8 }", "{ result ≡ 9 }", "it changes the contract"),

@@ -65,6 +65,7 @@ class Serving:
             if self.process.poll() is not None:
                 return False
             time.sleep(0.002)
+        self.kill()
         sys.exit(f"{' '.join(self.words)}: it doesn't listen after {PATIENCE} seconds")
 
     def up(self):

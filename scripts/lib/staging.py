@@ -146,12 +146,14 @@ class Stage:
             sys.exit(f"{order} of {caller} got {got!r}")
 
     def publish(self):
-        """Writes the reports to files, as the timer does."""
-        words = [f"{CONTRIB}/publish-reports", f"http://{HOST}:{self.port}/reports", f"{self.recipe.folder}/usbreg-list/reports"]
-        subprocess.run(words, check=True)
+        """Writes the reports, and what the record says of each thing, to files, as the timer does."""
+        at, server = f"{self.recipe.folder}/usbreg-list", f"http://{HOST}:{self.port}"
+        for name, url, into in (("reports", f"{server}/reports", "reports"), ("stories", server, "stories")):
+            subprocess.run([f"{CONTRIB}/publish-{name}", url, f"{at}/{into}"], check=True)
 
     def unpublish(self):
-        shutil.rmtree(f"{self.recipe.folder}/usbreg-list/reports")
+        for name in ("reports", "stories"):
+            shutil.rmtree(f"{self.recipe.folder}/usbreg-list/{name}")
 
     def password(self, name, password):
         users = f"{self.recipe.folder}/usbreg.users"

@@ -74,7 +74,7 @@ class Record:
     def dishonest(self):
         """Yields what a registry does, what is said of it, and a function from a path to its answer."""
         def given(answer):
-            return lambda path: answer(int(path.rsplit("/", 1)[1]))
+            return lambda path: [self.founding] if path.endswith("/founding") else answer(int(path.rsplit("/", 1)[1]))
 
         after, lines = self.after, self.lines
         yield "ignores the number", "another history", given(lambda _: [after(0)])
@@ -89,6 +89,7 @@ class Record:
         yield "gives lines without end", "too long", given(lambda n: endless(lines[0] * 100, after(n)))
         yield "gives too many lines", "too many", given(lambda n: [lines[n], lines[0] * 1001])
         yield "has an older state", "older state", given(lambda n: [b"".join(lines[n : HAS - 2])])
+        yield "is another one", "founded otherwise", lambda path: [b"{}\n"] if path.endswith("/founding") else []
         yield "has another history", "another history", given(lambda n: [after(n).replace(b"o2", b"p2")])
         yield "is no registry", "cannot be fetched", lambda _: None
 
