@@ -37,7 +37,7 @@ def first_of_all(process):
     root asks it."""
     path, before = f"/proc/{process}/autogroup", None
     with contextlib.suppress(OSError), open(path, encoding="ascii") as file:
-        before = file.read().split()[-1]
+        before = next(iter(file.read().split()[-1:]), None)
     if before:
         put_in_order(path, FIRST)
     try:

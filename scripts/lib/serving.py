@@ -2,6 +2,8 @@
 responses that they must get. Status, name and number of each refusal are those of the table in docs/requests.md."""
 
 import contextlib
+import functools
+import itertools
 import json
 import os
 import random
@@ -16,6 +18,8 @@ from lib.usbreg import TOP, content
 HOST = "127.0.0.1"
 # Ports below those that the system gives to clients, so that no connection takes one while nobody listens on it.
 PORTS = range(20000, 32768)
+# How many of them a process takes for itself.
+BLOCK = 256
 # The seconds that a script waits for a process or a response.
 PATIENCE = 60
 PHRASES = {
@@ -25,11 +29,31 @@ PHRASES = {
 JSON, TEXT = "application/json", "text/plain; charset=utf-8"
 
 
+@functools.cache
+def ports_of(_process):
+    """Takes a block of ports until the process ends. Returns them in turn, without an end, and what holds them.
+
+    Scripts run side by side, and a port that is free when one of them looks may be another's by the time that its server
+    binds it. So a name of the abstract namespace of sockets stands for each block; the system frees it with the process."""
+    blocks = [PORTS[at : at + BLOCK] for at in range(0, len(PORTS), BLOCK)]
+    random.shuffle(blocks)
+    for block in blocks:
+        held = socket.socket(socket.AF_UNIX)
+        try:
+            held.bind(f"\0usbreg-ports-{block[0]}")
+        except OSError:
+            held.close()
+        else:
+            return itertools.cycle(block), held
+    sys.exit("other processes have all blocks of ports")
+
+
 def free_port():
-    """Returns a free port."""
-    while True:
-        port = random.choice(PORTS)
+    """Returns a free port of those that this process has taken."""
+    for port in ports_of(os.getpid())[0]:
         with socket.socket() as it, contextlib.suppress(OSError):
+            # as a server binds: a port whose connections were closed a moment ago is free
+            it.setsockopt(socket.SOL_SOCKET, socket.SO_REUSEADDR, 1)
             it.bind((HOST, port))
             return port
 
