@@ -6,7 +6,7 @@
 #          each program, built by two compilers; then the scripts that try the program over files.
 # mutants: tries the wrong bodies in mutants/, as many in one check as possible. A release runs it beside the gate.
 # install: puts the program that `make` built into PREFIX/bin, its man page into PREFIX/share/man/man1, and the page for
-#          makers and curators into PREFIX/share/usbreg/web.
+#          makers and curators into PREFIX/share/usbreg/web, in the folder VERSION there. Folders of other versions stay.
 # install-service: puts what a service needs beside it: the scripts of contrib/ into PREFIX/lib/usbreg, the files of nginx and of
 #          the firewall and the settings into PREFIX/share/usbreg, the units into UNITS, and the file for logrotate into /etc.
 # bench:   reads and writes lists and looks devices up beside plain readers, acts on requests and serves messages
@@ -19,7 +19,10 @@
 PREFIX ?= /usr/local
 PROGRAM := crates/registry_cli/out/registry_cli
 UNITS ?= /etc/systemd/system
-PROGRAMS := $(shell find contrib -maxdepth 1 -type f -perm -u+x -printf '%f\n' | sort)
+PROGRAMS = $(shell find contrib -maxdepth 1 -type f -perm -u+x -printf '%f\n' | sort)
+# The page, and its version: a digest of its files. Browsers keep what has the version in its address, and ask for index.html again.
+PAGE = $(DESTDIR)$(PREFIX)/share/usbreg/web
+VERSION = $(shell export LC_ALL=C; cd web && sha256sum * | sha256sum | cut -c 1-16)
 # What is installed names the folder into which it is installed, and the program there.
 PLACED := sed -e 's:/usr/local/:$(PREFIX)/:g' -e 's:\(^\|[ (!]\)usbreg \(check\|export\|history\|replay\) :\1$(PREFIX)/bin/usbreg \2 :'
 
@@ -45,7 +48,11 @@ install:
 	@test -x $(PROGRAM) || { echo "$(PROGRAM) is not there: 'make' builds it" >&2; exit 1; }
 	install -D $(PROGRAM) "$(DESTDIR)$(PREFIX)/bin/usbreg"
 	install -D -m 644 man/usbreg.1 "$(DESTDIR)$(PREFIX)/share/man/man1/usbreg.1"
-	install -D -m 644 -t "$(DESTDIR)$(PREFIX)/share/usbreg/web" web/*
+	install -D -m 644 -t "$(PAGE)/$(VERSION)" $(filter-out web/index.html web/me.json,$(wildcard web/*))
+	install -m 644 web/me.json "$(PAGE)/me.json"
+	sed 's:"/web/:&$(VERSION)/:' web/index.html > "$(PAGE)/index.new"
+	chmod 644 "$(PAGE)/index.new"
+	mv -f "$(PAGE)/index.new" "$(PAGE)/index.html"
 
 install-service:
 	install -d "$(DESTDIR)$(PREFIX)/lib/usbreg" "$(DESTDIR)$(PREFIX)/share/usbreg" "$(DESTDIR)$(UNITS)"

@@ -24,7 +24,7 @@ TOP = os.path.dirname(HERE)
 BUILT = f"{TOP}/crates/registry_cli/out/registry_cli"
 DOCUMENTS, SHARED = "usr/share/doc/usbreg", "usr/share/usbreg"
 # The folders that documents link to, and that stand outside of theirs.
-OUTSIDE = ("contrib", "examples", "web")
+OUTSIDE = ("contrib", "examples")
 # The scripts for users, and what they are made of.
 SCRIPTS = (
     "users/take_pid_codes.py", "users/read_pid_codes.py", "users/page_text.py", "users/pid_codes.py", "users/licence_aliases.tsv", "users/links.py",

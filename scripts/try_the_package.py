@@ -53,10 +53,12 @@ def compare_files(package, usbreg):
     wanted = {"usr/bin/usbreg", "usr/share/man/man1/usbreg.1.gz", UNIT, "usr/lib/sysusers.d/usbreg.conf", "usr/lib/tmpfiles.d/usbreg.conf"}
     wanted |= {f"lib/systemd/system/{os.path.basename(it)}" for ending in ("service", "timer") for it in glob.glob(f"{TOP}/contrib/*.{ending}")}
     wanted |= {f"usr/share/usbreg/users/{it}" for it in os.listdir(f"{TOP}/scripts/users") if it != "read_debian_list.sh" and not it.startswith("__")}
-    folders = {"docs": f"{DOCUMENTS}/docs", "examples": f"{SHARED}/examples", "contrib": f"{SHARED}/contrib", "web": f"{SHARED}/web"}
+    folders = {"docs": f"{DOCUMENTS}/docs", "examples": f"{SHARED}/examples", "contrib": f"{SHARED}/contrib"}
     for top, target in folders.items():
         if os.path.isdir(f"{TOP}/{top}"):
             wanted |= {f"{target}/{it}" for it in os.listdir(f"{TOP}/{top}")}
+    versions = {os.path.basename(os.path.dirname(it)) for it in there if it.endswith("/page.js")}
+    wanted |= {f"{SHARED}/web/{it}" if it in ("index.html", "me.json") else f"{SHARED}/web/{version}/{it}" for it in os.listdir(f"{TOP}/web") for version in versions}
     same("what the package lacks", wanted - there, set())
     same("what is in /etc", [it for it in there if it.startswith("etc/")], ["etc/logrotate.d/usbreg"])
     same("what is not a document and lies among them", [it for it in there if it.startswith("usr/share/doc/") and not re.search(r"/(docs/.*|README.md|CHANGELOG.md|changelog.gz|copyright)$", it)], [])
@@ -151,6 +153,8 @@ def compare_pages(root):
     named |= {it for unit in glob.glob(root.path("lib/systemd/system/usbreg*.service")) for it in re.findall(r"^Exec\w+=[-+]*/(\S+)", content(unit).decode(), re.MULTILINE)}
     outside = {it for it in named if not os.path.exists(root.path(it)) and not os.path.exists(root.path(f"{SHARED}/{it}"))}
     same("files that are named, and are not there", (len(named) > 20, outside - {"bin/sh"}), (True, set()))
+    files = re.findall(r'"/(web/[^"]+)"', content(root.path(f"{SHARED}/web/index.html")).decode())
+    same("files of the page that are not there", (len(files) > 20, [it for it in files if not os.path.exists(root.path(f"{SHARED}/{it}"))]), (True, []))
     pages = glob.glob(root.path(f"{DOCUMENTS}/**/*.md"), recursive=True)
     broken = [(page, it) for page in pages for it in links(content(page).decode()) if not os.path.exists(f"{os.path.dirname(page)}/{it}")]
     same("links that lead nowhere", (len(pages) > 10, broken), (True, []))

@@ -110,6 +110,10 @@ class Page:
         self.driver.get(f"{self.address}{path}")
         self.until(lambda: self.all("main h1"), "the page")
 
+    def file(self, name):
+        """Returns the address of a file of the page."""
+        return self.run("return [...document.querySelectorAll('[href], [src]')].map(it => it.src || it.href).find(it => it.endsWith(arguments[0]))", f"/{name}")
+
     def search(self, words):
         """Writes into the box of a search."""
         box = self.one("#query")

@@ -2,6 +2,7 @@
 
 import os
 import re
+import time
 
 from lib.staging import sent_by_proxy
 from lib.usbreg import same, write
@@ -127,6 +128,22 @@ def comes_by_a_link(page, stage):
     sizes = page.run("return performance.getEntriesByType('resource').filter(it => it.name.includes('/reports/')).map(it => it.encodedBodySize > 0 && it.transferSize < 400)")
     same("reports that were there already", sizes, [True, True])
     stage.unpublish()
+
+
+def comes_again(page, stage):
+    """Who comes again asks for none of the page's files but the first, until they are other ones: then these are there at
+    once."""
+    asked = "return performance.getEntriesByType('resource').filter(it => it.name.includes('/web/')).map(it => [it.name, it.transferSize])"
+    page.load("#/nowhere")
+    page.load("#/nowhere")
+    files = page.run(asked)
+    same("files that are asked for again", (len(files) > 20, [name for name, came in files if came]), (True, []))
+    for old, new in (("'No such page'", "'No such view'"), ("'No such view'", "'No such page'")):
+        # the tag of a file has its time in seconds
+        time.sleep(1)
+        stage.install((("page.js", old, new),))
+        page.load("#/nowhere")
+        same("the page after an upgrade", page.text("h1"), new.strip("'"))
 
 
 def reads_the_rules(page, stage):

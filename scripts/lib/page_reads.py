@@ -12,8 +12,8 @@ def shows_texts_as_texts(page, stage):
         page.open(view)
         page.has(SHOWN, selector)
         same(f"elements made from a title in {view}", [it.tag_name for it in page.all("main script, main img")], [])
-    marks = "return import('/web/elements.js').then(it => it.written(`a${'\\u0301'.repeat(9)}b`).textContent)"
-    same("a letter with nine marks", page.run(marks), "a" + "\u0301" * 3 + "…b")
+    marks = "return import(arguments[0]).then(it => it.written(`a${'\\u0301'.repeat(9)}b`).textContent)"
+    same("a letter with nine marks", page.run(marks, page.file("elements.js")), "a" + "\u0301" * 3 + "…b")
     page.open("number/1209/00ab")
     page.has("http://acme.example:x@evil.example/?%3Cscript%3E leads to evil.example")
     same("the title of the window", page.driver.title, "Number 1209:00ab – Shared products")
@@ -90,7 +90,7 @@ def is_kept_in(page, stage):
     page.until(lambda: "connect-src" in (page.run("return sessionStorage.getItem('broken')") or ""), "the policy")
     same("what ran", page.run("return window.ran ?? null"), None)
     page.complaints()
-    for path in ("/", "/web/page.js", "/web/style.css"):
+    for path in ("/", page.file("page.js"), page.file("style.css")):
         headers = page.run("return fetch(arguments[0]).then(it => Object.fromEntries(it.headers))", path)
         same(f"{path} sniffed", headers["x-content-type-options"], "nosniff")
         same(f"{path} in a frame", "frame-ancestors 'none'" in headers["content-security-policy"], True)

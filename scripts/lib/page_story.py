@@ -7,7 +7,7 @@ from lib.page_keys import (
     gives_an_equal_order, has_the_password_changed, has_two_windows, is_refused_by_the_proxy, is_told_by_what_is_kept,
     loses_responses, outlives_a_reload, outlives_the_server, tells_wherever_one_is,
 )
-from lib.page_looks import comes_by_a_link, finds_the_server_down, goes_through_pages, looks, reads_the_rules
+from lib.page_looks import comes_again, comes_by_a_link, finds_the_server_down, goes_through_pages, looks, reads_the_rules
 from lib.page_orders import (
     amends, asks, asks_of_another_vendor, enrols, goes_on_with_a_form, returns_what_it_names, sees_a_grant_at_once, signs_in,
 )
@@ -17,8 +17,8 @@ from lib.staging import CURATOR
 
 ANN = "ann"
 STORY = (
-    (looks, None), (goes_through_pages, None), (comes_by_a_link, None), (reads_the_rules, None),
-    (finds_the_server_down, None), (signs_in, None), (enrols, ANN), (asks, ANN), (goes_on_with_a_form, ANN),
+    (looks, None), (goes_through_pages, None), (comes_by_a_link, None), (comes_again, None),
+    (reads_the_rules, None), (finds_the_server_down, None), (signs_in, None), (enrols, ANN), (asks, ANN), (goes_on_with_a_form, ANN),
     (loses_responses, ANN), (is_refused_by_the_proxy, ANN),
     (outlives_the_server, ANN), (outlives_a_reload, ANN), (has_the_password_changed, ANN), (has_two_windows, ANN),
     (is_told_by_what_is_kept, ANN), (gives_an_equal_order, ANN), (asks_of_another_vendor, ANN),

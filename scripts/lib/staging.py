@@ -113,13 +113,20 @@ class Stage:
             apply(usbreg, self.store, write(f"{room}/before.jsonl", before))
         self.relay = Relay(self.port)
         self.recipe = recipe(room, self.relay)
-        subprocess.run(["make", "-s", "-C", TOP, "install", f"PROGRAM={usbreg}", f"DESTDIR={room}/installed", "PREFIX=/usr/local"], check=True)
-        self.files = f"{room}/installed/usr/local/share/usbreg"
-        self.edit(f"{self.recipe.folder}/usbreg.conf", f"{CONTRIB}/..", self.files)
-        for path, old, new in edits:
-            self.edit(f"{self.recipe.folder}/usbreg.conf" if path == "usbreg.conf" else f"{self.files}/web/{path}", old, new)
+        for it in ("web", "man"):
+            shutil.copytree(f"{TOP}/{it}", f"{room}/source/{it}")
+        self.edit("usbreg.conf", f"{CONTRIB}/..", f"{room}/installed/usr/local/share/usbreg")
+        self.install(edits)
 
-    def edit(self, path, old, new):
+    def install(self, edits=()):
+        """Installs the page with these changes too, as an upgrade does."""
+        for it in edits:
+            self.edit(*it)
+        words = ["make", "-s", "-C", f"{self.room}/source", "-f", f"{TOP}/Makefile", "install", f"PROGRAM={self.usbreg}", f"DESTDIR={self.room}/installed"]
+        subprocess.run([*words, "PREFIX=/usr/local"], check=True)
+
+    def edit(self, name, old, new):
+        path = f"{self.recipe.folder}/{name}" if name == "usbreg.conf" else f"{self.room}/source/web/{name}"
         text = content(path).decode()
         if old not in text:
             sys.exit(f"{path} has no {old!r}")
