@@ -19,10 +19,11 @@ import concurrent.futures
 import contextlib
 import json
 import os
-import queue
 import shutil
 import subprocess
 import sys
+import tempfile
+import threading
 import time
 
 from lib.browsing import Browser, Page, missing
@@ -39,8 +40,8 @@ from lib.usbreg import TOP, content, copy, folder, program, write
 # parts the proxy itself waits for the server.
 PATIENCE, HASTE = 30, 10
 LONG = ("finds_the_server_down",)
-# So many bugs are planted side by side.
-SIDE_BY_SIDE = 4
+# So many bugs are planted side by side, beside the story: most of the time a browser waits.
+SIDE_BY_SIDE = 8
 
 
 def tell(usbreg, keep=lambda part, stage: None, parts=STORY):
@@ -110,20 +111,23 @@ class Planting:
 
 
 class Side:
-    """Several plantings side by side, for a `with`."""
+    """Several plantings side by side, for a `with`, each in a thread of its own."""
 
     def __init__(self, usbreg, stores):
-        self.usbreg, self.stores, self.free, self.opened = usbreg, stores, queue.Queue(), contextlib.ExitStack()
+        self.usbreg, self.stores, self.own, self.opened = usbreg, stores, threading.local(), contextlib.ExitStack()
         self.pool = concurrent.futures.ThreadPoolExecutor(SIDE_BY_SIDE)
 
     def __enter__(self):
-        for number in range(SIDE_BY_SIDE):
-            room = f"{self.stores}/{number}"
-            os.mkdir(room)
+        return self
+
+    def planting(self):
+        """Returns that of this thread."""
+        if not hasattr(self.own, "planting"):
+            room = tempfile.mkdtemp(dir=self.stores)
             # the workers of nginx are another user
             os.chmod(room, 0o755)
-            self.free.put(Planting(self.usbreg, self.stores, room, self.opened.enter_context(Browser(room))))
-        return self
+            self.own.planting = Planting(self.usbreg, self.stores, room, self.opened.enter_context(Browser(room)))
+        return self.own.planting
 
     def __exit__(self, *_):
         self.pool.shutdown(cancel_futures=True)
@@ -137,33 +141,39 @@ class Side:
                 for file, old, new in changes:
                     write(f"{room}/web/{file}", content(f"{room}/web/{file}").decode().replace(old, new))
                 return read_in_node(f"{room}/web")
-        planting = self.free.get()
-        try:
-            return planting.act(catcher, changes)
-        finally:
-            self.free.put(planting)
+        return self.planting().act(catcher, changes)
 
-    def all(self, acts):
-        """Yields what each of these gives, in their order: a catcher, and changes."""
-        yield from self.pool.map(lambda it: self.act(*it), acts)
+    def begin(self, catcher, bugs):
+        """Begins to try each of these bugs, and their catcher without one. Returns what will have the results, by their names."""
+        alone = {} if catcher == "node" else {catcher: self.pool.submit(self.act, catcher)}
+        return alone | {what: self.pool.submit(self.act, catcher, changes) for what, _, *changes in bugs}
 
 
 def plant(usbreg, some):
-    """Puts each bug into the page by itself, of those whose name has these words, several side by side."""
+    """Puts each bug into the page by itself, of those whose name has these words, several side by side. A part of the story is
+    tried as soon as the story comes to it, since it begins with the store of then."""
     bugs, began = [it for it in PLANTED if some in it[0]], time.monotonic()
-    parts = list(dict.fromkeys(it[1] for it in bugs if it[1] != "node"))
-    with folder() as room:
+    caught_by = {catcher: [it for it in bugs if it[1] == catcher] for _, catcher, *_ in bugs}
+    last = max((at for at, (part, _) in enumerate(STORY) if part.__name__ in caught_by), default=-1)
+    with folder() as room, Side(usbreg, room) as side:
         os.chmod(room, 0o755)
-        if failed := tell(usbreg, lambda part, stage: copy(stage.store, f"{room}/{part}.db")):
+        tried = side.begin("node", caught_by.get("node", ()))
+
+        def keep(part, stage):
+            if part in caught_by:
+                copy(stage.store, f"{room}/{part}.db")
+                tried.update(side.begin(part, caught_by[part]))
+
+        if failed := tell(usbreg, keep, STORY[: last + 1]):
             sys.exit(f"{failed[0]}: {failed[1]}")
-        with Side(usbreg, room) as side:
-            for name, why in zip(parts, side.all((it,) for it in parts)):
-                if why:
-                    sys.exit(f"{name} by itself, without a bug: {why}")
-            left = []
-            for (what, catcher, *_), why in zip(bugs, side.all((it[1], it[2:]) for it in bugs)):
-                print(f"{what}: {f'noticed by {catcher}: {why}' if why else 'NOT NOTICED'}", flush=True)
-                left += [] if why else [what]
+        for it in caught_by:
+            if it in tried and (why := tried[it].result()):
+                sys.exit(f"{it} by itself, without a bug: {why}")
+        left = []
+        for what, catcher, *_ in bugs:
+            why = tried[what].result()
+            print(f"{what}: {f'noticed by {catcher}: {why}' if why else 'NOT NOTICED'}", flush=True)
+            left += [] if why else [what]
     print(f"{len(bugs) - len(left)} of {len(bugs)} bugs noticed, in {(time.monotonic() - began) / 60:.1f} minutes")
     sys.exit("\n".join(left) or None)
 
