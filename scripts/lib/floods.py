@@ -30,6 +30,8 @@ LEAST = 3
 DOWN = 40
 # The reads at the same time, and the seconds in which another reader's page of the record must come.
 READS, PAGE = 40, 3
+# The files of the record that an address gets at once, and in each second; their bytes, and how many it asks for.
+FILES, EACH_SECOND, FILE, ASKED = 60, 5, 1 << 18, 500
 # The bytes of a line of the log, and how often a flood is tried, since another process may have the machine meanwhile.
 LINE, TRIES = 260, 3
 SECOND_MACHINE = "127.0.0.10"
@@ -183,6 +185,35 @@ def is_answered(connection):
         connection.settimeout(60)
 
 
+def files_of_the_record(stage):
+    """An address asks for compressed files of what the record says as fast as it can. Another reader gets one at once."""
+    line = b"123 " + command(enrol("acme")).partition(b"\r\n\r\n")[2] + b"\n"
+    path = f"{stage.recipe.folder}/usbreg-list/stories/1209/{FIRST:04x}"
+    os.makedirs(os.path.dirname(path), exist_ok=True)
+    write(path, (line * (FILE // len(line))).decode())
+    sent = message("GET", f"/stories/1209/{FIRST:04x}", accept_encoding="gzip")
+
+    def asks(port, ended):
+        began = time.monotonic()
+        with connected(port, "127.0.12.1") as connection:
+            connection.sendall(sent * (ASKED - 1) + closing(sent))
+            counts = collections.Counter(int(it) for it in re.findall(rb"HTTP/1.1 (\d+)", read_to_end(connection)))
+        # one more may pass, since the times of nginx are coarse
+        counts[BEYOND] = max(0, counts[200] - int(FILES + 2 + EACH_SECOND * (time.monotonic() - began)))
+        return counts
+
+    def reads():
+        status = stage.gate.ask(sent, stage.others.address())[0]
+        need(status == 200, f"beside files of the record another reader gets {status}")
+
+    with Attackers(stage.gate.port, asks) as attackers:
+        took = stage.others.meanwhile("files of the record", STORM, reads)
+        attackers.wait()
+    counts = attackers.counts
+    need(counts[200] > FILES and counts[200] + counts[429] == ASKED and not counts[BEYOND], f"{ASKED} files of the record for an address: {counts[BEYOND]} beyond its limit, {counts}")
+    return f"{took:.3f} s beside {ASKED} files of the record for an address ({counts[200]} came)"
+
+
 def long_words(stage):
     """Orders of a maker with a long key, a long query and a long method."""
     order = command(enrol("x"))
@@ -265,6 +296,7 @@ FLOODS = (
     Flood(passwords, (("limit_req zone=usbreg_orders burst=30 delay=3;", "limit_req zone=usbreg_orders burst=50 nodelay;"),)),
     Flood(counted, (("log_format usbreg_wrong $usbreg_hour;", "log_format usbreg_wrong '$usbreg_hour $request_id';"),), BY_FIELD),
     Flood(reads_and_orders, (("limit_conn usbreg_reads_now 40;", ""),)),
+    Flood(files_of_the_record, (("limit_req zone=usbreg_stories burst=60 nodelay;", "limit_req zone=usbreg_reads burst=100 nodelay;"),)),
     Flood(long_words, (('"$usbreg_key" "$usbreg_order"', '"$http_registry_key" "$request"'),)),
     Flood(storm, (("if=$usbreg_logged", ""),)),
     Flood(restart, ((" backup;", " down backup;"),)),
