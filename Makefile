@@ -59,7 +59,7 @@ install-service:
 	@set -e; put() { $(PLACED) "contrib/$$2" > "$$3/$$2"; chmod "$$1" "$$3/$$2"; }; \
 	for it in $(PROGRAMS); do put 755 $$it "$(DESTDIR)$(PREFIX)/lib/usbreg"; done; \
 	put 644 hwdb.awk "$(DESTDIR)$(PREFIX)/lib/usbreg"; \
-	for it in nginx.conf firewall.nft settings; do put 644 $$it "$(DESTDIR)$(PREFIX)/share/usbreg"; done; \
+	for it in nginx.conf nginx-between.conf firewall.nft settings; do put 644 $$it "$(DESTDIR)$(PREFIX)/share/usbreg"; done; \
 	for it in $$(cd contrib && ls *.service *.timer); do put 644 $$it "$(DESTDIR)$(UNITS)"; done
 	install -D -m 644 contrib/usbreg.logrotate "$(DESTDIR)/etc/logrotate.d/usbreg"
 	install -D -m 644 package/sysusers "$(DESTDIR)$(PREFIX)/lib/sysusers.d/usbreg.conf"
