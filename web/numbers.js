@@ -135,9 +135,12 @@ async function numberOr(vid, pid) {
 }
 
 export async function numberView({ vendor: vid, number: pid }) {
+  // it is asked for beside the founding; what fails is told below
+  const asking = numberOr(vid, pid);
+  asking.catch(() => {});
   await founded();
   if (!known.vendors.has(vid)) return null;
-  const [got, owner] = await numberOr(vid, pid);
+  const [got, owner] = await asking;
   return [
     `Number ${vid}:${got.number}`,
     facts(['State', state(got.state)], ['Title', got.title == null ? null : written(got.title)],
