@@ -136,9 +136,15 @@ def post(caller, key, body, target="/commands"):
 
 
 def command(request):
-    """Returns the message of a request line: caller and key are fields of its head."""
-    order = {name: value for name, value in request.items() if name not in ("caller", "key")}
-    return post(request["caller"], request["key"], json.dumps(order, separators=(",", ":")).encode())
+    """Returns the message of a request: caller, key and time are fields of its head, and a list is the body of an import."""
+    told = {"registry_caller": request["caller"], "registry_key": request["key"]}
+    if request.get("at"):
+        told["registry_time"] = request["at"]
+    if request["order"] == "import":
+        vendor = [request["vendor"]] if "vendor" in request else []
+        return message("POST", "/".join(["/imports", request["org"], *vendor]), request["list"].encode(), **told)
+    order = {name: value for name, value in request.items() if name not in ("caller", "key", "at")}
+    return message("POST", "/commands", json.dumps(order, separators=(",", ":")).encode(), **told)
 
 
 def connected(port):

@@ -42,7 +42,8 @@ impl Body {
         Body { bytes }
     }
 
-    pub(crate) fn as_slice(&self) -> &[u8]
+    /// Returns the bytes.
+    pub fn as_slice(&self) -> &[u8]
         ensures { result.now ≡ self.now }
     {
         &self.bytes

@@ -6,7 +6,7 @@ ghost use Rattle.std.specs.Prelude.{◌≡◌, IfOk};
 use crate::fault::Fault;
 use crate::registry::Registry;
 use registry_rules::{Accepted, Founding, Licences};
-use registry_tables::{accepted_after, first_licences};
+use registry_tables::{Head, accepted_after, first_licences};
 use sqlite::Alter;
 use usbnum_core::NoMemory;
 
@@ -24,8 +24,11 @@ fn with_licences(founding: &Founding, licences: Licences) -> Result<Founding, No
 }
 
 impl<S: Alter> Registry<S> {
-    ghost use Rattle.std.specs.Prelude.{◌≡◌, take, drop};
+    ghost use Rattle.std.specs.Prelude.{◌≡◌, true, take, drop, IsOkAnd, OnErr, Err};
     ghost use Rattle.registry_rules.specs.Accepted.{AreValid, accepted_of};
+    ghost use Rattle.registry_rules.specs.History.{History};
+    ghost use Rattle.registry_tables.specs.Head.{IsHead};
+    ghost use Rattle.registry_store.specs.Promise.{Represents, is_poisoned};
     ghost use Rattle.registry_store.specs.Queries.{IsQuery};
 
     /// Returns at most `most` accepted requests after the first `after`, oldest first, each with the
@@ -49,6 +52,17 @@ impl<S: Alter> Registry<S> {
         self.note(accepted)
     }
 
+    /// Returns how many requests were accepted, the digest of the record, and the time of the last
+    /// request. Makes no store call. A poisoned registry returns `Fault::Poisoned`.
+    pub fn head(&self) -> Result<&Head, Fault>
+        ensures when_poisoned { is_poisoned self.now ≡ true → result ≡ Err Fault.Poisoned }
+        ensures answered { (h : History) → Represents self.now h → IsOkAnd result (λ head. IsHead h head.now) }
+        ensures only_poisoned { OnErr result (is_poisoned self.now ≡ true) }
+    {
+        self.check_not_poisoned()?;
+        Ok(&self.summary.head)
+    }
+
     /// Returns the founding, with its first licences. The store reads the replies to all accepted
     /// requests.
     ///
@@ -63,7 +77,7 @@ impl<S: Alter> Registry<S> {
         ensures query { IsQuery self.old self.new result (λ h founding. founding ≡ h.founding) }
     {
         self.check_not_poisoned()?;
-        let current = &self.totals.founding().licences;
+        let current = &self.summary.totals.founding().licences;
         let licences = first_licences(self.alloc, &mut self.conn, current);
         let first = self.note(licences)?;
         Ok(with_licences(self.founding(), first)?)

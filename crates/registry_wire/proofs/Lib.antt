@@ -4,5 +4,6 @@ pub mod StampLemmas
 pub mod TreeLemmas
 pub mod AscendLemmas
 pub mod FieldLemmas
+pub mod DigestLemmas
 pub mod OrderedLemmas
 pub mod ValueLemmas

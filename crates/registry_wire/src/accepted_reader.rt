@@ -54,6 +54,12 @@ pub(crate) fn accepted_at(alloc: Global, value: &Value) -> Result<Accepted, Reje
     let key = field_at(alloc, value, Field::Key)?;
     let order = kept_order_at(alloc, value)?;
     let reply = field_at(alloc, value, Field::Done)?;
-    let request = Request { caller, key, order };
+    let time = optional_at(alloc, value, Field::At)?;
+    let request = Request {
+        caller,
+        key,
+        order,
+        time,
+    };
     Ok(Accepted { request, reply })
 }
