@@ -12,8 +12,10 @@ mod reading;
 mod request;
 mod sending;
 mod start;
+mod user;
 
 pub use connection::Connection;
 pub use fault::CallFault;
 pub use host::Host;
 pub use log::EtcdLog;
+pub use user::User;

@@ -1,13 +1,11 @@
 //! A log that etcd keeps.
 
-ghost use Rattle.std.specs.Prelude.{◌≡◌, ◌⊎◌, Some, None, false, IfOk, IfErr, OnErr};
+ghost use Rattle.std.specs.Prelude.{◌≡◌, Some, IfOk, IfErr, OnOk};
 ghost use Rattle.serde_json.specs.Written.{compact_text};
 ghost use Rattle.etcd_messages.specs.Faults.{Gives};
 ghost use Rattle.etcd_client.specs.declared.fault.CallFault.TheVariants as faults;
-ghost use Rattle.etcd_client.specs.Exchanges.{IsExchange, ExchangeFails};
 ghost use Rattle.etcd_client.specs.Faults.{log_fault};
-ghost use Rattle.etcd_client.specs.Messages.{request_text};
-ghost use Rattle.etcd_client.specs.Logs.{to_append, to_read, to_look, Appends, Reads, LooksAt, FailsFor, Fails, IsSame};
+ghost use Rattle.etcd_client.specs.Logs.{to_append, to_read, to_look, lacks_token, Talks, TalkFails, LogsIn, LoginFails, GetsToken, Asks, AskFails, Appends, Reads, LooksAt, FailsFor, Fails};
 
 use crate::connection::Connection;
 use crate::exchange::exchange;
@@ -15,8 +13,10 @@ use crate::fault::{CallFault, call_fault};
 use crate::host::Host;
 use crate::reading::Answer;
 use crate::request::request_text;
+use crate::user::User;
 use etcd_messages::{
-    Endpoint, append_request, head_request, page_request, read_append, read_head, read_page,
+    Endpoint, Token, append_request, head_request, login_request, page_request, read_append,
+    read_head, read_login, read_page,
 };
 use shared_log::{AppendAnswer, HeadAnswer, Log, LogFault, PageAnswer};
 use std::alloc::Global;
@@ -32,18 +32,21 @@ pub struct EtcdLog<C: Connection> {
     is_kept: bool,
     host: Host,
     name: Slug,
+    user: Option<User>,
+    token: Option<Token>,
     fault: Option<CallFault>,
 }
 
 impl<C: Connection> EtcdLog<C> {
     ghost use Rattle.std.specs.Prelude.{◌≡◌, None};
-    ghost use Rattle.etcd_client.specs.Logs.{connection_of, host_of, name_of, fault_of};
+    ghost use Rattle.etcd_client.specs.Logs.{connection_of, host_of, name_of, user_of, fault_of};
 
     /// Returns the log with this name. Nothing is sent yet.
-    pub fn new(connection: C, host: Host, name: Slug) -> EtcdLog<C>
+    pub fn new(connection: C, host: Host, name: Slug, user: Option<User>) -> EtcdLog<C>
         ensures connection { connection_of result ≡ connection }
         ensures host { host_of result ≡ host }
         ensures name { name_of result ≡ name }
+        ensures user { user_of result ≡ user }
         ensures fresh { fault_of result ≡ None }
     {
         EtcdLog {
@@ -51,6 +54,8 @@ impl<C: Connection> EtcdLog<C> {
             is_kept: false,
             host,
             name,
+            user,
+            token: None,
             fault: None,
         }
     }
@@ -62,16 +67,15 @@ impl<C: Connection> EtcdLog<C> {
         self.fault
     }
 
-    // Sends a request, and returns its answer. The connection is kept if another one may be sent on it.
-    fn ask(&mut self, alloc: Global, endpoint: Endpoint, body: &str) -> Result<Answer, CallFault>
-        ensures ok { IfOk result (λ answer. IsExchange C.Connection self.old.is_kept self.old.connection (request_text endpoint self.old.host None body.now) self.new.connection answer.status answer.body.items self.new.is_kept) }
-        ensures err { IfErr result (λ fault. (fault ≡ faults.NoMemory) ⊎ ExchangeFails C.Connection self.old.is_kept self.old.connection (request_text endpoint self.old.host None body.now) self.new.connection fault) }
-        ensures closed { OnErr result (self.new.is_kept ≡ false) }
-        ensures same { IsSame self.old self.new }
+    // Sends a request with the token, if there is one, and returns its answer. The connection is kept if another one may
+    // be sent on it.
+    fn talk(&mut self, alloc: Global, endpoint: Endpoint, body: &str) -> Result<Answer, CallFault>
+        ensures ok { IfOk result (λ answer. Talks C.Connection self.old self.new endpoint body.now answer.status answer.body.items) }
+        ensures err { IfErr result (TalkFails C.Connection self.old self.new endpoint body.now) }
     {
         let kept = self.is_kept;
         self.is_kept = false;
-        let text = request_text(alloc, endpoint, &self.host, None, body)?;
+        let text = request_text(alloc, endpoint, &self.host, self.token.as_ref(), body)?;
         match exchange(alloc, &mut self.connection, kept, text.as_bytes()) {
             Ok(answer) => {
                 self.is_kept = answer.keeps;
@@ -79,6 +83,60 @@ impl<C: Connection> EtcdLog<C> {
             }
             Err(fault) => Err(fault),
         }
+    }
+
+    // Logs the user in, and keeps the token.
+    fn log_in(&mut self, alloc: Global) -> Result<(), CallFault>
+        ensures ok { OnOk result (LogsIn C.Connection self.old self.new) }
+        ensures err { IfErr result (LoginFails C.Connection self.old self.new) }
+    {
+        self.token = None;
+        let Some(user) = &self.user else {
+            return Ok(());
+        };
+        let request = login_request(alloc, user.name(), user.password())?;
+        match self.talk(alloc, Endpoint::Login, request.as_str()) {
+            Ok(Answer { status, body, .. }) => match read_login(alloc, status, &body) {
+                Ok(token) => {
+                    self.token = Some(token);
+                    Ok(())
+                }
+                Err(unread) => Err(call_fault(unread)),
+            },
+            Err(fault) => Err(fault),
+        }
+    }
+
+    // Returns whether there is a user who has to log in first.
+    fn lacks_token(&self) -> bool
+        ensures { result ≡ lacks_token self.now }
+    {
+        self.user.is_some() && self.token.is_none()
+    }
+
+    // Logs the user in, if there is one and no token.
+    fn get_token(&mut self, alloc: Global) -> Result<(), CallFault>
+        ensures ok { OnOk result (GetsToken C.Connection self.old self.new) }
+        ensures err { IfErr result (LoginFails C.Connection self.old self.new) }
+    {
+        if self.lacks_token() {
+            return self.log_in(alloc);
+        }
+        Ok(())
+    }
+
+    // Sends a request, and returns its answer. If the token is refused, logs the user in once more, and sends it again.
+    fn ask(&mut self, alloc: Global, endpoint: Endpoint, body: &str) -> Result<Answer, CallFault>
+        ensures ok { IfOk result (λ answer. Asks C.Connection self.old self.new endpoint body.now answer.status answer.body.items) }
+        ensures err { IfErr result (AskFails C.Connection self.old self.new endpoint body.now) }
+    {
+        self.get_token(alloc)?;
+        let answer = self.talk(alloc, endpoint, body)?;
+        if answer.status != 401 || self.user.is_none() {
+            return Ok(answer);
+        }
+        self.log_in(alloc)?;
+        self.talk(alloc, endpoint, body)
     }
 
     fn try_append(&mut self, alloc: Global, n: u32, line: &[u8]) -> Result<AppendAnswer, CallFault>

@@ -1,9 +1,10 @@
-//! Calls of a log over a connection in memory, and what they answer. A row has the name of the log, the calls, each of
+//! Calls of a log over a connection in memory, and what they answer. A row has the name of the log, with an at sign and a
+//! password if a user of this name logs in, the calls, each of
 //! which ends in a semicolon, and the steps of the connection. A call is `h` for a read of the head, `p` and a number for a
 //! read of lines, and `a`, a number, an equals sign and a line for an append.
 
 use crate::script::Script;
-use etcd_client::{CallFault, EtcdLog, Host};
+use etcd_client::{CallFault, EtcdLog, Host, User};
 use etcd_messages::AnswerFault;
 use row_texts::{RowFault, cut, number_of, text_of};
 use shared_log::{AppendAnswer, HeadAnswer, Line, Log, LogFault, PageAnswer};
@@ -129,13 +130,24 @@ fn called(alloc: Global, log: &mut EtcdLog<Script<'_>>, call: &str) -> Result<Ve
     }
 }
 
+fn user_of(alloc: Global, name: &str, password: &str) -> Result<User, RowFault> {
+    Ok(User::new(
+        String::from_str(alloc, name)?,
+        String::from_str(alloc, password)?,
+    ))
+}
+
 // Makes the calls of a row, and returns what they answer. What was done with the connection is put behind the bytes.
 fn answers_of(alloc: Global, text: &str, done: &mut Vec<u8>) -> Result<Vec<u8>, RowFault> {
     let (name, rest) = cut(text)?;
     let (calls, steps) = cut(rest)?;
+    let (name, user) = match name.split_once('@') {
+        Some((name, password)) => (name, Some(user_of(alloc, name, password)?)),
+        None => (name, None),
+    };
     let name = Slug::new(alloc, name.as_bytes())?.ok_or(RowFault::BadRow)?;
     let host = Host::new(alloc, "etcd:2379")?.ok_or(RowFault::BadRow)?;
-    let mut log = EtcdLog::new(Script::new(alloc, steps, done)?, host, name);
+    let mut log = EtcdLog::new(Script::new(alloc, steps, done)?, host, name, user);
     let mut text = Vec::new(alloc);
     for call in calls.split(";") {
         text.extend_from_slice(&called(alloc, &mut log, call)?)?;
