@@ -5,6 +5,7 @@
 #![tactic(auto)]
 
 pub use code::parse_code;
+pub use digest::{Digest, DigestRule};
 pub use error::NoMemory;
 pub use key::{Key, KeyRule};
 pub use link::{Link, LinkRule};
@@ -13,10 +14,12 @@ pub use pid::{Pid, parse_pid};
 pub use slug::{Slug, SlugRule};
 pub use spans::Spans;
 pub use text::{Text, TextRule};
+pub use time::{Time, TimeRule};
 pub use title::{Title, TitleRule};
 pub use vid::{Vid, parse_vid};
 
 mod code;
+mod digest;
 mod error;
 mod key;
 mod link;
@@ -26,5 +29,6 @@ mod pid;
 mod slug;
 mod spans;
 mod text;
+mod time;
 mod title;
 mod vid;
