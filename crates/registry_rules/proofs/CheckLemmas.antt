@@ -175,18 +175,19 @@ grant_ok curators founding found chosen caller id act e =
       does = cc;
     }
 
-pub record IsDecline (curators : List (List ℕ)) (found : Option Petition) (caller : List ℕ) (id : ℕ) (act : Act) : Type 0 where
+pub record IsDecline (curators : List (List ℕ)) (found : Option Petition) (caller : List ℕ) (id : ℕ) (reason : Option (List ℕ)) (act : Act) : Type 0 where
   pub petition : Petition
   pub curator : list_any (bytes_eq caller) curators ≡ true
   pub there : found ≡ Some petition
   pub was_open : petition.state ≡ Open
-  pub does : act ≡ Declined id petition
+  pub does : act ≡ Declined id petition reason
 
-pub decline_ok : (curators : List (List ℕ)) (found : Option Petition) (caller : List ℕ) (id : ℕ) (act : Act) → decline_checks curators found caller id ≡ Ok act → IsDecline curators found caller id act
-decline_ok curators found caller id act e =
+pub decline_ok : (curators : List (List ℕ)) (found : Option Petition) (caller : List ℕ) (id : ℕ) (reason : Option (List ℕ)) (act : Act) →
+    decline_checks curators found caller id reason ≡ Ok act → IsDecline curators found caller id reason act
+decline_ok curators found caller id reason act e =
     let a = passed (list_any (bytes_eq caller) curators) _ _ act e in
     let b = opened found _ act a.1 in
-    let same : Ok (Declined id b.0) ≡ Ok act = b.3 in
+    let same : Ok (Declined id b.0 reason) ≡ Ok act = b.3 in
     record { petition = b.0; curator = a.0; there = b.1; was_open = b.2; does = cc }
 
 by_known : (known : Option Org) (caller : List ℕ) (x : Passed) → by_known_keeper known caller ≡ Ok x → (org : Org) × (known ≡ Some org) × (org.keeper ≡ caller)

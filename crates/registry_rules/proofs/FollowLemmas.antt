@@ -120,7 +120,7 @@ Follows h caller (Enrolled org) = CanEnrol h caller org
 Follows h caller (OrgAmended org) = CanAmendOrg h caller org
 Follows h caller (Asked id petition) = CanAsk h caller id petition
 Follows h caller (Granted id petition name) = CanGrant h id petition name
-Follows h caller (Declined id petition) = CanClose h id petition
+Follows h caller (Declined id petition reason) = CanClose h id petition
 Follows h caller (Withdrawn id petition) = CanClose h id petition
 Follows h caller (CardAmended name card) = CanChange h caller name
 Follows h caller (Returned name) = CanChange h caller name
@@ -181,7 +181,7 @@ follows h caller (orders.Grant it) act e =
     subst (Follows h caller) (sym is.does)
     (record { there = is.there; was_open = is.was_open; fits = subst (λ (s : Standing). CanBeGiven s is.petition.org) same is.fits; named = refl })
 follows h caller (orders.Decline it) act e =
-    let is = decline_ok h.founding.curators (petition_of h it.petition) caller it.petition act e in
+    let is = decline_ok h.founding.curators (petition_of h it.petition) caller it.petition it.reason act e in
     subst (Follows h caller) (sym is.does) (record { there = is.there; was_open = is.was_open })
 follows h caller (orders.Withdraw it) act e =
     let is = withdraw_ok (petition_of h it.petition) (org_petitioning h it.petition) caller it.petition act e in

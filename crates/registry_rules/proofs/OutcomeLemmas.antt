@@ -113,59 +113,59 @@ has_answer : (b : Bool) → is_some (answer_if {A = List ℕ} b []) ≡ b
 has_answer true = refl
 has_answer false = refl
 
-same_for : (h : History) (caller : List ℕ) (key : List ℕ) (order : Order) (facts : Facts) → AreFactsOf h (record { caller = caller; key = key; order = order }) facts →
+same_for : (h : History) (caller : List ℕ) (key : List ℕ) (order : Order) (time : Option (List ℕ)) (facts : Facts) → AreFactsOf h (record { caller = caller; key = key; order = order; time = time }) facts →
     outcome_on facts caller order ≡ outcome h caller order
 unfolding outcome outcome_on slug_concerned petition_named vendor_concerned open_concerned org_concerned concerns
-same_for h caller key (orders.Enrol it) facts are = rw (are.org, are.orgs) refl
-same_for h caller key (orders.AmendOrg it) facts are = rw are.org refl
-same_for h caller key (orders.Ask it) facts are =
+same_for h caller key (orders.Enrol it) time facts are = rw (are.org, are.orgs) refl
+same_for h caller key (orders.AmendOrg it) time facts are = rw are.org refl
+same_for h caller key (orders.Ask it) time facts are =
     rw (are.vendor, are.founding.allowed it.terms.licence, are.vendors.each (vendor_meant h it.vendor), are.org, are.still_open, are.petitions)
     (ap (λ wanted. ask_checks (org_of h it.org) (has_vendor h (vendor_meant h it.vendor)) (is_licence h it.terms.licence) (open_count h it.org) (length (asked h)) wanted caller
     (new_petition (vendor_meant h it.vendor) it.org it.want it.title it.terms))
     (same_wanted h facts (vendor_meant h it.vendor) it.want are.reserved
     (λ pid is. are.holdings (number (vendor_meant h it.vendor) pid)
     (and_from (nat_eq (vendor_meant h it.vendor) (vendor_meant h it.vendor)) _ (eq-eqb (vendor_meant h it.vendor) (vendor_meant h it.vendor) refl) (ap (λ w. is_wanted w pid) is ∙ eq-eqb pid pid refl)))))
-same_for h caller key (orders.Grant it) facts are =
+same_for h caller key (orders.Grant it) time facts are =
     rw (are.founding.curators, are.founding.vendor, are.petition, are.least)
     (ap (λ chosen. grant_checks h.founding.curators h.founding.vendor (petition_of h it.petition) chosen caller it.petition) (same_chosen h facts h.founding.vendor it.number (petition_of h it.petition) are.reserved are.holdings))
-same_for h caller key (orders.Decline it) facts are = rw (are.founding.curators, are.petition) refl
-same_for h caller key (orders.Withdraw it) facts are = rw (are.petition, are.org) refl
-same_for h caller key (orders.Amend it) facts are =
+same_for h caller key (orders.Decline it) time facts are = rw (are.founding.curators, are.petition) refl
+same_for h caller key (orders.Withdraw it) time facts are = rw (are.petition, are.org) refl
+same_for h caller key (orders.Amend it) time facts are =
     rw (are.founding.vendor, are.vendor, are.org, are.founding.allowed it.terms.licence)
     (ap (λ s. amend_checks h.founding.vendor s (org_owning h (number (vendor_meant h it.vendor) it.number)) (is_licence h it.terms.licence) caller (new_card it.title it.terms))
     (same_standing h facts (number (vendor_meant h it.vendor) it.number) (are.reserved it.number) (are.holdings (number (vendor_meant h it.vendor) it.number) (is_itself (number (vendor_meant h it.vendor) it.number)))))
-same_for h caller key (orders.Return it) facts are =
+same_for h caller key (orders.Return it) time facts are =
     rw (are.founding.vendor, are.vendor, are.org)
     (ap (λ s. return_checks h.founding.vendor s (org_owning h (number (vendor_meant h it.vendor) it.number)) caller)
     (same_standing h facts (number (vendor_meant h it.vendor) it.number) (are.reserved it.number) (are.holdings (number (vendor_meant h it.vendor) it.number) (is_itself (number (vendor_meant h it.vendor) it.number)))))
-same_for h caller key (orders.Reserve it) facts are =
+same_for h caller key (orders.Reserve it) time facts are =
     rw (are.founding.curators, are.founding.vendor, are.vendor, are.founding.fixed, are.vendors.each (vendor_meant h it.vendor))
     (ap (λ least. reserve_checks h.founding.curators h.founding.vendor (has_vendor h (vendor_meant h it.vendor)) (meets_fixed h (vendor_meant h it.vendor) it.span) least caller (vendor_meant h it.vendor) it.span)
     (same_least h facts (vendor_meant h it.vendor) it.span are.owned))
-same_for h caller key (orders.Release it) facts are =
+same_for h caller key (orders.Release it) time facts are =
     rw (are.founding.curators, are.founding.vendor, are.vendor, are.founding.fixed, are.vendors.each (vendor_meant h it.vendor))
     (ap (λ all. release_checks h.founding.curators h.founding.vendor (has_vendor h (vendor_meant h it.vendor)) (meets_fixed h (vendor_meant h it.vendor) it.span) all caller (vendor_meant h it.vendor) it.span)
     (same_all (λ pid. spans_have facts.reserved.now pid) (λ pid. is_reserved h (number (vendor_meant h it.vendor) pid)) it.span.first (it.span.last + 1 - it.span.first) (λ pid from lt. are.reserved pid)))
-same_for h caller key (orders.Import it) facts are =
+same_for h caller key (orders.Import it) time facts are =
     rw (are.founding.curators, are.vendor, are.org, are.vendors.each (vendor_meant h it.vendor))
     (ap (λ classes. import_checks h.founding.curators (org_of h it.org) (has_vendor h (vendor_meant h it.vendor)) classes caller (vendor_meant h it.vendor) it.org it.items)
     (same_classes (standing_in_sets facts.taken.now facts.reserved.now (vendor_meant h it.vendor)) (standing_at h (vendor_meant h it.vendor)) [] it.items are.reserved
     (λ code. has_answer (is_owned_by facts.taken.now facts.reserved.now code) ∙ are.owned code)))
-same_for h caller key (orders.AddVendor it) facts are = rw (are.founding.curators, are.vendors.each it.vendor, are.vendors.count) refl
-same_for h caller key (orders.AddLicence it) facts are = rw (are.founding.curators, are.founding.allowed it.licence, are.founding.allowed_count) refl
-same_for h caller key (orders.HandOver it) facts are = rw (are.founding.curators, are.org) refl
-same_for h caller key (orders.Correct it) facts are =
+same_for h caller key (orders.AddVendor it) time facts are = rw (are.founding.curators, are.vendors.each it.vendor, are.vendors.count) refl
+same_for h caller key (orders.AddLicence it) time facts are = rw (are.founding.curators, are.founding.allowed it.licence, are.founding.allowed_count) refl
+same_for h caller key (orders.HandOver it) time facts are = rw (are.founding.curators, are.org) refl
+same_for h caller key (orders.Correct it) time facts are =
     rw (are.founding.curators, are.founding.vendor, are.vendor, are.founding.allowed it.terms.licence)
     (ap (λ s. correct_checks h.founding.curators h.founding.vendor s (is_licence h it.terms.licence) caller (new_card it.title it.terms))
     (same_standing h facts (number (vendor_meant h it.vendor) it.number) (are.reserved it.number) (are.holdings (number (vendor_meant h it.vendor) it.number) (is_itself (number (vendor_meant h it.vendor) it.number)))))
-same_for h caller key (orders.CorrectOrg it) facts are = rw (are.founding.curators, are.org) refl
-same_for h caller key (orders.Revoke it) facts are =
+same_for h caller key (orders.CorrectOrg it) time facts are = rw (are.founding.curators, are.org) refl
+same_for h caller key (orders.Revoke it) time facts are =
     rw (are.founding.curators, are.founding.vendor, are.vendor)
     (ap (λ s. revoke_checks h.founding.curators h.founding.vendor s caller)
     (same_standing h facts (number (vendor_meant h it.vendor) it.number) (are.reserved it.number) (are.holdings (number (vendor_meant h it.vendor) it.number) (is_itself (number (vendor_meant h it.vendor) it.number)))))
 
 pub same_outcome : (h : History) (request : Request) (facts : Facts) → AreFactsOf h request facts → outcome_on facts request.caller request.order ≡ outcome h request.caller request.order
-same_outcome h request facts are = same_for h request.caller request.key request.order facts are
+same_outcome h request facts are = same_for h request.caller request.key request.order request.time facts are
 
 -- the verdict by the facts is the verdict by the history
 same_verdict : (h : History) (request : Request) (facts : Facts) → AreFactsOf h request facts → verdict_by facts.kept request (outcome_on facts request.caller request.order) ≡ verdict h request

@@ -15,7 +15,7 @@ use Rattle.usbnum_core.specs.Text.{IsTitle}
 use Rattle.usbnum_core.specs.declared.number.Span.{Span}
 use Rattle.usbnum_core.proofs.DigitLemmas.{digits_read}
 use Rattle.usbnum_core.proofs.SameSpansLemmas.{span_decides}
-use Rattle.registry_rules.specs.Orders.{fields_of, canonical_form, number_field, vendor_fields, item_field, IsOrder, IsItem, IsIdIfAny}
+use Rattle.registry_rules.specs.Orders.{fields_of, canonical_form, number_field, vendor_fields, reason_fields, item_field, IsOrder, IsItem, IsIdIfAny}
 use Rattle.registry_rules.specs.Reading.{HasNoTab}
 use Rattle.registry_rules.proofs.FieldLemmas.{same_fields, slug_has_no_tab, title_has_no_tab, link_has_no_tab}
 use Rattle.registry_rules.specs.declared.item.Item.{Item}
@@ -58,6 +58,10 @@ last_tabless : (vendor : Option ℕ) → AllByRecursion HasNoTab (vendor_fields 
 last_tabless None = tt
 last_tabless (Some vid) = (digits_tabless vid, tt)
 
+reason_tabless : (reason : Option (List ℕ)) → IfSome reason IsTitle → AllByRecursion HasNoTab (reason_fields reason)
+reason_tabless None valid = tt
+reason_tabless (Some reason) valid = (title_has_no_tab reason valid, tt)
+
 title_tabless : (title : Option (List ℕ)) → IfSome title IsTitle → HasNoTab (unwrap_or title [])
 title_tabless None valid = tt
 title_tabless (Some title) valid = title_has_no_tab title valid
@@ -88,7 +92,7 @@ tabless (orders.Ask it) is = (
   ),
 )
 tabless (orders.Grant it) is = (fixed_text (codes "grant") refl, (decimal_tabless it.petition is.0, (named_tabless it.number, tt)))
-tabless (orders.Decline it) is = (fixed_text (codes "decline") refl, (decimal_tabless it.petition is, tt))
+tabless (orders.Decline it) is = (fixed_text (codes "decline") refl, (decimal_tabless it.petition is.0, reason_tabless it.reason is.1))
 tabless (orders.Withdraw it) is = (fixed_text (codes "withdraw") refl, (decimal_tabless it.petition is, tt))
 tabless (orders.Amend it) is = (
   fixed_text (codes "amend") refl,
@@ -161,6 +165,10 @@ unfolding title_read
 title_reads None valid = refl
 title_reads (Some []) valid = let some : 1 ≤ length {A = ℕ} [] = valid.filled in absurd (omega arith)
 title_reads (Some (byte ∷ text)) valid = refl
+
+reason_reads : (reason : Option (List ℕ)) → IfSome reason IsTitle → title_read (at (reason_fields reason) 0) ≡ reason
+reason_reads None valid = title_reads None tt
+reason_reads (Some reason) valid = title_reads (Some reason) valid
 
 abbrev new_item : ℕ → Option (List ℕ) → Item
 new_item code title = record { code = code; title = title }
@@ -235,8 +243,8 @@ an_ask org want title terms vendor = orders.Ask (record { org = org; want = want
 abbrev a_grant : ℕ → Option ℕ → Order
 a_grant petition number = orders.Grant (record { petition = petition; number = number })
 
-abbrev a_decline : ℕ → Order
-a_decline petition = orders.Decline (record { petition = petition })
+abbrev a_decline : ℕ → Option (List ℕ) → Order
+a_decline petition reason = orders.Decline (record { petition = petition; reason = reason })
 
 abbrev a_withdrawal : ℕ → Order
 a_withdrawal petition = orders.Withdraw (record { petition = petition })
@@ -293,7 +301,7 @@ read (name ∷ fields) =
     else if bytes_eq name (codes "amend-org") then an_org_amendment (at fields 0) (at fields 1) (at fields 2)
     else if bytes_eq name (codes "ask") then an_ask (at fields 0) (code_of (at fields 1)) (at fields 2) (terms_at fields 3) (code_of (at fields 6))
     else if bytes_eq name (codes "grant") then a_grant (digits_value 10 (at fields 0)) (code_of (at fields 1))
-    else if bytes_eq name (codes "decline") then a_decline (digits_value 10 (at fields 0))
+    else if bytes_eq name (codes "decline") then a_decline (digits_value 10 (at fields 0)) (title_read (at fields 1))
     else if bytes_eq name (codes "withdraw") then a_withdrawal (digits_value 10 (at fields 0))
     else if bytes_eq name (codes "amend") then an_amendment (number_at fields 0) (at fields 1) (terms_at fields 2) (code_of (at fields 5))
     else if bytes_eq name (codes "return") then a_return (number_at fields 0) (code_of (at fields 1))
@@ -316,7 +324,8 @@ reads (orders.AmendOrg it) is = refl
 reads (orders.Ask it) is =
     ap (λ w. an_ask it.org w it.title it.terms (code_of (at (vendor_fields it.vendor) 0))) (named_reads it.want is.1) ∙ ap (an_ask it.org it.want it.title it.terms) (vendor_reads it.vendor is.4)
 reads (orders.Grant it) is = ap (λ p. a_grant p (code_of (number_field it.number))) (petition_reads it.petition is.0) ∙ ap (a_grant it.petition) (named_reads it.number is.1)
-reads (orders.Decline it) is = ap a_decline (petition_reads it.petition is)
+reads (orders.Decline it) is =
+    ap (λ p. a_decline p (title_read (at (reason_fields it.reason) 0))) (petition_reads it.petition is.0) ∙ ap (a_decline it.petition) (reason_reads it.reason is.1)
 reads (orders.Withdraw it) is = ap a_withdrawal (petition_reads it.petition is)
 reads (orders.Amend it) is =
     ap (λ n. an_amendment n it.title it.terms (code_of (at (vendor_fields it.vendor) 0))) (number_reads it.number is.0) ∙ ap (an_amendment it.number it.title it.terms) (vendor_reads it.vendor is.3)

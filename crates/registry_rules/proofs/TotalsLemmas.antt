@@ -1,5 +1,5 @@
 -- Totals that are updated with a deed are those of the history with the deed.
-use Rattle.std.proofs.Common.{◌≡◌, ◌∙◌, ap, ap₂, subst, sym, refl, ℕ, ◌+◌, ◌-◌, ◌<◌, ◌≤◌, true, false, List, [], ◌∷◌, ◌++◌, None, Some, length, length-append, append_assoc, arith}
+use Rattle.std.proofs.Common.{◌≡◌, ◌∙◌, ap, ap₂, subst, sym, refl, ℕ, ◌+◌, ◌-◌, ◌<◌, ◌≤◌, true, false, List, [], ◌∷◌, ◌++◌, Option, None, Some, length, length-append, append_assoc, arith}
 use Rattle.std.specs.Prelude.{nat_eq, nat_lt, find, is_some, if◌then◌else◌, ◌&&◌, ◌||◌, not}
 use Rattle.std.proofs.lemmas.Bool.{ltb-true}
 use Rattle.std.specs.List.{list_any}
@@ -68,14 +68,14 @@ below_limit : (n limit most : ℕ) → nat_lt n limit ≡ true → limit ≤ mos
 below_limit n limit most e within = let less : n < limit = ltb-true n limit e in omega (arith, less, within)
 
 -- the deed of a caller, key, order and act
-abbrev the_deed : List ℕ → List ℕ → Order → Act → Deed
-the_deed caller key order act = record { caller = caller; key = key; order = order; act = act }
+abbrev the_deed : List ℕ → List ℕ → Order → Option (List ℕ) → Act → Deed
+the_deed caller key order time act = record { caller = caller; key = key; order = order; time = time; act = act }
 
 -- an enrolment: one more organisation
-enrolled_more : (h : History) (caller key : List ℕ) (order : Order) (org : Org) (old new : Totals) → CanEnrol h caller org
-    → (old.orgs < greatest_count → new ≡ record old { orgs = old.orgs + 1 }) → IsSummary h old → IsSummary (with_deed h (the_deed caller key order (Enrolled org))) new
-enrolled_more h caller key order org old new can is s =
-    let deed = the_deed caller key order (Enrolled org) in
+enrolled_more : (h : History) (caller key : List ℕ) (order : Order) (time : Option (List ℕ)) (org : Org) (old new : Totals) → CanEnrol h caller org
+    → (old.orgs < greatest_count → new ≡ record old { orgs = old.orgs + 1 }) → IsSummary h old → IsSummary (with_deed h (the_deed caller key order time (Enrolled org))) new
+enrolled_more h caller key order time org old new can is s =
+    let deed = the_deed caller key order time (Enrolled org) in
     let few : length (enrolled h) < greatest_count = below_limit (length (enrolled h)) MOST_ORGS greatest_count can.below (omega arith) in
     let count : old.orgs ≡ length (enrolled h) = s.orgs in
     let now : new ≡ record old { orgs = old.orgs + 1 } = is (omega (arith, few, count)) in
@@ -93,11 +93,11 @@ enrolled_more h caller key order org old new can is s =
     })
 
 -- an ask: one more petition, which is open
-asked_more : (h : History) (caller key : List ℕ) (order : Order) (id : ℕ) (petition : Petition) (old new : Totals) → CanAsk h caller id petition
-    → LeadsTo (act_changes (Asked id petition)) h (with_deed h (the_deed caller key order (Asked id petition)))
-    → CarriesAsks old new petition.org → IsSummary h old → IsSummary (with_deed h (the_deed caller key order (Asked id petition))) new
-asked_more h caller key order id petition old new can leads is s =
-    let deed = the_deed caller key order (Asked id petition) in
+asked_more : (h : History) (caller key : List ℕ) (order : Order) (time : Option (List ℕ)) (id : ℕ) (petition : Petition) (old new : Totals) → CanAsk h caller id petition
+    → LeadsTo (act_changes (Asked id petition)) h (with_deed h (the_deed caller key order time (Asked id petition)))
+    → CarriesAsks old new petition.org → IsSummary h old → IsSummary (with_deed h (the_deed caller key order time (Asked id petition))) new
+asked_more h caller key order time id petition old new can leads is s =
+    let deed = the_deed caller key order time (Asked id petition) in
     let few : length (asked h) < greatest_count = below_limit (length (asked h)) MOST_PETITIONS greatest_count can.below (omega arith) in
     let few_open : open_count h petition.org < greatest_count = below_limit (open_count h petition.org) MOST_OPEN greatest_count can.few_open (omega arith) in
     let count : old.petitions ≡ length (asked h) = s.petitions in
@@ -118,11 +118,11 @@ asked_more h caller key order id petition old new can leads is s =
     })
 
 -- a grant: one fewer open petition, and one more number that is taken
-granted_more : (h : History) (caller key : List ℕ) (order : Order) (id : ℕ) (petition : Petition) (name : NumberName) (old mid new : Totals) → Legal (with_deed h (the_deed caller key order (Granted id petition name))) → CanGrant h id petition name
-    → LeadsTo (act_changes (Granted id petition name)) h (with_deed h (the_deed caller key order (Granted id petition name)))
-    → CarriesCloses old mid petition.org → HasTaken mid new name.number.vid name.number.pid → IsSummary h old → IsSummary (with_deed h (the_deed caller key order (Granted id petition name))) new
-granted_more h caller key order id petition name old mid new after can leads closes takes s =
-    let deed = the_deed caller key order (Granted id petition name) in
+granted_more : (h : History) (caller key : List ℕ) (order : Order) (time : Option (List ℕ)) (id : ℕ) (petition : Petition) (name : NumberName) (old mid new : Totals) → Legal (with_deed h (the_deed caller key order time (Granted id petition name))) → CanGrant h id petition name
+    → LeadsTo (act_changes (Granted id petition name)) h (with_deed h (the_deed caller key order time (Granted id petition name)))
+    → CarriesCloses old mid petition.org → HasTaken mid new name.number.vid name.number.pid → IsSummary h old → IsSummary (with_deed h (the_deed caller key order time (Granted id petition name))) new
+granted_more h caller key order time id petition name old mid new after can leads closes takes s =
+    let deed = the_deed caller key order time (Granted id petition name) in
     let now : new ≡ record old { still_open = mid.still_open; taken = new.taken } = takes.same ∙ ap (λ (m : Totals). record m { taken = new.taken }) closes.same in
     subst (λ t. IsSummary (with_deed h deed) t) (sym now) (record {
       founding = keeps_founding h deed old.founding refl s.founding;
@@ -180,10 +180,10 @@ closed_less h deed id petition state old new keeps can closed at is s =
     only_open h deed old new keeps is.same (λ slug. is.closed slug ∙ ap (λ n. if bytes_eq petition.org slug then n - 1 else n) (s.still_open slug)
     ∙ sym (open_after_close h (with_deed h deed) id petition state at can.there can.was_open closed (sym keeps.petitions) slug)) s
 
-reserved_more : (h : History) (caller key : List ℕ) (order : Order) (name : SpanName) (old new : Totals) → Legal (with_deed h (the_deed caller key order (Reserved name))) → CarriesReserves old new name.vid name.span
-    → IsSummary h old → IsSummary (with_deed h (the_deed caller key order (Reserved name))) new
-reserved_more h caller key order name old new after is s =
-    let deed = the_deed caller key order (Reserved name) in
+reserved_more : (h : History) (caller key : List ℕ) (order : Order) (time : Option (List ℕ)) (name : SpanName) (old new : Totals) → Legal (with_deed h (the_deed caller key order time (Reserved name))) → CarriesReserves old new name.vid name.span
+    → IsSummary h old → IsSummary (with_deed h (the_deed caller key order time (Reserved name))) new
+reserved_more h caller key order time name old new after is s =
+    let deed = the_deed caller key order time (Reserved name) in
     subst (λ t. IsSummary (with_deed h deed) t) (sym is.same) (record {
       founding = keeps_founding h deed old.founding refl s.founding;
       vendors = keeps_vendors h deed old.vendors refl s.vendors;
@@ -198,10 +198,10 @@ reserved_more h caller key order name old new after is s =
       nothing = s.nothing;
     })
 
-released_less : (h : History) (caller key : List ℕ) (order : Order) (name : SpanName) (old new : Totals) → Legal h → Legal (with_deed h (the_deed caller key order (Released name))) → CanRelease h name → Releases old new name.vid name.span
-    → IsSummary h old → IsSummary (with_deed h (the_deed caller key order (Released name))) new
-released_less h caller key order name old new legal after can is s =
-    let deed = the_deed caller key order (Released name) in
+released_less : (h : History) (caller key : List ℕ) (order : Order) (time : Option (List ℕ)) (name : SpanName) (old new : Totals) → Legal h → Legal (with_deed h (the_deed caller key order time (Released name))) → CanRelease h name → Releases old new name.vid name.span
+    → IsSummary h old → IsSummary (with_deed h (the_deed caller key order time (Released name))) new
+released_less h caller key order time name old new legal after can is s =
+    let deed = the_deed caller key order time (Released name) in
     let unfixed : (n : Number) → (nat_eq name.vid n.vid && span_has name.span n.pid) ≡ true → is_fixed h n ≡ false
     = λ n e. let at = in_span name.vid name.span n e in subst (λ m. is_fixed h m ≡ false) at.0 (can.unfixed n.pid at.1) in
     let unowned : (n : Number) → (nat_eq name.vid n.vid && span_has name.span n.pid) ≡ true → is_some (owner_of h n) ≡ false
@@ -221,10 +221,10 @@ released_less h caller key order name old new legal after can is s =
       nothing = s.nothing;
     })
 
-imported_more : (h : History) (caller key : List ℕ) (order : Order) (vid : ℕ) (org : List ℕ) (fresh : List Item) (tally : Tally) (old new : Totals) → Legal (with_deed h (the_deed caller key order (Imported vid org fresh tally))) → CanImport h vid org fresh → CarriesImports old new vid fresh
-    → IsSummary h old → IsSummary (with_deed h (the_deed caller key order (Imported vid org fresh tally))) new
-imported_more h caller key order vid org fresh tally old new after can is s =
-    let deed = the_deed caller key order (Imported vid org fresh tally) in
+imported_more : (h : History) (caller key : List ℕ) (order : Order) (time : Option (List ℕ)) (vid : ℕ) (org : List ℕ) (fresh : List Item) (tally : Tally) (old new : Totals) → Legal (with_deed h (the_deed caller key order time (Imported vid org fresh tally))) → CanImport h vid org fresh → CarriesImports old new vid fresh
+    → IsSummary h old → IsSummary (with_deed h (the_deed caller key order time (Imported vid org fresh tally))) new
+imported_more h caller key order time vid org fresh tally old new after can is s =
+    let deed = the_deed caller key order time (Imported vid org fresh tally) in
     subst (λ t. IsSummary (with_deed h deed) t) (sym is.same) (record {
       founding = keeps_founding h deed old.founding refl s.founding;
       vendors = keeps_vendors h deed old.vendors refl s.vendors;
@@ -239,10 +239,10 @@ imported_more h caller key order vid org fresh tally old new after can is s =
     })
 
 -- one more vendor
-vendor_more : (h : History) (caller key : List ℕ) (order : Order) (vid : ℕ) (name : List ℕ) (old new : Totals) → new ≡ record old { vendors = old.vendors ++ record { vid = vid; name = name } ∷ [] }
-    → IsSummary h old → IsSummary (with_deed h (the_deed caller key order (VendorAdded vid name))) new
-vendor_more h caller key order vid name old new is s =
-    let deed = the_deed caller key order (VendorAdded vid name) in
+vendor_more : (h : History) (caller key : List ℕ) (order : Order) (time : Option (List ℕ)) (vid : ℕ) (name : List ℕ) (old new : Totals) → new ≡ record old { vendors = old.vendors ++ record { vid = vid; name = name } ∷ [] }
+    → IsSummary h old → IsSummary (with_deed h (the_deed caller key order time (VendorAdded vid name))) new
+vendor_more h caller key order time vid name old new is s =
+    let deed = the_deed caller key order time (VendorAdded vid name) in
     let added : List Vendor = record { vid = vid; name = name } ∷ [] in
     subst (λ t. IsSummary (with_deed h deed) t) (sym is) (record {
       founding = keeps_founding h deed old.founding refl s.founding;
@@ -262,10 +262,10 @@ vendor_more h caller key order vid name old new is s =
     })
 
 -- one more licence
-licence_more : (h : History) (caller key : List ℕ) (order : Order) (licence : List ℕ) (old new : Totals) → Legal (with_deed h (the_deed caller key order (LicenceAdded licence))) → Allows old new licence
-    → IsSummary h old → IsSummary (with_deed h (the_deed caller key order (LicenceAdded licence))) new
-licence_more h caller key order licence old new after is s =
-    let deed = the_deed caller key order (LicenceAdded licence) in
+licence_more : (h : History) (caller key : List ℕ) (order : Order) (time : Option (List ℕ)) (licence : List ℕ) (old new : Totals) → Legal (with_deed h (the_deed caller key order time (LicenceAdded licence))) → Allows old new licence
+    → IsSummary h old → IsSummary (with_deed h (the_deed caller key order time (LicenceAdded licence))) new
+licence_more h caller key order time licence old new after is s =
+    let deed = the_deed caller key order time (LicenceAdded licence) in
     let allowed : (other : List ℕ) → list_any (bytes_eq other) new.founding.licences ≡ is_licence (with_deed h deed) other = λ other.
     is.licences.same other ∙ list_any-append (bytes_eq other) old.founding.licences (licence ∷ [])
     ∙ ap (λ b. b || list_any (bytes_eq other) (licence ∷ [])) (s.founding.allowed other)
@@ -290,21 +290,23 @@ licence_more h caller key order licence old new after is s =
       nothing = s.nothing;
     })
 
-carries_by : (h : History) (caller key : List ℕ) (order : Order) (act : Act) (old new : Totals) → Legal h → Legal (with_deed h (the_deed caller key order act)) → Follows h caller act
-    → LeadsTo (act_changes act) h (with_deed h (the_deed caller key order act)) → Carries old new act → IsSummary h old → IsSummary (with_deed h (the_deed caller key order act)) new
-carries_by h caller key order (Enrolled org) old new legal after can leads is s = enrolled_more h caller key order org old new can is s
-carries_by h caller key order (Asked id petition) old new legal after can leads is s = asked_more h caller key order id petition old new can leads is s
-carries_by h caller key order (Granted id petition name) old new legal after can leads is s = granted_more h caller key order id petition name old is.0 new after can leads is.1 is.2 s
-carries_by h caller key order (Declined id petition) old new legal after can leads is s = closed_less h (the_deed caller key order (Declined id petition)) id petition StateDeclined old new
+carries_by : (h : History) (caller key : List ℕ) (order : Order) (time : Option (List ℕ)) (act : Act) (old new : Totals) → Legal h → Legal (with_deed h (the_deed caller key order time act)) → Follows h caller act
+    → LeadsTo (act_changes act) h (with_deed h (the_deed caller key order time act)) → Carries old new act → IsSummary h old → IsSummary (with_deed h (the_deed caller key order time act)) new
+carries_by h caller key order time (Enrolled org) old new legal after can leads is s = enrolled_more h caller key order time org old new can is s
+carries_by h caller key order time (Asked id petition) old new legal after can leads is s = asked_more h caller key order time id petition old new can leads is s
+carries_by h caller key order time (Granted id petition name) old new legal after can leads is s = granted_more h caller key order time id petition name old is.0 new after can leads is.1 is.2 s
+carries_by h caller key order time (Declined id petition None) old new legal after can leads is s = closed_less h (the_deed caller key order time (Declined id petition None)) id petition StateDeclined old new
     (record { licence = refl; vendor = refl; orgs = refl; petitions = refl; taken = λ n. refl; reserved = λ n. refl; apart = λ n. refl }) can refl leads.petitions is s
-carries_by h caller key order (Withdrawn id petition) old new legal after can leads is s = closed_less h (the_deed caller key order (Withdrawn id petition)) id petition StateWithdrawn old new
+carries_by h caller key order time (Declined id petition (Some reason)) old new legal after can leads is s = closed_less h (the_deed caller key order time (Declined id petition (Some reason))) id petition StateDeclined old new
     (record { licence = refl; vendor = refl; orgs = refl; petitions = refl; taken = λ n. refl; reserved = λ n. refl; apart = λ n. refl }) can refl leads.petitions is s
-carries_by h caller key order (Reserved name) old new legal after can leads is s = reserved_more h caller key order name old new after is s
-carries_by h caller key order (Released name) old new legal after can leads is s = released_less h caller key order name old new legal after can is s
-carries_by h caller key order (Imported vid org fresh tally) old new legal after can leads is s = imported_more h caller key order vid org fresh tally old new after can is s
-carries_by h caller key order (VendorAdded vid name) old new legal after can leads is s = vendor_more h caller key order vid name old new is s
-carries_by h caller key order (LicenceAdded licence) old new legal after can leads is s = licence_more h caller key order licence old new after is s
-carries_by h caller key order _ old new legal after can leads is s = no_total h _ old new
+carries_by h caller key order time (Withdrawn id petition) old new legal after can leads is s = closed_less h (the_deed caller key order time (Withdrawn id petition)) id petition StateWithdrawn old new
+    (record { licence = refl; vendor = refl; orgs = refl; petitions = refl; taken = λ n. refl; reserved = λ n. refl; apart = λ n. refl }) can refl leads.petitions is s
+carries_by h caller key order time (Reserved name) old new legal after can leads is s = reserved_more h caller key order time name old new after is s
+carries_by h caller key order time (Released name) old new legal after can leads is s = released_less h caller key order time name old new legal after can is s
+carries_by h caller key order time (Imported vid org fresh tally) old new legal after can leads is s = imported_more h caller key order time vid org fresh tally old new after can is s
+carries_by h caller key order time (VendorAdded vid name) old new legal after can leads is s = vendor_more h caller key order time vid name old new is s
+carries_by h caller key order time (LicenceAdded licence) old new legal after can leads is s = licence_more h caller key order time licence old new after is s
+carries_by h caller key order time _ old new legal after can leads is s = no_total h _ old new
     (record { licence = refl; vendor = refl; orgs = refl; petitions = refl; taken = λ n. refl; reserved = λ n. refl; apart = λ n. refl }) (λ slug. refl) is s
 
 -- totals that are updated with a new deed are those of the history with the deed
@@ -312,5 +314,5 @@ pub carries : (h : History) (request : Request) (deed : Deed) (old new : Totals)
     → AreTotalsOf h old → AreTotalsOf (with_deed h deed) new
 unfolding AreTotalsOf
 carries h request deed old new legal new_deed is s =
-    carries_by h deed.caller deed.key deed.order deed.act old new legal (legal_new h request deed legal new_deed) (new_follows h request deed new_deed)
+    carries_by h deed.caller deed.key deed.order deed.time deed.act old new legal (legal_new h request deed legal new_deed) (new_follows h request deed new_deed)
     (leads_to h request deed (act_changes deed.act) legal new_deed refl) is s

@@ -1,6 +1,6 @@
 -- The record of a history: its accepted requests with their replies.
-use Rattle.std.specs.Prelude.{List, [], ◌∷◌, ◌++◌, All}
-use Rattle.usbnum_core.specs.Text.{IsSlug, IsKey}
+use Rattle.std.specs.Prelude.{List, [], ◌∷◌, ◌++◌, IfSome, All}
+use Rattle.usbnum_core.specs.Text.{IsSlug, IsKey, IsTime}
 use Rattle.registry_rules.specs.Orders.{IsOrder}
 use Rattle.registry_rules.specs.Reply.{act_text}
 use Rattle.registry_rules.specs.Run.{request_of}
@@ -21,6 +21,7 @@ pub record IsValid (deed : Deed) : Type 0 where
   pub caller : IsSlug deed.caller
   pub key : IsKey deed.key
   pub order : IsOrder deed.order
+  pub time : IfSome deed.time IsTime
 
 -- each request has
 abbrev pub AreValid : List Deed → Type 0

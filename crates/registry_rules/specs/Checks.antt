@@ -131,11 +131,11 @@ grant_checks curators founding_vendor petition chosen caller id = do
   Ok (Granted id petition (name_of founding_vendor standing.number))
 
 -- Decline. Refusals: 2, 6, 7
-abbrev pub decline_checks : List Slug → Option Petition → Slug → PetitionId → Result Act Refusal
-decline_checks curators petition caller id = do
+abbrev pub decline_checks : List Slug → Option Petition → Slug → PetitionId → Option Title → Result Act Refusal
+decline_checks curators petition caller id reason = do
   by_curator curators caller
   petition ← open_petition petition
-  Ok (Declined id petition)
+  Ok (Declined id petition reason)
 
 -- Withdraw. Refusals: 6, 3, 7
 abbrev pub withdraw_checks : Option Petition → Option Org → Slug → PetitionId → Result Act Refusal

@@ -19,6 +19,10 @@ Title = List ℕ
 abbrev pub Link : Type 0
 Link = List ℕ
 
+-- the time of a request, as whoever hands the request in gives it; no verdict depends on it
+abbrev pub Time : Type 0
+Time = List ℕ
+
 -- the name of a licence that a product may have
 abbrev pub Licence : Type 0
 Licence = Title

@@ -40,7 +40,7 @@ pub(crate) fn order_text(alloc: Global, order: &Order) -> Result<String, AllocEr
             let number = NumberField { number: *number };
             format!(in alloc; "grant\t{petition}\t{number}")
         }
-        Order::Decline(Decline { petition }) => format!(in alloc; "decline\t{petition}"),
+        Order::Decline(it) => decline_text(alloc, it),
         Order::Withdraw(Withdraw { petition }) => format!(in alloc; "withdraw\t{petition}"),
         Order::Amend(it) => amend_text(alloc, it),
         Order::Return(Return { number, vendor }) => {
@@ -72,6 +72,16 @@ fn ask_text(alloc: Global, it: &Ask) -> Result<String, AllocError>
     let want = NumberField { number: it.want };
     let card = card_text(alloc, &it.title, &it.terms, it.vendor)?;
     format!(in alloc; "ask\t{org}\t{want}\t{card}")
+}
+
+fn decline_text(alloc: Global, it: &Decline) -> Result<String, AllocError>
+    ensures { IfOk result (λ text. string_bytes text ≡ join_with_byte 9 (fields_of (orders.Decline it.now))) }
+{
+    let petition = it.petition;
+    match &it.reason {
+        Some(reason) => format!(in alloc; "decline\t{petition}\t{reason}"),
+        None => format!(in alloc; "decline\t{petition}"),
+    }
 }
 
 fn amend_text(alloc: Global, it: &Amend) -> Result<String, AllocError>

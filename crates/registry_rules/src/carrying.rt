@@ -27,7 +27,11 @@ pub(crate) fn carry_act(totals: &mut Totals, act: &Act) -> Result<(), NoMemory>
             closed(totals, &petition.org)?;
             taken(totals, name.number.vid, name.number.pid)
         }
-        Act::Declined { id: _, petition } => closed(totals, &petition.org),
+        Act::Declined {
+            id: _,
+            petition,
+            reason: _,
+        } => closed(totals, &petition.org),
         Act::Withdrawn { id: _, petition } => closed(totals, &petition.org),
         Act::Reserved { name } => reserved(totals, name.vid, &name.span),
         Act::Released { name } => released(totals, name.vid, &name.span),

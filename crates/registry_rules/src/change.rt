@@ -25,6 +25,8 @@ pub enum Change {
     PutVendor { vid: Vid, name: Title },
     /// Adds a licence to those that are allowed.
     PutLicence(Title),
+    /// Puts the reason for which a petition was declined, under the petition's number.
+    PutReason { id: u32, reason: Title },
 }
 
 // By hand, so that a drop is one step wherever a change goes out of scope.
@@ -43,6 +45,7 @@ impl Drop for Change {
             Change::ReleaseSpan { vid: _, span: _ } => {}
             Change::PutVendor { vid: _, name: _ } => {}
             Change::PutLicence(_) => {}
+            Change::PutReason { id: _, reason: _ } => {}
         }
     }
 }

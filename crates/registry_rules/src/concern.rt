@@ -42,7 +42,7 @@ pub fn petition_concerned(order: &Order) -> Option<u32>
 {
     match order {
         Order::Grant(Grant { petition, .. })
-        | Order::Decline(Decline { petition })
+        | Order::Decline(Decline { petition, .. })
         | Order::Withdraw(Withdraw { petition }) => Some(*petition),
         _ => None,
     }

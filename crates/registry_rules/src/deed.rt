@@ -1,7 +1,7 @@
 //! Deeds: accepted requests with their effects.
 
 use crate::{Card, Items, NumberName, Order, Org, Petition, SpanName, Tally};
-use usbnum_core::{Key, Slug, Title, Vid};
+use usbnum_core::{Key, Slug, Time, Title, Vid};
 
 /// The effect of an accepted request. Each name in it has the vendor, also the founding vendor,
 /// which replies leave out.
@@ -22,10 +22,11 @@ pub enum Act {
         petition: Petition,
         name: NumberName,
     },
-    /// The petition, as it was while open, was declined.
+    /// The petition, as it was while open, was declined, perhaps for a reason.
     Declined {
         id: u32,
         petition: Petition,
+        reason: Option<Title>,
     },
     /// The petition, as it was while open, was withdrawn.
     Withdrawn {
@@ -89,6 +90,8 @@ pub struct Deed {
     pub key: Key,
     /// The order of the request.
     pub order: Order,
+    /// The time of the request, if it had one.
+    pub time: Option<Time>,
     /// Its effect.
     pub act: Act,
 }
@@ -105,7 +108,11 @@ impl Drop for Act {
                 petition: _,
                 name: _,
             } => {}
-            Act::Declined { id: _, petition: _ } => {}
+            Act::Declined {
+                id: _,
+                petition: _,
+                reason: _,
+            } => {}
             Act::Withdrawn { id: _, petition: _ } => {}
             Act::CardAmended { name: _, card: _ } => {}
             Act::Returned { name: _ } => {}

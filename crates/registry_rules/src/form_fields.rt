@@ -263,6 +263,25 @@ impl Fields for Option<Vid> {
     }
 }
 
+/// The reason of an order, which may be left out, as the last field.
+impl Fields for Option<Title> {
+    ghost use Rattle.std.specs.Prelude.{IfSome};
+    ghost use Rattle.usbnum_core.specs.Text.{IsTitle};
+    ghost use Rattle.registry_rules.specs.Orders.{reason_fields};
+
+    ghost are_valid = { λ reason. IfSome reason IsTitle };
+
+    ghost fields = { reason_fields };
+
+    fn from_fields(alloc: Global, text: &[u8]) -> Result<Option<Title>, Unread> {
+        if text.is_empty() {
+            return Ok(None);
+        }
+        let (reason, ()) = <(Title, ())>::from_fields(alloc, text)?;
+        Ok(Some(reason))
+    }
+}
+
 /// The items of an import.
 impl Fields for Items {
     ghost use Rattle.std.specs.Prelude.{map};

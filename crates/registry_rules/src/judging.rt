@@ -14,7 +14,16 @@ use crate::{
     request_bytes,
 };
 use std::alloc::{AllocError, Global};
-use usbnum_core::NoMemory;
+use usbnum_core::{NoMemory, Time};
+
+fn copy_of(time: &Option<Time>) -> Result<Option<Time>, AllocError>
+    ensures { IfOk result (λ copy. copy ≡ time.now) }
+{
+    match time {
+        Some(time) => Ok(Some(time.clone()?)),
+        None => Ok(None),
+    }
+}
 
 fn deed_of(request: &Request, act: Act) -> Result<Deed, AllocError>
     ensures { IfOk result (λ deed. deed ≡ deed_for request.now act) }
@@ -23,6 +32,7 @@ fn deed_of(request: &Request, act: Act) -> Result<Deed, AllocError>
         caller: request.caller.clone()?,
         key: request.key.clone()?,
         order: request.order.clone()?,
+        time: copy_of(&request.time)?,
         act,
     })
 }

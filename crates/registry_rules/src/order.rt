@@ -4,7 +4,7 @@ ghost use Rattle.std.specs.Prelude.{◌≡◌};
 
 use crate::{Items, Terms};
 use std::alloc::AllocError;
-use usbnum_core::{Key, Link, Pid, Slug, Span, Title, Vid};
+use usbnum_core::{Key, Link, Pid, Slug, Span, Time, Title, Vid};
 
 /// Enrols a new organisation, whose keeper is the caller.
 #[derive(Clone, Debug, Drop)]
@@ -58,6 +58,8 @@ pub struct Grant {
 pub struct Decline {
     /// The petition.
     pub petition: u32,
+    /// The reason, if the order gives one.
+    pub reason: Option<Title>,
 }
 
 /// Closes a petition without a grant, by the keeper of its organisation.
@@ -257,4 +259,7 @@ pub struct Request {
     pub key: Key,
     /// The order.
     pub order: Order,
+    /// The time of the request, if whoever hands it in gives one. No verdict depends on it, and a
+    /// repeat may have another.
+    pub time: Option<Time>,
 }

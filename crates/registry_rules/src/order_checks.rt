@@ -161,6 +161,7 @@ pub(crate) fn decline(
     Ok(Act::Declined {
         id: it.petition,
         petition: petition.clone()?,
+        reason: it.reason.clone()?,
     })
 }
 

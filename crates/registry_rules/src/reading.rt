@@ -82,8 +82,8 @@ fn grant(alloc: Global, text: &[u8]) -> Result<Order, Unread>
 fn decline(alloc: Global, text: &[u8]) -> Result<Order, Unread>
     ensures { (it : DeclineValue) → ReadsBack text.now result (orders.Decline it) }
 {
-    let (petition, ()) = <(u32, ())>::from_fields(alloc, text)?;
-    Ok(Order::Decline(Decline { petition }))
+    let (petition, reason) = <(u32, Option<Title>)>::from_fields(alloc, text)?;
+    Ok(Order::Decline(Decline { petition, reason }))
 }
 
 fn withdraw(alloc: Global, text: &[u8]) -> Result<Order, Unread>

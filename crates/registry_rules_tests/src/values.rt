@@ -31,7 +31,15 @@ fn read_text(
     found: Option<Order>,
 ) -> Result<Vec<u8>, RowFault> {
     match found {
-        Some(order) => form_of(alloc, &Request { caller, key, order }),
+        Some(order) => {
+            let request = Request {
+                caller,
+                key,
+                order,
+                time: None,
+            };
+            form_of(alloc, &request)
+        }
         None => text_of(alloc, "none"),
     }
 }
