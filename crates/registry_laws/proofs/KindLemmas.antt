@@ -9,15 +9,15 @@ use Rattle.serde_json.specs.Data.{Data, string, array}
 use Rattle.serde_json.specs.View.{items_of}
 use Rattle.usbnum_core.specs.Number.{IsId, hex_value, lower_hex_digit, code_of, number_of, digits_of, range_text}
 use Rattle.usbnum_core.specs.Spans.{IsSpread}
-use Rattle.usbnum_core.specs.Text.{IsSlug, IsKey, IsTitle, IsLink}
+use Rattle.usbnum_core.specs.Text.{IsSlug, IsKey, IsTitle, IsLink, IsTime}
 use Rattle.usbnum_core.specs.declared.number.Span.{Span}
 use Rattle.usbnum_core.proofs.DigitLemmas.{digits_read}
 use Rattle.registry_rules.specs.Orders.{IsItem}
 use Rattle.registry_rules.specs.Texts.{IsAscending}
 use Rattle.registry_rules.specs.declared.item.Item.{Item}
-use Rattle.registry_wire.specs.Decisions.{slug_or_not, key_or_not, title_or_not, link_or_not}
+use Rattle.registry_wire.specs.Decisions.{slug_or_not, key_or_not, title_or_not, link_or_not, time_or_not}
 use Rattle.registry_wire.specs.Founding.{span_written, span_after}
-use Rattle.registry_wire.specs.Kinds.{where_it_holds, slug_of, key_of, title_of, kept_link}
+use Rattle.registry_wire.specs.Kinds.{where_it_holds, slug_of, key_of, title_of, time_of, kept_link}
 use Rattle.registry_wire.specs.Record.{title_data, item_data, span_data, all_from, item_from, title_or_null, span_from, texts_from, spans_from}
 use Rattle.registry_wire.specs.Spans.{span_of}
 use Rattle.registry_wire.proofs.SpanLemmas.{same_span}
@@ -38,6 +38,10 @@ key_back text valid = held (key_or_not text) text valid
 pub title_back : (text : List ℕ) → IsTitle text → title_of text ≡ Some text
 unfolding title_of
 title_back text valid = held (title_or_not text) text valid
+
+pub time_back : (text : List ℕ) → IsTime text → time_of text ≡ Some text
+unfolding time_of
+time_back text valid = held (time_or_not text) text valid
 
 pub link_back : (text : List ℕ) → IsLink text → kept_link text ≡ Some text
 unfolding kept_link

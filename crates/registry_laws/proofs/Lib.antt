@@ -8,3 +8,4 @@ pub mod AcceptedLemmas
 pub mod LineLemmas
 pub mod WholeLemmas
 pub mod ValidLemmas
+pub mod DigestLemmas

@@ -1,6 +1,6 @@
 -- The lines of a record are read back.
 use Rattle.std.proofs.Common.{◌≡◌, ℕ, ◌+◌, ◌/◌, ◌%◌, ◌<◌, ◌^◌, ◌≤◌, Bool, true, false, List, [], ◌∷◌, ◌++◌, Option, Some, None, IfSome, refl, sym, ap, subst, ◌∙◌, arith, inl, inr, Ordering, Less, Equal, Greater, codes}
-use Rattle.std.specs.Prelude.{⊤, ◌&&◌, Result, Ok, Err, All, map, is_some, bytes_eq}
+use Rattle.std.specs.Prelude.{⊤, not, ◌&&◌, Result, Ok, Err, All, map, is_some, bytes_eq}
 use Rattle.std.specs.Cmp.Lexicographic.{slice_cmp}
 use Rattle.std.specs.Ordering.{nat_cmp, match_ordering, is_lt}
 use Rattle.std.specs.Str.{IsUtf8}
@@ -18,8 +18,8 @@ use Rattle.serde_json.specs.Written.{compact_text}
 use Rattle.serde_json.proofs.Views.{get_member-put, get_member-put_other}
 use Rattle.usbnum_core.specs.Number.{lower_hex_digit, digits_of, range_text}
 use Rattle.usbnum_core.specs.Spans.{IsSpread}
-use Rattle.usbnum_core.specs.Text.{IsSlug, IsTitle}
-use Rattle.usbnum_core.specs.Utf8.{slug_is_utf8, key_is_utf8, link_is_utf8, low_is_utf8}
+use Rattle.usbnum_core.specs.Text.{IsSlug, IsTitle, IsTime}
+use Rattle.usbnum_core.specs.Utf8.{slug_is_utf8, key_is_utf8, link_is_utf8, time_is_utf8, low_is_utf8}
 use Rattle.usbnum_core.specs.declared.number.Span.{Span}
 use Rattle.usbnum_core.proofs.DigitLemmas.{digits_read}
 use Rattle.registry_rules.specs.Checks.{◌>>=◌}
@@ -32,8 +32,8 @@ use Rattle.registry_rules.specs.declared.order.Order.{Order}
 use Rattle.registry_rules.specs.declared.order.Order.TheVariants as orders
 use Rattle.registry_rules.specs.declared.record.Terms.{Terms}
 use Rattle.registry_wire.specs.Names.{fault_name}
-use Rattle.registry_wire.specs.Reading.{field_name, slug_from, title_from, object_of}
-use Rattle.registry_wire.specs.Record.{digits_if_named, title_data, item_data, span_data, fields_of_terms, order_fields, accepted_fields, with_fields, accepted_data, accepted_line, founding_keys, with_keys, founding_data, founding_line, key_value, founding_in, line_in, record_reading}
+use Rattle.registry_wire.specs.Reading.{field_name, slug_from, title_from, optional_in, object_of}
+use Rattle.registry_wire.specs.Record.{digits_if_named, text_if_given, title_data, item_data, span_data, fields_of_terms, order_fields, accepted_fields, with_fields, accepted_data, accepted_line, founding_keys, with_keys, founding_data, founding_line, key_value, founding_in, line_in, accepted_line_in, record_reading}
 use Rattle.registry_wire.specs.declared.field.Field.{Field}
 use Rattle.registry_wire.specs.declared.field.Field.TheVariants as fields
 use Rattle.registry_wire.specs.declared.record.RecordLine.{RecordLine}
@@ -114,6 +114,8 @@ field_utf8 fields.Reason = IsUtf8-are_ascii (codes "reason") refl
 field_utf8 fields.Name = IsUtf8-are_ascii (codes "name") refl
 field_utf8 fields.Items = IsUtf8-are_ascii (codes "items") refl
 field_utf8 fields.Done = IsUtf8-are_ascii (codes "done") refl
+field_utf8 fields.At = IsUtf8-are_ascii (codes "at") refl
+field_utf8 fields.Digest = IsUtf8-are_ascii (codes "digest") refl
 
 key_utf8 : (key : FoundingFault) → IsUtf8 (fault_name key)
 key_utf8 faults.Toml = IsUtf8-are_ascii (codes "toml") refl
@@ -157,6 +159,14 @@ named_plain : (field : Field) (number : Option ℕ) → IsIdIfAny number → Val
 named_plain field None valid = tt
 named_plain field (Some n) valid = (digits_utf8 n valid.within, tt)
 
+reason_plain : (reason : Option (List ℕ)) → IfSome reason IsTitle → ValuesArePlain 2 (text_if_given fields.Reason reason)
+reason_plain None valid = tt
+reason_plain (Some reason) valid = (valid.utf8, tt)
+
+time_plain : (time : Option (List ℕ)) → IfSome time IsTime → ValuesArePlain 2 (text_if_given fields.At time)
+time_plain None valid = tt
+time_plain (Some time) valid = (time_is_utf8 time valid, tt)
+
 append_plain : (n : ℕ) (a b : List (Field × Data)) → ValuesArePlain n a → ValuesArePlain n b → ValuesArePlain n (a ++ b)
 append_plain n [] b x y = y
 append_plain n (first ∷ a) b x y = (x.0, append_plain n a b x.1 y)
@@ -177,7 +187,9 @@ order_plain (orders.Ask it) v =
 order_plain (orders.Grant it) v =
     let petition : it.petition < 2 ^ 64 = omega (arith, v.0) in
     (IsUtf8-are_ascii (codes "grant") refl, (petition, named_plain fields.Number it.number v.1))
-order_plain (orders.Decline it) v = let petition : it.petition < 2 ^ 64 = omega (arith, v) in (IsUtf8-are_ascii (codes "decline") refl, (petition, tt))
+order_plain (orders.Decline it) v =
+    let petition : it.petition < 2 ^ 64 = omega (arith, v.0) in
+    (IsUtf8-are_ascii (codes "decline") refl, (petition, reason_plain it.reason v.1))
 order_plain (orders.Withdraw it) v = let petition : it.petition < 2 ^ 64 = omega (arith, v) in (IsUtf8-are_ascii (codes "withdraw") refl, (petition, tt))
 order_plain (orders.Amend it) v =
     let vendor = named_plain fields.Vendor it.vendor v.3 in
@@ -252,13 +264,73 @@ has_order (orders.Import it) ms = order_named (first_value (order_fields (orders
 has_order (orders.AddVendor it) ms = order_named (first_value (order_fields (orders.AddVendor it))) (later_fields (order_fields (orders.AddVendor it))) ms
 has_order (orders.AddLicence it) ms = order_named (first_value (order_fields (orders.AddLicence it))) (later_fields (order_fields (orders.AddLicence it))) ms
 
+has_timed_order : (time : Option (List ℕ)) (order : Order) (ms : Members) → is_some (get_member (codes "order") (with_fields (text_if_given fields.At time ++ order_fields order) ms)) ≡ true
+has_timed_order None order ms = has_order order ms
+has_timed_order (Some time) order ms = has_order order (put (codes "at") (string time) ms)
+
 accepted_has_order : (accepted : Accepted) → is_some (get (field_name fields.Order) (accepted_data accepted)) ≡ true
 unfolding accepted_data
-accepted_has_order accepted = has_order accepted.request.order _
+accepted_has_order accepted = has_timed_order accepted.request.time accepted.request.order _
 
-accepted_in_line : (accepted : Accepted) → IsAccepted accepted → line_in (accepted_data accepted) ≡ Ok (lines.Accepted accepted)
-unfolding line_in
-accepted_in_line accepted valid = rw (accepted_has_order accepted, accepted_back accepted valid) refl
+-- ---- no field is a digest
+
+abbrev is_other : Field → Bool
+is_other field = not (bytes_eq (codes "digest") (field_name field))
+
+abbrev are_other : List (Field × Data) → Bool
+are_other [] = true
+are_other (first ∷ others) = is_other first.0 && are_other others
+
+none_with : (named : List (Field × Data)) (ms : Members) → are_other named ≡ true → get_member (codes "digest") ms ≡ None → get_member (codes "digest") (with_fields named ms) ≡ None
+none_with [] ms other none = none
+none_with (first ∷ others) ms other none =
+    let parts = and_parts (is_other first.0) (are_other others) other in
+    let apart = λ (e : codes "digest" ≡ field_name first.0). let there : bytes_eq (codes "digest") (field_name first.0) ≡ true = (bytes_eq-Decides (codes "digest") (field_name first.0)).1 e in
+    absurd (let clash = rw there at parts.0 in cc) in
+    none_with others (put (field_name first.0) first.1 ms) parts.1 (get_member-put_other (codes "digest") (field_name first.0) first.1 ms apart ∙ none)
+
+named_other : (field : Field) (number : Option ℕ) → is_other field ≡ true → are_other (digits_if_named field number) ≡ true
+named_other field None other = refl
+named_other field (Some n) other = and_from (is_other field) true other refl
+
+text_other : (field : Field) (text : Option (List ℕ)) → is_other field ≡ true → are_other (text_if_given field text) ≡ true
+text_other field None other = refl
+text_other field (Some text) other = and_from (is_other field) true other refl
+
+ask_other : (want vendor : Option ℕ) → are_other (digits_if_named fields.Number want ++ digits_if_named fields.Vendor vendor) ≡ true
+ask_other None vendor = named_other fields.Vendor vendor refl
+ask_other (Some n) vendor = named_other fields.Vendor vendor refl
+
+order_other : (order : Order) → are_other (order_fields order) ≡ true
+order_other (orders.Enrol it) = refl
+order_other (orders.AmendOrg it) = refl
+order_other (orders.HandOver it) = refl
+order_other (orders.CorrectOrg it) = refl
+order_other (orders.Ask it) = ask_other it.want it.vendor
+order_other (orders.Grant it) = named_other fields.Number it.number refl
+order_other (orders.Decline it) = text_other fields.Reason it.reason refl
+order_other (orders.Withdraw it) = refl
+order_other (orders.Amend it) = named_other fields.Vendor it.vendor refl
+order_other (orders.Return it) = named_other fields.Vendor it.vendor refl
+order_other (orders.Correct it) = named_other fields.Vendor it.vendor refl
+order_other (orders.Revoke it) = named_other fields.Vendor it.vendor refl
+order_other (orders.Reserve it) = named_other fields.Vendor it.vendor refl
+order_other (orders.Release it) = named_other fields.Vendor it.vendor refl
+order_other (orders.Import it) = named_other fields.Vendor it.vendor refl
+order_other (orders.AddVendor it) = refl
+order_other (orders.AddLicence it) = refl
+
+timed_other : (time : Option (List ℕ)) (order : Order) → are_other (text_if_given fields.At time ++ order_fields order) ≡ true
+timed_other None order = order_other order
+timed_other (Some time) order = order_other order
+
+accepted_has_no_digest : (accepted : Accepted) → get (field_name fields.Digest) (accepted_data accepted) ≡ None
+unfolding accepted_data
+accepted_has_no_digest accepted = none_with (accepted_fields accepted) no_members (timed_other accepted.request.time accepted.request.order) refl
+
+accepted_in_line : (accepted : Accepted) → IsAccepted accepted → line_in (accepted_data accepted) ≡ Ok (lines.Accepted accepted None)
+unfolding line_in accepted_line_in optional_in
+accepted_in_line accepted valid = rw (accepted_has_order accepted, accepted_back accepted valid, accepted_has_no_digest accepted) refl
 
 object_is : (ms : Members) → MembersArePlain 2 ms → ascend ms ≡ true → object_of (compact_text (object ms)) ≡ Ok (object ms)
 object_is ms plain rise = object_of_read (compact_text (object ms)) (object ms) (object_utf8 2 ms plain) (object_read 2 ms (omega arith) plain rise)
@@ -267,10 +339,11 @@ accepted_object : (accepted : Accepted) → IsAccepted accepted → object_of (a
 unfolding accepted_data
 accepted_object accepted valid =
     let request = accepted.request in
-    let values : ValuesArePlain 2 (accepted_fields accepted) = (slug_is_utf8 request.caller valid.caller, (key_is_utf8 request.key valid.key, (valid.reply, order_plain request.order valid.order))) in
+    let named = append_plain 2 (text_if_given fields.At request.time) (order_fields request.order) (time_plain request.time valid.time) (order_plain request.order valid.order) in
+    let values : ValuesArePlain 2 (accepted_fields accepted) = (slug_is_utf8 request.caller valid.caller, (key_is_utf8 request.key valid.key, (valid.reply, named))) in
     object_is (with_fields (accepted_fields accepted) no_members) (fields_plain 2 (accepted_fields accepted) no_members values tt) (fields_ascend (accepted_fields accepted) no_members refl)
 
-pub accepted_read : (accepted : Accepted) → IsAccepted accepted → record_reading (accepted_line accepted) ≡ Ok (lines.Accepted accepted)
+pub accepted_read : (accepted : Accepted) → IsAccepted accepted → record_reading (accepted_line accepted) ≡ Ok (lines.Accepted accepted None)
 unfolding record_reading
 accepted_read accepted valid = ap (λ (found : Result Data WireRefusal). found >>= line_in) (accepted_object accepted valid) ∙ accepted_in_line accepted valid
 
@@ -310,7 +383,7 @@ founding_read founding valid = ap (λ (found : Result Data WireRefusal). found >
 -- ---- no two share a line
 
 accepted_of_line : (read : Result RecordLine WireRefusal) (otherwise : Accepted) → Accepted
-accepted_of_line (Ok (lines.Accepted accepted)) otherwise = accepted
+accepted_of_line (Ok (lines.Accepted accepted digest)) otherwise = accepted
 accepted_of_line (Ok (lines.Founding founding)) otherwise = otherwise
 accepted_of_line (Err refusal) otherwise = otherwise
 
@@ -321,7 +394,7 @@ own_line a b of_a of_b same =
 
 founding_of_line : (read : Result RecordLine WireRefusal) (otherwise : Founding) → Founding
 founding_of_line (Ok (lines.Founding founding)) otherwise = founding
-founding_of_line (Ok (lines.Accepted accepted)) otherwise = otherwise
+founding_of_line (Ok (lines.Accepted accepted digest)) otherwise = otherwise
 founding_of_line (Err refusal) otherwise = otherwise
 
 pub own_founding_line : (a b : Founding) → IsValidFounding a → IsValidFounding b → founding_line a ≡ founding_line b → a ≡ b

@@ -15,7 +15,7 @@ use Rattle.registry_rules.proofs.RunLemmas.{new_is_of}
 use Rattle.registry_laws.specs.Records.{IsValidRequest, KeepsValid}
 
 valid_deed : (deed : Deed) → IsValidRequest (request_of deed) → IsValid deed
-valid_deed deed is = record { caller = is.caller; key = is.key; order = is.order }
+valid_deed deed is = record { caller = is.caller; key = is.key; order = is.order; time = is.time }
 
 valid_verdict : (h : History) (r : Request) (v : Verdict) → verdict h r ≡ v → AreValid h.deeds → IsValidRequest r → AreValid (after_verdict h v).deeds
 valid_verdict h r (Kept text) is all valid = all

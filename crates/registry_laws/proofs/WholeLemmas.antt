@@ -1,6 +1,6 @@
 -- The record of a history keeps the whole history.
 use Rattle.std.proofs.Common.{◌≡◌, List, [], ◌∷◌, refl, ap₂}
-use Rattle.std.specs.Prelude.{map, All, Result, Ok}
+use Rattle.std.specs.Prelude.{map, All, None, Result, Ok}
 use Rattle.std.proofs.lemmas.List.Elements.{All-head, All-tail}
 use Rattle.registry_rules.specs.Accepted.{accepted_of}
 use Rattle.registry_rules.specs.History.{History}
@@ -20,7 +20,7 @@ Reading = Result RecordLine WireRefusal
 put_first : Reading → List Reading → List Reading
 put_first first others = first ∷ others
 
-all_read : (accepted : List Accepted) → All IsAccepted accepted → map record_reading (map accepted_line accepted) ≡ map (λ a. Ok (lines.Accepted a)) accepted
+all_read : (accepted : List Accepted) → All IsAccepted accepted → map record_reading (map accepted_line accepted) ≡ map (λ a. Ok (lines.Accepted a None)) accepted
 unfolding put_first
 all_read [] all = refl
 all_read (first ∷ others) all = ap₂ put_first (accepted_read first (All-head IsAccepted first others all)) (all_read others (All-tail IsAccepted first others all))

@@ -1,9 +1,9 @@
 -- The lines of a record, which are read back.
-use Rattle.std.specs.Prelude.{◌≡◌, ℕ, List, ◌∷◌, map, All, Result, Ok}
+use Rattle.std.specs.Prelude.{◌≡◌, ℕ, List, [], ◌∷◌, map, All, None, IfSome, Result, Ok}
 use Rattle.std.specs.Str.{IsUtf8}
 use Rattle.usbnum_core.specs.Number.{IsId}
 use Rattle.usbnum_core.specs.Spans.{IsSpread}
-use Rattle.usbnum_core.specs.Text.{IsSlug, IsKey, IsTitle}
+use Rattle.usbnum_core.specs.Text.{IsSlug, IsKey, IsTitle, IsTime}
 use Rattle.registry_rules.specs.Accepted.{AreValid, accepted_of}
 use Rattle.registry_rules.specs.History.{History, founded}
 use Rattle.registry_rules.specs.Laws.{requests_of_record, replies_in}
@@ -14,6 +14,7 @@ use Rattle.registry_rules.specs.declared.accepted.Accepted.{Accepted}
 use Rattle.registry_rules.specs.declared.founding.Founding.{Founding}
 use Rattle.registry_rules.specs.declared.order.Request.{Request}
 use Rattle.registry_wire.specs.Record.{accepted_line, founding_line, record_reading}
+use Rattle.registry_wire.specs.Digests.{line_digest, digest_of}
 use Rattle.registry_wire.specs.declared.record.RecordLine.{RecordLine}
 use Rattle.registry_wire.specs.declared.record.RecordLine.TheVariants as lines
 use Rattle.registry_wire.specs.declared.refusal.WireRefusal.{WireRefusal}
@@ -23,6 +24,7 @@ pub record IsAccepted (accepted : Accepted) : Type 0 where
   pub caller : IsSlug accepted.request.caller
   pub key : IsKey accepted.request.key
   pub order : IsOrder accepted.request.order
+  pub time : IfSome accepted.request.time IsTime
   pub reply : IsUtf8 accepted.reply
 
 -- the invariants of a founding
@@ -35,9 +37,9 @@ pub record IsValidFounding (founding : Founding) : Type 0 where
   pub titles : All IsTitle founding.licences
   pub fixed : IsSpread 1 founding.fixed
 
--- the line of an accepted request is read as that request with its reply
+-- the line of an accepted request is read as that request with its reply, and has no digest
 abbrev pub ReadsAccepted : Type 0
-ReadsAccepted = (accepted : Accepted) → IsAccepted accepted → record_reading (accepted_line accepted) ≡ Ok (lines.Accepted accepted)
+ReadsAccepted = (accepted : Accepted) → IsAccepted accepted → record_reading (accepted_line accepted) ≡ Ok (lines.Accepted accepted None)
 
 -- the line of a founding is read as that founding
 abbrev pub ReadsFoundingLine : Type 0
@@ -55,9 +57,18 @@ HasOwnFoundingLine = (a b : Founding) → IsValidFounding a → IsValidFounding 
 abbrev pub record_of : History → List (List ℕ)
 record_of h = founding_line h.founding ∷ map accepted_line (accepted_of h.deeds)
 
+-- the digest of the last of these lines, each after the digest of the one before it
+abbrev pub digest_of_lines : List ℕ → List (List ℕ) → List ℕ
+digest_of_lines before [] = before
+digest_of_lines before (line ∷ lines) = digest_of_lines (line_digest before line) lines
+
+-- the digest of a history is that of the lines of its record
+abbrev pub IsDigestOfRecord : Type 0
+IsDigestOfRecord = (h : History) → digest_of h ≡ digest_of_lines [] (record_of h)
+
 -- what is read from the lines of the record: the founding, and then each accepted request
 abbrev pub readings_of : History → List (Result RecordLine WireRefusal)
-readings_of h = Ok (lines.Founding h.founding) ∷ map (λ accepted. Ok (lines.Accepted accepted)) (accepted_of h.deeds)
+readings_of h = Ok (lines.Founding h.founding) ∷ map (λ accepted. Ok (lines.Accepted accepted None)) (accepted_of h.deeds)
 
 -- the lines of a record are read as what they were written for; a new registry with that founding, after those requests, has
 -- the same history, and gives the same replies
@@ -75,6 +86,7 @@ pub record IsValidRequest (r : Request) : Type 0 where
   pub caller : IsSlug r.caller
   pub key : IsKey r.key
   pub order : IsOrder r.order
+  pub time : IfSome r.time IsTime
 
 -- a history whose requests have valid fields, after more requests with valid fields, is such a history; a founded one is
 abbrev pub KeepsValid : Type 0

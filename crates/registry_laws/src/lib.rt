@@ -3,7 +3,7 @@
 
 ghost use Rattle.registry_laws.specs.Exports.{ReadsAsItself, IsReadBack};
 ghost use Rattle.registry_laws.specs.Imports.{TakesOver, CompletesList, GivesSameList};
-ghost use Rattle.registry_laws.specs.Records.{ReadsAccepted, ReadsFoundingLine, HasOwnLine, HasOwnFoundingLine, KeepsValid, KeepsWholeHistory};
+ghost use Rattle.registry_laws.specs.Records.{ReadsAccepted, ReadsFoundingLine, HasOwnLine, HasOwnFoundingLine, IsDigestOfRecord, KeepsValid, KeepsWholeHistory};
 
 /// The text of an exported list is the text of that list.
 pub fn reads_as_itself()
@@ -57,6 +57,12 @@ pub fn has_own_founding_line()
 /// same history of a new registry, with the same replies.
 pub fn keeps_whole_history()
     ensures { KeepsWholeHistory }
+{}
+
+/// The digest of a history is made from the lines of its record, the founding's first, each with the
+/// digest of the line before it.
+pub fn is_digest_of_record()
+    ensures { IsDigestOfRecord }
 {}
 
 /// The record of a new registry has valid requests, and requests with valid fields keep it so.

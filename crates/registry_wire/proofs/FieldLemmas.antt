@@ -17,7 +17,7 @@ use Rattle.registry_wire.specs.declared.field.Field.TheVariants as fields
 use Rattle.registry_wire.specs.declared.refusal.FoundingFault.{FoundingFault}
 use Rattle.registry_wire.specs.Reading.{field_name}
 use Rattle.registry_wire.specs.Names.{fault_name}
-use Rattle.registry_wire.specs.Record.{digits_if_named, title_data, item_data, order_fields, accepted_fields, with_fields, span_data, founding_keys, with_keys}
+use Rattle.registry_wire.specs.Record.{digits_if_named, text_if_given, title_data, item_data, order_fields, accepted_fields, with_fields, span_data, founding_keys, with_keys}
 
 pub with_fields_append : (a b : List (Field × Data)) (ms : Members) → with_fields (a ++ b) ms ≡ with_fields b (with_fields a ms)
 with_fields_append [] b ms = refl
@@ -85,6 +85,10 @@ named_plain : (field : Field) (number : Option ℕ) → fields_have_float (digit
 named_plain field None = refl
 named_plain field (Some n) = refl
 
+text_plain : (field : Field) (text : Option (List ℕ)) → fields_have_float (text_if_given field text) ≡ false
+text_plain field None = refl
+text_plain field (Some text) = refl
+
 ask_plain : (want vendor : Option ℕ) → fields_have_float (digits_if_named fields.Number want ++ digits_if_named fields.Vendor vendor) ≡ false
 ask_plain None vendor = named_plain fields.Vendor vendor
 ask_plain (Some n) vendor = named_plain fields.Vendor vendor
@@ -96,7 +100,7 @@ order_plain (orders.HandOver it) = refl
 order_plain (orders.CorrectOrg it) = refl
 order_plain (orders.Ask it) = ask_plain it.want it.vendor
 order_plain (orders.Grant it) = named_plain fields.Number it.number
-order_plain (orders.Decline it) = refl
+order_plain (orders.Decline it) = text_plain fields.Reason it.reason
 order_plain (orders.Withdraw it) = refl
 order_plain (orders.Amend it) = named_plain fields.Vendor it.vendor
 order_plain (orders.Return it) = named_plain fields.Vendor it.vendor
@@ -108,9 +112,13 @@ order_plain (orders.Import it) = or_is_false (has_float (array (items_of (map it
 order_plain (orders.AddVendor it) = refl
 order_plain (orders.AddLicence it) = refl
 
+timed_plain : (time : Option (List ℕ)) (order : Order) → fields_have_float (text_if_given fields.At time ++ order_fields order) ≡ false
+timed_plain None order = order_plain order
+timed_plain (Some time) order = order_plain order
+
 -- an accepted request has no fraction
 pub accepted_plain : (accepted : Accepted) → members_have_float (with_fields (accepted_fields accepted) no_members) ≡ false
-accepted_plain accepted = fields_are_plain (accepted_fields accepted) no_members (order_plain accepted.request.order) refl
+accepted_plain accepted = fields_are_plain (accepted_fields accepted) no_members (timed_plain accepted.request.time accepted.request.order) refl
 
 -- neither has a founding
 pub founding_plain : (founding : Founding) → members_have_float (with_keys (founding_keys founding) no_members) ≡ false

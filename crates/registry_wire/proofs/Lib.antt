@@ -4,5 +4,7 @@ pub mod StampLemmas
 pub mod TreeLemmas
 pub mod AscendLemmas
 pub mod FieldLemmas
+pub mod DigestLemmas
 pub mod OrderedLemmas
+pub mod LineLemmas
 pub mod ValueLemmas

@@ -6,7 +6,7 @@ use Rattle.std.specs.Str.{IsUtf8, is_utf8}
 use Rattle.std.proofs.Math.Decide.{dec_le, map_dec, ℕ_discrete}
 use Rattle.std.proofs.lemmas.List.Elements.{All-nil, All-cons, All-head, All-tail}
 use Rattle.std.proofs.lemmas.Str.{IsUtf8-from_is_utf8, is_utf8-from_IsUtf8}
-use Rattle.usbnum_core.specs.Text.{IsWithin, IsSlugByte, IsKeyByte, IsTitleByte, IsSlug, IsKey, IsTitle, IsLink}
+use Rattle.usbnum_core.specs.Text.{IsWithin, IsSlugByte, IsKeyByte, IsTitleByte, IsDigestByte, IsSlug, IsKey, IsTitle, IsLink, IsDigest, IsTime, follows, two_at}
 
 both : {A B : Type 0} → Dec A → Dec B → Dec (A × B)
 both (yes a) (yes b) = yes (a, b)
@@ -54,6 +54,9 @@ key_byte byte = either (within 65 90 byte) (either (slug_byte byte) (ℕ_discret
 title_byte : (byte : ℕ) → Dec (IsTitleByte byte)
 title_byte byte = both (dec_le 32 byte) (other (ℕ_discrete byte 127))
 
+digest_byte : (byte : ℕ) → Dec (IsDigestByte byte)
+digest_byte byte = either (within 48 57 byte) (within 97 102 byte)
+
 sized : (most : ℕ) (text : List ℕ) → Dec ((1 ≤ length text) × (length text ≤ most))
 sized most text = both (dec_le 1 (length text)) (dec_le (length text) most)
 
@@ -77,6 +80,18 @@ title_or_not text = map_dec
     (λ h. record { filled = h.0.0.0; short = h.0.0.1; utf8 = h.0.1; each = h.1.0; begins = h.1.1.0; ends = h.1.1.1 })
     (λ h. (((h.filled, h.short), h.utf8), (h.each, (h.begins, h.ends))))
     (both (both (sized 200 text) (utf8 text)) (both (each IsTitleByte title_byte text) (trimmed text)))
+
+in_range : (text : List ℕ) → Dec ((two_at 11 text ≤ 23) × ((two_at 14 text ≤ 59) × (two_at 17 text ≤ 59)))
+in_range text = both (dec_le (two_at 11 text) 23) (both (dec_le (two_at 14 text) 59) (dec_le (two_at 17 text) 59))
+
+pub time_or_not : (text : List ℕ) → Dec (IsTime text)
+time_or_not text = map_dec
+    (λ h. record { form = h.0; month = h.1.0; day = h.1.1.0; hour = h.1.1.1.0; minute = h.1.1.1.1.0; second = h.1.1.1.1.1 })
+    (λ h. (h.form, (h.month, (h.day, (h.hour, (h.minute, h.second))))))
+    (both (is_true (follows (codes "0000-00-00T00:00:00Z") text)) (both (within 1 12 (two_at 5 text)) (both (within 1 31 (two_at 8 text)) (in_range text))))
+
+pub digest_or_not : (text : List ℕ) → Dec (IsDigest text)
+digest_or_not text = map_dec (λ h. record { size = h.0; each = h.1 }) (λ h. (h.size, h.each)) (both (ℕ_discrete (length text) 64) (each IsDigestByte digest_byte text))
 
 begins_with : (text start : List ℕ) → Dec (starts_with nat_eq text start ≡ true)
 begins_with text start = is_true (starts_with nat_eq text start)

@@ -1,9 +1,9 @@
--- Texts as slugs, keys, titles and links.
+-- Texts as slugs, keys, titles, links, times and digests.
 use Rattle.std.specs.Prelude.{ℕ, ◌||◌, nat_le, List, length, bytes_eq, codes, Option, Some, None, Result, Ok, Err, if◌then◌else◌}
 use Rattle.url.specs.Parser.{parse_url}
 use Rattle.url.specs.Parts.{Parts, serialize}
 use Rattle.url.specs.declared.error.ParseError.{ParseError}
-use Rattle.registry_wire.specs.Decisions.{slug_or_not, key_or_not, title_or_not, link_or_not}
+use Rattle.registry_wire.specs.Decisions.{slug_or_not, key_or_not, title_or_not, link_or_not, time_or_not, digest_or_not}
 
 -- the text, if the decided property holds
 abbrev pub where_it_holds : {P : Type 0} → Dec P → List ℕ → Option (List ℕ)
@@ -19,6 +19,14 @@ key_of text = where_it_holds (key_or_not text) text
 
 unfoldable pub title_of : List ℕ → Option (List ℕ)
 title_of text = where_it_holds (title_or_not text) text
+
+-- the text as a time, if it is one
+unfoldable pub time_of : List ℕ → Option (List ℕ)
+time_of text = where_it_holds (time_or_not text) text
+
+-- the text as a digest, if it is one
+unfoldable pub kept_digest : List ℕ → Option (List ℕ)
+kept_digest text = where_it_holds (digest_or_not text) text
 
 -- the text as a link, if it is one
 unfoldable pub kept_link : List ℕ → Option (List ℕ)

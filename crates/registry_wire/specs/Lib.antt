@@ -10,3 +10,4 @@ pub mod Refusals
 pub mod Replies
 pub mod Spans
 pub mod Stamps
+pub mod Digests

@@ -27,7 +27,7 @@ use Rattle.registry_wire.specs.declared.refusal.WireRefusal.{WireRefusal}
 use Rattle.registry_wire.specs.declared.refusal.WireRefusal.TheVariants.{BadFounding}
 use Rattle.registry_wire.specs.Founding.{span_written, one_to}
 use Rattle.registry_wire.specs.Names.{fault_name}
-use Rattle.registry_wire.specs.Reading.{slug_from, title_from, id_from, field_name, field_in, text_in, slug_in, key_in, optional_id_in, order_in, object_of}
+use Rattle.registry_wire.specs.Reading.{slug_from, title_from, id_from, digest_from, field_name, field_in, optional_in, text_in, slug_in, key_in, optional_id_in, time_in, order_in, object_of}
 use Rattle.registry_wire.specs.Refusals.{present}
 
 -- ---- the line of an accepted request
@@ -36,6 +36,11 @@ use Rattle.registry_wire.specs.Refusals.{present}
 abbrev pub digits_if_named : Field → Option ℕ → List (Field × Data)
 digits_if_named field None = []
 digits_if_named field (Some n) = (field, string (digits_of n)) ∷ []
+
+-- one field if there is a text, otherwise none
+abbrev pub text_if_given : Field → Option (List ℕ) → List (Field × Data)
+text_if_given field None = []
+text_if_given field (Some text) = (field, string text) ∷ []
 
 abbrev pub title_data : Option (List ℕ) → Data
 title_data None = null
@@ -59,7 +64,7 @@ order_fields (orders.HandOver it) = (fields.Order, string (codes "hand-over")) �
 order_fields (orders.CorrectOrg it) = (fields.Order, string (codes "correct-org")) ∷ (fields.Org, string it.org) ∷ (fields.Title, string it.title) ∷ (fields.Site, string it.site) ∷ []
 order_fields (orders.Ask it) = (fields.Order, string (codes "ask")) ∷ (fields.Org, string it.org) ∷ (fields.Title, string it.title) ∷ fields_of_terms it.terms ++ digits_if_named fields.Number it.want ++ digits_if_named fields.Vendor it.vendor
 order_fields (orders.Grant it) = (fields.Order, string (codes "grant")) ∷ petition_field it.petition ∷ digits_if_named fields.Number it.number
-order_fields (orders.Decline it) = (fields.Order, string (codes "decline")) ∷ petition_field it.petition ∷ []
+order_fields (orders.Decline it) = (fields.Order, string (codes "decline")) ∷ petition_field it.petition ∷ text_if_given fields.Reason it.reason
 order_fields (orders.Withdraw it) = (fields.Order, string (codes "withdraw")) ∷ petition_field it.petition ∷ []
 order_fields (orders.Amend it) = (fields.Order, string (codes "amend")) ∷ (fields.Number, string (digits_of it.number)) ∷ (fields.Title, string it.title) ∷ fields_of_terms it.terms ++ digits_if_named fields.Vendor it.vendor
 order_fields (orders.Return it) = (fields.Order, string (codes "return")) ∷ (fields.Number, string (digits_of it.number)) ∷ digits_if_named fields.Vendor it.vendor
@@ -72,7 +77,9 @@ order_fields (orders.AddVendor it) = (fields.Order, string (codes "add-vendor"))
 order_fields (orders.AddLicence it) = (fields.Order, string (codes "add-licence")) ∷ (fields.Licence, string it.licence) ∷ []
 
 abbrev pub accepted_fields : Accepted → List (Field × Data)
-accepted_fields accepted = (fields.Caller, string accepted.request.caller) ∷ (fields.Key, string accepted.request.key) ∷ (fields.Done, string accepted.reply) ∷ order_fields accepted.request.order
+accepted_fields accepted =
+    (fields.Caller, string accepted.request.caller) ∷ (fields.Key, string accepted.request.key) ∷ (fields.Done, string accepted.reply) ∷ text_if_given fields.At accepted.request.time
+    ++ order_fields accepted.request.order
 
 -- the members with these fields too, in the order of the bytes of their names
 abbrev pub with_fields : List (Field × Data) → Members → Members
@@ -166,7 +173,22 @@ kept_request_in tree = do
   key ← key_in fields.Key tree
   order ← kept_order_in tree
   reply ← reply_in tree
-  Ok (record { request = record { caller = caller; key = key; order = order }; reply = reply })
+  time ← time_in tree
+  Ok (record { request = record { caller = caller; key = key; order = order; time = time }; reply = reply })
+
+-- the digest after the request, if the line has one
+abbrev pub digest_in : Data → Result (Option (List ℕ)) WireRefusal
+digest_in tree = optional_in digest_from fields.Digest tree
+
+-- the line of an accepted request with this digest, or the refusal of its digest
+abbrev pub line_with : Accepted → Result (Option (List ℕ)) WireRefusal → Result RecordLine WireRefusal
+line_with accepted digest = digest >>= λ digest. Ok (lines.Accepted accepted digest)
+
+-- an accepted request, and then the digest after it
+unfoldable pub accepted_line_in : Data → Result RecordLine WireRefusal
+accepted_line_in tree = do
+  accepted ← kept_request_in tree
+  line_with accepted (digest_in tree)
 
 -- ---- the founding in a line
 
@@ -222,9 +244,7 @@ founding_in tree = do
 unfoldable pub line_in : Data → Result RecordLine WireRefusal
 line_in tree =
     if is_some (get (field_name fields.Order) tree)
-    then (do
-      accepted ← kept_request_in tree
-      Ok (lines.Accepted accepted))
+    then accepted_line_in tree
     else (do
       founding ← founding_in tree
       Ok (lines.Founding founding))

@@ -1,18 +1,21 @@
 //! Reads an accepted request from the object of a record's line.
 
-ghost use Rattle.std.specs.Prelude.{◌≡◌};
+ghost use Rattle.std.specs.Prelude.{◌≡◌, ℕ, List, Option, Result};
 ghost use Rattle.serde_json.specs.View.{view};
 ghost use Rattle.registry_rules.specs.Gives.{Gives};
 ghost use Rattle.registry_wire.specs.declared.field.Field.TheVariants as fields;
 ghost use Rattle.registry_wire.specs.Reading.{text_in};
-ghost use Rattle.registry_wire.specs.Record.{kept_import_in, names_import, kept_order_in, kept_request_in};
+ghost use Rattle.registry_wire.specs.Record.{kept_import_in, names_import, kept_order_in, kept_request_in, line_with, accepted_line_in};
+ghost use Rattle.registry_wire.specs.declared.refusal.WireRefusal.{WireRefusal as Refusal};
 
 use crate::fields::{Origin, field_at, optional_at, text_at};
 use crate::orders::order_at;
+use crate::record::RecordLine;
 use crate::{Field, WireRefusal};
 use registry_rules::{Accepted, Import, Order, Rejection, Request};
 use serde_json::Value;
 use std::alloc::Global;
+use usbnum_core::Digest;
 
 #[tactic(auto, unfolding(crate::specs::Record::kept_import_in))]
 fn import_at(alloc: Global, value: &Value) -> Result<Order, Rejection<WireRefusal>>
@@ -47,13 +50,46 @@ fn kept_order_at(alloc: Global, value: &Value) -> Result<Order, Rejection<WireRe
 
 // Reads an accepted request with its reply.
 #[tactic(auto, unfolding(crate::specs::Record::kept_request_in))]
-pub(crate) fn accepted_at(alloc: Global, value: &Value) -> Result<Accepted, Rejection<WireRefusal>>
+fn accepted_at(alloc: Global, value: &Value) -> Result<Accepted, Rejection<WireRefusal>>
     ensures { Gives result (kept_request_in (view value.now)) }
 {
     let caller = field_at(alloc, value, Field::Caller)?;
     let key = field_at(alloc, value, Field::Key)?;
     let order = kept_order_at(alloc, value)?;
     let reply = field_at(alloc, value, Field::Done)?;
-    let request = Request { caller, key, order };
+    let time = optional_at(alloc, value, Field::At)?;
+    let request = Request {
+        caller,
+        key,
+        order,
+        time,
+    };
     Ok(Accepted { request, reply })
+}
+
+// The line of an accepted request with this digest, or why it has none.
+fn with_digest(
+    accepted: Accepted,
+    digest: Result<Option<Digest>, Rejection<WireRefusal>>,
+) -> Result<RecordLine, Rejection<WireRefusal>>
+    ensures { (found : Result (Option (List ℕ)) Refusal) → Gives digest found → Gives result (line_with accepted found) }
+{
+    match digest {
+        Ok(digest) => Ok(RecordLine::Accepted(accepted, digest)),
+        Err(rejection) => Err(rejection),
+    }
+}
+
+// Reads the line of an accepted request.
+#[tactic(auto, unfolding(crate::specs::Record::accepted_line_in))]
+pub(crate) fn accepted_line_at(
+    alloc: Global,
+    value: &Value,
+) -> Result<RecordLine, Rejection<WireRefusal>>
+    ensures { Gives result (accepted_line_in (view value.now)) }
+{
+    match accepted_at(alloc, value) {
+        Ok(accepted) => with_digest(accepted, optional_at(alloc, value, Field::Digest)),
+        Err(rejection) => Err(rejection),
+    }
 }

@@ -8,17 +8,18 @@ ghost use Rattle.usbnum_core.specs.Number.{digits_of};
 ghost use Rattle.registry_rules.specs.declared.order.Order.TheVariants as orders;
 ghost use Rattle.registry_wire.specs.declared.field.Field.TheVariants as fields;
 ghost use Rattle.registry_wire.specs.Reading.{field_name};
-ghost use Rattle.registry_wire.specs.Record.{title_data, item_data, digits_if_named, fields_of_terms, petition_field, order_fields, accepted_fields, with_fields, accepted_line};
+ghost use Rattle.registry_wire.specs.Record.{title_data, item_data, digits_if_named, text_if_given, fields_of_terms, petition_field, order_fields, accepted_fields, with_fields, accepted_line};
 
 use crate::Field;
 use crate::json_object::{Members, object_text, put, text_value};
 use registry_rules::{
     Accepted, AddLicence, AddVendor, Amend, AmendOrg, Ask, Correct, CorrectOrg, Decline, Enrol,
-    Grant, HandOver, Import, Item, Order, Release, Reserve, Return, Revoke, Terms, Withdraw,
+    Grant, HandOver, Import, Item, Order, Release, ReplyText, Request, Reserve, Return, Revoke,
+    Terms, Withdraw,
 };
 use serde_json::{Map, Number, Value};
 use std::alloc::Global;
-use usbnum_core::{NoMemory, Pid, Title, Vid};
+use usbnum_core::{NoMemory, Pid, Time, Title, Vid};
 
 fn put_text(alloc: Global, members: &mut Members, field: Field, text: &str) -> Result<(), NoMemory>
     ensures { OnOk result (members_view members.new.entries ≡ put (field_name field) (string text.now) (members_view members.old.entries)) }
@@ -39,6 +40,34 @@ fn put_vid(alloc: Global, members: &mut Members, vid: Vid) -> Result<(), NoMemor
 {
     let digits = format!(in alloc; "{vid}")?;
     put_text(alloc, members, Field::Vendor, digits.as_str())
+}
+
+// The reason of an order, if it gives one.
+fn put_reason_if_given(
+    alloc: Global,
+    members: &mut Members,
+    reason: &Option<Title>,
+) -> Result<(), NoMemory>
+    ensures { OnOk result (members_view members.new.entries ≡ with_fields (text_if_given fields.Reason reason.now) (members_view members.old.entries)) }
+{
+    match reason {
+        Some(reason) => put_text(alloc, members, Field::Reason, reason.as_str()),
+        None => Ok(()),
+    }
+}
+
+// The time of a request, if it has one.
+fn put_time_if_given(
+    alloc: Global,
+    members: &mut Members,
+    time: &Option<Time>,
+) -> Result<(), NoMemory>
+    ensures { OnOk result (members_view members.new.entries ≡ with_fields (text_if_given fields.At time.now) (members_view members.old.entries)) }
+{
+    match time {
+        Some(time) => put_text(alloc, members, Field::At, time.as_str()),
+        None => Ok(()),
+    }
 }
 
 fn put_petition(alloc: Global, members: &mut Members, petition: u32) -> Result<(), NoMemory>
@@ -188,7 +217,8 @@ fn put_decline(alloc: Global, members: &mut Members, it: &Decline) -> Result<(),
     ensures { OnOk result (members_view members.new.entries ≡ with_fields (order_fields (orders.Decline it.now)) (members_view members.old.entries)) }
 {
     put_text(alloc, members, Field::Order, "decline")?;
-    put_petition(alloc, members, it.petition)
+    put_petition(alloc, members, it.petition)?;
+    put_reason_if_given(alloc, members, &it.reason)
 }
 
 fn put_withdraw(alloc: Global, members: &mut Members, it: &Withdraw) -> Result<(), NoMemory>
@@ -301,25 +331,41 @@ fn put_order(alloc: Global, members: &mut Members, order: &Order) -> Result<(), 
     }
 }
 
-fn accepted_members(alloc: Global, accepted: &Accepted) -> Result<Members, NoMemory>
-    ensures { IfOk result (λ members. members_view members.entries ≡ with_fields (accepted_fields accepted.now) no_members) }
+#[tactic(auto, using(crate::proofs::FieldLemmas::with_fields_append))]
+fn accepted_members(
+    alloc: Global,
+    request: &Request,
+    reply: &ReplyText,
+) -> Result<Members, NoMemory>
+    ensures { IfOk result (λ members. members_view members.entries ≡ with_fields (accepted_fields (record { request = request.now; reply = reply.now })) no_members) }
 {
-    let request = &accepted.request;
     let mut members = Map::new(alloc);
     put_text(alloc, &mut members, Field::Caller, request.caller.as_str())?;
     put_text(alloc, &mut members, Field::Key, request.key.as_str())?;
-    put_text(alloc, &mut members, Field::Done, accepted.reply.as_str())?;
+    put_text(alloc, &mut members, Field::Done, reply.as_str())?;
+    put_time_if_given(alloc, &mut members, &request.time)?;
     put_order(alloc, &mut members, &request.order)?;
     Ok(members)
 }
 
-/// Returns an accepted request with its reply as one line of JSON, without a line feed: the fields
-/// of the request as a caller gives them, and the reply as `done`. A number or a vendor that the
-/// order does not name is left out. An import has the field `items`, with the code and the title of
-/// each, or null for an item without a title.
+// The line of an accepted request and its reply.
 #[tactic(auto, unfolding(crate::specs::Record::accepted_data))]
+pub(crate) fn line_of(
+    alloc: Global,
+    request: &Request,
+    reply: &ReplyText,
+) -> Result<String, NoMemory>
+    ensures { IfOk result (λ line. string_bytes line ≡ accepted_line (record { request = request.now; reply = reply.now })) }
+{
+    object_text(alloc, accepted_members(alloc, request, reply)?)
+}
+
+/// Returns an accepted request with its reply as one line of JSON, without a line feed: the fields
+/// of the request as a caller gives them, and the reply as `done`. A number, a vendor, a reason or a
+/// time is left out if there is none. An import has the field `items`, with the code and the title of
+/// each, or null for an item without a title.
 pub fn accepted_line(alloc: Global, accepted: &Accepted) -> Result<String, NoMemory>
     ensures { IfOk result (λ line. string_bytes line ≡ accepted_line accepted.now) }
 {
-    object_text(alloc, accepted_members(alloc, accepted)?)
+    line_of(alloc, &accepted.request, &accepted.reply)
 }

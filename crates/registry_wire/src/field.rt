@@ -31,7 +31,7 @@ pub enum Field {
     Last,
     /// A vendor ID.
     Vendor,
-    /// Why a curator revokes a number.
+    /// Why a curator revokes a number, or declines a petition.
     Reason,
     /// The name of a vendor.
     Name,
@@ -39,6 +39,10 @@ pub enum Field {
     Items,
     /// The reply to an accepted request, in a record.
     Done,
+    /// The time of the request.
+    At,
+    /// The digest after the request, in a record.
+    Digest,
 }
 
 impl Field {
@@ -68,6 +72,8 @@ impl Field {
             Field::Name => "name",
             Field::Items => "items",
             Field::Done => "done",
+            Field::At => "at",
+            Field::Digest => "digest",
         }
     }
 }

@@ -4,14 +4,16 @@ ghost use Rattle.std.specs.Prelude.{◌≡◌, IfOk, option_map, option_and_then
 ghost use Rattle.serde_json.specs.View.{view, items_view};
 ghost use Rattle.serde_json.specs.Find.{as_str};
 ghost use Rattle.usbnum_core.specs.Number.{code_of};
-ghost use Rattle.registry_wire.specs.Reading.{slug_from, key_from, title_from, id_from, whole_from};
+ghost use Rattle.registry_wire.specs.Reading.{slug_from, key_from, title_from, time_from, digest_from, id_from, whole_from};
 ghost use Rattle.registry_wire.specs.Record.{span_from, item_from, item_of_pair, title_or_null, items_from, all_from};
 
 use crate::toml_value::span_written;
 use registry_rules::{Item, Items, ReplyText};
 use serde_json::Value;
 use std::alloc::Global;
-use usbnum_core::{Key, NoMemory, Pid, Slug, Span, Title, Vid, parse_code, parse_pid, parse_vid};
+use usbnum_core::{
+    Digest, Key, NoMemory, Pid, Slug, Span, Time, Title, Vid, parse_code, parse_pid, parse_vid,
+};
 
 // A type that is read from one JSON value.
 pub(crate) trait FromJson: Drop {
@@ -97,6 +99,30 @@ impl FromJson for Title {
     fn read(alloc: Global, value: &Value) -> Result<Option<Title>, NoMemory> {
         match value.as_str() {
             Some(text) => Title::new(alloc, text.as_bytes()),
+            None => Ok(None),
+        }
+    }
+}
+
+impl FromJson for Time {
+    ghost kind = { time_from };
+
+    #[tactic(auto, unfolding(crate::specs::Kinds::time_of))]
+    fn read(alloc: Global, value: &Value) -> Result<Option<Time>, NoMemory> {
+        match value.as_str() {
+            Some(text) => Time::new(alloc, text.as_bytes()),
+            None => Ok(None),
+        }
+    }
+}
+
+impl FromJson for Digest {
+    ghost kind = { digest_from };
+
+    #[tactic(auto, unfolding(crate::specs::Kinds::kept_digest))]
+    fn read(alloc: Global, value: &Value) -> Result<Option<Digest>, NoMemory> {
+        match value.as_str() {
+            Some(text) => Digest::new(alloc, text.as_bytes()),
             None => Ok(None),
         }
     }

@@ -2,6 +2,7 @@
 #![tactic(auto)]
 
 pub use accepted_writer::accepted_line;
+pub use digest::{founding_digest, next_digest};
 pub use field::Field;
 pub use founding::founding_from_toml;
 pub use founding_writer::founding_line;
@@ -14,11 +15,13 @@ pub use stamp::stamp_from_text;
 
 mod accepted_reader;
 mod accepted_writer;
+mod digest;
 mod field;
 mod fields;
 mod founding;
 mod founding_reader;
 mod founding_writer;
+mod hash;
 mod import;
 mod json_object;
 mod json_value;

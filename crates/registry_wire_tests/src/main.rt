@@ -27,6 +27,7 @@ impl Kinds for Rows {
     fn result_of(alloc: Global, kind: &str, text: &str) -> Result<Vec<u8>, RowFault> {
         match kind {
             "import" => files::import(alloc, text),
+            "digest" => records::digest(alloc, text),
             "done" => refusals::done(alloc, text),
             "refused" => refusals::refused(alloc, text),
             "owned" => refusals::owned(alloc, text),
