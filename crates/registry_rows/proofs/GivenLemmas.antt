@@ -14,6 +14,12 @@ part_given f None (Some s) h = absurd cc
 part_given f (Some t) None h = absurd cc
 part_given f (Some t) (Some s) h = let same : s.now ≡ f t = cc in rw same refl
 
+pub time_given : (time : Option (List ℕ)) (o : Option (Bor (List ℕ))) → option_copied o ≡ time → bound_value (or_null (λ s. Text s.now) o) ≡ or_null (λ t. Text t) time
+time_given None None h = refl
+time_given None (Some s) h = absurd cc
+time_given (Some t) None h = absurd cc
+time_given (Some t) (Some s) h = let same : s.now ≡ t = cc in rw same refl
+
 pub whole_given : (o : Option ℕ) → bound_value (or_null whole o) ≡ or_null whole o
 whole_given None = refl
 whole_given (Some n) = refl

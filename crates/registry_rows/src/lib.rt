@@ -3,6 +3,7 @@
 
 pub use columns::pid_at;
 pub use decode::{FromRow, all_from};
+pub use digests::{DigestRow, digests_after, find_digest, last_digest, put_digest};
 pub use entries::{find_entries, find_entry, list_entries, put_entry, set_card, set_held};
 pub use fixed::{list_fixed, put_fixed};
 pub use kept::{KeptRow, find_kept, kept_after, kept_with_replies, put_kept};
@@ -12,11 +13,13 @@ pub use orgs::{find_org, list_orgs, put_org};
 pub use petitions::{
     find_petition, find_petitions, list_open_petitions, list_petitions, put_petition,
 };
+pub use reasons::{find_reason, put_reason};
 pub use spans::{cut_spans, find_spans, list_spans, put_span};
 pub use vendors::{list_vendors, put_vendor};
 
 mod columns;
 mod decode;
+mod digests;
 mod entries;
 mod fixed;
 mod kept;
@@ -24,5 +27,6 @@ mod meta;
 mod names;
 mod orgs;
 mod petitions;
+mod reasons;
 mod spans;
 mod vendors;

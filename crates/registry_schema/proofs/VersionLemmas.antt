@@ -4,11 +4,11 @@ use Rattle.sqlite_schema.specs.declared.schema.Schema.{Schema}
 use Rattle.sqlite.specs.State.{State, IsLive}
 use Rattle.table_laws.specs.Making.{HasTables}
 use Rattle.table_laws.proofs.CatalogLemmas.{live_schema}
-use Rattle.registry_schema.specs.Texts.{texts_1, texts_2, texts_3}
-use Rattle.registry_schema.specs.Schema.{schema_1, schema_2, schema_3}
+use Rattle.registry_schema.specs.Texts.{texts_1, texts_2, texts_3, texts_4}
+use Rattle.registry_schema.specs.Schema.{schema_1, schema_2, schema_3, schema_4}
 use Rattle.registry_schema.specs.Meta.{has_meta_table}
 use Rattle.registry_schema.specs.Version.{version_named}
-use Rattle.registry_schema.proofs.TextLemmas.{schema_1_is, schema_2_is, schema_3_is}
+use Rattle.registry_schema.proofs.TextLemmas.{schema_1_is, schema_2_is, schema_3_is, schema_4_is}
 
 module _ (s : State) (live : IsLive s) (is_open : IsTrue s.is_open) where
   -- the tables determine the schema
@@ -21,6 +21,9 @@ module _ (s : State) (live : IsLive s) (is_open : IsTrue s.is_open) where
   pub has_schema_3 : HasTables texts_3 s.now.trees → s.now.schema ≡ schema_3
   has_schema_3 has = live_schema s _ live is_open has ∙ schema_3_is
 
+  pub has_schema_4 : HasTables texts_4 s.now.trees → s.now.schema ≡ schema_4
+  has_schema_4 has = live_schema s _ live is_open has ∙ schema_4_is
+
   -- and their names give its version
   pub named_1 : HasTables texts_1 s.now.trees → version_named s.now.schema.tables ≡ Some 1
   named_1 has = ap (λ (x : Schema). version_named x.tables) (has_schema_1 has)
@@ -31,6 +34,9 @@ module _ (s : State) (live : IsLive s) (is_open : IsTrue s.is_open) where
   pub named_3 : HasTables texts_3 s.now.trees → version_named s.now.schema.tables ≡ Some 3
   named_3 has = ap (λ (x : Schema). version_named x.tables) (has_schema_3 has)
 
+  pub named_4 : HasTables texts_4 s.now.trees → version_named s.now.schema.tables ≡ Some 4
+  named_4 has = ap (λ (x : Schema). version_named x.tables) (has_schema_4 has)
+
 pub meta_first : has_meta_table schema_1 ≡ true
 meta_first = refl
 
@@ -39,3 +45,6 @@ meta_second = refl
 
 pub meta_third : has_meta_table schema_3 ≡ true
 meta_third = refl
+
+pub meta_fourth : has_meta_table schema_4 ≡ true
+meta_fourth = refl

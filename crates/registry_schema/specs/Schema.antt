@@ -5,7 +5,7 @@ use Rattle.sqlite_schema.specs.declared.schema.Schema.{Schema}
 use Rattle.sqlite_catalog.specs.Change.{created}
 use Rattle.table_laws.specs.Shape.{numbered_table, keyed_table, number, number_or_null, text, text_or_null, blob}
 use Rattle.table_laws.specs.Making.{no_schema}
-use Rattle.registry_schema.specs.Trees.{meta_tree, curators_tree, licences_tree, fixed_tree, orgs_tree, petitions_tree, entries_tree, reserved_tree, kept_tree, spans_tree, vendors_tree, spans3_tree, entries3_tree, petitions3_tree}
+use Rattle.registry_schema.specs.Trees.{meta_tree, curators_tree, licences_tree, fixed_tree, orgs_tree, petitions_tree, entries_tree, reserved_tree, kept_tree, spans_tree, vendors_tree, spans3_tree, entries3_tree, petitions3_tree, digests4_tree, reasons4_tree}
 
 abbrev pub meta : Table
 meta = numbered_table meta_tree (codes "meta") (number_or_null (codes "id") ∷ number (codes "version") ∷ number (codes "vendor") ∷ text (codes "name") ∷ [])
@@ -48,6 +48,12 @@ entries3 = keyed_table entries3_tree (codes "entries3") (1 ∷ 2 ∷ []) (number
 
 abbrev pub petitions3 : Table
 petitions3 = numbered_table petitions3_tree (codes "petitions3") (number_or_null (codes "id") ∷ number (codes "vid") ∷ text (codes "org") ∷ number_or_null (codes "want") ∷ text (codes "title") ∷ text (codes "licence") ∷ text (codes "site") ∷ text (codes "source") ∷ number (codes "state") ∷ number_or_null (codes "pid") ∷ [])
+
+abbrev pub digests4 : Table
+digests4 = numbered_table digests4_tree (codes "digests4") (number_or_null (codes "id") ∷ text_or_null (codes "time") ∷ text (codes "digest") ∷ [])
+
+abbrev pub reasons4 : Table
+reasons4 = numbered_table reasons4_tree (codes "reasons4") (number_or_null (codes "petition") ∷ text (codes "reason") ∷ [])
 
 -- the schema up to this table
 abbrev pub past_meta : Schema
@@ -101,6 +107,14 @@ past_spans3 = created past_vendors spans3
 abbrev pub past_entries3 : Schema
 past_entries3 = created past_spans3 entries3
 
--- the third and newest
+-- the third
 abbrev pub schema_3 : Schema
 schema_3 = created past_entries3 petitions3
+
+-- the schema up to this table
+abbrev pub past_digests4 : Schema
+past_digests4 = created schema_3 digests4
+
+-- the fourth and newest
+abbrev pub schema_4 : Schema
+schema_4 = created past_digests4 reasons4

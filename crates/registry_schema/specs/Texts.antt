@@ -57,6 +57,15 @@ entries3_text = codes "CREATE TABLE entries3 (vid INTEGER NOT NULL, pid INTEGER 
 abbrev pub petitions3_text : List ℕ
 petitions3_text = codes "CREATE TABLE petitions3 (id INTEGER PRIMARY KEY, vid INTEGER NOT NULL, org TEXT NOT NULL, want INTEGER, title TEXT NOT NULL, licence TEXT NOT NULL, site TEXT NOT NULL, source TEXT NOT NULL, state INTEGER NOT NULL, pid INTEGER) STRICT"
 
+-- a row for the founding, with the ID 0, and one for each accepted request, numbered from 1: the digest of the record up to
+-- its line, and the time of the request
+abbrev pub digests4_text : List ℕ
+digests4_text = codes "CREATE TABLE digests4 (id INTEGER PRIMARY KEY, time TEXT, digest TEXT NOT NULL) STRICT"
+
+-- the reason of each petition that was declined for one
+abbrev pub reasons4_text : List ℕ
+reasons4_text = codes "CREATE TABLE reasons4 (petition INTEGER PRIMARY KEY, reason TEXT NOT NULL) STRICT"
+
 -- the texts of the first schema
 abbrev pub texts_1 : List (List ℕ)
 texts_1 = meta_text ∷ curators_text ∷ licences_text ∷ fixed_text ∷ orgs_text ∷ petitions_text ∷ entries_text ∷ reserved_text ∷ kept_text ∷ []
@@ -68,3 +77,7 @@ texts_2 = texts_1 ++ spans_text ∷ []
 -- the third adds the vendors, and tables with the vendor in each row
 abbrev pub texts_3 : List (List ℕ)
 texts_3 = texts_2 ++ vendors_text ∷ spans3_text ∷ entries3_text ∷ petitions3_text ∷ []
+
+-- the fourth adds the digests and the reasons
+abbrev pub texts_4 : List (List ℕ)
+texts_4 = texts_3 ++ digests4_text ∷ reasons4_text ∷ []

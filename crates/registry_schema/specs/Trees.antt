@@ -42,3 +42,9 @@ entries3_tree = 17
 
 abbrev pub petitions3_tree : ℕ
 petitions3_tree = 19
+
+abbrev pub digests4_tree : ℕ
+digests4_tree = 20
+
+abbrev pub reasons4_tree : ℕ
+reasons4_tree = 21

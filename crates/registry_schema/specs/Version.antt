@@ -13,6 +13,9 @@ names_2 = names_1 ++ codes "spans" ∷ []
 abbrev pub names_3 : List (List ℕ)
 names_3 = names_2 ++ codes "vendors" ∷ codes "spans3" ∷ codes "entries3" ∷ codes "petitions3" ∷ []
 
+abbrev pub names_4 : List (List ℕ)
+names_4 = names_3 ++ codes "digests4" ∷ codes "reasons4" ∷ []
+
 -- the tables have exactly these names, in this order
 abbrev pub are_named : List (List ℕ) → List Table → Bool
 are_named [] [] = true
@@ -22,4 +25,9 @@ are_named (name ∷ names) [] = false
 
 -- the version of the schema whose tables have these names
 abbrev pub version_named : List Table → Option ℕ
-version_named tables = if are_named names_1 tables then Some 1 else (if are_named names_2 tables then Some 2 else (if are_named names_3 tables then Some 3 else None))
+version_named tables =
+    if are_named names_1 tables then Some 1
+    else if are_named names_2 tables then Some 2
+    else if are_named names_3 tables then Some 3
+    else if are_named names_4 tables then Some 4
+    else None

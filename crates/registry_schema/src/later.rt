@@ -1,7 +1,7 @@
-//! The tables that the second and third schemas add to a store, which may have rows.
+//! The tables that the later schemas add to a store, which may have rows.
 
 ghost use Rattle.std.specs.Prelude.{[], ◌∷◌};
-ghost use Rattle.registry_schema.specs.Schema.{schema_1, schema_2, past_vendors, past_spans3, past_entries3, spans, vendors, spans3, entries3, petitions3};
+ghost use Rattle.registry_schema.specs.Schema.{schema_1, schema_2, past_vendors, past_spans3, past_entries3, schema_3, past_digests4, spans, vendors, spans3, entries3, petitions3, digests4, reasons4};
 ghost use Rattle.registry_schema.specs.Steps.{WritesTables};
 ghost use Rattle.table_laws.specs.Making.{AddsTo};
 
@@ -67,5 +67,43 @@ pub fn add_third<S: Alter>(tx: &mut Transaction<'_, S>) -> Result<(), TableFault
     create_spans3(tx)?;
     create_entries3(tx)?;
     create_petitions3(tx)?;
+    Ok(())
+}
+
+fn create_digests4<S: Alter>(tx: &mut Transaction<'_, S>) -> Result<(), TableFault>
+    ensures writes { WritesTables S.Store tx.old.conn tx.new.conn result (AddsTo schema_3 (digests4 ∷ [])) }
+{
+    tx.execute(
+        "CREATE TABLE digests4 (id INTEGER PRIMARY KEY, time TEXT, digest TEXT NOT NULL) STRICT",
+        &[],
+    )?;
+    Ok(())
+}
+
+fn create_reasons4<S: Alter>(tx: &mut Transaction<'_, S>) -> Result<(), TableFault>
+    ensures writes { WritesTables S.Store tx.old.conn tx.new.conn result (AddsTo past_digests4 (reasons4 ∷ [])) }
+{
+    tx.execute(
+        "CREATE TABLE reasons4 (petition INTEGER PRIMARY KEY, reason TEXT NOT NULL) STRICT",
+        &[],
+    )?;
+    Ok(())
+}
+
+/// Creates the tables that the fourth schema adds.
+pub fn add_fourth<S: Alter>(tx: &mut Transaction<'_, S>) -> Result<(), TableFault>
+    ensures writes { WritesTables S.Store tx.old.conn tx.new.conn result (AddsTo schema_3 (digests4 ∷ reasons4 ∷ [])) }
+{
+    create_digests4(tx)?;
+    create_reasons4(tx)?;
+    Ok(())
+}
+
+/// Creates the tables that the third and the fourth schema add, for a store of the second.
+pub fn add_third_and_fourth<S: Alter>(tx: &mut Transaction<'_, S>) -> Result<(), TableFault>
+    ensures writes { WritesTables S.Store tx.old.conn tx.new.conn result (AddsTo schema_2 (vendors ∷ spans3 ∷ entries3 ∷ petitions3 ∷ digests4 ∷ reasons4 ∷ [])) }
+{
+    add_third(tx)?;
+    add_fourth(tx)?;
     Ok(())
 }

@@ -3,7 +3,7 @@
 
 pub use create::create_tables;
 pub use fault::{TableFault, fault_of};
-pub use later::{add_second, add_third};
+pub use later::{add_fourth, add_second, add_third_and_fourth};
 pub use version::{has_meta, is_empty, version_of};
 
 mod create;

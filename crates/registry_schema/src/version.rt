@@ -4,7 +4,7 @@ ghost use Rattle.std.specs.Prelude.{◌≡◌, IsTrue, Some, false, map};
 ghost use Rattle.sqlite.specs.State.{IsLive};
 ghost use Rattle.sqlite.specs.Held.{state};
 ghost use Rattle.table_laws.specs.Making.{no_schema, HasTables};
-ghost use Rattle.registry_schema.specs.Texts.{texts_1, texts_2, texts_3};
+ghost use Rattle.registry_schema.specs.Texts.{texts_1, texts_2, texts_3, texts_4};
 ghost use Rattle.registry_schema.specs.Version.{are_named, version_named};
 ghost use Rattle.registry_schema.specs.Meta.{has_meta_table};
 
@@ -75,6 +75,25 @@ const THIRD: [&str; 14] = [
     "petitions3",
 ];
 
+const FOURTH: [&str; 16] = [
+    "meta",
+    "curators",
+    "licences",
+    "fixed",
+    "orgs",
+    "petitions",
+    "entries",
+    "reserved",
+    "kept",
+    "spans",
+    "vendors",
+    "spans3",
+    "entries3",
+    "petitions3",
+    "digests4",
+    "reasons4",
+];
+
 // Returns whether the tables have exactly these names, in this order.
 fn have_names(tables: &[Table], names: &[&str]) -> bool
     ensures { result ≡ are_named (map (λ name. name.now) names.now) tables.now }
@@ -97,6 +116,8 @@ fn version_by(tables: &[Table]) -> Option<u8>
         Some(2)
     } else if have_names(tables, &THIRD) {
         Some(3)
+    } else if have_names(tables, &FOURTH) {
+        Some(4)
     } else {
         None
     }
@@ -108,6 +129,7 @@ pub fn version_of<S: Alter>(conn: &Connection<S>) -> Option<u8>
     ensures first { IsTrue (state S.Store conn.now).is_open → HasTables texts_1 (state S.Store conn.now).now.trees → result ≡ Some 1 }
     ensures second { IsTrue (state S.Store conn.now).is_open → HasTables texts_2 (state S.Store conn.now).now.trees → result ≡ Some 2 }
     ensures third { IsTrue (state S.Store conn.now).is_open → HasTables texts_3 (state S.Store conn.now).now.trees → result ≡ Some 3 }
+    ensures fourth { IsTrue (state S.Store conn.now).is_open → HasTables texts_4 (state S.Store conn.now).now.trees → result ≡ Some 4 }
     ensures named { result ≡ version_named (state S.Store conn.now).now.schema.tables }
     ensures live { IsLive (state S.Store conn.now) }
 {

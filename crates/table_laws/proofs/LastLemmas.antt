@@ -24,7 +24,7 @@ module _ {X : Type 0} (key : X → ℤ) where
   turned : (a b : X) → int_cmp (key a) (key b) ≡ Less → falling a b ≡ Greater
   turned a b less = int_cmp_total.antisymm (key b) (key a) ∙ ap ordering_reverse less
 
-  all_reverse : (P : X → Type 0) (xs : List X) → AllByRecursion P xs → AllByRecursion P (reverse xs)
+  pub all_reverse : (P : X → Type 0) (xs : List X) → AllByRecursion P xs → AllByRecursion P (reverse xs)
   all_reverse P [] all = tt
   all_reverse P (x ∷ xs) all = rw (reverse-append (x ∷ []) xs) (all-append P (reverse xs) (x ∷ []) (all_reverse P xs all.1) (all.0, tt))
 
