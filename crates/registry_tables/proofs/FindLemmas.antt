@@ -11,7 +11,7 @@ use Rattle.registry_rules.specs.Run.{Legal}
 use Rattle.registry_rows.specs.Steps.{Tells}
 use Rattle.registry_rows.specs.Tables.{Tables, Holds}
 use Rattle.registry_tables.specs.Finds.{Finds}
-use Rattle.registry_tables.specs.Rows.{newest, HoldsRows, AreRecords, AreKeptReplies}
+use Rattle.registry_tables.specs.Rows.{newest, HoldsRows, AreRecords, AreKeptReplies, IsRecorded}
 
 -- what was read says this of the tables, which are unchanged
 abbrev pub Read : State → State → (Tables → Type 0) → Type 0
@@ -35,7 +35,12 @@ module _ (old new : State) where
     -- a result about the tables becomes one about the history
     pub passes : (Says : Tables → Type 0) (b : B) → ((h : History) (t : Tables) → Legal h → Holds old.now t → AreRecords h t → AreKeptReplies h t.kept → Says t → Is h b) → Read old new Says → Finds old new (Ok b) Is
     unfolding HoldsRows
-    passes Says b means read = (read.0, λ h legal rows. (let it = read.1 rows.1 rows.2 in (it.0, means h rows.1 legal rows.2 rows.3 rows.4 it.1)))
+    passes Says b means read = (read.0, λ h legal rows. (let it = read.1 rows.1 rows.2 in (it.0, means h rows.1 legal rows.2 rows.3 rows.4.kept it.1)))
+
+    -- the same, where the record counts
+    pub passes_recorded : (Says : Tables → Type 0) (b : B) → ((h : History) (t : Tables) → Legal h → IsRecorded h t → Says t → Is h b) → Read old new Says → Finds old new (Ok b) Is
+    unfolding HoldsRows
+    passes_recorded Says b means read = (read.0, λ h legal rows. (let it = read.1 rows.1 rows.2 in (it.0, means h rows.1 legal rows.4 it.1)))
 
     -- or it refutes every history
     pub refuses : (Says : Tables → Type 0) → ((h : History) (t : Tables) → Legal h → Holds old.now t → AreRecords h t → ¬ Says t) → Read old new Says → Finds old new (Err Foreign) Is

@@ -40,7 +40,7 @@ use Rattle.registry_tables.proofs.ViewLemmas.{same_bytes, bytes_same}
 
 -- ---- the replies that name a licence
 
-abbrev names_licence : KeptRow → Bool
+abbrev pub names_licence : KeptRow → Bool
 names_licence = has_reply_within (codes "added licence ") (codes "added licence!")
 
 abbrev added : Deed → Option (List ℕ)
@@ -66,7 +66,7 @@ one deed licence = go deed.act refl
     go (OrgAmended org) is = rw is refl
     go (Asked id petition) is = rw is refl
     go (Granted id petition name) is = rw is refl
-    go (Declined id petition) is = rw is refl
+    go (Declined id petition reason) is = rw is refl
     go (Withdrawn id petition) is = rw is refl
     go (CardAmended name card) is = rw is refl
     go (Returned name) is = rw is refl

@@ -18,7 +18,7 @@ use Rattle.registry_rules.specs.declared.founding.Founding.{Founding}
 use Rattle.registry_rules.specs.declared.record.Petition.{Petition}
 use Rattle.registry_rows.specs.Tables.{no_rows}
 use Rattle.registry_tables.specs.Calls.{with_founding}
-use Rattle.registry_tables.specs.Rows.{NoTwo, IsFounding, AreRecords, AreKeptReplies}
+use Rattle.registry_tables.specs.Rows.{NoTwo, IsFounding, AreRecords, AreKeptReplies, IsRecorded}
 use Rattle.registry_tables.proofs.StoreLemmas.{name_put}
 
 -- ---- names
@@ -85,7 +85,11 @@ founded_records founding valid = record {
   spans = record { each = λ n. refl; apart = tt };
   entries = record { each = λ n. refl; once = tt };
   petitions = λ i. no_petition founding i (nat_eq i 0) refl;
+  reasons = λ i. refl;
 }
 
-pub founded_kept : (founding : Founding) → AreKeptReplies (founded founding) []
+founded_kept : (founding : Founding) → AreKeptReplies (founded founding) []
 founded_kept founding = record { in_order = refl; each = λ caller key. refl; once = tt }
+
+pub founded_recorded : (founding : Founding) → IsRecorded (founded founding) (with_founding founding no_rows)
+founded_recorded founding = record { kept = founded_kept founding; digests = λ legal valid. refl }

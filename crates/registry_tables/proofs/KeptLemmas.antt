@@ -1,12 +1,16 @@
 -- With the kept reply the rows are those of the history with the deed.
-use Rattle.std.proofs.Common.{◌≡◌, ℕ, ℤ, Bool, true, false, cond, ◌&&◌, List, [], ◌∷◌, ◌++◌, Option, Some, None, Result, map, find, refl, sym, ap, subst, ◌∙◌}
+use Rattle.std.proofs.Common.{◌≡◌, ℕ, suc, ◌+◌, length, ℤ, Bool, true, false, cond, ◌&&◌, List, [], ◌∷◌, ◌++◌, Option, Some, None, Result, map, find, refl, sym, ap, subst, ◌∙◌}
 use Rattle.std.proofs.lemmas.List.{map-append}
-use Rattle.registry_rules.specs.Accepted.{accepted_of, accepted_by}
+use Rattle.registry_rules.specs.Accepted.{IsValid, AreValid, accepted_of, accepted_by}
+use Rattle.registry_rules.proofs.RunLemmas.{legal_before}
+use Rattle.registry_wire.specs.Digests.{line_digest, digest_of}
+use Rattle.registry_wire.specs.Record.{accepted_line}
+use Rattle.std.proofs.lemmas.List.Elements.{All-tail}
 use Rattle.std.specs.Option.{option_map}
 use Rattle.std.specs.Str.{bytes_eq}
 use Rattle.std.proofs.lemmas.Bool.{and_parts}
 use Rattle.sqlite.specs.State.{State}
-use Rattle.sqlite_keyed.specs.Keyed.{next_key}
+use Rattle.sqlite_keyed.specs.Keyed.{next_key, insert_by}
 use Rattle.sqlite_keyed.specs.Lists.{delete_where}
 use Rattle.table_laws.proofs.FoundLemmas.{apart_put}
 use Rattle.table_laws.proofs.UnnumberedLemmas.{values_after}
@@ -22,11 +26,15 @@ use Rattle.registry_rules.specs.declared.order.Request.{Request}
 use Rattle.registry_rules.specs.declared.refusal.Refusal.{Refusal}
 use Rattle.registry_rules.specs.declared.refusal.Refusal.TheVariants.{KeyReused}
 use Rattle.registry_rules.specs.declared.verdict.Verdict.TheVariants.{Kept as VerdictKept, Refused, New}
+use Rattle.registry_rows.specs.declared.digests.DigestRow.{DigestRow}
 use Rattle.registry_rows.specs.declared.kept.KeptRow.{KeptRow}
-use Rattle.registry_rows.specs.Rows.{is_kept_under}
+use Rattle.registry_rows.specs.Rows.{is_kept_under, digest_key}
 use Rattle.registry_rows.specs.Tables.{Tables, Holds}
-use Rattle.registry_tables.specs.Rows.{newest, NoTwo, numbered_from, AreKeptReplies, kept_row_of, HoldsRows, HoldsUnkept}
+use Rattle.registry_tables.specs.Rows.{newest, NoTwo, numbered_from, AreKeptReplies, kept_row_of, digest_rows, HoldsRows, HoldsUnkept}
+use Rattle.registry_tables.specs.Head.{IsHead}
+use Rattle.registry_tables.specs.declared.head.Head.{Head}
 use Rattle.registry_tables.specs.Calls.{IsKeptAs}
+use Rattle.registry_tables.proofs.DigestLemmas.{row_of, digest_put, count_after}
 use Rattle.registry_tables.proofs.NumberingLemmas.{next_in_turn}
 use Rattle.registry_tables.proofs.ViewLemmas.{same_bytes, kept_put}
 
@@ -112,14 +120,29 @@ module _ (h : History) (deed : Deed) (legal : Legal (with_deed h deed)) (request
         once = subst (NoTwo (λ a b. is_kept_under b.caller b.key a)) (sym values_are) (apart_put (λ a b. is_kept_under b.caller b.key a) row (values rows) was.once);
       }
 
-  pub kept_now : (old new : State) → ((t : Tables) → Holds old.now t → Holds new.now (record t { kept = rows_after t.kept }))
+  -- the digest is the next of the record
+  module _ (head next : Head) (is_head : IsHead h head) (count : next.count ≡ head.count + 1) (digest : next.digest ≡ line_digest head.digest (accepted_line (record { request = request; reply = reply }))) where
+    abbrev digest_row_put : ℕ × DigestRow
+    digest_row_put = row_of next.count request.time next.digest
+
+    digest_kept : (rows : List (ℕ × DigestRow)) → (Legal h → AreValid h.deeds → rows ≡ digest_rows h) → AreValid (deed ∷ h.deeds) → insert_by digest_key rows digest_row_put ≡ digest_rows (with_deed h deed)
+    digest_kept rows was valid =
+        let after = count_after h deed request reply head next keeps count digest (is_head (All-tail IsValid deed h.deeds valid)) in
+        let same : digest_row_put ≡ row_of (suc (length h.deeds)) deed.time (digest_of (with_deed h deed)) =
+        ap (λ (n : ℕ). row_of n request.time next.digest) after.0 ∙ ap (row_of (suc (length h.deeds)) request.time) after.1
+        ∙ ap (λ (time : Option (List ℕ)). row_of (suc (length h.deeds)) time (digest_of (with_deed h deed))) (sym keeps.time) in
+        ap (λ (l : List (ℕ × DigestRow)). insert_by digest_key l digest_row_put) (was (legal_before h.founding deed h.deeds legal) (All-tail IsValid deed h.deeds valid))
+        ∙ ap (insert_by digest_key (digest_rows h)) same ∙ digest_put h deed
+
+  pub kept_now : (old new : State) (head next : Head) → IsHead h head → next.count ≡ head.count + 1 → next.digest ≡ line_digest head.digest (accepted_line (record { request = request; reply = reply }))
+      → ((t : Tables) → Holds old.now t → Holds new.now (record t { kept = rows_after t.kept; digests = insert_by digest_key t.digests (next.count, record { time = request.time; digest = next.digest }) }))
       → HoldsUnkept old.now h (with_deed h deed) → HoldsRows newest new.now (with_deed h deed)
   unfolding HoldsUnkept HoldsRows
-  kept_now old new after had =
+  kept_now old new head next is_head count digest after had =
       let records = had.2 in (
         refl,
-        record had.0 { kept = rows_after had.0.kept },
+        record had.0 { kept = rows_after had.0.kept; digests = insert_by digest_key had.0.digests (next.count, record { time = request.time; digest = next.digest }) },
         after had.0 had.1,
-        record { founding = records.founding; metas = records.metas; curators = records.curators; licences = records.licences; fixed = records.fixed; orgs = records.orgs; vendors = records.vendors; spans = records.spans; entries = records.entries; petitions = records.petitions },
-        kept_after had.0.kept had.3,
+        record { founding = records.founding; metas = records.metas; curators = records.curators; licences = records.licences; fixed = records.fixed; orgs = records.orgs; vendors = records.vendors; spans = records.spans; entries = records.entries; petitions = records.petitions; reasons = records.reasons },
+        record { kept = kept_after had.0.kept had.3.kept; digests = λ _ valid. digest_kept head next is_head count digest had.0.digests had.3.digests valid },
       )

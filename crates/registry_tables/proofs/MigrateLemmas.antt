@@ -7,28 +7,30 @@ use Rattle.sqlite.specs.Tree.{Trees}
 use Rattle.sqlite.specs.State.{State, Survives}
 use Rattle.sqlite.proofs.StateLemmas.{survives_weaker}
 use Rattle.table_laws.specs.Making.{HasTables}
-use Rattle.registry_schema.specs.Texts.{texts_1, texts_2, texts_3}
+use Rattle.registry_schema.specs.Texts.{texts_1, texts_2, texts_3, texts_4}
 use Rattle.registry_rules.specs.History.{History}
-use Rattle.registry_tables.specs.Rows.{Rows}
+use Rattle.registry_tables.specs.Rows.{newest, Rows}
 use Rattle.registry_tables.specs.Raising.{IsMadeBy, CommitsStep, CommitsTwo, CommitsLater, IsAtRest, StaysOpen}
 
 -- ---- the schema version of a store
 
 module _ (a : State) (told : Option ℕ) (first : IsTrue a.is_open → HasTables texts_1 a.now.trees → told ≡ Some 1) (second : IsTrue a.is_open → HasTables texts_2 a.now.trees → told ≡ Some 2)
-    (third : IsTrue a.is_open → HasTables texts_3 a.now.trees → told ≡ Some 3) where
+    (third : IsTrue a.is_open → HasTables texts_3 a.now.trees → told ≡ Some 3) (fourth : IsTrue a.is_open → HasTables texts_4 a.now.trees → told ≡ Some 4) where
   -- the version returned is the one its rows are in
   pub version_told : (version : ℕ) (h : History) → IsTrue a.is_open → Rows version a.now.trees h → told ≡ Some version
   unfolding Rows
   version_told version h is_open (t, inl (is, has), rest, kept) = first is_open has.has ∙ ap Some (sym is)
   version_told version h is_open (t, inr (inl (is, has)), rest, kept) = second is_open has.has ∙ ap Some (sym is)
-  version_told version h is_open (t, inr (inr (is, has)), rest, kept) = third is_open has.has ∙ ap Some (sym is)
+  version_told version h is_open (t, inr (inr (inl (is, has))), rest, kept) = third is_open has.has ∙ ap Some (sym is)
+  version_told version h is_open (t, inr (inr (inr (is, has))), rest, kept) = fourth is_open has.has ∙ ap Some (sym is)
 
-  -- which is one of three
-  pub version_among : (h : History) (version : ℕ) → IsTrue a.is_open → Rows version a.now.trees h → (told ≡ Some 1) ⊎ ((told ≡ Some 2) ⊎ (told ≡ Some 3))
+  -- which is one of four
+  pub version_among : (h : History) (version : ℕ) → IsTrue a.is_open → Rows version a.now.trees h → (told ≡ Some 1) ⊎ ((told ≡ Some 2) ⊎ ((told ≡ Some 3) ⊎ (told ≡ Some 4)))
   unfolding Rows
   version_among h version is_open (t, inl (is, has), rest, kept) = inl (first is_open has.has)
   version_among h version is_open (t, inr (inl (is, has)), rest, kept) = inr (inl (second is_open has.has))
-  version_among h version is_open (t, inr (inr (is, has)), rest, kept) = inr (inr (third is_open has.has))
+  version_among h version is_open (t, inr (inr (inl (is, has))), rest, kept) = inr (inr (inl (third is_open has.has)))
+  version_among h version is_open (t, inr (inr (inr (is, has))), rest, kept) = inr (inr (inr (fourth is_open has.has)))
 
   same_version : (n version : ℕ) → told ≡ Some n → told ≡ Some version → n ≡ version
   same_version n version is told_is = cc
@@ -38,8 +40,8 @@ module _ (a : State) (told : Option ℕ) (first : IsTrue a.is_open → HasTables
     told_rows h version is_open rows = let same = same_version n version is (version_told version h is_open rows) in (same, subst (λ v. Rows v a.now.trees h) (sym same) rows)
 
     -- a step from the returned version keeps what was at rest
-    pub raised_by : (P : Trees → Type 0) → ((db : Trees) → P db → IsTrue a.is_open × ((h : History) → Rows n a.now.trees h → Rows 3 db h)) → {E : Type 0} (result : Result (Unit {0}) E)
-        → OnOk result (IsMadeBy P c) → OnOk result (StaysOpen a c × ((h : History) (version : ℕ) → IsAtRest version a h → IsAtRest 3 c h))
+    pub raised_by : (P : Trees → Type 0) → ((db : Trees) → P db → IsTrue a.is_open × ((h : History) → Rows n a.now.trees h → Rows newest db h)) → {E : Type 0} (result : Result (Unit {0}) E)
+        → OnOk result (IsMadeBy P c) → OnOk result (StaysOpen a c × ((h : History) (version : ℕ) → IsAtRest version a h → IsAtRest newest c h))
     raised_by P means (Err e) made = tt
     raised_by P means (Ok x) made = (
       (λ _. made.0, λ _. (means _ made.2).0),
@@ -60,15 +62,18 @@ module _ (a : State) (told : Option ℕ) (first : IsTrue a.is_open → HasTables
           (later.0, subst (λ v. v ≤ later.0) told_is.0 later.1, later.2)),
     )))
 
-pub step_later : (a : State) (db : Trees) → CommitsStep 2 a db → IsTrue a.is_open × ((h : History) → Rows 2 a.now.trees h → (later : ℕ) × (2 ≤ later) × Rows later db h)
-step_later a db step = (step.0, λ h rows. (3, omega arith, step.1 h rows))
+pub second_later : (a : State) (db : Trees) → CommitsStep 2 a db → IsTrue a.is_open × ((h : History) → Rows 2 a.now.trees h → (later : ℕ) × (2 ≤ later) × Rows later db h)
+second_later a db step = (step.0, λ h rows. (newest, omega arith, step.1 h rows))
+
+pub third_later : (a : State) (db : Trees) → CommitsStep 3 a db → IsTrue a.is_open × ((h : History) → Rows 3 a.now.trees h → (later : ℕ) × (3 ≤ later) × Rows later db h)
+third_later a db step = (step.0, λ h rows. (newest, omega arith, step.1 h rows))
 
 pub two_later : (a : State) (db : Trees) → CommitsTwo a db → IsTrue a.is_open × ((h : History) → Rows 1 a.now.trees h → (later : ℕ) × (1 ≤ later) × Rows later db h)
 two_later a db step = (step.0, λ h rows. one_of h (step.1 h rows))
   where
-    one_of : (h : History) → Rows 2 db h ⊎ Rows 3 db h → (later : ℕ) × (1 ≤ later) × Rows later db h
+    one_of : (h : History) → Rows 2 db h ⊎ Rows newest db h → (later : ℕ) × (1 ≤ later) × Rows later db h
     one_of h (inl two) = (2, omega arith, two)
-    one_of h (inr three) = (3, omega arith, three)
+    one_of h (inr last) = (newest, omega arith, last)
 
 pub on_ok : {X E P : Type 0} (result : Result X E) → P → OnOk result P
 on_ok (Ok x) p = p

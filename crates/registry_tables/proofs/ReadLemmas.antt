@@ -23,10 +23,10 @@ use Rattle.registry_rows.specs.Steps.{Reads}
 use Rattle.registry_rows.specs.Tables.{Tables, Holds}
 use Rattle.registry_tables.specs.Finds.{ReadsHistory, ReadsHistoryOpen, TellsStore}
 use Rattle.registry_tables.specs.Lists.{IsOrgList, IsNumberList}
-use Rattle.registry_tables.specs.Rows.{newest, HoldsRows, AreRecords, AreKeptReplies, vendor_span_has}
+use Rattle.registry_tables.specs.Rows.{newest, HoldsRows, AreRecords, AreKeptReplies, IsRecorded, vendor_span_has}
 use Rattle.registry_tables.proofs.ListLemmas.{org_list, number_list}
 use Rattle.registry_tables.proofs.OpeningLemmas.{spans_told}
-use Rattle.registry_tables.proofs.FindLemmas.{finds_then, finds_ok, finds_as, fails_then, passes, refuses, fails, short, tells, store_told}
+use Rattle.registry_tables.proofs.FindLemmas.{finds_then, finds_ok, finds_as, fails_then, passes, passes_recorded, refuses, fails, short, tells, store_told}
 
 pub quiet_then : (a b c : State) → CommitsNothing a b → CommitsNothing b c → CommitsNothing a c
 quiet_then a b c p q = survives_then a b c _ _ (λ _. ⊥) (λ _ db none. none) (λ _ db none. none) p q
@@ -54,6 +54,14 @@ module _ {S : Type 0} {g : Ghosts S} {a b : MutBor (Held S)} {A B : Type 0} {Say
   rows_pass {x} {y} means rows = record {
     same_reference = rows.same_reference;
     found = λ clean inside. passes (state g a.now) (state g b.now) Is (λ t. Says t x) y means (rows.told clean inside);
+    survives = rows.survives;
+  }
+
+  -- the same, where the record counts
+  pub recorded_pass : {x : A} {y : B} → ((h : History) (t : Tables) → Legal h → IsRecorded h t → Says t x → Is h y) → Reads g a b (Ok x) Holds Says → ReadsHistory g a b (Ok y) Is
+  recorded_pass {x} {y} means rows = record {
+    same_reference = rows.same_reference;
+    found = λ clean inside. passes_recorded (state g a.now) (state g b.now) Is (λ t. Says t x) y means (rows.told clean inside);
     survives = rows.survives;
   }
 

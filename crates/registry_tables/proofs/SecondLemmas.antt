@@ -16,7 +16,7 @@ use Rattle.registry_rules.specs.History.{History}
 use Rattle.registry_rows.specs.declared.meta.Meta.{Meta}
 use Rattle.registry_rows.specs.Rows.{meta_key}
 use Rattle.registry_rows.specs.Tables.{Tables}
-use Rattle.registry_tables.specs.Rows.{meta_of, AreRecords, AreKeptReplies}
+use Rattle.registry_tables.specs.Rows.{meta_of, AreRecords, IsRecorded}
 use Rattle.table_laws.specs.Making.{HasMore}
 use Rattle.registry_old_rows.specs.Old.{old_span_key, with_version, at_version}
 use Rattle.registry_old_rows.specs.Between.{HoldsFirst, HoldsSecond}
@@ -65,13 +65,15 @@ records_with h t numbers had reserved parts spread same = record {
   };
   entries = had.entries;
   petitions = had.petitions;
+  reasons = had.reasons;
 }
 
-pub marked_first : (db : Database) (h : History) → HoldsOf 1 db h → (t : Tables) × IsFirst h.founding.vendor db t × AreRecords h t × AreKeptReplies h t.kept
+pub marked_first : (db : Database) (h : History) → HoldsOf 1 db h → (t : Tables) × IsFirst h.founding.vendor db t × AreRecords h t × IsRecorded h t
 unfolding HoldsOf
 marked_first db h (t, inl first, had, kept) = (t, first.1, had, kept)
 marked_first db h (t, inr (inl second), had, kept) = absurd (let e = second.0 in omega (arith, e))
-marked_first db h (t, inr (inr third), had, kept) = absurd (let e = third.0 in omega (arith, e))
+marked_first db h (t, inr (inr (inl third)), had, kept) = absurd (let e = third.0 in omega (arith, e))
+marked_first db h (t, inr (inr (inr fourth)), had, kept) = absurd (let e = fourth.0 in omega (arith, e))
 
 -- the values after the table is created
 abbrev begun_values : History → Tables → List ℕ → Second
@@ -131,4 +133,4 @@ module _ (a s1 : State) (one : a.now.schema ≡ schema_1 → HasMore schema_1 (s
         let holds : HoldsSecond vid s6.now (with_version 2 (with_parts vid parts t)) [] =
         subst (λ ms. HoldsSecond vid s6.now (record t { spans = map (owned vid) parts; metas = ms }) []) metas
         (subst (λ ss. HoldsSecond vid s6.now (record t { spans = ss; metas = insert_by meta_key (map (at_version 1) t.metas) (meta_by 2 meta.vendor meta.name) }) []) filled said) in
-        (with_parts vid parts t, inr (inl (refl, record { one = it.1.one; holds = holds })), records_with h t numbers it.2 it.1.reserved parts spread (λ n. same n ∙ ap (list_any (nat_eq n)) read.1), it.3)
+        (with_parts vid parts t, inr (inl (refl, record { one = it.1.one; older = record { times = it.1.older.times; reasons = it.1.older.reasons }; holds = holds })), records_with h t numbers it.2 it.1.reserved parts spread (λ n. same n ∙ ap (list_any (nat_eq n)) read.1), record { kept = it.3.kept; digests = it.3.digests })

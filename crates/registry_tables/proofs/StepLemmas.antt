@@ -1,5 +1,5 @@
 -- A migration step in a transaction, and its commit.
-use Rattle.std.proofs.Common.{◌≡◌, ◌+◌, ℕ, IsTrue, true, false, Result, Ok, Err, OnOk, refl, sym, subst, ◌∙◌, arith}
+use Rattle.std.proofs.Common.{◌≡◌, ℕ, IsTrue, true, false, Result, Ok, Err, OnOk, refl, sym, subst, ◌∙◌, arith}
 use Rattle.sqlite.specs.Tree.{Trees}
 use Rattle.sqlite.specs.Effect.{Database}
 use Rattle.sqlite.specs.Store.{Ghosts}
@@ -12,7 +12,7 @@ use Rattle.registry_schema.specs.declared.fault.TableFault.TheVariants.{Foreign}
 use Rattle.registry_rules.specs.History.{History}
 use Rattle.registry_tables.specs.Rows.{Rows}
 use Rattle.registry_tables.specs.Versions.{HoldsOf}
-use Rattle.registry_tables.specs.Raising.{Raises, CommitsStep, IsMadeBy}
+use Rattle.registry_tables.specs.Raising.{raised_to, Raises, CommitsStep, IsMadeBy}
 use Rattle.registry_tables.proofs.VersionLemmas.{enters, goes_out}
 
 module _ {S : Type 0} (g : Ghosts S) (version : ℕ) (old begun mid : Held S) (is : begun ≡ record old { in_transaction = true }) (live : IsLive (state g old)) where
@@ -29,13 +29,13 @@ module _ {S : Type 0} (g : Ghosts S) (version : ℕ) (old begun mid : Held S) (i
   held h is_open rows = subst (λ b. HoldsOf version (state g b).now h) (sym is) (enters version (state g old) h live is_open rows)
 
   -- the commit commits what the transaction shows at its end
-  module _ (raised : HasCleanDisk (state g mid) → IsTrue (state g begun).in_transaction → GoesOn (state g begun) (state g mid) × ((h : History) → HoldsOf version (state g begun).now h → HoldsOf (version + 1) (state g mid).now h))
+  module _ (raised : HasCleanDisk (state g mid) → IsTrue (state g begun).in_transaction → GoesOn (state g begun) (state g mid) × ((h : History) → HoldsOf version (state g begun).now h → HoldsOf (raised_to version) (state g mid).now h))
       (first : CommitsNothing (state g begun) (state g mid)) where
     shown : HasCleanDisk (state g mid) → Commits (state g mid).now.trees
     shown clean =
         let it = raised clean inside in
         let is_open = opened it.0.was_open in
-        (is_open, λ h rows. goes_out (version + 1) (state g mid).now h (it.1 h (held h is_open rows)))
+        (is_open, λ h rows. goes_out (raised_to version) (state g mid).now h (it.1 h (held h is_open rows)))
 
     module _ (end ended : Held S) (last : Survives (state g mid) (state g end) (λ db. db ≡ (state g mid).now.trees)) (same : end ≡ ended) where
       pub step_survives : Survives (state g old) (state g ended) Commits

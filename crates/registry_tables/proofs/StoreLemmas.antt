@@ -11,21 +11,21 @@ use Rattle.usbnum_core.specs.declared.number.Number.{Number}
 use Rattle.usbnum_core.specs.declared.number.Span.{Span}
 use Rattle.table_laws.proofs.FoundLemmas.{apart_put}
 use Rattle.registry_rules.specs.History.{History}
-use Rattle.registry_rules.specs.Records.{with_held, with_card, org_changed, petition_changed, entry_changed, reserved_changed, vendor_changed, licence_changed, after_all, LeadsTo}
+use Rattle.registry_rules.specs.Records.{with_held, with_card, org_changed, petition_changed, entry_changed, reserved_changed, vendor_changed, licence_changed, reason_changed, after_all, LeadsTo}
 use Rattle.registry_rules.specs.declared.change.Change.{Change}
-use Rattle.registry_rules.specs.declared.change.Change.TheVariants.{PutOrg, PutPetition, PutEntry, SetHeld, SetCard, PutVendor, PutLicence}
+use Rattle.registry_rules.specs.declared.change.Change.TheVariants.{PutOrg, PutPetition, PutEntry, SetHeld, SetCard, PutVendor, PutLicence, PutReason}
 use Rattle.registry_rules.specs.declared.founding.Founding.{Founding}
 use Rattle.registry_rules.specs.declared.record.Org.{Org}
 use Rattle.registry_rules.specs.declared.record.Entry.{Entry}
 use Rattle.registry_rules.specs.declared.record.Petition.{Petition}
 use Rattle.registry_rules.specs.declared.record.Vendor.{Vendor}
-use Rattle.registry_rows.specs.Rows.{is_named, is_called, is_of, is_numbered}
+use Rattle.registry_rows.specs.Rows.{is_named, is_called, is_of, is_numbered, is_reason_of}
 use Rattle.registry_rows.specs.Steps.{Changes}
 use Rattle.registry_rows.specs.Tables.{Tables, Holds}
 use Rattle.registry_tables.specs.Changed.{applied, applied_all, with_spans, Makes}
-use Rattle.registry_tables.specs.Rows.{newest, NoTwo, IsFounding, vendor_span_has, AreApart, AreRecords, AreKeptReplies, HoldsRows, HoldsUnkept}
+use Rattle.registry_tables.specs.Rows.{newest, NoTwo, IsFounding, vendor_span_has, AreApart, AreRecords, AreKeptReplies, IsRecorded, HoldsRows, HoldsUnkept}
 use Rattle.registry_tables.proofs.EntryLemmas.{entry_set, entries_once}
-use Rattle.registry_tables.proofs.ViewLemmas.{same_bytes, org_put, entry_put, petition_put, vendor_put}
+use Rattle.registry_tables.proofs.ViewLemmas.{same_bytes, org_put, entry_put, petition_put, vendor_put, reason_put}
 
 -- ---- inserting a name
 
@@ -50,7 +50,7 @@ name_put name last (other ∷ names) = go (bytes_eq other last) (bytes_eq name o
 
 -- ---- the value under each key
 
-record IsView (t : Tables) (o : List ℕ → Option Org) (p : ℕ → Option Petition) (e : Number → Option Entry) (v : ℕ → Option Vendor) (l : List ℕ → Bool) : Type 0 where
+record IsView (t : Tables) (o : List ℕ → Option Org) (p : ℕ → Option Petition) (e : Number → Option Entry) (v : ℕ → Option Vendor) (l : List ℕ → Bool) (r : ℕ → Option (List ℕ)) : Type 0 where
   orgs : (slug : List ℕ) → find (is_called slug) t.orgs ≡ o slug
   orgs_once : NoTwo (λ a b. is_called b.slug a) t.orgs
   petitions : (i : ℕ) → find (is_numbered i) t.petitions ≡ option_map (λ petition. (i, petition)) (p i)
@@ -59,6 +59,7 @@ record IsView (t : Tables) (o : List ℕ → Option Org) (p : ℕ → Option Pet
   vendors : (vid : ℕ) → find (λ vendor. nat_eq vendor.vid vid) t.vendors ≡ v vid
   licences : (name : List ℕ) → list_any (bytes_eq name) t.licences ≡ l name
   licences_once : NoTwo is_named t.licences
+  reasons : (i : ℕ) → find (is_reason_of i) t.reasons ≡ option_map (λ reason. (i, reason)) (r i)
 
 orgs_view : (c : Change) (t : Tables) (o : List ℕ → Option Org) → ((slug : List ℕ) → find (is_called slug) t.orgs ≡ o slug) → (slug : List ℕ) → find (is_called slug) (applied c t).orgs ≡ org_changed slug c (o slug)
 orgs_view (PutOrg org) t o was slug = org_put org t.orgs slug ∙ ap (λ old. if bytes_eq org.slug slug then Some org else old) (was slug)
@@ -98,9 +99,14 @@ licences_once_view : (c : Change) (t : Tables) → NoTwo is_named t.licences →
 licences_once_view (PutLicence name) t once = apart_put is_named name t.licences once
 licences_once_view _ t once = once
 
-view_one : (c : Change) (t : Tables) (o : List ℕ → Option Org) (p : ℕ → Option Petition) (e : Number → Option Entry) (v : ℕ → Option Vendor) (l : List ℕ → Bool) → IsView t o p e v l
-    → IsView (applied c t) (λ s. org_changed s c (o s)) (λ i. petition_changed i c (p i)) (λ n. entry_changed n c (e n)) (λ d. vendor_changed d c (v d)) (λ n. licence_changed n c (l n))
-view_one c t o p e v l was = record {
+reasons_view : (c : Change) (t : Tables) (r : ℕ → Option (List ℕ)) → ((i : ℕ) → find (is_reason_of i) t.reasons ≡ option_map (λ reason. (i, reason)) (r i))
+    → (i : ℕ) → find (is_reason_of i) (applied c t).reasons ≡ option_map (λ reason. (i, reason)) (reason_changed i c (r i))
+reasons_view (PutReason id reason) t r was i = reason_put id reason t.reasons i (r i) (was i)
+reasons_view _ t r was i = was i
+
+view_one : (c : Change) (t : Tables) (o : List ℕ → Option Org) (p : ℕ → Option Petition) (e : Number → Option Entry) (v : ℕ → Option Vendor) (l : List ℕ → Bool) (r : ℕ → Option (List ℕ)) → IsView t o p e v l r
+    → IsView (applied c t) (λ s. org_changed s c (o s)) (λ i. petition_changed i c (p i)) (λ n. entry_changed n c (e n)) (λ d. vendor_changed d c (v d)) (λ n. licence_changed n c (l n)) (λ i. reason_changed i c (r i))
+view_one c t o p e v l r was = record {
   orgs = orgs_view c t o was.orgs;
   orgs_once = orgs_once_view c t was.orgs_once;
   petitions = petitions_view c t p was.petitions;
@@ -109,12 +115,13 @@ view_one c t o p e v l was = record {
   vendors = vendors_view c t v was.vendors;
   licences = licences_view c t l was.licences;
   licences_once = licences_once_view c t was.licences_once;
+  reasons = reasons_view c t r was.reasons;
 }
 
-view_all : (cs : List Change) (t : Tables) (o : List ℕ → Option Org) (p : ℕ → Option Petition) (e : Number → Option Entry) (v : ℕ → Option Vendor) (l : List ℕ → Bool) → IsView t o p e v l
-    → IsView (applied_all cs t) (λ s. after_all (org_changed s) cs (o s)) (λ i. after_all (petition_changed i) cs (p i)) (λ n. after_all (entry_changed n) cs (e n)) (λ d. after_all (vendor_changed d) cs (v d)) (λ n. after_all (licence_changed n) cs (l n))
-view_all [] t o p e v l was = was
-view_all (c ∷ cs) t o p e v l was = view_all cs (applied c t) _ _ _ _ _ (view_one c t o p e v l was)
+view_all : (cs : List Change) (t : Tables) (o : List ℕ → Option Org) (p : ℕ → Option Petition) (e : Number → Option Entry) (v : ℕ → Option Vendor) (l : List ℕ → Bool) (r : ℕ → Option (List ℕ)) → IsView t o p e v l r
+    → IsView (applied_all cs t) (λ s. after_all (org_changed s) cs (o s)) (λ i. after_all (petition_changed i) cs (p i)) (λ n. after_all (entry_changed n) cs (e n)) (λ d. after_all (vendor_changed d) cs (v d)) (λ n. after_all (licence_changed n) cs (l n)) (λ i. after_all (reason_changed i) cs (r i))
+view_all [] t o p e v l r was = was
+view_all (c ∷ cs) t o p e v l r was = view_all cs (applied c t) _ _ _ _ _ _ (view_one c t o p e v l r was)
 
 -- ---- what is unchanged
 
@@ -123,17 +130,18 @@ record IsRest (a b : Tables) : Type 0 where
   curators : b.curators ≡ a.curators
   fixed : b.fixed ≡ a.fixed
   kept : b.kept ≡ a.kept
+  digests : b.digests ≡ a.digests
 
 rest_one : (c : Change) (t : Tables) → IsRest t (applied c t)
-rest_one (PutOrg org) t = record { metas = refl; curators = refl; fixed = refl; kept = refl }
-rest_one _ t = record { metas = refl; curators = refl; fixed = refl; kept = refl }
+rest_one (PutOrg org) t = record { metas = refl; curators = refl; fixed = refl; kept = refl; digests = refl }
+rest_one _ t = record { metas = refl; curators = refl; fixed = refl; kept = refl; digests = refl }
 
 rest_all : (cs : List Change) (t : Tables) → IsRest t (applied_all cs t)
-rest_all [] t = record { metas = refl; curators = refl; fixed = refl; kept = refl }
+rest_all [] t = record { metas = refl; curators = refl; fixed = refl; kept = refl; digests = refl }
 rest_all (c ∷ cs) t =
     let first = rest_one c t in
     let later = rest_all cs (applied c t) in
-    record { metas = later.metas ∙ first.metas; curators = later.curators ∙ first.curators; fixed = later.fixed ∙ first.fixed; kept = later.kept ∙ first.kept }
+    record { metas = later.metas ∙ first.metas; curators = later.curators ∙ first.curators; fixed = later.fixed ∙ first.fixed; kept = later.kept ∙ first.kept; digests = later.digests ∙ first.digests }
 
 -- ---- one more change
 
@@ -183,7 +191,7 @@ module _ (cs : List Change) (h after : History) (founding : after.founding ≡ h
   records_after : (t : Tables) (db : Database) → AreRecords h t → (made : AreMade cs t db) → AreRecords after (with_spans made.spans (applied_all cs t))
   records_after t db had made =
       let rest = rest_all cs t in
-      let view = view_all cs t _ _ _ _ _ (record { orgs = had.orgs.each; orgs_once = had.orgs.once; petitions = had.petitions; entries = had.entries.each; entries_once = had.entries.once; vendors = had.vendors; licences = had.licences.each; licences_once = had.licences.once }) in
+      let view = view_all cs t _ _ _ _ _ _ (record { orgs = had.orgs.each; orgs_once = had.orgs.once; petitions = had.petitions; entries = had.entries.each; entries_once = had.entries.once; vendors = had.vendors; licences = had.licences.each; licences_once = had.licences.once; reasons = had.reasons }) in
       record {
         founding = subst IsFounding (sym founding) had.founding;
         metas = rest.metas ∙ had.metas ∙ ap (λ (f : Founding). record { version = newest; vendor = f.vendor; name = f.name } ∷ []) (sym founding);
@@ -198,10 +206,14 @@ module _ (cs : List Change) (h after : History) (founding : after.founding ≡ h
         spans = record { each = λ n. made.each n ∙ ap (after_all (reserved_changed n) cs) (had.spans.each n) ∙ leads.reserved_by_order n; apart = made.apart };
         entries = record { each = λ n. view.entries n ∙ ap (option_map (λ entry. (n, entry))) (leads.entries n); once = view.entries_once };
         petitions = λ i. view.petitions i ∙ ap (option_map (λ petition. (i, petition))) (leads.petitions i);
+        reasons = λ i. view.reasons i ∙ ap (option_map (λ reason. (i, reason))) (leads.reasons i);
       }
+
+  recorded_same : (a b : Tables) → b.kept ≡ a.kept → b.digests ≡ a.digests → IsRecorded h a → IsRecorded h b
+  recorded_same a b kept digests was = record { kept = subst (λ rows. AreKeptReplies h rows) (sym kept) was.kept; digests = λ legal valid. digests ∙ was.digests legal valid }
 
   pub stored_now : (old new : State) → ((t : Tables) → Holds old.now t → IsAscending AreApart t.spans → AreMade cs t new.now) → HoldsRows newest old.now h → HoldsUnkept new.now h after
   unfolding HoldsRows HoldsUnkept
   stored_now old new made had =
       let now = made had.1 had.2 had.3.spans.apart in
-      (with_spans now.spans (applied_all cs had.1), now.holds, records_after had.1 new.now had.3 now, subst (λ rows. AreKeptReplies h rows) (sym (rest_all cs had.1).kept) had.4)
+      (with_spans now.spans (applied_all cs had.1), now.holds, records_after had.1 new.now had.3 now, recorded_same had.1 (with_spans now.spans (applied_all cs had.1)) (rest_all cs had.1).kept (rest_all cs had.1).digests had.4)

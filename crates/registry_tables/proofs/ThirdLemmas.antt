@@ -1,14 +1,16 @@
--- From the rows of the second schema to those of the third.
+-- From the rows of the second schema to those of the newest.
 use Rattle.std.proofs.Common.{◌≡◌, ℕ, inl, inr, List, [], ◌∷◌, map, Err, refl, sym, ap, subst, ◌∙◌, arith}
 use Rattle.sqlite.specs.Effect.{Database}
 use Rattle.sqlite.specs.State.{State, IsUnchanged}
 use Rattle.sqlite_keyed.specs.Keyed.{insert_by}
-use Rattle.registry_schema.specs.Schema.{schema_2, vendors, spans3, entries3, petitions3}
+use Rattle.registry_schema.specs.Schema.{schema_2, vendors, spans3, entries3, petitions3, digests4, reasons4}
 use Rattle.registry_rules.specs.History.{History}
 use Rattle.registry_rows.specs.declared.meta.Meta.{Meta}
 use Rattle.registry_rows.specs.Rows.{meta_key, vendor_key}
 use Rattle.registry_rows.specs.Tables.{Tables, Holds}
-use Rattle.registry_tables.specs.Rows.{meta_of, AreRecords, AreKeptReplies}
+use Rattle.registry_tables.specs.Rows.{newest, meta_of, AreRecords, IsRecorded}
+use Rattle.registry_tables.specs.Written.{FillsAll}
+use Rattle.registry_tables.proofs.FillLemmas.{undigested, filled_now}
 use Rattle.table_laws.specs.Making.{HasMore}
 use Rattle.registry_old_rows.specs.Old.{with_version, at_version, vendor_in, HasOneVendor}
 use Rattle.registry_old_rows.specs.Between.{HoldsSecond, HoldsBoth}
@@ -20,7 +22,7 @@ use Rattle.registry_tables.specs.Versions.{IsSecond, HoldsOf}
 use Rattle.registry_tables.specs.Raising.{emptied, moved, IsMarked, Raises}
 
 -- the new tables exist and are empty
-pub third_begins : (vid : ℕ) (a b : Database) (o : Tables) → HasMore schema_2 (vendors ∷ spans3 ∷ entries3 ∷ petitions3 ∷ []) a b → HoldsSecond vid a o [] → HoldsBoth vid b o (emptied o)
+pub third_begins : (vid : ℕ) (a b : Database) (o : Tables) → HasMore schema_2 (vendors ∷ spans3 ∷ entries3 ∷ petitions3 ∷ digests4 ∷ reasons4 ∷ []) a b → HoldsSecond vid a o [] → HoldsBoth vid b o (emptied o)
 third_begins vid a b o more has = record {
   schema = more.is;
   sound = more.sound;
@@ -30,11 +32,17 @@ third_begins vid a b o more has = record {
     spans = record { numbered = []; stores = record { rows_are = more.empty.1.0; keyed = tt; valid = tt }; values_are = refl };
     entries = record { numbered = []; stores = record { rows_are = more.empty.1.1.0; keyed = tt; valid = tt }; values_are = refl };
     petitions = record { rows_are = more.empty.1.1.1.0; keyed = tt; valid = tt };
+    digests = record { rows_are = more.empty.1.1.1.1.0; keyed = tt; valid = tt };
+    reasons = record { rows_are = more.empty.1.1.1.1.1.0; keyed = tt; valid = tt };
   };
 }
 
+-- what the second schema has in the newest: no vendors yet, and no digests
+abbrev bare : Tables → Tables
+bare o = record o { vendors = []; digests = []; reasons = [] }
+
 -- the old tables are empty, and their rows are in the new ones
-pub third_ends : (vid : ℕ) (c : Database) (o : Tables) → HoldsBoth vid c (moved o) (record o { vendors = [] }) → Holds c (record o { vendors = [] })
+pub third_ends : (vid : ℕ) (c : Database) (o : Tables) → HoldsBoth vid c (moved o) (bare o) → Holds c (bare o)
 third_ends vid c o has = record {
   schema = has.schema;
   sound = has.sound;
@@ -53,6 +61,8 @@ third_ends vid c o has = record {
     spans = has.rows.spans;
     entries = has.rows.entries;
     petitions = has.rows.petitions;
+    digests = has.rows.digests;
+    reasons = has.rows.reasons;
   };
 }
 
@@ -62,44 +72,56 @@ meta_by version vid name = record { version = version; vendor = vid; name = name
 
 -- inserting the founding vendor and the row of meta gives the same values
 pub same_values : (db : Database) (t : Tables) (h : History) → AreRecords h t → HasOneVendor t → (meta : Meta) → meta ≡ at_version 2 (meta_of h)
-    → Holds db (record (with_version 2 t) { vendors = insert_by vendor_key [] (record { vid = meta.vendor; name = meta.name }); metas = insert_by meta_key (map (at_version 2) t.metas) (meta_by 3 meta.vendor meta.name) }) → Holds db t
+    → Holds db (record (with_version 2 t) { vendors = insert_by vendor_key [] (record { vid = meta.vendor; name = meta.name }); metas = insert_by meta_key (map (at_version 2) t.metas) (meta_by 4 meta.vendor meta.name); digests = []; reasons = [] }) → Holds db (undigested t)
 same_values db t h had one meta is holds =
-    let metas : insert_by meta_key (map (at_version 2) t.metas) (meta_by 3 meta.vendor meta.name) ≡ t.metas =
-    ap (λ l. insert_by meta_key (map (at_version 2) l) (meta_by 3 meta.vendor meta.name)) had.metas ∙ ap (λ (m : Meta). meta_by 3 m.vendor m.name ∷ []) is ∙ sym had.metas in
+    let metas : insert_by meta_key (map (at_version 2) t.metas) (meta_by 4 meta.vendor meta.name) ≡ t.metas =
+    ap (λ l. insert_by meta_key (map (at_version 2) l) (meta_by 4 meta.vendor meta.name)) had.metas ∙ ap (λ (m : Meta). meta_by 4 m.vendor m.name ∷ []) is ∙ sym had.metas in
     let only : (record { vid = meta.vendor; name = meta.name } ∷ []) ≡ t.vendors = ap (λ (m : Meta). vendor_in m ∷ []) is ∙ sym (one ∙ ap (map vendor_in) had.metas) in
-    subst (λ vs. Holds db (record t { vendors = vs })) only (subst (λ ms. Holds db (record t { vendors = record { vid = meta.vendor; name = meta.name } ∷ []; metas = ms })) metas holds)
+    subst (λ vs. Holds db (record t { vendors = vs; digests = []; reasons = [] })) only (subst (λ ms. Holds db (record t { vendors = record { vid = meta.vendor; name = meta.name } ∷ []; metas = ms; digests = []; reasons = [] })) metas holds)
 
 -- a history held in the second schema is in a store marked with version 2
-pub marked_second : (db : Database) (h : History) → HoldsOf 2 db h → (t : Tables) × IsSecond h.founding.vendor db t × AreRecords h t × AreKeptReplies h t.kept
+pub marked_second : (db : Database) (h : History) → HoldsOf 2 db h → (t : Tables) × IsSecond h.founding.vendor db t × AreRecords h t × IsRecorded h t
 unfolding HoldsOf
 marked_second db h (t, inl first, had, kept) = absurd (let e = first.0 in omega (arith, e))
 marked_second db h (t, inr (inl second), had, kept) = (t, second.1, had, kept)
-marked_second db h (t, inr (inr third), had, kept) = absurd (let e = third.0 in omega (arith, e))
+marked_second db h (t, inr (inr (inl third)), had, kept) = absurd (let e = third.0 in omega (arith, e))
+marked_second db h (t, inr (inr (inr fourth)), had, kept) = absurd (let e = fourth.0 in omega (arith, e))
 
 pub as_marked : (db : Database) (h : History) (t : Tables) → IsSecond h.founding.vendor db t → AreRecords h t → IsMarked 2 db (record { vid = h.founding.vendor; tables = with_version 2 t; numbers = [] })
 as_marked db h t second had = record { held = second.holds; meta = at_version 2 (meta_of h); only = ap (map (at_version 2)) had.metas; named = refl }
 
 -- the calls of the step in order
-module _ (a s1 s2 s3 s4 s5 : State) (meta : Meta) where
-  pub third_raised : ((x : Second) → IsMarked 2 a.now x → IsUnchanged a s1 × (x.tables.metas ≡ meta ∷ []))
-      → (s1.now.schema ≡ schema_2 → HasMore schema_2 (vendors ∷ spans3 ∷ entries3 ∷ petitions3 ∷ []) s1.now s2.now)
-      → ((o : Tables) → HoldsBoth meta.vendor s2.now o (emptied o) → HoldsBoth meta.vendor s3.now (moved o) (record o { vendors = [] }))
-      → ((t : Tables) → Holds s3.now t → Holds s4.now (record t { vendors = insert_by vendor_key t.vendors (record { vid = meta.vendor; name = meta.name }) }))
-      → ((t : Tables) → Holds s4.now t → Holds s5.now (record t { metas = insert_by meta_key t.metas (meta_by 3 meta.vendor meta.name) }))
-      → (h : History) → HoldsOf 2 a.now h → HoldsOf 3 s5.now h
-  unfolding HoldsOf
-  third_raised one two three four five h rows =
-      let it = marked_second a.now h rows in
-      let t = it.0 in
+module _ (a s1 s2 s3 s4 s5 : State) (meta : Meta) (one : (x : Second) → IsMarked 2 a.now x → IsUnchanged a s1 × (x.tables.metas ≡ meta ∷ []))
+    (two : s1.now.schema ≡ schema_2 → HasMore schema_2 (vendors ∷ spans3 ∷ entries3 ∷ petitions3 ∷ digests4 ∷ reasons4 ∷ []) s1.now s2.now)
+    (three : (o : Tables) → HoldsBoth meta.vendor s2.now o (emptied o) → HoldsBoth meta.vendor s3.now (moved o) (bare o))
+    (four : (t : Tables) → Holds s3.now t → Holds s4.now (record t { vendors = insert_by vendor_key t.vendors (record { vid = meta.vendor; name = meta.name }) }))
+    (five : (t : Tables) → Holds s4.now t → Holds s5.now (record t { metas = insert_by meta_key t.metas (meta_by 4 meta.vendor meta.name) })) where
+  -- the row of meta is the history's
+  meta_is : (h : History) (t : Tables) → IsSecond h.founding.vendor a.now t → AreRecords h t → meta ≡ at_version 2 (meta_of h)
+  meta_is h t second had =
+      let told = one _ (as_marked a.now h t second had) in
+      let both : at_version 2 (meta_of h) ∷ [] ≡ meta ∷ [] = sym (ap (map (at_version 2)) had.metas) ∙ told.1 in cc
+
+  -- all rows are there but those of the digests
+  undigested_now : (h : History) (t : Tables) → IsSecond h.founding.vendor a.now t → AreRecords h t → Holds s5.now (undigested t)
+  undigested_now h t second had =
       let o = with_version 2 t in
-      let told = one _ (as_marked a.now h t it.1 it.2) in
-      let is : meta ≡ at_version 2 (meta_of h) = (let both : at_version 2 (meta_of h) ∷ [] ≡ meta ∷ [] = sym (ap (map (at_version 2)) it.2.metas) ∙ told.1 in cc) in
-      let own : meta.vendor ≡ h.founding.vendor = ap (λ (m : Meta). m.vendor) is in
-      let held = subst (λ v. HoldsSecond v a.now o []) (sym own) it.1.holds in
+      let told = one _ (as_marked a.now h t second had) in
+      let is = meta_is h t second had in
+      let held = subst (λ v. HoldsSecond v a.now o []) (sym (ap (λ (m : Meta). m.vendor) is)) second.holds in
       let kept = subst (λ d. HoldsSecond meta.vendor d o []) (sym told.0.0.now_is) held in
       let begun = third_begins meta.vendor s1.now s2.now o (two kept.schema) kept in
       let ended = third_ends meta.vendor s3.now o (three o begun) in
-      (t, inr (inr (refl, same_values s5.now t h it.2 it.1.one meta is (five _ (four _ ended)))), it.2, it.3)
+      same_values s5.now t h had second.one meta is (five _ (four _ ended))
+
+  pub third_reached : (h : History) → HoldsOf 2 a.now h → (t : Tables) × Holds s5.now t
+  third_reached h rows = let it = marked_second a.now h rows in (undigested it.0, undigested_now h it.0 it.1 it.2)
+
+  pub third_raised : (s6 : State) → FillsAll meta.vendor meta.name s5 s6 → (h : History) → HoldsOf 2 a.now h → HoldsOf newest s6.now h
+  third_raised s6 fills h rows =
+      let it = marked_second a.now h rows in
+      let is = meta_is h it.0 it.1 it.2 in
+      filled_now s5 s6 meta.vendor meta.name h it.0 (ap (λ (m : Meta). m.vendor) is) (ap (λ (m : Meta). m.name) is) it.1.older it.2 it.3 (undigested_now h it.0 it.1 it.2) fills
 
 pub third_refused : (old new : State) (e : TableFault) → Tells old new (IsMarked 2 old.now) (Err e) (λ x (m : Meta). x.tables.metas ≡ m ∷ []) → Raises 2 old new {A = Unit {0}} (Err e)
 third_refused old new e read foreign =

@@ -13,7 +13,7 @@ use Rattle.registry_rules.specs.declared.record.Entry.{Entry}
 use Rattle.registry_rules.specs.declared.record.Petition.{Petition}
 use Rattle.registry_rules.specs.declared.record.Vendor.{Vendor}
 use Rattle.registry_rows.specs.declared.kept.KeptRow.{KeptRow}
-use Rattle.registry_rows.specs.Rows.{is_called, is_of, is_numbered, is_kept_under, petition_key, vendor_key}
+use Rattle.registry_rows.specs.Rows.{is_called, is_of, is_numbered, is_kept_under, petition_key, vendor_key, reason_key, is_reason_of}
 use Rattle.registry_tables.proofs.UnderLemmas.{found_after, found_among}
 
 pub same_bytes : (a b : List ℕ) → bytes_eq a b ≡ true → a ≡ b
@@ -58,6 +58,19 @@ pub petition_put : (id : ℕ) (petition : Petition) (petitions : List (ℕ × Pe
 petition_put id petition petitions i old was =
     found_among petition_key is_numbered (λ k x y a b. ap pos (eqb-true x.0 k a ∙ sym (eqb-true y.0 k b))) (λ k x y same. (let e : x.0 ≡ y.0 = cc in ap (λ m. nat_eq m k) e)) (id, petition) petitions i
     ∙ (let there : ℕ × Petition = (id, petition) in ap (λ o. cond (nat_eq id i) (Some there) o) was) ∙ petition_as (nat_eq id i) i id petition old (eqb-true id i)
+
+-- ---- reasons
+
+reason_as : (b : Bool) (i id : ℕ) (reason : List ℕ) (old : Option (List ℕ)) → (b ≡ true → id ≡ i) →
+    (let here : List ℕ → ℕ × List ℕ = λ r. (i, r) in let there : ℕ × List ℕ = (id, reason) in cond b (Some there) (option_map here old) ≡ option_map here (cond b (Some reason) old))
+reason_as true i id reason old same = let at : ℕ → Option (ℕ × List ℕ) = λ m. Some (m, reason) in ap at (same refl)
+reason_as false i id reason old same = refl
+
+pub reason_put : (id : ℕ) (reason : List ℕ) (reasons : List (ℕ × List ℕ)) (i : ℕ) (old : Option (List ℕ)) → find (is_reason_of i) reasons ≡ option_map (λ r. (i, r)) old
+    → find (is_reason_of i) (insert_by reason_key reasons (id, reason)) ≡ option_map (λ r. (i, r)) (if nat_eq id i then Some reason else old)
+reason_put id reason reasons i old was =
+    found_among reason_key is_reason_of (λ k x y a b. ap pos (eqb-true x.0 k a ∙ sym (eqb-true y.0 k b))) (λ k x y same. (let e : x.0 ≡ y.0 = cc in ap (λ m. nat_eq m k) e)) (id, reason) reasons i
+    ∙ (let there : ℕ × List ℕ = (id, reason) in ap (λ o. cond (nat_eq id i) (Some there) o) was) ∙ reason_as (nat_eq id i) i id reason old (eqb-true id i)
 
 -- ---- vendors
 

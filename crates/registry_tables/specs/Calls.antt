@@ -13,11 +13,12 @@ use Rattle.registry_rules.specs.Reply.{act_text}
 use Rattle.registry_rules.specs.Run.{Legal}
 use Rattle.registry_rules.specs.declared.deed.Deed.{Deed}
 use Rattle.registry_rules.specs.declared.order.Request.{Request}
-use Rattle.std.specs.Prelude.{List, ℕ}
+use Rattle.std.specs.Prelude.{List, ℕ, None}
+use Rattle.registry_wire.specs.Digests.{founding_digest}
 use Rattle.table_laws.specs.Inside.{CommitsNothing, StoreFailed}
 use Rattle.sqlite_keyed.specs.Keyed.{insert_by}
 use Rattle.registry_rules.specs.declared.founding.Founding.{Founding}
-use Rattle.registry_rows.specs.Rows.{meta_key, vendor_key}
+use Rattle.registry_rows.specs.Rows.{meta_key, vendor_key, digest_key}
 use Rattle.registry_rows.specs.Tables.{Tables}
 use Rattle.registry_tables.specs.Changed.{names_put, spans_put}
 use Rattle.registry_tables.specs.Rows.{newest, Rows}
@@ -31,6 +32,7 @@ pub record IsKeptAs (deed : Deed) (request : Request) (reply : List ℕ) : Type 
   pub caller : deed.caller ≡ request.caller
   pub key : deed.key ≡ request.key
   pub order : deed.order ≡ request.order
+  pub time : deed.time ≡ request.time
   pub said : reply ≡ act_text deed.act
 
 module _ (old new : State) where
@@ -72,4 +74,5 @@ with_founding founding t = record t {
   licences = names_put founding.licences t.licences;
   fixed = spans_put founding.fixed t.fixed;
   vendors = insert_by vendor_key t.vendors (record { vid = founding.vendor; name = founding.name });
+  digests = insert_by digest_key t.digests (0, record { time = None; digest = founding_digest founding });
 }

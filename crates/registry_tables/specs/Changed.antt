@@ -9,9 +9,9 @@ use Rattle.usbnum_core.specs.declared.number.Number.{Number}
 use Rattle.usbnum_core.specs.declared.number.Span.{Span}
 use Rattle.table_laws.specs.Inside.{GoesOn}
 use Rattle.registry_rules.specs.declared.change.Change.{Change}
-use Rattle.registry_rules.specs.declared.change.Change.TheVariants.{PutOrg, PutPetition, PutEntry, SetHeld, SetCard, PutVendor, PutLicence}
+use Rattle.registry_rules.specs.declared.change.Change.TheVariants.{PutOrg, PutPetition, PutEntry, SetHeld, SetCard, PutVendor, PutLicence, PutReason}
 use Rattle.registry_rules.specs.Records.{with_held, with_card, reserved_changed}
-use Rattle.registry_rows.specs.Rows.{petition_key, vendor_key, fixed_key, is_named, is_called, is_of}
+use Rattle.registry_rows.specs.Rows.{petition_key, vendor_key, fixed_key, reason_key, is_named, is_called, is_of}
 use Rattle.registry_rows.specs.Tables.{Tables, Holds}
 use Rattle.registry_tables.specs.Rows.{vendor_span_has, AreApart}
 
@@ -24,6 +24,7 @@ applied (SetHeld number held) t = record t { entries = update_where (is_of numbe
 applied (SetCard number card) t = record t { entries = update_where (is_of number) (λ e. (e.0, with_card card e.1)) t.entries }
 applied (PutVendor vid name) t = record t { vendors = insert_by vendor_key t.vendors (record { vid = vid; name = name }) }
 applied (PutLicence name) t = record t { licences = delete_where (λ other. is_named other name) t.licences ++ name ∷ [] }
+applied (PutReason id reason) t = record t { reasons = insert_by reason_key t.reasons (id, reason) }
 applied _ t = t
 
 -- the tables after changes in order

@@ -9,3 +9,5 @@ pub mod Versions
 pub mod Raising
 pub mod FirstLicences
 pub mod Known
+pub mod Head
+pub mod Written

@@ -1,5 +1,5 @@
--- One migration step, from a schema to the next.
-use Rattle.std.specs.Prelude.{◌≡◌, ◌≤◌, ◌⊎◌, ℕ, ◌+◌, [], ◌∷◌, Some, Result, Ok, Err, IsTrue}
+-- One migration step, from a schema to a later one.
+use Rattle.std.specs.Prelude.{◌≡◌, ◌≤◌, ◌⊎◌, ℕ, nat_eq, if◌then◌else◌, [], ◌∷◌, Some, Result, Ok, Err, IsTrue}
 use Rattle.sqlite.specs.Effect.{Database}
 use Rattle.sqlite.specs.State.{State}
 use Rattle.sqlite.specs.Tree.{Trees}
@@ -9,7 +9,7 @@ use Rattle.registry_schema.specs.declared.fault.TableFault.TheVariants.{Foreign}
 use Rattle.registry_schema.specs.Version.{version_named}
 use Rattle.registry_rules.specs.History.{History}
 use Rattle.registry_rows.specs.declared.meta.Meta.{Meta}
-use Rattle.registry_rows.specs.Tables.{Tables}
+use Rattle.registry_rows.specs.Tables.{Tables, Holds}
 use Rattle.registry_old_rows.specs.Between.{HoldsBoth}
 use Rattle.registry_old_rows.specs.Steps.{Second, IsHeld}
 use Rattle.registry_tables.specs.Rows.{newest, Rows}
@@ -22,16 +22,31 @@ pub record IsMarked (version : ℕ) (db : Database) (x : Second) : Type 0 where
   pub only : x.tables.metas ≡ meta ∷ []
   pub named : meta.version ≡ version
 
+-- values that a database of the newest schema holds while it is migrated from the third
+pub record Third : Type 0 where
+  pub tables : Tables
+  pub meta : Meta
+
+-- the one row of meta still names the third version
+pub record IsMarkedThird (db : Database) (x : Third) : Type 0 where
+  pub held : Holds db x.tables
+  pub only : x.tables.metas ≡ x.meta ∷ []
+  pub named : x.meta.version ≡ 3
+
+-- the version to which a step takes a store of this one
+abbrev pub raised_to : ℕ → ℕ
+raised_to version = if nat_eq version 1 then 2 else newest
+
 module _ (version : ℕ) (old new : State) where
-  -- The transaction goes on, and the rows of each history become those of the next schema. Foreign comes only from an open
+  -- The transaction goes on, and the rows of each history become those of the later schema. Foreign comes only from an open
   -- connection that holds the rows of no history in this schema.
   abbrev pub Raises : {A : Type 0} → Result A TableFault → Type 0
-  Raises (Ok a) = GoesOn old new × ((h : History) → HoldsOf version old.now h → HoldsOf (version + 1) new.now h)
+  Raises (Ok a) = GoesOn old new × ((h : History) → HoldsOf version old.now h → HoldsOf (raised_to version) new.now h)
   Raises (Err e) = e ≡ Foreign → IsTrue old.is_open × ((h : History) → ¬ HoldsOf version old.now h)
 
 -- what a step may commit
 abbrev pub CommitsStep : ℕ → State → Trees → Type 0
-CommitsStep version old db = IsTrue old.is_open × ((h : History) → Rows version old.now.trees h → Rows (version + 1) db h)
+CommitsStep version old db = IsTrue old.is_open × ((h : History) → Rows version old.now.trees h → Rows (raised_to version) db h)
 
 -- what two steps end in
 abbrev pub EndsTwo : State → Trees → Type 0
@@ -47,7 +62,7 @@ CommitsLater old db = IsTrue old.is_open × ((h : History) (version : ℕ) → R
 
 -- the names of the tables are those of an older schema
 abbrev pub IsNamedOlder : State → Type 0
-IsNamedOlder s = (version_named s.now.schema.tables ≡ Some 1) ⊎ (version_named s.now.schema.tables ≡ Some 2)
+IsNamedOlder s = (version_named s.now.schema.tables ≡ Some 1) ⊎ ((version_named s.now.schema.tables ≡ Some 2) ⊎ (version_named s.now.schema.tables ≡ Some 3))
 
 -- a connection is open now if and only if it was open before
 abbrev pub StaysOpen : State → State → Type 0
@@ -57,16 +72,16 @@ StaysOpen old new = (IsTrue old.is_open → IsTrue new.is_open) × (IsTrue new.i
 abbrev pub IsAtRest : ℕ → State → History → Type 0
 IsAtRest version s h = IsTrue s.is_open → (s.now ≡ s.committed) × Rows version s.committed.trees h
 
--- the new tables of the third schema, still empty
+-- the tables that the later schemas add, still empty
 abbrev pub emptied : Tables → Tables
-emptied t = record t { vendors = []; spans = []; entries = []; petitions = [] }
+emptied t = record t { vendors = []; spans = []; entries = []; petitions = []; digests = []; reasons = [] }
 
 abbrev pub moved : Tables → Tables
 moved o = record o { spans = []; entries = []; petitions = [] }
 
 -- the transaction goes on, and the rows of the second schema's tables move to those of the third
 abbrev pub MovesAll : ℕ → State → State → Type 0
-MovesAll vid old new = GoesOn old new × ((o : Tables) → HoldsBoth vid old.now o (emptied o) → HoldsBoth vid new.now (moved o) (record o { vendors = [] }))
+MovesAll vid old new = GoesOn old new × ((o : Tables) → HoldsBoth vid old.now o (emptied o) → HoldsBoth vid new.now (moved o) (record o { vendors = []; digests = []; reasons = [] }))
 
 -- the connection is open and at rest, and its tables satisfy P
 abbrev pub IsMadeBy : (Trees → Type 0) → State → Type 0

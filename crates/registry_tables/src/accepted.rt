@@ -1,48 +1,79 @@
 //! The record of accepted requests.
 
-ghost use Rattle.std.specs.Prelude.{◌≡◌, ◌≢◌, false, List, map, take, drop, Some, IfOk, Err};
+ghost use Rattle.std.specs.Prelude.{◌≡◌, ◌≢◌, false, List, ℕ, Option, map, take, drop, slice_get, Some, IfOk, Err};
 ghost use Rattle.std.specs.List.{AllByRecursion};
 ghost use Rattle.sqlite.specs.Held.{state};
 ghost use Rattle.registry_rules.specs.Accepted.{AreValid, accepted_of};
 ghost use Rattle.registry_rules.specs.declared.accepted.Accepted.{Accepted as AcceptedValue};
 ghost use Rattle.registry_tables.specs.Calls.{IsLookUp};
 ghost use Rattle.registry_tables.specs.Finds.{ReadsHistory};
-ghost use Rattle.registry_tables.specs.Rows.{kept_row_of, HasValidOrder};
+ghost use Rattle.registry_tables.specs.Rows.{kept_row_of, timed, HasValidOrder};
 
 use crate::TableFault;
 use crate::beginning::begin;
-use registry_rows::{KeptRow, kept_after};
+use crate::head::copy_of;
+use registry_rows::{DigestRow, KeptRow, digests_after, kept_after};
 use registry_rules::{Accepted, Request, order_of_form};
 use sqlite::{Alter, Connection, Transaction};
 use std::alloc::Global;
-use usbnum_core::NoMemory;
+use usbnum_core::{NoMemory, Time};
 
-// The accepted request of a row, or None if its order is that of no canonical form.
-fn accepted_of_row(alloc: Global, row: &KeptRow) -> Result<Option<Accepted>, NoMemory>
-    ensures { (accepted : AcceptedValue) → HasValidOrder accepted → row.now ≡ kept_row_of accepted → IfOk result (λ read. read ≡ Some accepted) }
+// The accepted request of a row, as one without a time, or None if its order is that of no canonical
+// form.
+pub(crate) fn accepted_of_row(alloc: Global, row: &KeptRow) -> Result<Option<Accepted>, NoMemory>
+    ensures { (accepted : AcceptedValue) → HasValidOrder accepted → row.now ≡ kept_row_of accepted → IfOk result (λ read. read ≡ Some (timed accepted None)) }
 {
+    let caller = row.caller.clone()?;
+    let key = row.key.clone()?;
+    let reply = row.kept.reply.clone()?;
     let Some(order) = order_of_form(alloc, &row.kept.order)? else {
         return Ok(None);
     };
     let request = Request {
-        caller: row.caller.clone()?,
-        key: row.key.clone()?,
+        caller,
+        key,
         order,
+        time: None,
     };
-    let reply = row.kept.reply.clone()?;
     Ok(Some(Accepted { request, reply }))
 }
 
-// The accepted requests of the rows, in their order.
-fn accepted_from(alloc: Global, rows: &[KeptRow]) -> Result<Vec<Accepted>, TableFault>
-    ensures reads { (values : List AcceptedValue) → AllByRecursion HasValidOrder values → rows.now ≡ map kept_row_of values → IfOk result (λ all. all.items ≡ values) }
+// The accepted request with this time.
+fn timed(accepted: Accepted, time: Option<Time>) -> Accepted
+    ensures { result ≡ timed accepted time }
+{
+    let mut accepted = accepted;
+    accepted.request.time = time;
+    accepted
+}
+
+// The time in the digest's row at this place.
+fn time_at(digests: &[(u32, DigestRow)], at: usize) -> Result<Option<Time>, TableFault>
+    ensures time { (times : List (Option (List ℕ))) → map (λ d. d.1.time) digests.now ≡ times → IfOk result (λ time. slice_get times at ≡ Some time) }
+    ensures kind { result ≢ Err TableFault.Foreign }
+{
+    let Some((_, digest)) = digests.get(at) else {
+        return Err(TableFault::Store);
+    };
+    copy_of(&digest.time)
+}
+
+// The accepted requests of the rows, in their order, with the times of the digests.
+fn accepted_from(
+    alloc: Global,
+    rows: &[KeptRow],
+    digests: &[(u32, DigestRow)],
+) -> Result<Vec<Accepted>, TableFault>
+    ensures reads { (values : List AcceptedValue) → AllByRecursion HasValidOrder values → rows.now ≡ map kept_row_of values
+        → map (λ d. d.1.time) digests.now ≡ map (λ accepted. accepted.request.time) values → IfOk result (λ all. all.items ≡ values) }
     ensures kind { result ≢ Err TableFault.Foreign }
 {
     let mut all = Vec::new(alloc);
-    for row in rows {
+    for (at, row) in rows.iter().enumerate() {
+        let time = time_at(digests, at)?;
         match accepted_of_row(alloc, row) {
             Ok(Some(accepted)) => {
-                if all.push(accepted).is_err() {
+                if all.push(timed(accepted, time)).is_err() {
                     return Err(TableFault::NoMemory);
                 }
             }
@@ -62,11 +93,13 @@ fn read_accepted<S: Alter>(
     ensures reads { ReadsHistory S.Store tx.old.conn tx.new.conn result (λ h list. AreValid h.deeds → list.items ≡ take most (drop after (accepted_of h.deeds))) }
 {
     let rows = kept_after(alloc, tx, after, most)?;
-    accepted_from(alloc, &rows)
+    let digests = digests_after(alloc, tx, after, most)?;
+    accepted_from(alloc, &rows, &digests)
 }
 
 /// Returns at most `most` accepted requests after the first `after`, oldest first, each with the
-/// reply that it got. Reads the rows of these requests alone, and commits nothing.
+/// reply that it got and the time that it had. Reads the rows of these requests alone, and commits
+/// nothing.
 ///
 /// # Errors
 ///

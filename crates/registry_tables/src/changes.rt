@@ -14,7 +14,7 @@ ghost use Rattle.registry_tables.specs.Rows.{newest, HoldsRows, HoldsUnkept};
 use crate::TableFault;
 use crate::spans::{release_span, reserve_span};
 use registry_rows::{
-    put_entry, put_licence, put_org, put_petition, put_vendor, set_card, set_held,
+    put_entry, put_licence, put_org, put_petition, put_reason, put_vendor, set_card, set_held,
 };
 use registry_rules::Change;
 use sqlite::{Alter, Transaction};
@@ -38,6 +38,7 @@ fn make<S: Alter>(
         Change::ReleaseSpan { vid, span } => release_span(alloc, tx, *vid, span),
         Change::PutVendor { vid, name } => put_vendor(tx, *vid, name),
         Change::PutLicence(name) => put_licence(tx, name),
+        Change::PutReason { id, reason } => put_reason(tx, *id, reason),
     }
 }
 

@@ -45,7 +45,7 @@ fn not_added(alloc: Global, licences: &[Title], rows: &[KeptRow]) -> Result<Vec<
     Ok(left)
 }
 
-fn licences_left(
+pub(crate) fn licences_left(
     alloc: Global,
     licences: &Licences,
     rows: &[KeptRow],

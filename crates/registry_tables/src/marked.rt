@@ -1,14 +1,15 @@
 //! The schema version that the table `meta` names.
 
-ghost use Rattle.std.specs.Prelude.{◌≡◌, ◌≢◌, [], ◌∷◌, MatchResult, IsTrue, OnOk};
+ghost use Rattle.std.specs.Prelude.{◌≡◌, ◌≢◌, true, [], ◌∷◌, MatchResult, IsTrue, OnOk};
 ghost use Rattle.sqlite.specs.State.{HasCleanDisk};
 ghost use Rattle.sqlite.specs.Held.{state};
 ghost use Rattle.registry_rows.specs.Steps.{Reads};
-ghost use Rattle.registry_tables.specs.Known.{SaysVersion};
-ghost use Rattle.registry_tables.specs.Raising.{IsMarked};
+ghost use Rattle.registry_rows.specs.Tables.{Tables, Holds};
+ghost use Rattle.registry_tables.specs.Known.{SaysVersion, names_version};
+ghost use Rattle.registry_tables.specs.Raising.{IsMarked, IsMarkedThird};
 
 use registry_old_rows::list_old_metas;
-use registry_rows::Meta;
+use registry_rows::{Meta, list_metas};
 use registry_schema::TableFault;
 use sqlite::{Alter, Transaction};
 use std::alloc::Global;
@@ -35,6 +36,23 @@ pub(crate) fn old_meta<S: Alter>(
     let mut metas = list_old_metas(alloc, tx)?;
     match metas.pop() {
         Some(meta) => of_version(meta, version),
+        None => Err(TableFault::Foreign),
+    }
+}
+
+/// Returns the row of `meta`, if it names the third version, once the tables of the newest schema
+/// are there.
+pub(crate) fn third_meta<S: Alter>(
+    alloc: Global,
+    tx: &mut Transaction<'_, S>,
+) -> Result<Meta, TableFault>
+    ensures named { HasCleanDisk (state S.Store tx.new.conn.now) → IsTrue (state S.Store tx.old.conn.now).in_transaction
+        → OnOk result ((t : Tables) → Holds (state S.Store tx.old.conn.now).now t → names_version 3 t ≡ true) }
+    ensures reads { Reads S.Store tx.old.conn tx.new.conn result IsMarkedThird (λ x meta. x.tables.metas ≡ meta ∷ []) }
+{
+    let mut metas = list_metas(alloc, tx)?;
+    match metas.pop() {
+        Some(meta) => of_version(meta, 3),
         None => Err(TableFault::Foreign),
     }
 }

@@ -1,4 +1,4 @@
-//! The step from the second schema to the third.
+//! The step from the second schema to the newest.
 
 ghost use Rattle.std.specs.Prelude.{◌≡◌, false, IsTrue, OnOk, Err};
 ghost use Rattle.sqlite.specs.State.{HasCleanDisk, Survives};
@@ -12,12 +12,13 @@ ghost use Rattle.registry_tables.specs.Raising.{MovesAll, Raises, CommitsStep, I
 
 use crate::beginning::begin;
 use crate::committing::commit;
+use crate::digests::fill_digests;
 use crate::marked::old_meta;
 use registry_old_rows::{
     copy_entries, copy_petitions, copy_spans, empty_entries, empty_petitions, empty_spans,
 };
 use registry_rows::{put_meta, put_vendor};
-use registry_schema::{TableFault, add_third};
+use registry_schema::{TableFault, add_third_and_fourth};
 use sqlite::{Alter, Connection, Transaction};
 use std::alloc::Global;
 use usbnum_core::Vid;
@@ -35,7 +36,7 @@ fn move_rows<S: Alter>(tx: &mut Transaction<'_, S>, vid: Vid) -> Result<(), Tabl
     Ok(())
 }
 
-// Creates the tables of the third schema, with the founding vendor in each row.
+// Creates the tables of the later schemas, with the founding vendor in each row, and the digests.
 fn raise_third<S: Alter>(alloc: Global, tx: &mut Transaction<'_, S>) -> Result<(), TableFault>
     ensures same_reference { tx.new.conn.ghost_name ≡ tx.old.conn.ghost_name }
     ensures raised { HasCleanDisk (state S.Store tx.new.conn.now) → IsTrue (state S.Store tx.old.conn.now).in_transaction → Raises 2 (state S.Store tx.old.conn.now) (state S.Store tx.new.conn.now) result }
@@ -43,15 +44,15 @@ fn raise_third<S: Alter>(alloc: Global, tx: &mut Transaction<'_, S>) -> Result<(
     ensures survives { CommitsNothing (state S.Store tx.old.conn.now) (state S.Store tx.new.conn.now) }
 {
     let meta = old_meta(alloc, tx, 2)?;
-    add_third(tx)?;
+    add_third_and_fourth(tx)?;
     move_rows(tx, meta.vendor)?;
     put_vendor(tx, meta.vendor, &meta.name)?;
-    put_meta(tx, 3, meta.vendor, &meta.name)?;
-    Ok(())
+    put_meta(tx, 4, meta.vendor, &meta.name)?;
+    fill_digests(alloc, tx, meta.vendor, &meta.name)
 }
 
 /// Takes the step in one transaction with one commit.
-pub(crate) fn second_to_third<S: Alter>(
+pub(crate) fn second_to_newest<S: Alter>(
     alloc: Global,
     conn: &mut Connection<S>,
 ) -> Result<(), TableFault>

@@ -11,15 +11,15 @@ const STEPS: &[Step<'static>] = &[
     Step::TryToFound,
     Step::State,
     Step::Open,
-    Step::Run("UPDATE meta SET version = 4"),
+    Step::Run("UPDATE meta SET version = 5"),
     Step::Open,
 ];
 
 const STATES: &str = "true false None
 Ok(())
-false true Some(3)
+false true Some(4)
 Err(Store)
-false true Some(3)
+false true Some(4)
 opened
 Foreign
 ";

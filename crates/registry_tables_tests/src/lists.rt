@@ -17,6 +17,7 @@ const CHANGES: &[Put<'static>] = &[
     Put::Petition(1, None, State::Open),
     Put::Petition(1, None, State::Granted),
     Put::Petition(2, None, State::Declined),
+    Put::Reason(2, "No source yet"),
     Put::Petition(3, None, State::Withdrawn),
     Put::Petition(4, None, State::Open),
     Put::Entry(0x1209, "Probe"),
@@ -41,6 +42,8 @@ const QUERIES: &[&str] = &[
     "SELECT * FROM spans3 ORDER BY vid, lo",
     "SELECT * FROM entries3 ORDER BY vid, pid",
     "SELECT * FROM petitions3 ORDER BY id",
+    "SELECT * FROM digests4",
+    "SELECT * FROM reasons4",
 ];
 
 const STEPS: &[Step<'static>] = &[
@@ -50,13 +53,15 @@ const STEPS: &[Step<'static>] = &[
     Step::Orgs,
     Step::Petitions,
     Step::OpenPetitions,
+    Step::Reason(2),
+    Step::Reason(4),
     Step::Numbers,
     Step::Vendors,
     Step::Totals,
 ];
 
 // The rows of all tables, then the lists, then the totals.
-const ANSWERS: &str = r#"1|3|4617|InterBiometrics|
+const ANSWERS: &str = r#"1|4|4617|InterBiometrics|
 cora|
 BSD|
 MIT|
@@ -72,9 +77,13 @@ acme|Acme Tools|https://acme.example/|ann|
 2|4617|acme|NULL|Probe|MIT|https://acme.example/|https://acme.example/|2|NULL|
 3|4617|acme|NULL|Probe|MIT|https://acme.example/|https://acme.example/|3|NULL|
 4|4617|acme|NULL|Probe|MIT|https://acme.example/|https://acme.example/|0|NULL|
+0|NULL|9e6832a51938bee00cdead003c584a45e8ebac8cb1c1127cfab0f76fa44d2e34|
+2|No source yet|
 [Org { slug: "acme", title: "Acme Tools", site: "https://acme.example/", keeper: "ann" }]
 [(1, Petition { vid: Vid { number: 4617 }, org: "acme", want: None, title: "Probe", terms: Terms { licence: "MIT", site: "https://acme.example/", source: "https://acme.example/" }, state: Granted(Pid { number: 17 }) }), (2, Petition { vid: Vid { number: 4617 }, org: "acme", want: None, title: "Probe", terms: Terms { licence: "MIT", site: "https://acme.example/", source: "https://acme.example/" }, state: Declined }), (3, Petition { vid: Vid { number: 4617 }, org: "acme", want: None, title: "Probe", terms: Terms { licence: "MIT", site: "https://acme.example/", source: "https://acme.example/" }, state: Withdrawn }), (4, Petition { vid: Vid { number: 4617 }, org: "acme", want: None, title: "Probe", terms: Terms { licence: "MIT", site: "https://acme.example/", source: "https://acme.example/" }, state: Open })]
 [(4, Petition { vid: Vid { number: 4617 }, org: "acme", want: None, title: "Probe", terms: Terms { licence: "MIT", site: "https://acme.example/", source: "https://acme.example/" }, state: Open })]
+Some("No source yet")
+None
 [(Number { vid: Vid { number: 4617 }, pid: Pid { number: 17 } }, Entry { org: "acme", held: true, card: Card { title: "Tester", terms: Some(Terms { licence: "MIT", site: "https://acme.example/", source: "https://acme.example/" }) } }), (Number { vid: Vid { number: 51966 }, pid: Pid { number: 17 } }, Entry { org: "acme", held: false, card: Card { title: "Blinker", terms: Some(Terms { licence: "MIT", site: "https://acme.example/", source: "https://acme.example/" }) } })]
 [Vendor { vid: Vid { number: 4617 }, name: "InterBiometrics" }, Vendor { vid: Vid { number: 51966 }, name: "Cafe boards" }]
 InterBiometrics ["cora"] ["BSD", "MIT"]

@@ -5,8 +5,10 @@ use crate::stores::{Case, check};
 use crate::values::{Put, State};
 use std::test::Fail;
 
-// From the newest schema to the second, and from there to the first, where only the numbers 2000 to
-// 20ff are reserved.
+// From the newest schema to the third, from there to the second, and from there to the first, where
+// only the numbers 2000 to 20ff are reserved.
+const TO_THIRD: &str = "DROP TABLE reasons4; DROP TABLE digests4; UPDATE meta SET version = 3";
+
 const TO_SECOND: &str =
     "INSERT INTO entries SELECT pid, org, held, title, licence, site, source FROM entries3 ORDER BY pid;
 INSERT INTO petitions SELECT id, org, want, title, licence, site, source, state, pid FROM petitions3 ORDER BY id;
@@ -19,8 +21,10 @@ const TO_FIRST: &str =
 DROP TABLE spans;
 UPDATE meta SET version = 1";
 
-// A kept reply.
-const KEPT: &str = "INSERT INTO kept VALUES ('ann', 'k1', x'656e726f6c', 'enrolled acme')";
+// A kept reply, and the digest of its line.
+const KEPT: &str =
+    "INSERT INTO kept VALUES ('ann', 'k1', x'656E726F6C0961636D650941636D650968747470733A2F2F61636D652E6578616D706C652F', 'enrolled acme');
+INSERT INTO digests4 VALUES (1, NULL, '7179f30a8db47e0bfe9b8b707f675bc5da8fec47d5dfca9801345b1aa516e2b6')";
 
 const QUERIES: &[&str] = &[
     "SELECT * FROM meta ORDER BY id",
@@ -33,6 +37,8 @@ const QUERIES: &[&str] = &[
     "SELECT * FROM spans3 ORDER BY vid, lo",
     "SELECT * FROM entries3 ORDER BY vid, pid",
     "SELECT * FROM petitions3 ORDER BY id",
+    "SELECT * FROM digests4 ORDER BY id",
+    "SELECT * FROM reasons4",
     "SELECT * FROM petitions",
     "SELECT * FROM entries",
     "SELECT * FROM reserved",
@@ -40,18 +46,20 @@ const QUERIES: &[&str] = &[
 ];
 
 // The rows of all tables; those that the third schema replaces are empty.
-const ROWS: &str = "1|3|4617|InterBiometrics|
+const ROWS: &str = "1|4|4617|InterBiometrics|
 cora|
 MIT|
 1|16|
 acme|Acme|https://acme.example/|ann|
-ann|k1|\"enrol\"|enrolled acme|
+ann|k1|\"enrol\\tacme\\tAcme\\thttps://acme.example/\"|enrolled acme|
 4617|InterBiometrics|
 4617|8192|8207|
 4617|8224|8447|
 4617|17|acme|0|Probe|MIT|https://acme.example/|https://acme.example/|
 1|4617|acme|NULL|Probe|MIT|https://acme.example/|https://acme.example/|1|17|
 2|4617|acme|18|Probe|MIT|https://acme.example/|https://acme.example/|0|NULL|
+0|NULL|9e6832a51938bee00cdead003c584a45e8ebac8cb1c1127cfab0f76fa44d2e34|
+1|NULL|7179f30a8db47e0bfe9b8b707f675bc5da8fec47d5dfca9801345b1aa516e2b6|
 ";
 
 // Acme asks for two numbers; the first is granted and returned. 240 numbers are reserved.
@@ -75,21 +83,34 @@ const RAISED: &[Step<'static>] = &[
     Step::Open,
 ];
 
-const TOLD: &str = "Ok(())\nSome(3)\n";
+const TOLD: &str = "Ok(())\nSome(4)\n";
 
 const LOWERED: &[Case<'static>] = &[
     (
         &[STORE, &[Step::Run(KEPT)], RAISED],
+        &["Some(4)\n", TOLD, ROWS, "opened\n"],
+    ),
+    (
+        &[STORE, &[Step::Run(KEPT), Step::Run(TO_THIRD)], RAISED],
         &["Some(3)\n", TOLD, ROWS, "opened\n"],
     ),
     (
-        &[STORE, &[Step::Run(KEPT), Step::Run(TO_SECOND)], RAISED],
+        &[
+            STORE,
+            &[Step::Run(KEPT), Step::Run(TO_THIRD), Step::Run(TO_SECOND)],
+            RAISED,
+        ],
         &["Some(2)\n", TOLD, ROWS, "opened\n"],
     ),
     (
         &[
             STORE,
-            &[Step::Run(KEPT), Step::Run(TO_SECOND), Step::Run(TO_FIRST)],
+            &[
+                Step::Run(KEPT),
+                Step::Run(TO_THIRD),
+                Step::Run(TO_SECOND),
+                Step::Run(TO_FIRST),
+            ],
             RAISED,
         ],
         &["Some(1)\n", TOLD, ROWS, "opened\n"],
@@ -101,9 +122,13 @@ fn a_lowered_store_comes_up_again(rt: HostRuntime) -> Result<(), Fail> {
     check(&rt, LOWERED)
 }
 
-const SECOND: &[Step<'static>] = &[Step::Run(TO_SECOND)];
+const SECOND: &[Step<'static>] = &[Step::Run(TO_THIRD), Step::Run(TO_SECOND)];
 
-const FIRST: &[Step<'static>] = &[Step::Run(TO_SECOND), Step::Run(TO_FIRST)];
+const FIRST: &[Step<'static>] = &[
+    Step::Run(TO_THIRD),
+    Step::Run(TO_SECOND),
+    Step::Run(TO_FIRST),
+];
 
 const SEEN: &[Step<'static>] = &[
     Step::Version,

@@ -2,11 +2,12 @@
 
 use crate::rows::add_answers;
 use crate::values::{Asked, Put, changes, request_of};
-use registry_rules::{Change, Facts, Founding, ReplyText, Request, Totals};
+use registry_rules::{Accepted, Change, Facts, Founding, ReplyText, Request, Totals};
 use registry_schema::{is_empty, version_of};
 use registry_tables::{
-    TableFault, create, facts_for, has_meta, keep_reply, kept_reply, list_numbers,
-    list_open_petitions, list_orgs, list_petitions, list_vendors, migrate, store, totals,
+    TableFault, accepted_after, create, facts_for, find_reason, founded_head, has_meta, keep_reply,
+    kept_reply, list_numbers, list_open_petitions, list_orgs, list_petitions, list_vendors,
+    migrate, read_summary, store,
 };
 use sqlite::{Alter, Connection, Transaction};
 use std::alloc::Global;
@@ -44,10 +45,16 @@ pub enum Step<'a> {
     OpenPetitions,
     Numbers,
     Vendors,
+    /// Adds the reason of the petition with this number.
+    Reason(u32),
     /// Adds the totals.
     Totals,
+    /// Adds the head.
+    Head,
     /// Keeps a reply for a request.
     Keep(Asked<'a>, &'a str),
+    /// Adds the time and the reply of each accepted request.
+    Record,
     /// Adds the facts that are looked up for a request.
     Facts(Asked<'a>),
 }
@@ -61,8 +68,8 @@ pub fn perform<S: Alter>(
 ) -> bool {
     let alloc = given.alloc;
     match step {
-        Step::Found => create_in(conn, given.founding).is_ok(),
-        Step::TryToFound => add_line(create_in(conn, given.founding), text),
+        Step::Found => create_in(alloc, conn, given.founding).is_ok(),
+        Step::TryToFound => add_line(create_in(alloc, conn, given.founding), text),
         Step::Make(puts) => make(alloc, conn, puts),
         Step::Run(statements) => conn.execute_batch(statements).is_ok(),
         Step::Ask(queries) => add_answers(conn, queries, text),
@@ -75,8 +82,11 @@ pub fn perform<S: Alter>(
         Step::OpenPetitions => add_open_petitions(alloc, conn, text),
         Step::Numbers => add_numbers(alloc, conn, text),
         Step::Vendors => add_vendors(alloc, conn, text),
+        Step::Reason(id) => add_reason(alloc, conn, id, text),
         Step::Totals => add_totals(alloc, conn, given.founding, text),
+        Step::Head => add_head(alloc, conn, text),
         Step::Keep(asked, reply) => keep(alloc, conn, asked, reply),
+        Step::Record => add_record(alloc, conn, text),
         Step::Facts(asked) => add_facts(alloc, conn, asked, text),
     }
 }
@@ -85,9 +95,14 @@ fn add_line(ended: Result<(), TableFault>, text: &mut String) -> bool {
     writeln!(text, "{ended:?}").is_ok()
 }
 
-fn create_in<S: Alter>(conn: &mut Connection<S>, founding: &Founding) -> Result<(), TableFault> {
+fn create_in<S: Alter>(
+    alloc: Global,
+    conn: &mut Connection<S>,
+    founding: &Founding,
+) -> Result<(), TableFault> {
     if conn.is_autocommit() {
-        create(conn, founding)
+        let head = founded_head(alloc, founding)?;
+        create(conn, founding, &head.digest)
     } else {
         Err(TableFault::Store)
     }
@@ -134,7 +149,7 @@ fn add_opening<S: Alter>(alloc: Global, conn: &mut Connection<S>, text: &mut Str
     if !conn.is_autocommit() {
         return false;
     }
-    match totals(alloc, conn) {
+    match read_summary(alloc, conn) {
         Ok(_) => text.push_str("opened\n").is_ok(),
         Err(fault) => writeln!(text, "{fault:?}").is_ok(),
     }
@@ -220,8 +235,48 @@ fn add_totals<S: Alter>(
     if !conn.is_autocommit() {
         return false;
     }
-    match totals(alloc, conn) {
-        Ok(totals) => describe_totals(&totals, founding, text),
+    match read_summary(alloc, conn) {
+        Ok(summary) => describe_totals(&summary.totals, founding, text),
+        Err(_) => false,
+    }
+}
+
+fn add_head<S: Alter>(alloc: Global, conn: &mut Connection<S>, text: &mut String) -> bool {
+    if !conn.is_autocommit() {
+        return false;
+    }
+    match read_summary(alloc, conn) {
+        Ok(summary) => writeln!(text, "{:?}", summary.head).is_ok(),
+        Err(_) => false,
+    }
+}
+
+fn add_reason<S: Alter>(
+    alloc: Global,
+    conn: &mut Connection<S>,
+    id: u32,
+    text: &mut String,
+) -> bool {
+    if !conn.is_autocommit() {
+        return false;
+    }
+    match find_reason(alloc, conn, id) {
+        Ok(reason) => writeln!(text, "{reason:?}").is_ok(),
+        Err(_) => false,
+    }
+}
+
+fn add_accepted(accepted: &Accepted, text: &mut String) -> bool {
+    let (time, reply) = (&accepted.request.time, accepted.reply.as_str());
+    writeln!(text, "{time:?} {reply}").is_ok()
+}
+
+fn add_record<S: Alter>(alloc: Global, conn: &mut Connection<S>, text: &mut String) -> bool {
+    if !conn.is_autocommit() {
+        return false;
+    }
+    match accepted_after(alloc, conn, 0, 10) {
+        Ok(all) => all.iter().all(|accepted| add_accepted(accepted, text)),
         Err(_) => false,
     }
 }
@@ -235,9 +290,12 @@ fn keep_in<S: Alter>(
     if !conn.is_autocommit() {
         return false;
     }
+    let Ok(summary) = read_summary(alloc, conn) else {
+        return false;
+    };
     let mut tx = conn.transaction();
-    match keep_reply(alloc, &mut tx, request, reply) {
-        Ok(()) => tx.commit().is_ok(),
+    match keep_reply(alloc, &mut tx, &summary.head, request, reply) {
+        Ok(_) => tx.commit().is_ok(),
         Err(_) => false,
     }
 }
@@ -300,8 +358,8 @@ fn add_facts_for<S: Alter>(
     if !conn.is_autocommit() {
         return false;
     }
-    match totals(alloc, conn) {
-        Ok(totals) => add_facts_over(alloc, conn, &totals, request, text),
+    match read_summary(alloc, conn) {
+        Ok(summary) => add_facts_over(alloc, conn, &summary.totals, request, text),
         Err(_) => false,
     }
 }

@@ -5,7 +5,7 @@ use registry_rules::{
     Request, Return, Terms, Withdraw,
 };
 use std::alloc::Global;
-use usbnum_core::{Key, Link, Number, Pid, Slug, Span, Spans, Title, Vid};
+use usbnum_core::{Key, Link, Number, Pid, Slug, Span, Spans, Time, Title, Vid};
 
 fn slug(alloc: Global, text: &str) -> Option<Slug> {
     Slug::new(alloc, text.as_bytes()).ok()?
@@ -101,6 +101,7 @@ pub enum Put<'a> {
     Release(u16, u16),
     Org(&'a str),
     Petition(u32, Option<u16>, State),
+    Reason(u32, &'a str),
     Entry(u16, &'a str),
     Returned(u16),
     Card(u16, &'a str),
@@ -176,6 +177,10 @@ fn change_of(alloc: Global, put: Put<'_>) -> Option<Change> {
         Put::Release(first, last) => change_span(first, last, false),
         Put::Org(name) => put_org(alloc, name),
         Put::Petition(id, want, state) => put_petition(alloc, id, want, state),
+        Put::Reason(id, text) => Some(Change::PutReason {
+            id,
+            reason: title(alloc, text)?,
+        }),
         Put::Entry(vid, name) => put_entry(alloc, vid, name),
         Put::Returned(vid) => set_returned(vid),
         Put::Card(vid, name) => set_card(alloc, vid, name),
@@ -190,10 +195,12 @@ pub fn changes(alloc: Global, puts: &[Put<'_>]) -> Option<Vec<Change>> {
     Some(all)
 }
 
-/// An order of a caller: to withdraw petition 1, or to return the number 0011.
+/// An order of a caller: to withdraw petition 1, without a time or at one, or to return the number
+/// 0011.
 #[derive(Clone, Copy)]
 pub enum Asked<'a> {
     Withdraw(&'a str),
+    WithdrawAt(&'a str, &'a str),
     Return(&'a str),
 }
 
@@ -204,19 +211,29 @@ fn return_order() -> Option<Order> {
     }))
 }
 
+fn withdraw_order() -> Order {
+    Order::Withdraw(Withdraw { petition: 1 })
+}
+
 fn request(alloc: Global, caller: &str, order: Order) -> Option<Request> {
     Some(Request {
         caller: slug(alloc, caller)?,
         key: Key::new(alloc, b"k1").ok()??,
         order,
+        time: None,
     })
+}
+
+fn request_at(alloc: Global, caller: &str, order: Order, time: &str) -> Option<Request> {
+    let mut timed = request(alloc, caller, order)?;
+    timed.time = Some(Time::new(alloc, time.as_bytes()).ok()??);
+    Some(timed)
 }
 
 pub fn request_of(alloc: Global, asked: Asked<'_>) -> Option<Request> {
     match asked {
-        Asked::Withdraw(caller) => {
-            request(alloc, caller, Order::Withdraw(Withdraw { petition: 1 }))
-        }
+        Asked::Withdraw(caller) => request(alloc, caller, withdraw_order()),
+        Asked::WithdrawAt(caller, time) => request_at(alloc, caller, withdraw_order(), time),
         Asked::Return(caller) => request(alloc, caller, return_order()?),
     }
 }

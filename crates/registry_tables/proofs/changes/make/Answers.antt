@@ -23,3 +23,6 @@ returns-in-PutVendor g c = record { writes = written (record_made _ _ c.args.cha
 
 pub returns-in-PutLicence : goal.returns-in-PutLicence
 returns-in-PutLicence g c = record { writes = written (record_made _ _ c.args.change.now _ c.in-PutLicence.is (λ t. refl) (λ n b. refl)) c.put_licence.ensures.writes }
+
+pub returns-in-PutReason : goal.returns-in-PutReason
+returns-in-PutReason g c = record { writes = written (record_made _ _ c.args.change.now _ c.in-PutReason.is (λ t. refl) (λ n b. refl)) c.put_reason.ensures.writes }

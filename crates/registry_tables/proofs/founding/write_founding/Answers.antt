@@ -7,4 +7,5 @@ returns-clause-writes g c =
     let two = then_changes one (rw c.as_slice.ensures.slugs at c.in_ok-add_curators.ensures.writes) in
     let three = then_changes two (rw c.as_slice-2.ensures.titles at c.in_ok-add_licences.ensures.writes) in
     let four = then_changes three (rw c.parts.ensures.parts at c.in_ok-add_fixed.ensures.writes) in
-    then_changes four (written_open (λ done. done) c.in_ok-put_vendor.ensures.writes)
+    let five = then_changes four (written_open (λ done. done) c.in_ok-put_vendor.ensures.writes) in
+    then_changes five (written_open (λ done. done) (rw c.requires at c.in_ok-put_digest.ensures.writes))

@@ -6,7 +6,7 @@ use Rattle.registry_schema.specs.declared.fault.TableFault.TheVariants.{Foreign}
 use Rattle.registry_tables.specs.Known.{SaysVersion}
 use Rattle.registry_tables.specs.Raising.{Raises}
 use Rattle.registry_tables.proofs.StepLemmas.{step_survives, step_made, step_named, step_foreign}
-use Rattle.registry_tables.proofs.third.second_to_third.Goals as goal
+use Rattle.registry_tables.proofs.third.second_to_newest.Goals as goal
 
 pub returns-clause-made : goal.returns-clause-made
 returns-clause-made g c =
