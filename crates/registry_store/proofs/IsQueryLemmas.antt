@@ -58,7 +58,7 @@ noted it new same fault is =
     ap (λ (b : Bool). is_foreign (poisoned_by new) || b) is
     ∙ (swap (is_foreign (poisoned_by new)) (is_foreign fault) it.foreign ∙ ap (λ (f : Option Fault). is_foreign fault || (is_foreign f || it.foreign)) same)
 
-module _ {S : Type 0} {g : Ghosts S} {it new : Registry S g} {A : Type 0} {Is : History → A → Type 0} (sound : is_poisoned it ≡ false) (totals : new.totals ≡ it.totals) (fault : poisoned_by new ≡ poisoned_by it) where
+module _ {S : Type 0} {g : Ghosts S} {it new : Registry S g} {A : Type 0} {Is : History → A → Type 0} (sound : is_poisoned it ≡ false) (totals : new.summary ≡ it.summary) (fault : poisoned_by new ≡ poisoned_by it) where
   left : (found : Result A TableFault) → IsLookUp (state_of it) (state_of new) found Is → IsUntouched it new
   left found looked = record {
     stays = λ h stands. record {
@@ -100,10 +100,10 @@ module _ {S : Type 0} {g : Ghosts S} {it new : Registry S g} {A : Type 0} {Is : 
       subst (λ (r : Result A Fault). new.foreign ≡ (is_foreign (result_err r) || it.foreign) → IsQuery it new r Is) (sym is) (failed_by was looked)
 
 -- a look-up whose fault is noted is a query
-pub queried : {S : Type 0} {g : Ghosts S} {it mid new : Registry S g} {A : Type 0} {Is : History → A → Type 0} {found : Result A TableFault} {result : Result A Fault} → is_poisoned it ≡ false → mid.totals ≡ it.totals → poisoned_by mid ≡ poisoned_by it
+pub queried : {S : Type 0} {g : Ghosts S} {it mid new : Registry S g} {A : Type 0} {Is : History → A → Type 0} {found : Result A TableFault} {result : Result A Fault} → is_poisoned it ≡ false → mid.summary ≡ it.summary → poisoned_by mid ≡ poisoned_by it
     → mid.foreign ≡ it.foreign → IsLookUp (state_of it) (state_of mid) found Is → IsNoted mid new found result → IsQuery it new result Is
 queried {S} {g} {it} {mid} {new} {A} {Is} {found} {result} sound totals fault foreign looked note =
-    told sound (note.same_totals ∙ totals) (note.same_fault ∙ fault) found result
+    told sound (note.same_summary ∙ totals) (note.same_fault ∙ fault) found result
     (subst (λ (c : Held S). IsLookUp (state_of it) (state g c) found Is) (sym note.same_connection) looked) note.told
     (note.foreign ∙ ap (λ (b : Bool). is_foreign (result_err result) || b) foreign)
 

@@ -9,7 +9,7 @@ use Rattle.registry_rules.specs.History.{History}
 use Rattle.registry_tables.specs.Rows.{Rows, newest}
 use Rattle.registry_tables.specs.Calls.{KeepsAll}
 use Rattle.registry_rules.specs.Run.{Legal}
-use Rattle.registry_rules.specs.TotalsOf.{AreTotalsOf}
+use Rattle.registry_tables.specs.Head.{IsSummaryOf}
 use Rattle.registry_store.specs.declared.registry.Registry.{Registry}
 use Rattle.registry_store.specs.Promise.{IsAt, IsFreshAt, Represents, is_poisoned, state_of}
 use Rattle.registry_store.specs.Files.{IsEither}
@@ -51,6 +51,6 @@ earlier old new P survives clean = omega (arith, survives.clean)
 -- a registry over a connection that shows the rows at rest represents the history
 pub stands_fresh : {S : Type 0} (g : Ghosts S) (it : Registry S g) (h : History)
     → ((s : S) (db : Trees) → IsTrue (g.view s).is_open → g.recovers s db → db ≡ (g.view s).committed)
-    → is_poisoned it ≡ false → Legal h → AreTotalsOf h it.totals → IsFreshAt newest (state_of it) h → Represents it h
-stands_fresh g it h settled not_poisoned legal totals fresh =
-    record { not_poisoned = not_poisoned; legal_with = record { legal = legal; totals_are = totals }; at = at_rest g it.conn newest h settled fresh }
+    → is_poisoned it ≡ false → Legal h → IsSummaryOf h it.summary → IsFreshAt newest (state_of it) h → Represents it h
+stands_fresh g it h settled not_poisoned legal summary fresh =
+    record { not_poisoned = not_poisoned; legal_with = record { legal = legal; totals_are = summary.totals; head_is = summary.head }; at = at_rest g it.conn newest h settled fresh }

@@ -1,5 +1,5 @@
 -- How the calls of a transaction compose.
-use Rattle.std.proofs.Common.{◌≡◌, ◌≢◌, inl, inr, ℕ, IsTrue, true, false, refl, sym, ap, subst, ◌∙◌, arith, List, Result, Ok, Err, OnOk}
+use Rattle.std.proofs.Common.{◌≡◌, ◌≢◌, inl, inr, ℕ, IsTrue, true, false, refl, sym, ap, subst, ◌∙◌, arith, List, Result, Ok, Err, OnOk, IfOk}
 use Rattle.sqlite.specs.Tree.{Trees}
 use Rattle.sqlite.specs.Store.{Ghosts}
 use Rattle.sqlite.specs.State.{State, HasCleanDisk, Survives, Shows, IsLive, IsRolledBack}
@@ -7,7 +7,9 @@ use Rattle.sqlite.specs.Held.{Held, state}
 use Rattle.sqlite.proofs.StateLemmas.{survives_then, survives_weaker}
 use Rattle.sqlite.proofs.Callers.{survives_begin}
 use Rattle.table_laws.specs.Inside.{CommitsNothing}
-use Rattle.registry_rules.specs.declared.totals.Totals.{Totals}
+use Rattle.registry_tables.specs.Head.{IsHead, IsSummaryOf}
+use Rattle.registry_tables.specs.declared.head.Head.{Head}
+use Rattle.registry_tables.specs.declared.opening.Summary.{Summary}
 use Rattle.registry_rules.specs.declared.order.Request.{Request}
 use Rattle.registry_rules.specs.declared.deed.Deed.{Deed}
 use Rattle.registry_rules.specs.declared.verdict.Reply.{Reply}
@@ -26,37 +28,36 @@ use Rattle.registry_tables.specs.Rows.{Rows, HoldsRows, HoldsUnkept, newest}
 use Rattle.registry_tables.specs.Calls.{IsKeptAs}
 use Rattle.registry_tables.specs.Finds.{Finds}
 use Rattle.registry_tables.proofs.RowsLemmas.{enters, goes_out}
+use Rattle.registry_schema.specs.declared.fault.TableFault.{TableFault}
 use Rattle.registry_store.specs.declared.attempt.Answer.{Answer}
 use Rattle.registry_store.specs.Promise.{IsLegalWith, IsAt}
-use Rattle.registry_store.specs.Attempt.{CommitsOne, AddsNoDeed, Wrote, IsAnswerOf, Answered}
+use Rattle.registry_store.specs.Attempt.{CommitsOne, AddsNoDeed, Wrote, IsAnswerOf, Answered, new_answer}
 use Rattle.registry_store.proofs.OpeningLemmas.{rows_now}
 
 abbrev Goes : State → State → Type 0
 Goes old new = Shows old new new.now old.committed true
 
 -- two writes, one after the other
-module _ (old mid new : State) (before after : Totals) (r : Request) (d : Deed) (changes : List Change) (reply : List ℕ) (said : reply ≡ act_text d.act)
+module _ (old mid new : State) (before after : Summary) (r : Request) (d : Deed) (changes : List Change) (reply : List ℕ) (said : reply ≡ act_text d.act)
     (lead : (h : History) (x : Request) → Legal h → verdict h x ≡ New d → LeadsTo changes h (with_deed h d))
-    (carry : (h : History) (x : Request) → Legal h → AreTotalsOf h before → verdict h x ≡ New d → AreTotalsOf (with_deed h d) after)
+    (carry : (h : History) (x : Request) → Legal h → AreTotalsOf h before.totals → verdict h x ≡ New d → AreTotalsOf (with_deed h d) after.totals)
     (first : Goes old mid) (rows : (h more : History) → Legal h → Legal more → more.founding ≡ h.founding → HoldsRows newest old.now h → LeadsTo changes h more → HoldsUnkept mid.now h more) where
-  wrote_both : Goes mid new
-      → ((h : History) (x : Deed) → Legal (with_deed h x) → IsKeptAs x r reply → HoldsUnkept mid.now h (with_deed h x) → HoldsRows newest new.now (with_deed h x))
+  pub wrote_both : Goes mid new
+      → ((h : History) (x : Deed) → Legal (with_deed h x) → IsKeptAs x r reply → IsHead h before.head → HoldsUnkept mid.now h (with_deed h x) → HoldsRows newest new.now (with_deed h x))
+      → ((h : History) (x : Deed) → IsKeptAs x r reply → IsHead h before.head → IsHead (with_deed h x) after.head)
       → Wrote old new before after r d
-  wrote_both second kept = record {
+  wrote_both second kept headed = record {
     shown = record { was_open = first.was_open; is_open = second.is_open; now_is = refl; committed_is = second.committed_is ∙ first.committed_is; mode = second.mode };
     made = λ h counts is rows_of.
         let legal = legal_new h r d counts.legal is in
         let of = new_is_of h r d is in
-        let same : IsKeptAs d r reply = record { caller = ap (λ (x : Request). x.caller) of; key = ap (λ (x : Request). x.key) of; order = ap (λ (x : Request). x.order) of; said = said } in
-        kept h d legal same (rows h (with_deed h d) counts.legal legal refl rows_of (lead h r counts.legal is));
-    carried = λ h counts is. carry h r counts.legal counts.totals_are is;
+        let same : IsKeptAs d r reply = record { caller = ap (λ (x : Request). x.caller) of; key = ap (λ (x : Request). x.key) of; order = ap (λ (x : Request). x.order) of; time = ap (λ (x : Request). x.time) of; said = said } in
+        kept h d legal same counts.head_is (rows h (with_deed h d) counts.legal legal refl rows_of (lead h r counts.legal is));
+    carried = λ h counts is.
+        let of = new_is_of h r d is in
+        let same : IsKeptAs d r reply = record { caller = ap (λ (x : Request). x.caller) of; key = ap (λ (x : Request). x.key) of; order = ap (λ (x : Request). x.order) of; time = ap (λ (x : Request). x.time) of; said = said } in
+        record { totals = carry h r counts.legal counts.totals_are is; head = headed h d same counts.head_is };
   }
-
-  pub wrote : {T E : Type 0} (result : Result T E) → OnOk result (Goes mid new)
-      → OnOk result ((h : History) (x : Deed) → Legal (with_deed h x) → IsKeptAs x r reply → HoldsUnkept mid.now h (with_deed h x) → HoldsRows newest new.now (with_deed h x))
-      → OnOk result (Wrote old new before after r d)
-  wrote (Ok x) second kept = wrote_both second kept
-  wrote (Err e) second kept = second
 
 -- a state that stays as it is
 pub quiet_itself : (s : State) → CommitsNothing s s
@@ -80,7 +81,7 @@ commits_none g old begun mid end is first ends R =
     quiet (state g old) (state g end) R (survives_begin g old (state g end) _ (subst (λ b. CommitsNothing (state g b) (state g end)) is inner))
 
 -- a read of the tables of a history is never foreign
-pub never_foreign : {S : Type 0} (g : Ghosts S) (old begun mid end : Held S) → begun ≡ record old { in_transaction = true } → IsLive (state g old) → (before : Totals)
+pub never_foreign : {S : Type 0} (g : Ghosts S) (old begun mid end : Held S) → begun ≡ record old { in_transaction = true } → IsLive (state g old) → (before : Summary)
     → (HasCleanDisk (state g mid) → IsTrue (state g begun).in_transaction → IsTrue (state g begun).is_open × ((h : History) → Legal h → ¬ HoldsRows newest (state g begun).now h))
     → CommitsNothing (state g begun) (state g mid) → CommitsNothing (state g mid) (state g end)
     → HasCleanDisk (state g end) → (h : History) → IsLegalWith before h → IsAt newest (state g old) h → ⊥
@@ -99,7 +100,7 @@ stays h (Refused refusal) none = refl
 stays h (New d) none = absurd (none d refl)
 
 -- what the transaction answers on a verdict
-module _ (old mid : State) (before : Totals) (r : Request) (v : Verdict) (judged : Finds old mid (Ok v) (λ h found. AreTotalsOf h before → found ≡ verdict h r)) where
+module _ (old mid : State) (before : Summary) (r : Request) (v : Verdict) (judged : Finds old mid (Ok v) (λ h found. AreTotalsOf h before.totals → found ≡ verdict h r)) where
   -- without a new deed nothing is written
   pub answers_quiet : (reply : Reply) → reply_of v ≡ reply → ((d : Deed) → v ≢ New d) → Answered old mid before before r (record { reply = reply; is_new = false })
   answers_quiet reply is none = record {
@@ -117,7 +118,7 @@ module _ (old mid : State) (before : Totals) (r : Request) (v : Verdict) (judged
   }
 
   -- with one its rows are written
-  pub answers_new : (last : State) (after : Totals) (d : Deed) → v ≡ New d → Wrote mid last before after r d → (reply : List ℕ) → reply ≡ act_text d.act
+  pub answers_new : (last : State) (after : Summary) (d : Deed) → v ≡ New d → Wrote mid last before after r d → (reply : List ℕ) → reply ≡ act_text d.act
       → Answered old last before after r (record { reply = Done reply; is_new = true })
   answers_new last after d new wrote reply said = record {
     shown = record { was_open = judged.0.was_open; is_open = wrote.shown.is_open; now_is = refl; committed_is = wrote.shown.committed_is ∙ judged.0.committed_is; mode = wrote.shown.mode };
@@ -128,13 +129,26 @@ module _ (old mid : State) (before : Totals) (r : Request) (v : Verdict) (judged
           reply = ap Done said ∙ ap reply_of (sym says);
           adds = λ _. (d, says);
           adds_none = λ never. absurd cc;
-          counts = record { legal = legal_after_one h r counts.legal; totals_are = subst (λ x. AreTotalsOf x after) history (wrote.carried h counts says) };
+          counts = let carried = wrote.carried h counts says in record { legal = legal_after_one h r counts.legal; totals_are = subst (λ x. AreTotalsOf x after.totals) history carried.totals; head_is = subst (λ x. IsHead x after.head) history carried.head };
           rows = subst (HoldsRows newest last.now) history (wrote.made h counts says (subst (λ db. HoldsRows newest db h) (sym it.0.0.now_is) held));
         };
   }
 
+  -- if they are written
+  pub accepts : (last : State) (after : Summary) (d : Deed) → v ≡ New d → (result : Result Answer TableFault) → OnOk result (Wrote mid last before after r d) → IfOk result (λ answer. answer ≡ new_answer d)
+      → IfOk result (Answered old last before after r)
+  accepts last after d new (Ok answer) wrote is = subst (λ x. Answered old last before after r x) (sym is) (answers_new last after d new wrote (act_text d.act) refl)
+  accepts last after d new (Err e) wrote is = tt
+
+-- the answer with the reply of a deed is the one to its request
+abbrev answer_with : List ℕ → Answer
+answer_with reply = record { reply = Done reply; is_new = true }
+
+pub answer_is : (reply : List ℕ) (d : Deed) → reply ≡ act_text d.act → answer_with reply ≡ new_answer d
+answer_is reply d said = ap answer_with said
+
 -- the whole transaction, once the request was acted on
-module _ {S : Type 0} (g : Ghosts S) (old begun last : Held S) (is : begun ≡ record old { in_transaction = true }) (live : IsLive (state g old)) (before after : Totals) (r : Request) (it : Answer)
+module _ {S : Type 0} (g : Ghosts S) (old begun last : Held S) (is : begun ≡ record old { in_transaction = true }) (live : IsLive (state g old)) (before after : Summary) (r : Request) (it : Answer)
     (acted : HasCleanDisk (state g last) → IsTrue (state g begun).in_transaction → Answered (state g begun) (state g last) before after r it)
     (first : CommitsNothing (state g begun) (state g last)) where
   answered : HasCleanDisk (state g last) → Answered (state g begun) (state g last) before after r it

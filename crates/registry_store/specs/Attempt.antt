@@ -4,12 +4,14 @@ use Rattle.sqlite.specs.Tree.{Trees}
 use Rattle.sqlite.specs.Effect.{Database}
 use Rattle.sqlite.specs.State.{State, Shows}
 use Rattle.table_laws.specs.Inside.{GoesOn}
-use Rattle.registry_rules.specs.declared.totals.Totals.{Totals}
+use Rattle.registry_tables.specs.declared.opening.Summary.{Summary}
 use Rattle.registry_rules.specs.declared.order.Request.{Request}
 use Rattle.registry_rules.specs.declared.deed.Deed.{Deed}
+use Rattle.registry_rules.specs.declared.verdict.Reply.TheVariants.{Done}
 use Rattle.registry_rules.specs.declared.verdict.Verdict.TheVariants.{New}
+use Rattle.registry_rules.specs.Reply.{act_text}
 use Rattle.registry_rules.specs.History.{History, with_deed}
-use Rattle.registry_rules.specs.TotalsOf.{AreTotalsOf}
+use Rattle.registry_tables.specs.Head.{IsSummaryOf}
 use Rattle.registry_rules.specs.Verdict.{verdict}
 use Rattle.registry_rules.specs.Run.{after_one, reply_to}
 use Rattle.registry_tables.specs.Rows.{Rows, HoldsRows, newest}
@@ -17,22 +19,26 @@ use Rattle.registry_store.specs.declared.attempt.Answer.{Answer}
 use Rattle.registry_store.specs.Promise.{IsLegalWith}
 
 -- what one request may commit
-abbrev pub CommitsOne : State → Totals → Request → Trees → Type 0
-CommitsOne old totals r db = IsTrue old.is_open × ((h : History) → IsLegalWith totals h → Rows newest old.now.trees h → Rows newest db (after_one h r))
+abbrev pub CommitsOne : State → Summary → Request → Trees → Type 0
+CommitsOne old summary r db = IsTrue old.is_open × ((h : History) → IsLegalWith summary h → Rows newest old.now.trees h → Rows newest db (after_one h r))
 
 -- the request is a repeat or is refused, so it adds no deed
 abbrev pub AddsNoDeed : History → Request → Type 0
 AddsNoDeed h r = (d : Deed) → verdict h r ≢ New d
 
 -- the transaction shows the rows of the deed and its reply, and nothing is committed
-pub record Wrote (old new : State) (before after : Totals) (r : Request) (d : Deed) : Type 0 where
+pub record Wrote (old new : State) (before after : Summary) (r : Request) (d : Deed) : Type 0 where
   pub shown : Shows old new new.now old.committed true
   pub made : (h : History) → IsLegalWith before h → verdict h r ≡ New d → HoldsRows newest old.now h → HoldsRows newest new.now (with_deed h d)
-  pub carried : (h : History) → IsLegalWith before h → verdict h r ≡ New d → AreTotalsOf (with_deed h d) after
+  pub carried : (h : History) → IsLegalWith before h → verdict h r ≡ New d → IsSummaryOf (with_deed h d) after
 
--- The answer to a request is that of the history: it has its reply, and says whether the request adds a deed. These are the
--- totals after the request, and the database holds the rows after it.
-pub record IsAnswerOf (h : History) (r : Request) (it : Answer) (after : Totals) (now : Database) : Type 0 where
+-- the answer to a request that is accepted and new
+abbrev pub new_answer : Deed → Answer
+new_answer d = record { reply = Done (act_text d.act); is_new = true }
+
+-- The answer to a request is that of the history: it has its reply, and says whether the request adds a deed. This is the
+-- summary after the request, and the database holds the rows after it.
+pub record IsAnswerOf (h : History) (r : Request) (it : Answer) (after : Summary) (now : Database) : Type 0 where
   pub reply : it.reply ≡ reply_to h r
   pub adds : it.is_new ≡ true → (d : Deed) × (verdict h r ≡ New d)
   pub adds_none : it.is_new ≡ false → AddsNoDeed h r
@@ -40,6 +46,6 @@ pub record IsAnswerOf (h : History) (r : Request) (it : Answer) (after : Totals)
   pub rows : HoldsRows newest now (after_one h r)
 
 -- the transaction shows what the request makes of each history whose rows it showed, and nothing is committed
-pub record Answered (old new : State) (before after : Totals) (r : Request) (it : Answer) : Type 0 where
+pub record Answered (old new : State) (before after : Summary) (r : Request) (it : Answer) : Type 0 where
   pub shown : GoesOn old new
   pub of_history : (h : History) → IsLegalWith before h → HoldsRows newest old.now h → IsAnswerOf h r it after new.now

@@ -6,7 +6,8 @@ use Rattle.sqlite.specs.Disk.{MoreFaults}
 use Rattle.sqlite.specs.Store.{Ghosts}
 use Rattle.sqlite.specs.State.{State, HasCleanDisk}
 use Rattle.sqlite.specs.Held.{Held, state}
-use Rattle.registry_rules.specs.declared.totals.Totals.{Totals}
+use Rattle.registry_tables.specs.declared.opening.Summary.{Summary}
+use Rattle.registry_tables.specs.Head.{IsHead}
 use Rattle.registry_rules.specs.History.{History}
 use Rattle.registry_rules.specs.Run.{Legal}
 use Rattle.registry_rules.specs.TotalsOf.{AreTotalsOf}
@@ -37,10 +38,11 @@ pub record IsAt (v : ℕ) (s : State) (h : History) : Type 0 where
 abbrev pub IsFreshAt : ℕ → State → History → Type 0
 IsFreshAt v s h = HasCleanDisk s → IsTrue s.is_open × (s.now ≡ s.committed) × Rows v s.committed.trees h
 
--- the history is legal, and these are its totals
-pub record IsLegalWith (totals : Totals) (h : History) : Type 0 where
+-- the history is legal, and these are its totals and its head
+pub record IsLegalWith (summary : Summary) (h : History) : Type 0 where
   pub legal : Legal h
-  pub totals_are : AreTotalsOf h totals
+  pub totals_are : AreTotalsOf h summary.totals
+  pub head_is : IsHead h summary.head
 
 -- This holds of every call, whatever it commits: an unclean disk stays unclean; if each read was tested against a digest, it
 -- still is (`IsShielded`); the count of failed calls of the disk never falls; the limit on the steps of a query stays; and over
@@ -82,9 +84,9 @@ module _ {S : Type 0} {g : Ghosts S} where
     pub sound : is_poisoned it ≡ false
     pub unmet : has_met_foreign it ≡ false
 
-  -- a registry represents a legal history: it is not poisoned, its totals are those of the history, and over a clean disk so
+  -- a registry represents a legal history: it is not poisoned, its totals and its head are those of the history, and over a clean disk so
   -- are its tables and what a crash may leave
   pub record Represents (it : Registry S g) (h : History) : Type 0 where
     pub not_poisoned : is_poisoned it ≡ false
-    pub legal_with : IsLegalWith it.totals h
+    pub legal_with : IsLegalWith it.summary h
     pub at : IsAt newest (state_of it) h

@@ -22,7 +22,7 @@ module _ {S : Type 0} {g : Ghosts S} (it new : Registry S g) where
   -- The result is what the tables gave, and the registry notes whether they hold the rows of no history.
   pub record IsNoted {A : Type 0} (found : Result A TableFault) (result : Result A Fault) : Type 0 where
     pub same_connection : new.conn ≡ it.conn
-    pub same_totals : new.totals ≡ it.totals
+    pub same_summary : new.summary ≡ it.summary
     pub same_fault : poisoned_by new ≡ poisoned_by it
     pub foreign : new.foreign ≡ (is_foreign (result_err result) || it.foreign)
     pub told : MatchResult found (λ value. result ≡ Ok value) (λ fault. result ≡ Err (fault_of fault))

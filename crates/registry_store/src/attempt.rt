@@ -14,13 +14,13 @@ ghost use Rattle.registry_rules.specs.TotalsOf.{AreTotalsOf};
 ghost use Rattle.registry_tables.specs.Finds.{Finds, ReadsHistoryOpen};
 ghost use Rattle.registry_tables.specs.Rows.{HoldsRows, newest};
 ghost use Rattle.registry_store.specs.Promise.{IsLegalWith, IsAt};
-ghost use Rattle.registry_store.specs.Attempt.{CommitsOne, AddsNoDeed, Wrote, Answered};
+ghost use Rattle.registry_store.specs.Attempt.{CommitsOne, AddsNoDeed, Wrote, Answered, new_answer};
 
 use registry_rules::{
     Deed, KeptReply, Reply, ReplyText, Request, Totals, Verdict, changes, judge, reply_text,
     settled,
 };
-use registry_tables::{TableFault, commit, facts_for, keep_reply, kept_reply, store};
+use registry_tables::{Summary, TableFault, commit, facts_for, keep_reply, kept_reply, store};
 use sqlite::{Alter, Connection, Transaction};
 use std::alloc::Global;
 use usbnum_core::NoMemory;
@@ -63,12 +63,12 @@ pub(crate) fn judged<S: Alter>(
     }
 }
 
-/// Updates the totals, and then writes the rows of a deed and its reply in the transaction. After a
-/// fault the totals may be those after the deed.
+/// Updates the totals, and then writes the rows of a deed and its reply in the transaction, which
+/// give the next head. After a fault the totals may be those after the deed.
 fn write<S: Alter>(
     alloc: Global,
     tx: &mut Transaction<'_, S>,
-    totals: &mut Totals,
+    summary: &mut Summary,
     request: &Request,
     deed: &Deed,
     reply: &ReplyText,
@@ -76,18 +76,19 @@ fn write<S: Alter>(
     requires { reply.now ≡ act_text deed.now.act }
     ensures same_reference { tx.new.conn.ghost_name ≡ tx.old.conn.ghost_name }
     ensures ok { HasCleanDisk (state S.Store tx.new.conn.now) → IsTrue (state S.Store tx.old.conn.now).in_transaction → IsTrue (state S.Store tx.old.conn.now).is_open
-        → OnOk result (Wrote (state S.Store tx.old.conn.now) (state S.Store tx.new.conn.now) totals.old totals.new request.now deed.now) }
+        → OnOk result (Wrote (state S.Store tx.old.conn.now) (state S.Store tx.new.conn.now) summary.old summary.new request.now deed.now) }
     ensures kind { result ≢ Err TableFault.Foreign }
     ensures survives { CommitsNothing (state S.Store tx.old.conn.now) (state S.Store tx.new.conn.now) }
 {
     let Ok(changes) = changes(alloc, deed) else {
         return Err(TableFault::NoMemory);
     };
-    let Ok(()) = totals.carry(deed) else {
+    let Ok(()) = summary.totals.carry(deed) else {
         return Err(TableFault::NoMemory);
     };
     store(alloc, tx, changes.as_slice())?;
-    keep_reply(alloc, tx, request, reply)
+    summary.head = keep_reply(alloc, tx, &summary.head, request, reply)?;
+    Ok(())
 }
 
 /// The reply to a request, and whether the request is accepted and new, so that there are rows to commit.
@@ -97,22 +98,48 @@ struct Answer {
     is_new: bool,
 }
 
+/// Writes the rows of a deed and its reply in the transaction, and returns the reply. After a fault
+/// the totals may be those after the deed.
+fn accept<S: Alter>(
+    alloc: Global,
+    tx: &mut Transaction<'_, S>,
+    summary: &mut Summary,
+    request: &Request,
+    deed: &Deed,
+) -> Result<Answer, TableFault>
+    ensures same_reference { tx.new.conn.ghost_name ≡ tx.old.conn.ghost_name }
+    ensures ok { HasCleanDisk (state S.Store tx.new.conn.now) → IsTrue (state S.Store tx.old.conn.now).in_transaction → IsTrue (state S.Store tx.old.conn.now).is_open
+        → OnOk result (Wrote (state S.Store tx.old.conn.now) (state S.Store tx.new.conn.now) summary.old summary.new request.now deed.now) }
+    ensures answer { IfOk result (λ answer. answer ≡ new_answer deed.now) }
+    ensures kind { result ≢ Err TableFault.Foreign }
+    ensures survives { CommitsNothing (state S.Store tx.old.conn.now) (state S.Store tx.new.conn.now) }
+{
+    let Ok(reply) = reply_text(alloc, deed) else {
+        return Err(TableFault::NoMemory);
+    };
+    write(alloc, tx, summary, request, deed, &reply)?;
+    Ok(Answer {
+        reply: Reply::Done(reply),
+        is_new: true,
+    })
+}
+
 /// Judges a request in the transaction, and writes the rows of its deed and its reply if it is accepted and new. After a fault the
 /// totals may be those after the deed.
 fn act_on<S: Alter>(
     alloc: Global,
     tx: &mut Transaction<'_, S>,
-    totals: &mut Totals,
+    summary: &mut Summary,
     request: &Request,
 ) -> Result<Answer, TableFault>
     ensures same_reference { tx.new.conn.ghost_name ≡ tx.old.conn.ghost_name }
     ensures ok { HasCleanDisk (state S.Store tx.new.conn.now) → IsTrue (state S.Store tx.old.conn.now).in_transaction
-        → IfOk result (Answered (state S.Store tx.old.conn.now) (state S.Store tx.new.conn.now) totals.old totals.new request.now) }
+        → IfOk result (Answered (state S.Store tx.old.conn.now) (state S.Store tx.new.conn.now) summary.old summary.new request.now) }
     ensures foreign { HasCleanDisk (state S.Store tx.new.conn.now) → IsTrue (state S.Store tx.old.conn.now).in_transaction
         → result ≡ Err TableFault.Foreign → IsTrue (state S.Store tx.old.conn.now).is_open × ((h : History) → Legal h → ¬ HoldsRows newest (state S.Store tx.old.conn.now).now h) }
     ensures survives { CommitsNothing (state S.Store tx.old.conn.now) (state S.Store tx.new.conn.now) }
 {
-    match judged(alloc, tx, totals, request)? {
+    match judged(alloc, tx, &summary.totals, request)? {
         Verdict::Kept(text) => Ok(Answer {
             reply: Reply::Done(text),
             is_new: false,
@@ -121,16 +148,7 @@ fn act_on<S: Alter>(
             reply: Reply::Refused(refusal),
             is_new: false,
         }),
-        Verdict::New(deed) => {
-            let Ok(reply) = reply_text(alloc, &deed) else {
-                return Err(TableFault::NoMemory);
-            };
-            write(alloc, tx, totals, request, &deed, &reply)?;
-            Ok(Answer {
-                reply: Reply::Done(reply),
-                is_new: true,
-            })
-        }
+        Verdict::New(deed) => accept(alloc, tx, summary, request, &deed),
     }
 }
 
@@ -139,23 +157,23 @@ fn act_on<S: Alter>(
 pub(crate) fn attempt<S: Alter>(
     alloc: Global,
     conn: &mut Connection<S>,
-    totals: &mut Totals,
+    summary: &mut Summary,
     request: &Request,
 ) -> Result<Reply, TableFault>
     requires { conn.old.in_transaction ≡ false }
     ensures idle { conn.new.in_transaction ≡ false }
-    ensures answered { HasCleanDisk (state S.Store conn.new) → IfOk result (λ reply. (h : History) → IsLegalWith totals.old h → IsAt newest (state S.Store conn.old) h
-        → (reply ≡ reply_to h request.now) × IsLegalWith totals.new (after_one h request.now) × IsAt newest (state S.Store conn.new) (after_one h request.now)) }
-    ensures open { HasCleanDisk (state S.Store conn.new) → OnOk result ((h : History) (deed : Deed) → IsLegalWith totals.old h → IsAt newest (state S.Store conn.old) h
+    ensures answered { HasCleanDisk (state S.Store conn.new) → IfOk result (λ reply. (h : History) → IsLegalWith summary.old h → IsAt newest (state S.Store conn.old) h
+        → (reply ≡ reply_to h request.now) × IsLegalWith summary.new (after_one h request.now) × IsAt newest (state S.Store conn.new) (after_one h request.now)) }
+    ensures open { HasCleanDisk (state S.Store conn.new) → OnOk result ((h : History) (deed : Deed) → IsLegalWith summary.old h → IsAt newest (state S.Store conn.old) h
         → verdict h request.now ≡ verdicts.New deed → IsTrue (state S.Store conn.new).is_open) }
-    ensures foreign { HasCleanDisk (state S.Store conn.new) → result ≡ Err TableFault.Foreign → (h : History) → IsLegalWith totals.old h → IsAt newest (state S.Store conn.old) h → ⊥ }
-    ensures survives { Survives (state S.Store conn.old) (state S.Store conn.new) (CommitsOne (state S.Store conn.old) totals.old request.now) }
-    ensures no_deed { (h : History) → IsLegalWith totals.old h → IsAt newest (state S.Store conn.old) h → AddsNoDeed h request.now → CommitsNothing (state S.Store conn.old) (state S.Store conn.new) }
+    ensures foreign { HasCleanDisk (state S.Store conn.new) → result ≡ Err TableFault.Foreign → (h : History) → IsLegalWith summary.old h → IsAt newest (state S.Store conn.old) h → ⊥ }
+    ensures survives { Survives (state S.Store conn.old) (state S.Store conn.new) (CommitsOne (state S.Store conn.old) summary.old request.now) }
+    ensures no_deed { (h : History) → IsLegalWith summary.old h → IsAt newest (state S.Store conn.old) h → AddsNoDeed h request.now → CommitsNothing (state S.Store conn.old) (state S.Store conn.new) }
 {
     // For the proof only: the schema that the connection shows.
     let _schema = conn.schema();
     let mut tx = conn.transaction();
-    let answer = act_on(alloc, &mut tx, totals, request)?;
+    let answer = act_on(alloc, &mut tx, summary, request)?;
     if !answer.is_new {
         return Ok(answer.reply);
     }

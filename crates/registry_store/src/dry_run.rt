@@ -65,7 +65,7 @@ impl<S: Alter> Registry<S> {
         ensures query { IsQuery self.old self.new result (λ h reply. reply ≡ reply_to h request.now) }
     {
         self.check_not_poisoned()?;
-        let judged = judged_alone(self.alloc, &mut self.conn, &self.totals, request);
+        let judged = judged_alone(self.alloc, &mut self.conn, &self.summary.totals, request);
         let verdict = self.note(judged)?;
         Ok(reply_by(self.alloc, verdict)?)
     }

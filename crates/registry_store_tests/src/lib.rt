@@ -3,6 +3,8 @@
 #![tactic(auto)]
 
 #[cfg(test)]
+mod lookups;
+#[cfg(test)]
 mod queries;
 #[cfg(test)]
 mod stopped;

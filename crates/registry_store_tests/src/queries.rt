@@ -1,5 +1,6 @@
 //! The queries of a registry.
 
+use crate::lookups::{Keys, look_up, some_keys};
 use registry_rules::{Accepted, Entry, Founding, Petition, PetitionState, Reply, Request};
 use registry_store::Registry;
 use sqlite::{Alter, Connection};
@@ -7,10 +8,11 @@ use std::alloc::Global;
 use std::process::Abort;
 use std::test::Fail;
 use store_visits::steps::{ENROL, Step};
-use store_visits::values::{founding, lines_of, replies_to, request, requests_of, slug};
-use usbnum_core::{Number, Pid, Slug, Vid};
+use store_visits::values::{founding, lines_of, replies_to, request, requests_of};
+use usbnum_core::{Number, Time, Vid};
 
-// Two organisations, a further vendor, a reserved span; numbers granted, imported and returned.
+// Two organisations, a further vendor, a reserved span; numbers granted, imported and returned; a
+// petition declined for a reason; two requests with a time.
 const STEPS: &[Step] = &[
     (
         r#"{"caller":"bob","key":"b1","order":"enrol","org":"bolt","title":"Bolt","site":"https://bolt.example/"}"#,
@@ -57,15 +59,23 @@ const STEPS: &[Step] = &[
         r#"{"caller":"ann","key":"a7","order":"ask","org":"acme","title":"Fan","licence":"MIT","site":"https://a.example","source":"https://a.example"}"#,
         r#"{"done":"petition 3"}"#,
     ),
+    (
+        r#"{"at":"2026-11-28T20:34:13Z","caller":"ann","key":"a8","order":"ask","org":"acme","title":"Pump","licence":"MIT","site":"https://a.example","source":"https://a.example"}"#,
+        r#"{"done":"petition 4"}"#,
+    ),
+    (
+        r#"{"at":"2026-11-29T07:00:00Z","caller":"cora","key":"c9","order":"decline","petition":3,"reason":"Not a product"}"#,
+        r#"{"done":"declined petition 3"}"#,
+    ),
 ];
 
 const NUMBERS: &str =
     "1000:0001 acme Lamp, terms, returned\n1209:0011 acme Blinker, terms, held\n1209:0012 acme New board, no terms, held\n";
 
 const PETITIONS: &str =
-    "1 1209 acme Blinker, granted 17\n2 1000 acme Lamp, granted 1\n3 1209 acme Fan, granted 0\n";
+    "1 1209 acme Blinker, granted 17\n2 1000 acme Lamp, granted 1\n3 1209 acme Fan, granted 0\n4 1209 acme Pump, granted 0\n";
 
-const OPEN: &str = "3 1209 acme Fan, granted 0\n";
+const OPEN: &str = "4 1209 acme Pump, granted 0\n";
 
 const ORGS: &str = "acme ann\nbolt bob\n";
 
@@ -74,11 +84,21 @@ const VENDORS: &str = "1000 Further\n1209 Shared products\n";
 // The fixed numbers, and the span.
 const RESERVED: usize = 16 + 256;
 
+// The head of the record: its digest is that of its lines, as `sha256sum` gives it.
+const HEAD: &str =
+    "14 a66eceaf0b38fdbd0c2935bf36d59107eb081a45cb4d6378778fd1851debe22b, at 2026-11-29T07:00:00Z\n";
+
+// The digest of the founding's line, and that of a line that is not there.
+const DIGESTS: &str =
+    "0 b12d2afdbe3ade45513063af7d802715463fce899152192ba61589d4565e5460\n15 none\n";
+
 // The requests after the first eight, two at a time, and the founding with its first licences.
 const RECORD: &str = "cora i1: imported fresh 1, owned 1, reserved 0, doubled 1, untitled 0, zero 0
 ann a5: returned 1000:0001
 cora c6: added licence CERN-OHL-S-2.0
 ann a7: petition 3
+ann a8: petition 4, at 2026-11-28T20:34:13Z
+cora c9: declined petition 3, at 2026-11-29T07:00:00Z
 1209 Shared products: GPL-3.0-only MIT
 ";
 
@@ -93,6 +113,7 @@ cafe:0001 false false
 1 1209 acme Blinker
 2 1000 acme Lamp
 3 1209 acme Fan
+declined: Not a product
 4294967295
 acme Acme Tools, ann
 bolt Bolt, bob
@@ -174,16 +195,25 @@ fn count_reserved<S: Alter>(registry: &Registry<S>, vid: Vid, text: &mut String)
     }
 }
 
+fn add_time(time: Option<&Time>, text: &mut String) -> bool {
+    match time {
+        Some(time) => write!(text, ", at {time}").is_ok(),
+        None => true,
+    }
+}
+
 fn add_accepted(accepted: &[Accepted], text: &mut String) -> bool {
     accepted.iter().all(|Accepted { request, reply }| {
         let (caller, key, reply) = (&request.caller, &request.key, reply.as_str());
-        writeln!(text, "{caller} {key}: {reply}").is_ok()
+        write!(text, "{caller} {key}: {reply}").is_ok()
+            && add_time(request.time.as_ref(), text)
+            && text.push('\n').is_ok()
     })
 }
 
 // Adds the record after the first eight requests, in pieces of two, to the piece that is empty.
 fn list_record<S: Alter>(registry: &mut Registry<S>, text: &mut String) -> bool {
-    for after in [8, 10, 12] {
+    for after in [8, 10, 12, 14] {
         match registry.accepted_after(after, 2) {
             Ok(accepted) => {
                 if !add_accepted(accepted.as_slice(), text) {
@@ -194,6 +224,26 @@ fn list_record<S: Alter>(registry: &mut Registry<S>, text: &mut String) -> bool 
         }
     }
     true
+}
+
+fn add_head<S: Alter>(registry: &Registry<S>, text: &mut String) -> bool {
+    match registry.head() {
+        Ok(head) => {
+            let (count, digest) = (head.count, &head.digest);
+            write!(text, "{count} {digest}").is_ok()
+                && add_time(head.time.as_ref(), text)
+                && text.push('\n').is_ok()
+        }
+        Err(_) => false,
+    }
+}
+
+fn add_digest<S: Alter>(registry: &mut Registry<S>, n: u64, text: &mut String) -> bool {
+    match registry.digest_after(n) {
+        Ok(Some(digest)) => writeln!(text, "{n} {digest}").is_ok(),
+        Ok(None) => writeln!(text, "{n} none").is_ok(),
+        Err(_) => false,
+    }
 }
 
 fn add_founding<S: Alter>(registry: &mut Registry<S>, text: &mut String) -> bool {
@@ -210,101 +260,6 @@ fn add_founding<S: Alter>(registry: &mut Registry<S>, text: &mut String) -> bool
         }
         Err(_) => false,
     }
-}
-
-// Keys to look up, some of which exist.
-#[derive(Drop)]
-struct Keys {
-    numbers: Vec<Number>,
-    petitions: [u32; 4],
-    slugs: Vec<Slug>,
-}
-
-fn some_keys(alloc: Global) -> Result<Keys, Fail> {
-    let mut numbers = Vec::new(alloc);
-    for (vid, pid) in [
-        (0x1209, 0x10),
-        (0x1209, 0x11),
-        (0x1209, 0x12),
-        (0x1209, 0x20ff),
-        (0x1209, 0x2100),
-        (0x1000, 1),
-        (0x1000, 2),
-        (0xcafe, 1),
-    ] {
-        numbers.push(Number {
-            vid: Vid::new(vid).ok_or("no vendor")?,
-            pid: Pid::new(pid).ok_or("no product")?,
-        })?;
-    }
-    let mut slugs = Vec::new(alloc);
-    slugs.push(slug(alloc, "acme")?)?;
-    slugs.push(slug(alloc, "bolt")?)?;
-    slugs.push(slug(alloc, "clock")?)?;
-    Ok(Keys {
-        numbers,
-        petitions: [1, 2, 3, u32::MAX],
-        slugs,
-    })
-}
-
-fn add_number<S: Alter>(registry: &mut Registry<S>, vid: Vid, pid: Pid, text: &mut String) -> bool {
-    let Ok(vendor) = registry.has_vendor(vid) else {
-        return false;
-    };
-    let Ok(reserved) = registry.is_reserved(Number { vid, pid }) else {
-        return false;
-    };
-    match registry.entry(Number { vid, pid }) {
-        Ok(Some(entry)) => {
-            let (org, held, title) = (&entry.org, entry.held, &entry.card.title);
-            writeln!(text, "{vid}:{pid} {vendor} {reserved} {org} {held} {title}").is_ok()
-        }
-        Ok(None) => writeln!(text, "{vid}:{pid} {vendor} {reserved}").is_ok(),
-        Err(_) => false,
-    }
-}
-
-fn add_petition<S: Alter>(registry: &mut Registry<S>, id: u32, text: &mut String) -> bool {
-    match registry.petition(id) {
-        Ok(Some(petition)) => {
-            let (vid, org, title) = (petition.vid, &petition.org, &petition.title);
-            writeln!(text, "{id} {vid} {org} {title}").is_ok()
-        }
-        Ok(None) => writeln!(text, "{id}").is_ok(),
-        Err(_) => false,
-    }
-}
-
-fn add_org<S: Alter>(registry: &mut Registry<S>, slug: &Slug, text: &mut String) -> bool {
-    match registry.org(slug) {
-        Ok(Some(org)) => {
-            let (title, keeper) = (&org.title, &org.keeper);
-            writeln!(text, "{slug} {title}, {keeper}").is_ok()
-        }
-        Ok(None) => writeln!(text, "{slug}").is_ok(),
-        Err(_) => false,
-    }
-}
-
-// Looks up each key.
-fn look_up<S: Alter>(registry: &mut Registry<S>, keys: &Keys, text: &mut String) -> bool {
-    for number in &keys.numbers {
-        if !add_number(registry, number.vid, number.pid, text) {
-            return false;
-        }
-    }
-    for id in keys.petitions {
-        if !add_petition(registry, id, text) {
-            return false;
-        }
-    }
-    for slug in &keys.slugs {
-        if !add_org(registry, slug, text) {
-            return false;
-        }
-    }
-    true
 }
 
 // Acts on the requests, lists everything, and looks each key up.
@@ -325,6 +280,9 @@ fn ask<S: Alter>(
         && list_orgs(registry, text)
         && list_vendors(registry, text)
         && count_reserved(registry, vid, text)
+        && add_head(registry, text)
+        && add_digest(registry, 0, text)
+        && add_digest(registry, 15, text)
         && list_record(registry, text)
         && add_founding(registry, text)
         && look_up(registry, keys, text)
@@ -391,7 +349,7 @@ fn answers_what_it_was_asked_to_do(rt: HostRuntime) -> Result<(), Fail> {
     let mut wanted = String::new(alloc);
     write!(
         &mut wanted,
-        "{NUMBERS}{PETITIONS}{OPEN}{ORGS}{VENDORS}{RESERVED}\n{RECORD}{FOUND}{replies}"
+        "{NUMBERS}{PETITIONS}{OPEN}{ORGS}{VENDORS}{RESERVED}\n{HEAD}{DIGESTS}{RECORD}{FOUND}{replies}"
     )?;
     assert_eq!(rt; text.as_str(), wanted.as_str());
     Ok(())

@@ -4,7 +4,7 @@
 use crate::stops::{How, Row, stop_in};
 use std::test::Fail;
 use store_visits::images::{COPYING, Fate, MANY, PLAIN, Stops};
-use store_visits::older::{OF_FIRST, OF_SECOND, ONE_VENDOR};
+use store_visits::older::{OF_FIRST, OF_SECOND, OF_THIRD, ONE_VENDOR};
 use store_visits::starts::Start;
 use store_visits::steps::{EACH_KIND, ENROL, Step, TEN};
 
@@ -60,7 +60,7 @@ fn run(steps: &'static [Step], first: usize, last: usize, how: How, least: u64) 
         last,
         how,
         calls: (0, MANY),
-        schemas: "3|\n",
+        schemas: "4|\n",
         least,
     }
 }
@@ -264,20 +264,25 @@ fn an_opening_as_the_main_file_stops_later(rt: HostRuntime) -> Result<(), Fail> 
     )
 }
 
-// A migration from the second schema is the second step of one from the first, so the stops of a
-// process are tested only there.
+// A migration from the second schema is the second step of one from the first, and one from the third
+// is a step of its own, so the stops of a process are tested only there.
 
 #[test]
 fn schema_1_as_the_main_file_stops(rt: HostRuntime) -> Result<(), Fail> {
-    stop_in(&rt, rt.alloc(), migration(&OF_FIRST, MAIN_FILE, "1|\n3|\n"))
+    stop_in(&rt, rt.alloc(), migration(&OF_FIRST, MAIN_FILE, "1|\n4|\n"))
 }
 
 #[test]
 fn schema_1_as_the_log_stops(rt: HostRuntime) -> Result<(), Fail> {
-    stop_in(&rt, rt.alloc(), migration(&OF_FIRST, LOG, "1|\n2|\n3|\n"))
+    stop_in(&rt, rt.alloc(), migration(&OF_FIRST, LOG, "1|\n2|\n4|\n"))
 }
 
 #[test]
 fn schema_2_as_the_process_stops(rt: HostRuntime) -> Result<(), Fail> {
-    stop_in(&rt, rt.alloc(), migration(&OF_SECOND, PROCESS, "2|\n3|\n"))
+    stop_in(&rt, rt.alloc(), migration(&OF_SECOND, PROCESS, "2|\n4|\n"))
+}
+
+#[test]
+fn schema_3_as_the_process_stops(rt: HostRuntime) -> Result<(), Fail> {
+    stop_in(&rt, rt.alloc(), migration(&OF_THIRD, PROCESS, "3|\n4|\n"))
 }

@@ -44,7 +44,7 @@ pub fn write_listing<S: Alter>(registry: &mut Registry<S>, text: &mut String) ->
 }
 
 // All tables, each in the order of its key.
-const QUERIES: [&str; 14] = [
+const QUERIES: [&str; 16] = [
     "SELECT * FROM meta ORDER BY id",
     "SELECT * FROM curators ORDER BY name",
     "SELECT * FROM licences ORDER BY name",
@@ -55,6 +55,8 @@ const QUERIES: [&str; 14] = [
     "SELECT * FROM spans3 ORDER BY vid, lo",
     "SELECT * FROM entries3 ORDER BY vid, pid",
     "SELECT * FROM petitions3 ORDER BY id",
+    "SELECT * FROM digests4 ORDER BY id",
+    "SELECT * FROM reasons4 ORDER BY petition",
     "SELECT * FROM petitions",
     "SELECT * FROM entries",
     "SELECT * FROM reserved",

@@ -1,5 +1,5 @@
-//! Stores of schemas 1 and 2, made by statements, and the requests that led to them: each kind of
-//! order that these schemas know.
+//! Stores of schemas 1, 2 and 3, made by statements, and the requests that led to them: each kind of
+//! order that schemas 1 and 2 know.
 
 use crate::steps::Step;
 use sqlite::types::ValueRef;
@@ -100,12 +100,15 @@ CREATE TABLE entries (pid INTEGER PRIMARY KEY, org TEXT NOT NULL, held INTEGER N
 CREATE TABLE reserved (pid INTEGER PRIMARY KEY) STRICT;
 CREATE TABLE kept (caller TEXT NOT NULL, request_key TEXT NOT NULL, request BLOB NOT NULL, reply TEXT NOT NULL, PRIMARY KEY (caller, request_key)) STRICT";
 
-/// The rows that both schemas share, without the kept replies.
+/// The rows that all three schemas share, without the kept replies.
 const ROWS: &str = "INSERT INTO curators VALUES ('cora');
 INSERT INTO licences VALUES ('GPL-3.0-only'), ('MIT');
 INSERT INTO fixed VALUES (1, 16);
-INSERT INTO orgs VALUES ('acme', 'Acmé', 'http://acme.example/', 'ann'), ('bolt', 'Bolt', 'https://bolt.example/', 'bob');
-INSERT INTO petitions VALUES (1, 'acme', 8208, 'Lamp', 'MIT', 'https://acme.example/lamp', 'https://acme.example/src', 1, 8208);
+INSERT INTO orgs VALUES ('acme', 'Acmé', 'http://acme.example/', 'ann'), ('bolt', 'Bolt', 'https://bolt.example/', 'bob')";
+
+/// The petitions and numbers of schemas 1 and 2.
+const NUMBERS: &str =
+    "INSERT INTO petitions VALUES (1, 'acme', 8208, 'Lamp', 'MIT', 'https://acme.example/lamp', 'https://acme.example/src', 1, 8208);
 INSERT INTO petitions VALUES (2, 'acme', NULL, 'Ann''s lamp', 'MIT', 'https://acme.example/lamp', 'https://acme.example/src', 1, 17);
 INSERT INTO petitions VALUES (3, 'acme', NULL, 'Lamp', 'MIT', 'https://acme.example/lamp', 'https://acme.example/src', 2, NULL);
 INSERT INTO petitions VALUES (4, 'acme', NULL, 'Lamp', 'MIT', 'https://acme.example/lamp', 'https://acme.example/src', 3, NULL);
@@ -125,11 +128,34 @@ const SECOND: &str = "CREATE TABLE spans (lo INTEGER PRIMARY KEY, hi INTEGER NOT
 INSERT INTO meta VALUES (1, 2, 4617, 'Shared products');
 INSERT INTO spans VALUES (8192, 8207), (8224, 8447)";
 
+/// Schema 3: petitions, numbers and spans name their vendor.
+const THIRD: &str = "CREATE TABLE spans (lo INTEGER PRIMARY KEY, hi INTEGER NOT NULL) STRICT;
+CREATE TABLE vendors (vid INTEGER PRIMARY KEY, name TEXT NOT NULL) STRICT;
+CREATE TABLE spans3 (vid INTEGER NOT NULL, lo INTEGER NOT NULL, hi INTEGER NOT NULL, PRIMARY KEY (vid, lo)) STRICT;
+CREATE TABLE entries3 (vid INTEGER NOT NULL, pid INTEGER NOT NULL, org TEXT NOT NULL, held INTEGER NOT NULL, title TEXT NOT NULL, licence TEXT, site TEXT, source TEXT, PRIMARY KEY (vid, pid)) STRICT;
+CREATE TABLE petitions3 (id INTEGER PRIMARY KEY, vid INTEGER NOT NULL, org TEXT NOT NULL, want INTEGER, title TEXT NOT NULL, licence TEXT NOT NULL, site TEXT NOT NULL, source TEXT NOT NULL, state INTEGER NOT NULL, pid INTEGER) STRICT;
+INSERT INTO meta VALUES (1, 3, 4617, 'Shared products');
+INSERT INTO vendors VALUES (4617, 'Shared products');
+INSERT INTO petitions3 VALUES (1, 4617, 'acme', 8208, 'Lamp', 'MIT', 'https://acme.example/lamp', 'https://acme.example/src', 1, 8208);
+INSERT INTO petitions3 VALUES (2, 4617, 'acme', NULL, 'Ann''s lamp', 'MIT', 'https://acme.example/lamp', 'https://acme.example/src', 1, 17);
+INSERT INTO petitions3 VALUES (3, 4617, 'acme', NULL, 'Lamp', 'MIT', 'https://acme.example/lamp', 'https://acme.example/src', 2, NULL);
+INSERT INTO petitions3 VALUES (4, 4617, 'acme', NULL, 'Lamp', 'MIT', 'https://acme.example/lamp', 'https://acme.example/src', 3, NULL);
+INSERT INTO petitions3 VALUES (5, 4617, 'bolt', 1024, 'Drive', 'MIT', 'https://bolt.example/lamp', 'https://bolt.example/src', 0, NULL);
+INSERT INTO petitions3 VALUES (6, 4617, 'bolt', NULL, 'Clock', 'MIT', 'https://bolt.example/lamp', 'https://bolt.example/src', 0, NULL);
+INSERT INTO entries3 VALUES (4617, 17, 'acme', 0, 'Ann''s lamp', 'MIT', 'https://acme.example/lamp', 'https://acme.example/src');
+INSERT INTO entries3 VALUES (4617, 768, 'bolt', 1, 'Probe', NULL, NULL, NULL);
+INSERT INTO entries3 VALUES (4617, 769, 'bolt', 0, 'Probe 2', NULL, NULL, NULL);
+INSERT INTO entries3 VALUES (4617, 8208, 'acme', 1, 'Lamp 2', 'GPL-3.0-only', 'https://acme.example/lamp', 'https://acme.example/src');
+INSERT INTO spans3 VALUES (4617, 8192, 8207), (4617, 8224, 8447)";
+
 /// The statements that make a store of schema 1, without the kept replies.
-pub const OF_FIRST: [&str; 3] = [TABLES, ROWS, FIRST];
+pub const OF_FIRST: [&str; 4] = [TABLES, ROWS, NUMBERS, FIRST];
 
 /// The same for schema 2.
-pub const OF_SECOND: [&str; 3] = [TABLES, ROWS, SECOND];
+pub const OF_SECOND: [&str; 4] = [TABLES, ROWS, NUMBERS, SECOND];
+
+/// The same for schema 3.
+pub const OF_THIRD: [&str; 3] = [TABLES, ROWS, THIRD];
 
 /// The caller, key, canonical form and reply of each accepted request.
 const KEPT: [(&str, &str, &str, &str); 19] = [

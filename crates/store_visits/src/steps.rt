@@ -100,11 +100,11 @@ pub const EACH_KIND: [Step; 24] = [
         r#"{"done":"granted cafe:0001 to acme by petition 2"}"#,
     ),
     (
-        r#"{"caller":"cora","key":"c7","order":"decline","petition":3}"#,
+        r#"{"at":"2026-11-28T20:34:13Z","caller":"cora","key":"c7","order":"decline","petition":3,"reason":"Not a product"}"#,
         r#"{"done":"declined petition 3"}"#,
     ),
     (
-        r#"{"caller":"ann","key":"a7","order":"withdraw","petition":4}"#,
+        r#"{"at":"2026-11-28T20:34:13Z","caller":"ann","key":"a7","order":"withdraw","petition":4}"#,
         r#"{"done":"withdrawn petition 4"}"#,
     ),
     (

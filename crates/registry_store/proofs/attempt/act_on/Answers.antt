@@ -1,21 +1,27 @@
-use Rattle.std.proofs.Common.{arith}
+use Rattle.std.proofs.Common.{◌∙◌, sym, ap, arith}
 use Rattle.sqlite.specs.State.{HasCleanDisk}
 use Rattle.sqlite.specs.Held.{state}
-use Rattle.registry_store.proofs.TransactionLemmas.{answers_new, quiet_then}
+use Rattle.registry_rules.specs.Run.{reply_of}
+use Rattle.registry_rules.specs.declared.verdict.Reply.TheVariants.{Done}
+use Rattle.registry_store.proofs.TransactionLemmas.{accepts, answers_quiet, quiet_then}
 use Rattle.registry_store.proofs.attempt.act_on.Goals as goal
 
-pub returns-in_ok-write-in-New-clause-ok : goal.returns-in_ok-write-in-New-clause-ok
-returns-in_ok-write-in-New-clause-ok g c clean inside =
+pub returns-in-Kept-clause-ok : goal.returns-in-Kept-clause-ok
+returns-in-Kept-clause-ok g c clean inside =
+    answers_quiet (state g.S.Store c.args.tx.now.conn.now) (state g.S.Store c.judged.new.tx.conn.now) c.args.summary.now c.args.request.now _ (c.in_ok-text.ensures.found clean inside) (Done c.in-Kept.text)
+    (ap reply_of c.in-Kept.is) (λ d new. let both = sym c.in-Kept.is ∙ new in cc)
+
+pub returns-in-New-clause-ok : goal.returns-in-New-clause-ok
+returns-in-New-clause-ok g c clean inside =
     let mid = c.judged.new.tx.conn.now in
-    let early : HasCleanDisk (state g.S.Store mid) = omega (arith, c.write.ensures.survives.clean) in
+    let early : HasCleanDisk (state g.S.Store mid) = omega (arith, clean, c.accept.ensures.survives.clean) in
     let found = c.in_ok-text.ensures.found early inside in
-    answers_new (state g.S.Store c.args.tx.now.conn.now) (state g.S.Store mid) c.args.totals.now c.args.request.now _ found (state g.S.Store c.write.new.tx.conn.now) c.write.new.totals
-    c.in-New.deed c.in-New.is (c.in_ok-write-in-New.ensures.ok clean found.0.mode found.0.is_open) c.in-Ok.reply c.in-Ok.ensures
+    accepts (state g.S.Store c.args.tx.now.conn.now) (state g.S.Store mid) c.args.summary.now c.args.request.now _ found (state g.S.Store c.accept.new.tx.conn.now) c.accept.new.summary
+    c.in-New.deed c.in-New.is c.accept.result (c.accept.ensures.ok clean found.0.mode found.0.is_open) c.accept.ensures.answer
 
-pub returns-in_ok-write-in-New-clause-survives : goal.returns-in_ok-write-in-New-clause-survives
-returns-in_ok-write-in-New-clause-survives g c =
-    quiet_then (state g.S.Store c.args.tx.now.conn.now) (state g.S.Store c.judged.new.tx.conn.now) (state g.S.Store c.write.new.tx.conn.now) c.judged.ensures.survives c.write.ensures.survives
+pub returns-in-New-clause-foreign : goal.returns-in-New-clause-foreign
+returns-in-New-clause-foreign g c clean inside foreign = absurd (c.accept.ensures.kind foreign)
 
-pub returns-in_err-write-in-New-clause-survives : goal.returns-in_err-write-in-New-clause-survives
-returns-in_err-write-in-New-clause-survives g c =
-    quiet_then (state g.S.Store c.args.tx.now.conn.now) (state g.S.Store c.judged.new.tx.conn.now) (state g.S.Store c.write.new.tx.conn.now) c.judged.ensures.survives c.write.ensures.survives
+pub returns-in-New-clause-survives : goal.returns-in-New-clause-survives
+returns-in-New-clause-survives g c =
+    quiet_then (state g.S.Store c.args.tx.now.conn.now) (state g.S.Store c.judged.new.tx.conn.now) (state g.S.Store c.accept.new.tx.conn.now) c.judged.ensures.survives c.accept.ensures.survives

@@ -14,7 +14,7 @@ pub returns-clause-answered : goal.returns-clause-answered
 returns-clause-answered g c clean h counts at =
     let end = c.commit.new.tx.0 in
     let late : HasCleanDisk (state g.S.Store end) = search rules in
-    let it = committed g.S.Store c.args.conn.now c.transaction-tx.result.conn.now c.act_on.new.tx.conn.now c.transaction-tx.ensures.begun c.schema-schema.ensures.live c.args.totals.now c.act_on.new.totals
+    let it = committed g.S.Store c.args.conn.now c.transaction-tx.result.conn.now c.act_on.new.tx.conn.now c.transaction-tx.ensures.begun c.schema-schema.ensures.live c.args.summary.now c.act_on.new.summary
     c.args.request.now c.in_ok-answer.answer c.in_ok-answer.ensures.ok c.act_on.ensures.survives end c.commit.ensures.survives g.met.S.Store.settled c.in_ok-commit.ensures.ok late h counts at in
     let same : end ≡ c.conn-2-1.given.0 = search rules in
     (it.0, it.1, subst (λ x. IsAt newest (state g.S.Store x) (after_one h c.args.request.now)) same it.2)
@@ -22,15 +22,15 @@ returns-clause-answered g c clean h counts at =
 pub returns-clause-survives : goal.returns-clause-survives
 returns-clause-survives g c =
     let same : c.commit.new.tx.0 ≡ c.conn-2-1.given.0 = search rules in
-    subst (λ x. Survives (state g.S.Store c.args.conn.now) (state g.S.Store x) (CommitsOne (state g.S.Store c.args.conn.now) c.args.totals.now c.args.request.now)) same
-    (one_at_most g.S.Store c.args.conn.now c.transaction-tx.result.conn.now c.act_on.new.tx.conn.now c.transaction-tx.ensures.begun c.schema-schema.ensures.live c.args.totals.now c.act_on.new.totals
+    subst (λ x. Survives (state g.S.Store c.args.conn.now) (state g.S.Store x) (CommitsOne (state g.S.Store c.args.conn.now) c.args.summary.now c.args.request.now)) same
+    (one_at_most g.S.Store c.args.conn.now c.transaction-tx.result.conn.now c.act_on.new.tx.conn.now c.transaction-tx.ensures.begun c.schema-schema.ensures.live c.args.summary.now c.act_on.new.summary
     c.args.request.now c.in_ok-answer.answer c.in_ok-answer.ensures.ok c.act_on.ensures.survives c.commit.new.tx.0 c.commit.ensures.survives)
 
 pub returns-in_err-commit-clause-survives : goal.returns-in_err-commit-clause-survives
 returns-in_err-commit-clause-survives g c =
     let same : c.commit.new.tx.0 ≡ c.conn-2-1.given.0 = search rules in
-    subst (λ x. Survives (state g.S.Store c.args.conn.now) (state g.S.Store x) (CommitsOne (state g.S.Store c.args.conn.now) c.args.totals.now c.args.request.now)) same
-    (one_at_most g.S.Store c.args.conn.now c.transaction-tx.result.conn.now c.act_on.new.tx.conn.now c.transaction-tx.ensures.begun c.schema-schema.ensures.live c.args.totals.now c.act_on.new.totals
+    subst (λ x. Survives (state g.S.Store c.args.conn.now) (state g.S.Store x) (CommitsOne (state g.S.Store c.args.conn.now) c.args.summary.now c.args.request.now)) same
+    (one_at_most g.S.Store c.args.conn.now c.transaction-tx.result.conn.now c.act_on.new.tx.conn.now c.transaction-tx.ensures.begun c.schema-schema.ensures.live c.args.summary.now c.act_on.new.summary
     c.args.request.now c.in_ok-answer.answer c.in_ok-answer.ensures.ok c.act_on.ensures.survives c.commit.new.tx.0 c.commit.ensures.survives)
 
 pub returns-clause-no_deed : goal.returns-clause-no_deed
@@ -38,7 +38,7 @@ returns-clause-no_deed g c h counts at none =
     let new : c.in_ok-answer.answer.is_new ≡ true = search rules in
     let same : c.commit.new.tx.0 ≡ c.conn-2-1.given.0 = search rules in
     subst (λ x. CommitsNothing (state g.S.Store c.args.conn.now) (state g.S.Store x)) same
-    (never_here g.S.Store c.args.conn.now c.transaction-tx.result.conn.now c.act_on.new.tx.conn.now c.transaction-tx.ensures.begun c.schema-schema.ensures.live c.args.totals.now c.act_on.new.totals
+    (never_here g.S.Store c.args.conn.now c.transaction-tx.result.conn.now c.act_on.new.tx.conn.now c.transaction-tx.ensures.begun c.schema-schema.ensures.live c.args.summary.now c.act_on.new.summary
     c.args.request.now c.in_ok-answer.answer c.in_ok-answer.ensures.ok c.act_on.ensures.survives c.commit.new.tx.0 c.commit.ensures.survives new h counts at none)
 
 pub returns-in_err-commit-clause-no_deed : goal.returns-in_err-commit-clause-no_deed
@@ -46,7 +46,7 @@ returns-in_err-commit-clause-no_deed g c h counts at none =
     let new : c.in_ok-answer.answer.is_new ≡ true = search rules in
     let same : c.commit.new.tx.0 ≡ c.conn-2-1.given.0 = search rules in
     subst (λ x. CommitsNothing (state g.S.Store c.args.conn.now) (state g.S.Store x)) same
-    (never_here g.S.Store c.args.conn.now c.transaction-tx.result.conn.now c.act_on.new.tx.conn.now c.transaction-tx.ensures.begun c.schema-schema.ensures.live c.args.totals.now c.act_on.new.totals
+    (never_here g.S.Store c.args.conn.now c.transaction-tx.result.conn.now c.act_on.new.tx.conn.now c.transaction-tx.ensures.begun c.schema-schema.ensures.live c.args.summary.now c.act_on.new.summary
     c.args.request.now c.in_ok-answer.answer c.in_ok-answer.ensures.ok c.act_on.ensures.survives c.commit.new.tx.0 c.commit.ensures.survives new h counts at none)
 
 pub returns-then-not-answer-clause-answered : goal.returns-then-not-answer-clause-answered
@@ -56,7 +56,7 @@ returns-then-not-answer-clause-answered g c clean h counts at =
     let ends : CommitsNothing (state g.S.Store last) (state g.S.Store end) = search rules in
     let back : HasCleanDisk (state g.S.Store end) → IsRolledBack (state g.S.Store last) (state g.S.Store end) = search rules in
     let quiet : c.in_ok-answer.answer.is_new ≡ false = search rules in
-    as_before g.S.Store c.args.conn.now c.transaction-tx.result.conn.now last c.transaction-tx.ensures.begun c.schema-schema.ensures.live c.args.totals.now c.act_on.new.totals
+    as_before g.S.Store c.args.conn.now c.transaction-tx.result.conn.now last c.transaction-tx.ensures.begun c.schema-schema.ensures.live c.args.summary.now c.act_on.new.summary
     c.args.request.now c.in_ok-answer.answer c.in_ok-answer.ensures.ok c.act_on.ensures.survives end ends quiet back clean h counts at
 
 pub returns-then-not-answer-clause-open : goal.returns-then-not-answer-clause-open
@@ -65,7 +65,7 @@ returns-then-not-answer-clause-open g c clean h deed counts at new =
     let ends : CommitsNothing (state g.S.Store last) (state g.S.Store c.conn-then-not-answer-1.given.0) = search rules in
     let late : HasCleanDisk (state g.S.Store last) = omega (arith, ends.clean) in
     let quiet : c.in_ok-answer.answer.is_new ≡ false = search rules in
-    let says = said_of g.S.Store c.args.conn.now c.transaction-tx.result.conn.now last c.transaction-tx.ensures.begun c.schema-schema.ensures.live c.args.totals.now c.act_on.new.totals
+    let says = said_of g.S.Store c.args.conn.now c.transaction-tx.result.conn.now last c.transaction-tx.ensures.begun c.schema-schema.ensures.live c.args.summary.now c.act_on.new.summary
     c.args.request.now c.in_ok-answer.answer c.in_ok-answer.ensures.ok c.act_on.ensures.survives late h counts at in
     absurd (says.adds_none quiet deed new)
 
@@ -75,5 +75,5 @@ returns-in_err-answer-clause-foreign g c clean foreign h counts at =
     let end = c.conn-1.given.0 in
     let ends : CommitsNothing (state g.S.Store last) (state g.S.Store end) = search rules in
     let was : c.act_on.result ≡ Err Foreign = search rules in
-    never_foreign g.S.Store c.args.conn.now c.transaction-tx.result.conn.now last end c.transaction-tx.ensures.begun c.schema-schema.ensures.live c.args.totals.now
+    never_foreign g.S.Store c.args.conn.now c.transaction-tx.result.conn.now last end c.transaction-tx.ensures.begun c.schema-schema.ensures.live c.args.summary.now
     (λ clean inside. c.act_on.ensures.foreign clean inside was) c.act_on.ensures.survives ends clean h counts at
