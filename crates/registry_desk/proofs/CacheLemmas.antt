@@ -44,6 +44,7 @@ taken_is h cache (queries.Org org) of = tt
 taken_is h cache (queries.Petition id) of = tt
 taken_is h cache queries.Founding of = tt
 taken_is h cache queries.FirstFounding of = of.first_founding
+taken_is h cache queries.Head of = tt
 taken_is h cache (queries.History n) of = tt
 taken_is h cache (queries.Report reports.Census) of = of.census
 taken_is h cache (queries.Report reports.Holders) of = of.holders
@@ -62,6 +63,7 @@ none_taken cache (queries.Org org) is = refl
 none_taken cache (queries.Petition id) is = refl
 none_taken cache queries.Founding is = refl
 none_taken cache queries.FirstFounding is = ap (λ (k : Cache). k.first_founding) is
+none_taken cache queries.Head is = refl
 none_taken cache (queries.History n) is = refl
 none_taken cache (queries.Report reports.Census) is = ap (λ (k : Cache). k.census) is
 none_taken cache (queries.Report reports.Holders) is = ap (λ (k : Cache). k.holders) is
@@ -80,6 +82,7 @@ with_are h cache (queries.Org org) text of is = of
 with_are h cache (queries.Petition id) text of is = of
 with_are h cache queries.Founding text of is = of
 with_are h cache queries.FirstFounding text of is = record { list = of.list; census = of.census; holders = of.holders; petitions = of.petitions; numbers = of.numbers; organisations = of.organisations; first_founding = is }
+with_are h cache queries.Head text of is = of
 with_are h cache (queries.History n) text of is = of
 with_are h cache (queries.Report reports.Census) text of is = record { list = of.list; census = is; holders = of.holders; petitions = of.petitions; numbers = of.numbers; organisations = of.organisations; first_founding = of.first_founding }
 with_are h cache (queries.Report reports.Holders) text of is = record { list = of.list; census = of.census; holders = is; petitions = of.petitions; numbers = of.numbers; organisations = of.organisations; first_founding = of.first_founding }

@@ -1,5 +1,5 @@
 -- A history has one response to a message.
-use Rattle.std.proofs.Common.{◌≡◌, ◌≢◌, ℕ, zero, suc, ◌<◌, ◌≤◌, min, Bool, not, ◌&&◌, List, [], ◌∷◌, ◌++◌, length, take, Some, None, refl, sym, ap, subst, ◌∙◌, inl, inr, arith}
+use Rattle.std.proofs.Common.{◌≡◌, ◌≢◌, ℕ, zero, suc, ◌<◌, ◌≤◌, min, Bool, not, ◌&&◌, List, [], ◌∷◌, ◌++◌, length, take, Option, Some, None, refl, sym, ap, subst, ◌∙◌, inl, inr, arith}
 use Rattle.std.specs.Prelude.{map, Ok, Err, is_none, bytes_eq}
 use Rattle.std.specs.Cmp.Lexicographic.{slice_cmp}
 use Rattle.std.specs.Ordering.{nat_cmp}
@@ -36,7 +36,9 @@ use Rattle.registry_http.specs.declared.route.Query.{Query}
 use Rattle.registry_reports.specs.declared.kinds.ReportKind.TheVariants as reports
 use Rattle.registry_http.specs.declared.message.Message.TheVariants as messages
 use Rattle.registry_http.specs.Foundings.{founding_response}
-use Rattle.registry_http.specs.Responses.{text_response}
+use Rattle.registry_http.specs.Resources.{head_response}
+use Rattle.registry_tables.specs.Head.{digest_at}
+use Rattle.registry_http.specs.Responses.{page_response, text_response}
 use Rattle.usbids_text.specs.Entries.{TopEntry}
 use Rattle.usbids_text.specs.Writing.{written}
 use Rattle.registry_desk.specs.Acting.{IsDetermined, IsFoundingResponse, IsQueryResponse, HasOneResponse}
@@ -180,7 +182,11 @@ one_of_query h (queries.Org org) a b valid is_a is_b = is_a ∙ sym is_b
 one_of_query h (queries.Petition id) a b valid is_a is_b = is_a ∙ sym is_b
 one_of_query h queries.Founding a b valid is_a is_b = one_founding_response h a b is_a is_b
 one_of_query h queries.FirstFounding a b valid is_a is_b = is_a ∙ sym is_b
-one_of_query h (queries.History n) a b valid is_a is_b = is_a.2 ∙ (ap text_response (one_page_text (lines_after h n) is_a.0 is_b.0 (is_a.1 valid) (is_b.1 valid)) ∙ sym is_b.2)
+one_of_query h queries.Head a b valid is_a is_b =
+    let x = is_a.1 valid in
+    let y = is_b.1 valid in
+    is_a.2 ∙ (ap (λ (n : ℕ). head_response n is_a.0.digest is_a.0.time) (x.count ∙ sym y.count) ∙ (ap (λ (d : List ℕ). head_response is_b.0.count d is_a.0.time) (x.digest ∙ sym y.digest) ∙ (ap (λ (t : Option (List ℕ)). head_response is_b.0.count is_b.0.digest t) (x.time ∙ sym y.time) ∙ sym is_b.2)))
+one_of_query h (queries.History n) a b valid is_a is_b = is_a.2 valid ∙ (ap (λ (text : List ℕ). page_response text (digest_at h n)) (one_page_text (lines_after h n) is_a.0 is_b.0 (is_a.1 valid) (is_b.1 valid)) ∙ sym (is_b.2 valid))
 one_of_query h (queries.Report reports.Census) a b valid is_a is_b = is_a.2 ∙ (ap text_response (one_census_text h is_a.0 is_b.0 is_a.1 is_b.1) ∙ sym is_b.2)
 one_of_query h (queries.Report reports.Holders) a b valid is_a is_b = is_a.2 ∙ (ap text_response (one_holders_text h is_a.0 is_b.0 is_a.1 is_b.1) ∙ sym is_b.2)
 one_of_query h (queries.Report reports.Petitions) a b valid is_a is_b = is_a.2 ∙ (ap text_response (one_petitions_text h is_a.0 is_b.0 is_a.1 is_b.1) ∙ sym is_b.2)

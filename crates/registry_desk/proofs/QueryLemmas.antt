@@ -126,3 +126,16 @@ module _ {S : Type 0} {g : Ghosts S} {it : TheRegistry S g} {To : History → Re
         left = untouched_itself it;
         notes = refl;
       })
+
+  -- the same where what it has in memory is said by a relation
+  pub failed_alone : {A : Type 0} {e : Fault} → is_poisoned it ≡ true → (is_poisoned it ≡ true → failure A e ≡ failure A faults.Poisoned) → ((h : History) → ¬ Represents it h) → IsAsked it it (Err (failed_by e)) To
+  failed_alone {A} {e} spent fault never =
+      let same : e ≡ faults.Poisoned = cc (fault spent) in
+      subst (λ (f : Fault). IsAsked it it (Err (failed_by f)) To) (sym same) (record {
+        when_poisoned = λ is. (refl, refl);
+        only_poisoned = λ is. spent;
+        answered = λ h stands clean. tt;
+        kind = λ h stands clean. absurd (never h stands);
+        left = untouched_itself it;
+        notes = refl;
+      })

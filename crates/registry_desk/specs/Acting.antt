@@ -6,7 +6,7 @@ use Rattle.usbids_text.specs.Entries.{TopEntry}
 use Rattle.usbids_text.specs.Writing.{written}
 use Rattle.registry_rules.specs.History.{History}
 use Rattle.registry_rules.specs.Number.{number}
-use Rattle.registry_rules.specs.Query.{is_reserved, has_vendor, org_of, petition_of}
+use Rattle.registry_rules.specs.Query.{is_reserved, has_vendor, org_of, petition_of, reason_of}
 use Rattle.registry_rules.specs.Records.{entry_of}
 use Rattle.registry_rules.specs.Run.{after_one, reply_to}
 use Rattle.registry_rules.specs.Accepted.{AreValid}
@@ -34,9 +34,11 @@ use Rattle.registry_http.specs.declared.route.Query.TheVariants as queries
 use Rattle.registry_http.specs.declared.message.Message.{Message}
 use Rattle.registry_http.specs.declared.message.Message.TheVariants as messages
 use Rattle.registry_wire.specs.Record.{founding_line}
-use Rattle.registry_http.specs.Responses.{refusal_response, reply_response, text_response}
+use Rattle.registry_http.specs.Responses.{page_response, refusal_response, reply_response, text_response}
 use Rattle.registry_http.specs.Foundings.{founding_response}
-use Rattle.registry_http.specs.Resources.{number_response, org_response, petition_response}
+use Rattle.registry_http.specs.Resources.{head_response, number_response, org_response, petition_response}
+use Rattle.registry_tables.specs.Head.{IsHead, digest_at}
+use Rattle.registry_tables.specs.declared.head.Head.{Head}
 use Rattle.registry_desk.specs.declared.fault.DeskFault.{DeskFault}
 use Rattle.registry_desk.specs.declared.fault.DeskFault.TheVariants.{Registry, NoMemory}
 use Rattle.registry_desk.specs.Faults.{fault_of_done}
@@ -67,9 +69,13 @@ pub record IsFoundingResponse (h : History) (response : Response) : Type 0 where
 abbrev pub first_founding_response : Founding → Response
 first_founding_response founding = text_response (founding_line founding ++ 10 ∷ [])
 
--- the response has the page of the record after the first n accepted requests, if they have valid fields
+-- the response has the head of the record, if its requests have valid fields
+abbrev pub IsHeadResponse : History → Response → Type 0
+IsHeadResponse h response = (head : Head) × IsHead h head × (response ≡ head_response head.count head.digest head.time)
+
+-- the response has the page of the record after the first n accepted requests, and the digest after these, if they have valid fields
 abbrev pub IsHistoryResponse : History → ℕ → Response → Type 0
-IsHistoryResponse h n response = (text : List ℕ) × IsRecordPage h n text × (response ≡ text_response text)
+IsHistoryResponse h n response = (text : List ℕ) × IsRecordPage h n text × (AreValid h.deeds → response ≡ page_response text (digest_at h n))
 
 -- the response to a query; a number without a vendor is one of the founding vendor
 abbrev pub IsQueryResponse : History → Query → Response → Type 0
@@ -78,10 +84,11 @@ IsQueryResponse h (queries.Number None pid) response =
     response ≡ number_response None pid (is_reserved h (number h.founding.vendor pid)) (entry_of h (number h.founding.vendor pid))
 IsQueryResponse h (queries.Number (Some vid) pid) response = response ≡ vendor_number_at h vid pid
 IsQueryResponse h (queries.Org org) response = response ≡ org_response (org_of h org)
-IsQueryResponse h (queries.Petition id) response = response ≡ petition_response h.founding.vendor id (petition_of h id)
+IsQueryResponse h (queries.Petition id) response = response ≡ petition_response h.founding.vendor id (petition_of h id) (reason_of h id)
 IsQueryResponse h (queries.Report kind) response = IsReportResponse h kind response
 IsQueryResponse h queries.Founding response = IsFoundingResponse h response
 IsQueryResponse h queries.FirstFounding response = response ≡ first_founding_response h.founding
+IsQueryResponse h queries.Head response = IsHeadResponse h response
 IsQueryResponse h (queries.History n) response = IsHistoryResponse h n response
 
 -- the response to what a message says, over a history
@@ -153,6 +160,7 @@ abbrev pub IsDetermined : History → Result Message HttpRefusal → Type 0
 IsDetermined h (Err refusal) = Unit {0}
 IsDetermined h (Ok (messages.Request request)) = Unit {0}
 IsDetermined h (Ok (messages.Query (queries.History n))) = AreValid h.deeds
+IsDetermined h (Ok (messages.Query queries.Head)) = AreValid h.deeds
 IsDetermined h (Ok (messages.Query queries.List)) = Unit {0}
 IsDetermined h (Ok (messages.Query (queries.Number vendor pid))) = Unit {0}
 IsDetermined h (Ok (messages.Query (queries.Org org))) = Unit {0}

@@ -30,6 +30,7 @@ text_for cache (queries.Org org) = None
 text_for cache (queries.Petition id) = None
 text_for cache queries.Founding = None
 text_for cache queries.FirstFounding = cache.first_founding
+text_for cache queries.Head = None
 text_for cache (queries.History n) = None
 text_for cache (queries.Report reports.Census) = cache.census
 text_for cache (queries.Report reports.Holders) = cache.holders
@@ -45,6 +46,7 @@ with_text cache (queries.Org org) text = cache
 with_text cache (queries.Petition id) text = cache
 with_text cache queries.Founding text = cache
 with_text cache queries.FirstFounding text = record cache { first_founding = text }
+with_text cache queries.Head text = cache
 with_text cache (queries.History n) text = cache
 with_text cache (queries.Report reports.Census) text = record cache { census = text }
 with_text cache (queries.Report reports.Holders) text = record cache { holders = text }

@@ -53,6 +53,7 @@ impl Cache {
             | Query::Org(_)
             | Query::Petition(_)
             | Query::Founding
+            | Query::Head
             | Query::History(_) => None,
         }
     }
@@ -73,6 +74,7 @@ impl Cache {
             | Query::Org(_)
             | Query::Petition(_)
             | Query::Founding
+            | Query::Head
             | Query::History(_) => {}
         }
     }

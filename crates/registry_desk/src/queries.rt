@@ -3,20 +3,20 @@
 ghost use Rattle.std.specs.Prelude.{◌≡◌, None, IfOk, IfErr};
 ghost use Rattle.usbids_text.specs.Writing.{written};
 ghost use Rattle.registry_rules.specs.Number.{number};
-ghost use Rattle.registry_rules.specs.Query.{is_reserved, org_of, petition_of};
+ghost use Rattle.registry_rules.specs.Query.{is_reserved, org_of, petition_of, reason_of};
 ghost use Rattle.registry_rules.specs.Records.{entry_of};
 ghost use Rattle.registry_rules.specs.declared.verdict.Reply.TheVariants as replies;
 ghost use Rattle.registry_rules.specs.declared.refusal.Refusal.TheVariants as rule_refusals;
 ghost use Rattle.registry_http.specs.Responses.{reply_response, text_response};
 ghost use Rattle.registry_http.specs.Resources.{number_response, org_response, petition_response};
 ghost use Rattle.registry_desk.specs.declared.fault.DeskFault.TheVariants as desk_faults;
-ghost use Rattle.registry_desk.specs.Acting.{IsAsked, IsFoundingResponse, IsHistoryResponse, IsListResponse, IsQueryResponse, IsReportResponse, first_founding_response, vendor_number_at};
+ghost use Rattle.registry_desk.specs.Acting.{IsAsked, IsFoundingResponse, IsHeadResponse, IsHistoryResponse, IsListResponse, IsQueryResponse, IsReportResponse, first_founding_response, vendor_number_at};
 
 use crate::fault::{DeskFault, failed_by};
 use byte_streams::Outlet;
 use registry_http::{
-    Query, Response, founding_response, number_response, org_response, petition_response,
-    reply_response, text_response,
+    Query, Response, founding_response, head_response, number_response, org_response,
+    page_response, petition_response, reply_response, text_response,
 };
 use registry_reports::ReportKind;
 use registry_rules::{Founding, Refusal, Reply};
@@ -79,17 +79,18 @@ fn ask_org<S: Alter>(
     Ok(org_response(alloc, org.as_ref())?)
 }
 
-/// Looks up a petition.
+/// Looks up a petition, and why it was declined.
 fn ask_petition<S: Alter>(
     alloc: Global,
     registry: &mut Registry<S>,
     id: u32,
 ) -> Result<Response, DeskFault>
-    ensures { IsAsked registry.old registry.new result (λ h response. response ≡ petition_response h.founding.vendor id (petition_of h id)) }
+    ensures { IsAsked registry.old registry.new result (λ h response. response ≡ petition_response h.founding.vendor id (petition_of h id) (reason_of h id)) }
 {
     let founding = registry.founding().vendor;
     let petition = registry.petition(id)?;
-    Ok(petition_response(alloc, founding, id, petition.as_ref())?)
+    let reason = registry.reason(id)?;
+    Ok(petition_response(alloc, founding, id, petition.as_ref(), reason.as_ref())?)
 }
 
 /// Returns the response with the text of the document, without a stamp.
@@ -164,7 +165,16 @@ fn ask_first_founding<S: Alter>(
     }
 }
 
-/// Returns the response with a page of the record, after the first `n` accepted requests.
+/// Returns the response with the head of the record.
+fn ask_head<S: Alter>(alloc: Global, registry: &mut Registry<S>) -> Result<Response, DeskFault>
+    ensures { IsAsked registry.old registry.new result (λ h response. IsHeadResponse h response) }
+{
+    let head = registry.head()?;
+    Ok(head_response(alloc, head.count, &head.digest, head.time.as_ref())?)
+}
+
+/// Returns the response with a page of the record, after the first `n` accepted requests, and the
+/// digest after these.
 fn ask_history<S: Alter>(
     alloc: Global,
     registry: &mut Registry<S>,
@@ -172,10 +182,12 @@ fn ask_history<S: Alter>(
 ) -> Result<Response, DeskFault>
     ensures { IsAsked registry.old registry.new result (λ h response. IsHistoryResponse h n response) }
 {
-    match record_page(alloc, registry, n) {
-        Ok(text) => Ok(text_response(text.into_bytes())),
-        Err(fault) => Err(failed_by(fault)),
-    }
+    let text = match record_page(alloc, registry, n) {
+        Ok(text) => text,
+        Err(fault) => return Err(failed_by(fault)),
+    };
+    let digest = registry.digest_after(n)?;
+    Ok(page_response(text.into_bytes(), digest))
 }
 
 /// Returns the response to a query.
@@ -199,6 +211,7 @@ pub(crate) fn ask<S: Alter>(
         Query::Petition(id) => ask_petition(alloc, registry, *id),
         Query::Founding => ask_founding(alloc, registry),
         Query::FirstFounding => ask_first_founding(alloc, registry),
+        Query::Head => ask_head(alloc, registry),
         Query::History(n) => ask_history(alloc, registry, *n),
         Query::Report(kind) => ask_report(alloc, registry, *kind),
     }

@@ -77,7 +77,7 @@ open_body_says founding (Ok (heads.Query query)) rest said lacks says = absurd l
 open_body_says founding (Ok (heads.Order order)) rest said lacks says =
     let short = body_short order.length rest (lt-leb order.length (length rest) lacks) in
     let refused = subst (λ (body : Result (List ℕ) HttpRefusal). BodySays founding order.endpoint order.caller order.key body says.0) short says.1 in
-    says.2 ∙ ap as_message refused
+    says.2 ∙ ap (as_message order.time) refused
 
 pub incomplete_says : (founding : ℕ) (bytes : List ℕ) (said : Result Message HttpRefusal) → IsIncomplete bytes → Says founding bytes said → IsRefusedEarly said
 incomplete_says founding bytes said lacks (inl none) = inl none.1

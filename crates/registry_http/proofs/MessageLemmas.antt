@@ -68,7 +68,7 @@ head_says_one_thing : (founding : ℕ) (head_says : Result Head HttpRefusal) (re
 head_says_one_thing founding (Err refusal) rest a b x y = x ∙ sym y
 head_says_one_thing founding (Ok (heads.Query query)) rest a b x y = x ∙ sym y
 head_says_one_thing founding (Ok (heads.Order order)) rest a b x y =
-    x.2 ∙ (ap as_message (body_says_one_thing founding order.endpoint order.caller order.key (body_in order.length rest) x.0 y.0 x.1 y.1) ∙ sym y.2)
+    x.2 ∙ (ap (as_message order.time) (body_says_one_thing founding order.endpoint order.caller order.key (body_in order.length rest) x.0 y.0 x.1 y.1) ∙ sym y.2)
 
 pub message_says_one_thing : (founding : ℕ) (bytes : List ℕ) (a b : Result Message HttpRefusal) → Says founding bytes a → Says founding bytes b → a ≡ b
 message_says_one_thing founding bytes a b (inl x) (inl y) = x.1 ∙ sym y.1

@@ -6,10 +6,10 @@
 --   25 the path is served, but not with this method
 --   21 the length of the body is not given exactly once, in 1 to 10 digits and without a transfer encoding
 --   22 the body is longer than its path allows
---   26 the caller, then the key, is not given exactly once, or is not a value of its kind
+--   26 the caller, then the key, is not given exactly once, or is not a value of its kind; then the time is given twice, or is none
 --   23 the body ends early
 --   27 and 28, or 29: the body is not an order in JSON, or not a list
-use Rattle.std.specs.Prelude.{◌≡◌, ◌⊎◌, ℕ, List, Option, Result, Ok, Err}
+use Rattle.std.specs.Prelude.{◌≡◌, ◌⊎◌, ℕ, List, Option, None, Result, Ok, Err}
 use Rattle.httparse.specs.Grammar.{RequestHead}
 use Rattle.usbids_text.specs.Entries.{TopEntry}
 use Rattle.usbids_text.specs.Documents.{IsTextOf, FaultAt}
@@ -42,9 +42,9 @@ abbrev pub as_order : Result Request WireRefusal → Result Request HttpRefusal
 as_order (Ok request) = Ok request
 as_order (Err refusal) = Err (Wire refusal)
 
--- the request in a complete body that was sent to this endpoint, or a refusal
+-- the request in a complete body that was sent to this endpoint, still without its time, or a refusal
 abbrev pub WholeBodySays : ℕ → Endpoint → List ℕ → List ℕ → List ℕ → Result Request HttpRefusal → Type 0
-WholeBodySays founding endpoints.Commands caller key body said = said ≡ as_order (body_reading caller key body)
+WholeBodySays founding endpoints.Commands caller key body said = said ≡ as_order (body_reading caller key None body)
 WholeBodySays founding (endpoints.Imports org vendor) caller key body said = ListSays founding caller key org vendor body said
 
 -- a body that ends early is refused before its bytes are read
@@ -52,16 +52,17 @@ abbrev pub BodySays : ℕ → Endpoint → List ℕ → List ℕ → Result (Lis
 BodySays founding endpoint caller key (Err refusal) said = said ≡ Err refusal
 BodySays founding endpoint caller key (Ok body) said = WholeBodySays founding endpoint caller key body said
 
-abbrev pub as_message : Result Request HttpRefusal → Result Message HttpRefusal
-as_message (Ok request) = Ok (messages.Request request)
-as_message (Err refusal) = Err refusal
+-- the message with a request of this time
+abbrev pub as_message : Option (List ℕ) → Result Request HttpRefusal → Result Message HttpRefusal
+as_message time (Ok request) = Ok (messages.Request (record request { time = time }))
+as_message time (Err refusal) = Err refusal
 
 -- the query or request of a head and all bytes after it, or the first fault
 abbrev pub HeadSays : ℕ → Result Head HttpRefusal → List ℕ → Result Message HttpRefusal → Type 0
 HeadSays founding (Err refusal) rest said = said ≡ Err refusal
 HeadSays founding (Ok (heads.Query query)) rest said = said ≡ Ok (messages.Query query)
 HeadSays founding (Ok (heads.Order order)) rest said =
-    (request : Result Request HttpRefusal) × BodySays founding order.endpoint order.caller order.key (body_in order.length rest) request × (said ≡ as_message request)
+    (request : Result Request HttpRefusal) × BodySays founding order.endpoint order.caller order.key (body_in order.length rest) request × (said ≡ as_message order.time request)
 
 -- the query or request in all bytes that come, for a registry with this founding vendor, or the first fault
 abbrev pub Says : ℕ → List ℕ → Result Message HttpRefusal → Type 0

@@ -1,11 +1,11 @@
 -- The query or order that the head of a message asks for.
-use Rattle.std.specs.Prelude.{ℕ, List, map, bytes_eq, codes, nat_le, Bool, Option, None, option_and_then, Result, Ok, Err, if◌then◌else◌}
+use Rattle.std.specs.Prelude.{ℕ, List, map, bytes_eq, codes, nat_le, Bool, Option, None, option_and_then, option_map, Some, Result, Ok, Err, if◌then◌else◌}
 use Rattle.std.specs.List.{list_any}
 use Rattle.httparse.specs.Grammar.{RequestHead}
 use Rattle.httparse.specs.Spans.{name_and_value}
 use Rattle.registry_rules.specs.Checks.{◌>>=◌}
 use Rattle.registry_http.specs.Refusals.{found_or, header_name}
-use Rattle.registry_wire.specs.Kinds.{slug_of, key_of}
+use Rattle.registry_wire.specs.Kinds.{slug_of, key_of, time_of}
 use Rattle.registry_http.specs.Limits.{most_command, most_list}
 use Rattle.registry_http.specs.Fields.{is_same_name, values_of, only, length_of}
 use Rattle.registry_http.specs.Routes.{route_of}
@@ -13,7 +13,7 @@ use Rattle.registry_http.specs.declared.refusal.HttpRefusal.{HttpRefusal}
 use Rattle.registry_http.specs.declared.refusal.HttpRefusal.TheVariants.{NoRoute, WrongMethod, BadLength, TooLarge, BadHeader}
 use Rattle.registry_http.specs.declared.refusal.Allow.TheVariants as allowed
 use Rattle.registry_http.specs.declared.refusal.Header.{Header}
-use Rattle.registry_http.specs.declared.refusal.Header.TheVariants.{Caller, Key}
+use Rattle.registry_http.specs.declared.refusal.Header.TheVariants.{Caller, Key, Time}
 use Rattle.registry_http.specs.declared.route.Route.{Route}
 use Rattle.registry_http.specs.declared.route.Route.TheVariants.{Get, Post}
 use Rattle.registry_http.specs.declared.route.Endpoint.{Endpoint}
@@ -36,6 +36,10 @@ length_in fields = if has_field (codes "transfer-encoding") fields then None els
 abbrev pub header_in : Header → Fields → Option (List ℕ)
 header_in header fields = only (values_of (header_name header) fields)
 
+-- the time, if there is a field with its name
+abbrev pub time_in : Fields → Result (Option (List ℕ)) HttpRefusal
+time_in fields = if has_field (header_name Time) fields then found_or (BadHeader Time) (option_map Some (option_and_then time_of (header_in Time fields))) else Ok None
+
 -- the most bytes that a body may have
 abbrev pub body_limit : Endpoint → ℕ
 body_limit endpoints.Commands = most_command
@@ -44,14 +48,15 @@ body_limit (endpoints.Imports org vendor) = most_list
 abbrev pub within : ℕ → ℕ → Result ℕ HttpRefusal
 within most length = if nat_le length most then Ok length else Err TooLarge
 
--- an order: checks its length (21, 22), then its caller, then its key (26)
+-- an order: checks its length (21, 22), then its caller, then its key, then its time (26)
 unfoldable pub order_head : Endpoint → Fields → Result Head HttpRefusal
 order_head endpoint fields = do
   wanted ← found_or BadLength (length_in fields)
   length ← within (body_limit endpoint) wanted
   caller ← found_or (BadHeader Caller) (option_and_then slug_of (header_in Caller fields))
   key ← found_or (BadHeader Key) (option_and_then key_of (header_in Key fields))
-  Ok (heads.Order (record { endpoint = endpoint; length = length; caller = caller; key = key }))
+  time ← time_in fields
+  Ok (heads.Order (record { endpoint = endpoint; length = length; caller = caller; key = key; time = time }))
 
 unfoldable pub head_for : Route → List ℕ → Fields → Result Head HttpRefusal
 head_for (Get query) method fields = if bytes_eq method (codes "GET") then Ok (heads.Query query) else Err (WrongMethod allowed.Get)

@@ -22,6 +22,7 @@ use Rattle.registry_http.specs.declared.refusal.HttpRefusal.TheVariants.{BadHead
 abbrev pub header_name : Header → List ℕ
 header_name headers.Caller = codes "registry-caller"
 header_name headers.Key = codes "registry-key"
+header_name headers.Time = codes "registry-time"
 
 -- the number of a refusal
 abbrev pub http_refusal_number : HttpRefusal → ℕ

@@ -1,4 +1,4 @@
--- The responses to queries for a number, an organisation or a petition.
+-- The responses to queries for a number, an organisation, a petition or the head of the record.
 use Rattle.std.specs.Prelude.{ℕ, ◌==◌, List, codes, Bool, Option, Some, None, option_map, if◌then◌else◌}
 use Rattle.serde_json.specs.Data.{Members, number, unsigned, object, put, no_members}
 use Rattle.serde_json.specs.Written.{compact_text}
@@ -96,10 +96,17 @@ put_numbers founding petition members =
     (put_if (codes "want") (option_map digits_of petition.want)
     (put_if (codes "vendor") (option_map digits_of (other_vendor founding petition.vid)) members))
 
-unfoldable pub petition_members : ℕ → ℕ → Petition → Members
-petition_members founding id petition = put_numbers founding petition (put_asked id petition no_members)
+-- the reason why it was declined too, if one was given
+unfoldable pub petition_members : ℕ → ℕ → Petition → Option (List ℕ) → Members
+petition_members founding id petition reason = put_if (codes "reason") reason (put_numbers founding petition (put_asked id petition no_members))
 
 -- refusal 6 if there is no such petition
-abbrev pub petition_response : ℕ → ℕ → Option Petition → Response
-petition_response founding id None = reply_response (Refused NoPetition)
-petition_response founding id (Some petition) = found_response (petition_members founding id petition)
+abbrev pub petition_response : ℕ → ℕ → Option Petition → Option (List ℕ) → Response
+petition_response founding id None reason = reply_response (Refused NoPetition)
+petition_response founding id (Some petition) reason = found_response (petition_members founding id petition reason)
+
+-- ---- the head of the record
+
+-- how many requests were accepted, the digest of the record, and the time of the last request, if it has one
+unfoldable pub head_response : ℕ → List ℕ → Option (List ℕ) → Response
+head_response requests digest time = found_response (put_if (codes "time") time (put_text (codes "digest") digest (put (codes "requests") (number (unsigned requests)) no_members)))

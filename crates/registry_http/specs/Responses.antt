@@ -45,22 +45,27 @@ abbrev pub with_allow : List ℕ → Option Allow → List ℕ
 with_allow text None = text
 with_allow text (Some allow) = with_field text (codes "allow") (allow_text allow)
 
+-- appends the digest that a page of the record continues, if it continues one
+abbrev pub with_digest : List ℕ → Option (List ℕ) → List ℕ
+with_digest text None = text
+with_digest text (Some digest) = with_field text (codes "registry-digest") digest
+
 -- the head of a response whose body has `count` bytes
-unfoldable pub head_lines : ℕ → ContentType → ℕ → Option Allow → List ℕ
-head_lines status content_type count allow =
-    with_field (with_allow (with_field (with_field (status_line status) (codes "content-type") (content_type_text content_type)) (codes "content-length") (decimal count)) allow) (codes "connection") (codes "close") ++ crlf
+unfoldable pub head_lines : ℕ → ContentType → ℕ → Option Allow → Option (List ℕ) → List ℕ
+head_lines status content_type count allow digest =
+    with_field (with_digest (with_allow (with_field (with_field (status_line status) (codes "content-type") (content_type_text content_type)) (codes "content-length") (decimal count)) allow) digest) (codes "connection") (codes "close") ++ crlf
 
 -- ---- the whole
 
 abbrev pub response_head : Response → List ℕ
-response_head response = head_lines response.status response.content_type (length response.body) response.allow
+response_head response = head_lines response.status response.content_type (length response.body) response.allow response.digest
 
 unfoldable pub response_bytes : Response → List ℕ
 response_bytes response = response_head response ++ response.body
 
 -- a JSON response, which ends in a line feed
 unfoldable pub json_response : ℕ → Option Allow → List ℕ → Response
-json_response status allow text = record { status = status; content_type = Json; allow = allow; body = text ++ 10 ∷ [] }
+json_response status allow text = record { status = status; content_type = Json; allow = allow; digest = None; body = text ++ 10 ∷ [] }
 
 -- the response to an order
 unfoldable pub reply_response : Reply → Response
@@ -77,7 +82,11 @@ refusal_response refusal = json_response (refusal_status refusal) (allow_in refu
 
 -- a list or a report
 unfoldable pub text_response : List ℕ → Response
-text_response bytes = record { status = 200; content_type = Text; allow = None; body = bytes }
+text_response bytes = record { status = 200; content_type = Text; allow = None; digest = None; body = bytes }
+
+-- a page of the record, and the digest that it continues
+unfoldable pub page_response : List ℕ → Option (List ℕ) → Response
+page_response bytes digest = record { status = 200; content_type = Text; allow = None; digest = digest; body = bytes }
 
 -- ---- if the registry cannot be asked
 

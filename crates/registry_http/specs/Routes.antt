@@ -43,8 +43,9 @@ templates =
     (with_template (codes "/imports/{org}") at.Imports
     (with_template (codes "/history/{n}") at.History
     (with_template (codes "/history/founding") at.FirstFounding
+    (with_template (codes "/head") at.Head
     (with_template (codes "/founding") at.Founding
-    (with_template (codes "/commands") at.Commands [])))))))))))
+    (with_template (codes "/commands") at.Commands []))))))))))))
 
 -- the next of the remaining parts
 abbrev pub NextPart : List (List ℕ × List ℕ) → Option (List ℕ) → List (List ℕ × List ℕ) → Type 0
@@ -107,6 +108,7 @@ abbrev pub route_for : Template → Option (List ℕ) → Option (List ℕ) → 
 route_for at.Commands one two = Some (Post endpoints.Commands)
 route_for at.Founding one two = Some (Get queries.Founding)
 route_for at.FirstFounding one two = Some (Get queries.FirstFounding)
+route_for at.Head one two = Some (Get queries.Head)
 route_for at.History one two = history_route one
 route_for at.Imports one two = import_route one
 route_for at.VendorImports one two = vendor_import_route one two

@@ -24,8 +24,10 @@ pub use fault::MessageFault;
 pub use founding::founding_response;
 pub use message::{Message, read_message, refuses_an_incomplete_message, says_one_thing};
 pub use refusal::{Allow, Header, HttpRefusal};
-pub use resources::{number_response, org_response, petition_response};
-pub use response::{Body, ContentType, Response, refusal_response, reply_response, text_response};
+pub use resources::{head_response, number_response, org_response, petition_response};
+pub use response::{
+    Body, ContentType, Response, page_response, refusal_response, reply_response, text_response,
+};
 pub use route::Query;
 pub use routes::Routes;
 pub use unavailable::Unavailable;

@@ -105,10 +105,11 @@ fn read_command<R: Source>(
     if !read_body(source, buffer, start, count)? {
         return Err(MessageFault::Refused(HttpRefusal::ShortBody));
     }
-    Ok(request_from_json(alloc, caller, key, &buffer[start..start + count])?)
+    Ok(request_from_json(alloc, caller, key, None, &buffer[start..start + count])?)
 }
 
-/// Reads the request of an order with this head, whose body begins at `start` in the buffer.
+/// Reads the request of an order with this head, whose body begins at `start` in the buffer. It
+/// has no time yet.
 fn read_order<R: Source>(
     alloc: Global,
     source: &mut R,
@@ -130,6 +131,7 @@ fn read_order<R: Source>(
         length,
         caller,
         key,
+        time: _,
     } = order;
     match endpoint {
         Endpoint::Commands => {
@@ -189,8 +191,10 @@ fn read_rest<R: Source>(
 {
     match call {
         Head::Query(query) => Ok(Message::Query(query)),
-        Head::Order(order) => {
-            let request = read_order(alloc, source, buffer, start, founding, order)?;
+        Head::Order(mut order) => {
+            let time = order.time.take();
+            let mut request = read_order(alloc, source, buffer, start, founding, order)?;
+            request.time = time;
             Ok(Message::Request(request))
         }
     }

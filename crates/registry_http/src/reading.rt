@@ -4,9 +4,9 @@ ghost use Rattle.std.specs.Prelude.{◌≡◌, All, IfOk, length, map, option_an
 ghost use Rattle.httparse.specs.Spans.{IsHeaderWithin, header_bytes};
 ghost use Rattle.registry_rules.specs.Gives.{Gives};
 ghost use Rattle.registry_http.specs.Refusals.{found_or};
-ghost use Rattle.registry_wire.specs.Kinds.{slug_of, key_of};
+ghost use Rattle.registry_wire.specs.Kinds.{slug_of, key_of, time_of};
 ghost use Rattle.registry_http.specs.Routes.{templates};
-ghost use Rattle.registry_http.specs.Reading.{length_in, header_in, body_limit, within, order_head, head_for, head_in};
+ghost use Rattle.registry_http.specs.Reading.{length_in, header_in, time_in, body_limit, within, order_head, head_for, head_in};
 ghost use Rattle.registry_http.specs.declared.refusal.HttpRefusal.TheVariants as refusals;
 ghost use Rattle.registry_http.specs.declared.refusal.Header.TheVariants as headers;
 
@@ -19,7 +19,7 @@ use httparse::spans::HeaderSpan;
 use matchit::Router;
 use registry_rules::Rejection;
 use std::alloc::Global;
-use usbnum_core::{Key, NoMemory, Slug};
+use usbnum_core::{Key, NoMemory, Slug, Time};
 
 /// The most bytes of an order in JSON.
 const MOST_COMMAND: u32 = 16_384;
@@ -38,6 +38,8 @@ pub(crate) struct OrderHead {
     pub caller: Slug,
     /// The key of the request.
     pub key: Key,
+    /// The time of the request, if it is given.
+    pub time: Option<Time>,
 }
 
 /// The meaning of a head: a query, or an order whose body follows.
@@ -124,6 +126,34 @@ fn key_at(alloc: Global, buffer: &[u8], spans: &[HeaderSpan]) -> Result<Key, Rej
     }
 }
 
+/// Reads a text as a time.
+#[tactic(auto, unfolding(registry_wire::specs::Kinds::time_of))]
+fn time_of(alloc: Global, text: &[u8]) -> Result<Option<Time>, NoMemory>
+    ensures { IfOk result (λ found. found ≡ time_of text.now) }
+{
+    Time::new(alloc, text)
+}
+
+fn time_at(
+    alloc: Global,
+    buffer: &[u8],
+    spans: &[HeaderSpan],
+) -> Result<Option<Time>, Rejection<HttpRefusal>>
+    requires { All (IsHeaderWithin (length buffer.now)) spans.now }
+    ensures { Gives result (time_in (map (header_bytes buffer.now) spans.now)) }
+{
+    if !has_field(buffer, spans, Header::Time.name().as_bytes()) {
+        return Ok(None);
+    }
+    let Some(text) = only_value(buffer, spans, Header::Time.name().as_bytes()) else {
+        return Err(Rejection::Refused(HttpRefusal::BadHeader(Header::Time)));
+    };
+    match time_of(alloc, text)? {
+        Some(time) => Ok(Some(time)),
+        None => Err(Rejection::Refused(HttpRefusal::BadHeader(Header::Time))),
+    }
+}
+
 #[tactic(auto, unfolding(crate::specs::Reading::order_head))]
 fn order_head(
     alloc: Global,
@@ -138,11 +168,13 @@ fn order_head(
     let length = within(body_limit(&endpoint), wanted)?;
     let caller = caller_at(alloc, buffer, spans)?;
     let key = key_at(alloc, buffer, spans)?;
+    let time = time_at(alloc, buffer, spans)?;
     Ok(Head::Order(OrderHead {
         endpoint,
         length,
         caller,
         key,
+        time,
     }))
 }
 

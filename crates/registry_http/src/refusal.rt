@@ -19,13 +19,15 @@ pub enum Allow {
     Post,
 }
 
-/// A header that names the caller of a request, or its key.
+/// A header that gives the caller of a request, its key, or its time.
 #[derive(Clone, Copy, Debug, PartialEq, Eq)]
 pub enum Header {
     /// `registry-caller`.
     Caller,
     /// `registry-key`.
     Key,
+    /// `registry-time`.
+    Time,
 }
 
 impl Header {
@@ -39,6 +41,7 @@ impl Header {
         match self {
             Header::Caller => "registry-caller",
             Header::Key => "registry-key",
+            Header::Time => "registry-time",
         }
     }
 }

@@ -1,11 +1,11 @@
-//! The responses to queries for a number, an organisation or a petition.
+//! The responses to queries for a number, an organisation, a petition or the head of the record.
 
-ghost use Rattle.std.specs.Prelude.{◌≡◌, false, IfOk, OnOk, option_copied, option_map};
+ghost use Rattle.std.specs.Prelude.{◌≡◌, false, codes, IfOk, OnOk, option_copied, option_map};
 ghost use Rattle.serde_json.specs.View.{members_view};
 ghost use Rattle.serde_json.specs.Written.{members_have_float};
 ghost use Rattle.usbnum_core.specs.Number.{digits_of};
 ghost use Rattle.registry_http.specs.Objects.{put_text, put_if};
-ghost use Rattle.registry_http.specs.Resources.{found_response, put_terms, put_terms_if, held_text, put_entry, put_state, number_members, number_response, org_members, org_response, state_text, granted_of, other_vendor, put_asked, put_numbers, petition_members, petition_response};
+ghost use Rattle.registry_http.specs.Resources.{found_response, put_terms, put_terms_if, held_text, put_entry, put_state, number_members, number_response, org_members, org_response, state_text, granted_of, other_vendor, put_asked, put_numbers, petition_members, petition_response, head_response};
 
 use crate::json_object::{object_text, put_if, put_number, put_text};
 use crate::response::{Response, json_response, reply_response};
@@ -13,7 +13,7 @@ use http::StatusCode;
 use registry_rules::{Entry, Org, Petition, PetitionState, Refusal, Reply, Terms};
 use serde_json::{Map, Value};
 use std::alloc::Global;
-use usbnum_core::{NoMemory, Pid, Vid};
+use usbnum_core::{Digest, NoMemory, Pid, Time, Title, Vid};
 
 fn put_pid(
     alloc: Global,
@@ -237,33 +237,82 @@ fn put_numbers(
     put_pid_if(alloc, members, "granted", granted_of(petition.state))
 }
 
+fn put_reason_if(
+    alloc: Global,
+    members: &mut Map<String, Value>,
+    reason: Option<&Title>,
+) -> Result<(), NoMemory>
+    ensures value { OnOk result (members_view members.new.entries ≡ put_if (codes "reason") (option_copied reason.entry) (members_view members.old.entries)) }
+    ensures plain { OnOk result (members_have_float (members_view members.old.entries) ≡ false → members_have_float (members_view members.new.entries) ≡ false) }
+{
+    match reason {
+        Some(reason) => put_text(alloc, members, "reason", reason.as_str()),
+        None => Ok(()),
+    }
+}
+
 #[tactic(auto, unfolding(crate::specs::Resources::petition_members))]
 fn found_petition(
     alloc: Global,
     founding: Vid,
     id: u32,
     petition: &Petition,
+    reason: Option<&Title>,
 ) -> Result<Response, NoMemory>
-    ensures { IfOk result (λ response. response ≡ found_response (petition_members founding id petition.now)) }
+    ensures { IfOk result (λ response. response ≡ found_response (petition_members founding id petition.now (option_copied reason.entry))) }
 {
     let mut members = Map::new(alloc);
     put_asked(alloc, &mut members, id, petition)?;
     put_numbers(alloc, &mut members, founding, petition)?;
+    put_reason_if(alloc, &mut members, reason)?;
     found_response(alloc, members)
 }
 
-/// Makes the response to a query for a petition to a registry with this founding vendor, or refusal
-/// 6 if there is no such petition.
+/// Makes the response to a query for a petition to a registry with this founding vendor, with the
+/// reason why it was declined, if one was given; or refusal 6 if there is no such petition.
 pub fn petition_response(
     alloc: Global,
     founding: Vid,
     id: u32,
     petition: Option<&Petition>,
+    reason: Option<&Title>,
 ) -> Result<Response, NoMemory>
-    ensures { IfOk result (λ response. response ≡ petition_response founding id (option_copied petition.entry)) }
+    ensures { IfOk result (λ response. response ≡ petition_response founding id (option_copied petition.entry) (option_copied reason.entry)) }
 {
     match petition {
-        Some(petition) => found_petition(alloc, founding, id, petition),
+        Some(petition) => found_petition(alloc, founding, id, petition, reason),
         None => reply_response(alloc, &Reply::Refused(Refusal::NoPetition)),
     }
+}
+
+fn put_time_if(
+    alloc: Global,
+    members: &mut Map<String, Value>,
+    time: Option<&Time>,
+) -> Result<(), NoMemory>
+    ensures value { OnOk result (members_view members.new.entries ≡ put_if (codes "time") (option_copied time.entry) (members_view members.old.entries)) }
+    ensures plain { OnOk result (members_have_float (members_view members.old.entries) ≡ false → members_have_float (members_view members.new.entries) ≡ false) }
+{
+    match time {
+        Some(time) => put_text(alloc, members, "time", time.as_str()),
+        None => Ok(()),
+    }
+}
+
+/// Makes the response to a query for the head of the record: how many requests were accepted, the
+/// digest, and the time of the last request, if it has one.
+#[tactic(auto, unfolding(crate::specs::Resources::head_response))]
+pub fn head_response(
+    alloc: Global,
+    requests: u32,
+    digest: &Digest,
+    time: Option<&Time>,
+) -> Result<Response, NoMemory>
+    ensures { IfOk result (λ response. response ≡ head_response requests digest.now (option_copied time.entry)) }
+{
+    let mut members = Map::new(alloc);
+    put_number(alloc, &mut members, "requests", requests)?;
+    put_text(alloc, &mut members, "digest", digest.as_str())?;
+    put_time_if(alloc, &mut members, time)?;
+    found_response(alloc, members)
 }

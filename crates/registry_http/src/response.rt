@@ -1,7 +1,7 @@
 //! Responses: a reply, a refusal, or a text.
 
 ghost use Rattle.std.specs.Prelude.{◌≡◌, IfOk, string_bytes};
-ghost use Rattle.registry_http.specs.Responses.{allow_in, json_response, reply_response, refusal_response, text_response};
+ghost use Rattle.registry_http.specs.Responses.{allow_in, json_response, reply_response, refusal_response, text_response, page_response};
 
 use crate::refusal::{Allow, HttpRefusal};
 use crate::status::{refusal_status, reply_status};
@@ -10,7 +10,7 @@ use registry_rules::Reply;
 use registry_wire::{refused_json, reply_json};
 use std::alloc::Global;
 use std::marker::Model;
-use usbnum_core::NoMemory;
+use usbnum_core::{Digest, NoMemory};
 
 /// The media type of a body.
 #[derive(Clone, Copy, Debug, PartialEq, Eq)]
@@ -42,7 +42,8 @@ impl Body {
         Body { bytes }
     }
 
-    pub(crate) fn as_slice(&self) -> &[u8]
+    /// Returns the bytes.
+    pub fn as_slice(&self) -> &[u8]
         ensures { result.now ≡ self.now }
     {
         &self.bytes
@@ -58,6 +59,8 @@ pub struct Response {
     pub content_type: ContentType,
     /// The method that the path allows, if the message has a wrong one.
     pub allow: Option<Allow>,
+    /// The digest that a page of the record continues.
+    pub digest: Option<Digest>,
     /// The body.
     pub body: Body,
 }
@@ -77,6 +80,7 @@ pub(crate) fn json_response(
         status,
         content_type: ContentType::Json,
         allow,
+        digest: None,
         body: Body::new(text.into_bytes()),
     })
 }
@@ -119,6 +123,22 @@ pub fn text_response(bytes: Vec<u8>) -> Response
         status: StatusCode::OK,
         content_type: ContentType::Text,
         allow: None,
+        digest: None,
+        body: Body::new(bytes),
+    }
+}
+
+/// Makes the response with a page of the record, whose bytes are unchanged, and the digest that it
+/// continues, if it continues one.
+#[tactic(auto, unfolding(crate::specs::Responses::page_response))]
+pub fn page_response(bytes: Vec<u8>, digest: Option<Digest>) -> Response
+    ensures { result ≡ page_response bytes.items digest }
+{
+    Response {
+        status: StatusCode::OK,
+        content_type: ContentType::Text,
+        allow: None,
+        digest,
         body: Body::new(bytes),
     }
 }

@@ -1,13 +1,13 @@
 //! Writes the head of a response as text.
 
 ghost use Rattle.std.specs.Prelude.{◌≡◌, ◌++◌, IfOk, OnOk, decimal, string_bytes};
-ghost use Rattle.registry_http.specs.Responses.{crlf, with_field, with_allow, phrase_of, status_line, content_type_text, allow_text, head_lines, response_head};
+ghost use Rattle.registry_http.specs.Responses.{crlf, with_field, with_allow, with_digest, phrase_of, status_line, content_type_text, allow_text, head_lines, response_head};
 
 use crate::refusal::Allow;
 use crate::response::{ContentType, Response};
 use http::StatusCode;
 use std::alloc::Global;
-use usbnum_core::NoMemory;
+use usbnum_core::{Digest, NoMemory};
 
 #[tactic(auto, unfolding(crate::specs::Responses::with_field))]
 fn push_field(text: &mut String, name: &str, value: &str) -> Result<(), NoMemory>
@@ -67,6 +67,15 @@ fn push_allow(text: &mut String, allow: Option<Allow>) -> Result<(), NoMemory>
     }
 }
 
+fn push_digest(text: &mut String, digest: &Option<Digest>) -> Result<(), NoMemory>
+    ensures { OnOk result (string_bytes text.new ≡ with_digest (string_bytes text.old) digest.now) }
+{
+    match digest {
+        Some(digest) => push_field(text, "registry-digest", digest.as_str()),
+        None => Ok(()),
+    }
+}
+
 fn push_end(text: &mut String) -> Result<(), NoMemory>
     ensures { OnOk result (string_bytes text.new ≡ string_bytes text.old ++ crlf) }
 {
@@ -88,14 +97,16 @@ fn head_lines(
     content_type: ContentType,
     count: usize,
     allow: Option<Allow>,
+    digest: &Option<Digest>,
 ) -> Result<String, NoMemory>
-    ensures { IfOk result (λ s. string_bytes s ≡ head_lines status content_type count allow) }
+    ensures { IfOk result (λ s. string_bytes s ≡ head_lines status content_type count allow digest.now) }
 {
     let digits = digits_of(alloc, count)?;
     let mut text = status_line(alloc, status)?;
     push_field(&mut text, "content-type", content_type_text(content_type))?;
     push_field(&mut text, "content-length", digits.as_str())?;
     push_allow(&mut text, allow)?;
+    push_digest(&mut text, digest)?;
     push_field(&mut text, "connection", "close")?;
     push_end(&mut text)?;
     Ok(text)
@@ -111,5 +122,6 @@ pub(crate) fn response_head(alloc: Global, response: &Response) -> Result<String
         response.content_type,
         response.body.as_slice().len(),
         response.allow,
+        &response.digest,
     )
 }

@@ -18,6 +18,8 @@ pub enum Query {
     Founding,
     /// The founding, with its first licences, as the record has it.
     FirstFounding,
+    /// The head of the record: how many requests were accepted, and the digest.
+    Head,
     /// A page of the history: its accepted requests after this many.
     History(u64),
     /// A report on the whole registry.

@@ -22,6 +22,7 @@ pub(crate) enum Template {
     Commands,
     Founding,
     FirstFounding,
+    Head,
     History,
     Imports,
     VendorImports,
@@ -51,6 +52,7 @@ fn templates(alloc: Global) -> Result<Router<Template>, NoMemory>
     let mut router = Router::new(alloc);
     add(&mut router, "/commands", Template::Commands)?;
     add(&mut router, "/founding", Template::Founding)?;
+    add(&mut router, "/head", Template::Head)?;
     add(&mut router, "/history/founding", Template::FirstFounding)?;
     add(&mut router, "/history/{n}", Template::History)?;
     add(&mut router, "/imports/{org}", Template::Imports)?;
@@ -100,6 +102,7 @@ fn route_for(
         Template::Commands => Ok(Some(Route::Post(Endpoint::Commands))),
         Template::Founding => Ok(Some(Route::Get(Query::Founding))),
         Template::FirstFounding => Ok(Some(Route::Get(Query::FirstFounding))),
+        Template::Head => Ok(Some(Route::Get(Query::Head))),
         Template::History => Ok(history_route(one)),
         Template::Imports => import_route(alloc, one),
         Template::VendorImports => vendor_import_route(alloc, one, two),

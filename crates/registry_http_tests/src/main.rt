@@ -23,10 +23,12 @@ fn of_bytes(alloc: Global, kind: &str, bytes: &[u8]) -> Result<Vec<u8>, RowFault
 fn of_resources(alloc: Global, kind: &str, text: &str) -> Result<Vec<u8>, RowFault> {
     match kind {
         "founding" => resources::founding(alloc, text),
+        "head" => resources::head(alloc, text),
         "number" => resources::number(alloc, text),
         "org" => resources::org(alloc, text),
         "no-org" => resources::no_org(alloc),
         "petition" => resources::petition(alloc, text),
+        "declined" => resources::declined(alloc, text),
         "no-petition" => resources::no_petition(alloc, text),
         _ => {
             let bytes = bytes_of(alloc, text)?;

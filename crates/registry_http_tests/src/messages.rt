@@ -5,6 +5,7 @@ use crate::responses::refusal_text;
 use byte_streams::{Inlet, Source};
 use registry_http::{Message, MessageFault, Query, Routes, read_message};
 use registry_reports::ReportKind;
+use registry_rules::Request;
 use row_records::canonical;
 use row_texts::{RowFault, text_of};
 use std::alloc::Global;
@@ -35,15 +36,28 @@ fn query_text(alloc: Global, query: &Query) -> Result<Vec<u8>, RowFault> {
         Query::Petition(id) => Ok(format!(in alloc; "petition {id}")?.into_bytes()),
         Query::Founding => text_of(alloc, "founding"),
         Query::FirstFounding => text_of(alloc, "first founding"),
+        Query::Head => text_of(alloc, "head"),
         Query::History(n) => Ok(format!(in alloc; "history {n}")?.into_bytes()),
         Query::Report(report) => report_text(alloc, *report),
+    }
+}
+
+// The canonical form of a request, after its time, if it has one.
+fn request_text(alloc: Global, request: &Request) -> Result<Vec<u8>, RowFault> {
+    match &request.time {
+        None => canonical(alloc, request),
+        Some(time) => {
+            let mut text = format!(in alloc; "at {time} ")?.into_bytes();
+            text.extend_from_slice(&canonical(alloc, request)?)?;
+            Ok(text)
+        }
     }
 }
 
 fn said_text(alloc: Global, message: &Message) -> Result<Vec<u8>, RowFault> {
     match message {
         Message::Query(query) => query_text(alloc, query),
-        Message::Request(request) => canonical(alloc, request),
+        Message::Request(request) => request_text(alloc, request),
     }
 }
 

@@ -1,12 +1,14 @@
-//! Numbers, organisations and petitions, and the whole response for each.
+//! Numbers, organisations, petitions and the head of the record, and the whole response for each.
 
 use crate::responses::response_text;
-use registry_http::{founding_response, number_response, org_response, petition_response};
+use registry_http::{
+    founding_response, head_response, number_response, org_response, petition_response,
+};
 use registry_rules::{Entry, Founding, Org, Petition, Terms, Vendor};
 use row_records::{field, founding_of, maybe_vid, pid, slug, vid};
 use row_texts::{RowFault, bytes_of, cut, number_of};
 use std::alloc::Global;
-use usbnum_core::{Pid, Vid};
+use usbnum_core::{Digest, Pid, Time, Title, Vid};
 
 fn terms_if(alloc: Global, text: &str) -> Result<Option<Terms>, RowFault> {
     match text {
@@ -71,20 +73,50 @@ pub(crate) fn no_org(alloc: Global) -> Result<Vec<u8>, RowFault> {
     org_text(alloc, None)
 }
 
-fn petition_text(alloc: Global, id: u32, petition: Option<&Petition>) -> Result<Vec<u8>, RowFault> {
-    let response = petition_response(alloc, vid("1209")?, id, petition)?;
+fn petition_text(
+    alloc: Global,
+    id: u32,
+    petition: Option<&Petition>,
+    reason: Option<&Title>,
+) -> Result<Vec<u8>, RowFault> {
+    let response = petition_response(alloc, vid("1209")?, id, petition, reason)?;
     response_text(alloc, &response)
 }
 
 /// Shows the response to a query for a petition to a registry of vendor 1209.
 pub(crate) fn petition(alloc: Global, text: &str) -> Result<Vec<u8>, RowFault> {
     let (id, petition) = row_records::petition(alloc, text)?;
-    petition_text(alloc, id, Some(&petition))
+    petition_text(alloc, id, Some(&petition), None)
+}
+
+/// Shows the same for a petition that was declined for a reason, which comes first.
+pub(crate) fn declined(alloc: Global, text: &str) -> Result<Vec<u8>, RowFault> {
+    let (reason, rest) = cut(text)?;
+    let reason = row_records::title(alloc, reason)?;
+    let (id, petition) = row_records::petition(alloc, rest)?;
+    petition_text(alloc, id, Some(&petition), Some(&reason))
 }
 
 /// Shows the response to a query for a petition that is not there.
 pub(crate) fn no_petition(alloc: Global, text: &str) -> Result<Vec<u8>, RowFault> {
-    petition_text(alloc, number_of(text)?, None)
+    petition_text(alloc, number_of(text)?, None, None)
+}
+
+fn time_if(alloc: Global, text: &str) -> Result<Option<Time>, RowFault> {
+    match text {
+        "-" => Ok(None),
+        _ => Ok(Some(Time::new(alloc, text.as_bytes())?.ok_or(RowFault::BadRow)?)),
+    }
+}
+
+/// Shows the response to a query for the head of the record: how many requests were accepted, the
+/// time of the last one, or a hyphen in place of one, and the digest.
+pub(crate) fn head(alloc: Global, text: &str) -> Result<Vec<u8>, RowFault> {
+    let (count, rest) = field(text)?;
+    let (time, digest) = field(rest)?;
+    let (count, time) = (number_of(count)?, time_if(alloc, time)?);
+    let digest = Digest::new(alloc, digest.as_bytes())?.ok_or(RowFault::BadRow)?;
+    response_text(alloc, &head_response(alloc, count, &digest, time.as_ref())?)
 }
 
 fn founding_text(

@@ -61,14 +61,15 @@ fn refusal_of(number: u32) -> Result<HttpRefusal, RowFault> {
         125 => HttpRefusal::WrongMethod(Allow::Post),
         26 => HttpRefusal::BadHeader(Header::Caller),
         126 => HttpRefusal::BadHeader(Header::Key),
+        226 => HttpRefusal::BadHeader(Header::Time),
         30 => HttpRefusal::StoreFault,
         31 => HttpRefusal::NoMemory,
         _ => return Err(RowFault::BadRow),
     })
 }
 
-/// Shows the response that has a refusal of a message. 125 and 126 are refusals 25 and 26 of the
-/// other method and header.
+/// Shows the response that has a refusal of a message. 125, 126 and 226 are refusals 25 and 26 of the
+/// other method and headers.
 pub(crate) fn turns_away(alloc: Global, text: &str) -> Result<Vec<u8>, RowFault> {
     refusal_text(alloc, refusal_of(number_of(text)?)?)
 }

@@ -1,5 +1,6 @@
 use Rattle.std.proofs.Common.{refl}
 use Rattle.std.proofs.lemmas.Result.{err_from_is_err_and}
+use Rattle.registry_views.proofs.ViewLemmas.{both}
 use Rattle.registry_desk.proofs.QueryLemmas.{answers, failed, lacks_memory}
 use Rattle.registry_desk.proofs.queries.ask_petition.Goals as goal
 
@@ -8,12 +9,17 @@ returns-in_err-petition g c =
     let p = err_from_is_err_and c.from_residual.result c.from_residual.ensures.1 in
     rw (p.1, p.2) (failed _ c.in_err-petition.ensures.query)
 
+pub returns-in_err-reason : goal.returns-in_err-reason
+returns-in_err-reason g c =
+    let p = err_from_is_err_and c.from_residual-in_err-reason.result c.from_residual-in_err-reason.ensures.1 in
+    rw (p.1, p.2) (failed _ (both c.in_ok-petition.ensures.query c.in_err-reason.ensures.query))
+
 pub returns-in_err-petition_response : goal.returns-in_err-petition_response
 returns-in_err-petition_response g c =
     let p = err_from_is_err_and c.from_residual-in_err-petition_response.result c.from_residual-in_err-petition_response.ensures.1 in
-    rw (p.1, p.2) (lacks_memory c.in_ok-petition.ensures.query)
+    rw (p.1, p.2) (lacks_memory (both c.in_ok-petition.ensures.query c.in_ok-reason.ensures.query))
 
 pub returns : goal.returns
-returns g c = answers c.in_ok-petition.ensures.query (λ h stands is.
+returns g c = answers (both c.in_ok-petition.ensures.query c.in_ok-reason.ensures.query) (λ h stands is.
     let founding = (c.founding.ensures h stands).vendor in
-    rw (c.in_ok-petition_response.ensures, c.as_ref.ensures.value, is, founding) refl)
+    rw (c.in_ok-petition_response.ensures, c.as_ref.ensures.value, c.as_ref-2.ensures.value, is.0, is.1, founding) refl)
