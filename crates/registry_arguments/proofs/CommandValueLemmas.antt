@@ -10,8 +10,9 @@ use Rattle.clap.specs.Simple.{argument_words, built, built_leaf, help_shape}
 use Rattle.clap.specs.Kinds.{value_kinds}
 use Rattle.clap.specs.declared.builder.value_parser.ValueParser.TheVariants as parser
 use Rattle.clap.specs.declared.error.kind.ErrorKind.TheVariants as kind
+use Rattle.registry_arguments.specs.declared.command.Command.{Command}
 use Rattle.registry_arguments.specs.declared.command.Command.TheVariants as command
-use Rattle.registry_arguments.specs.Commands.{apply_app, apply_in, asked_by, bare_app, check_app, check_in, chosen, command_of, export_app, export_in, faults_of, found_app, found_in, import_app, import_in, replay_in, history_in, lookup_app, lookup_in, most_connections, number_if_given, number_in, history_app, replay_app, report_app, report_in, serve_app, serve_in, trial_app, usbreg_app}
+use Rattle.registry_arguments.specs.Commands.{apply_app, apply_in, asked_by, bare_app, check_app, check_in, chosen, command_of, export_app, export_in, faults_of, found_app, found_in, head_app, head_in, import_app, import_in, replay_in, history_in, lookup_app, lookup_in, most_connections, number_if_given, number_in, history_app, named, replay_app, report_app, report_in, serve_app, serve_in, trial_app, usbreg_app}
 use Rattle.registry_arguments.proofs.ClapLevelLemmas.{HasValues, first_given, first_passes, level_values}
 use Rattle.registry_arguments.proofs.EnteredLemmas.{Asks, asked}
 
@@ -20,6 +21,13 @@ pub no_subcommand : (found : Option (Text × List Row)) → None ≡ option_map 
 unfolding asked_by
 no_subcommand None none = refl
 no_subcommand (Some p) none = absurd cc
+
+-- with a subcommand its command is asked for
+pub a_subcommand : {B : Type 0} (name_of : B → Text) (rows_in : B → List Row) (found : Option B) (name : Text) (rows : List Row) (r : Option (Command Text)) → Some name ≡ option_map name_of found
+    → Some rows ≡ option_map (λ (p : Text × List Row). p.1) (option_map (λ b. (name_of b, rows_in b)) found) → r ≡ named name rows → r ≡ asked_by (option_map (λ b. (name_of b, rows_in b)) found)
+unfolding asked_by
+a_subcommand name_of rows_in None name rows r is_named has_rows is = absurd cc
+a_subcommand name_of rows_in (Some b) name rows r is_named has_rows is = cc
 
 -- ---- values
 
@@ -73,6 +81,9 @@ report_there rows store name = rw ((value_of _ store).1, (value_of _ name).1) re
 
 history_there : (rows : List Row) → Has rows (codes "store") → IsSome (number_if_given 0 4294967295 (first_of (codes "after") rows)) → IsSome (history_in rows)
 history_there rows store after = rw ((value_of _ store).1, (value_of _ after).1) refl
+
+head_there : (rows : List Row) → Has rows (codes "store") → IsSome (head_in rows)
+head_there rows store = rw ((value_of _ store).1) refl
 
 check_there : (rows : List Row) → Has rows (codes "store") → IsSome (check_in rows)
 check_there rows store = rw ((value_of _ store).1) refl
@@ -163,6 +174,15 @@ history_asks name words met free none =
     history_there rows (given (codes "store") (has.given.0 refl)) (number_given false 0 4294967295 (first_of (codes "after") rows)
     (λ text is. first_passes s rows (codes "after") text _ has.values refl is))
 
+head_asks : Asks (built_leaf head_app.top)
+unfolding head_app
+head_asks name words met free none =
+    let s = built_leaf head_app.top in
+    let rows = rows_after s.rules [] words in
+    let has : HasValues s rows = level_values s refl ((refl, refl, inl (refl, inl refl)), ((refl, refl, inl (refl, inr (codes "true", refl))), ((refl, refl, inr (λ values rows e. absurd cc)), tt))) words none in
+    let given = λ (id : Text). first_given s rows id has.values in
+    head_there rows (given (codes "store") (has.given.0 refl))
+
 check_asks : Asks (built_leaf check_app.top)
 unfolding check_app
 check_asks name words met free none =
@@ -194,8 +214,8 @@ help_asks name words met free none = absurd (not_help name met free)
 
 -- arguments without a fault ask for a command
 pub asks_for_a_command : (words : List Text) → faults_of words ≡ [] → IsSome (command_of words)
-unfolding faults_of chosen bare_app trial_app found_app apply_app import_app replay_app serve_app export_app report_app history_app check_app lookup_app
+unfolding faults_of chosen bare_app trial_app found_app apply_app import_app replay_app serve_app export_app report_app history_app head_app check_app lookup_app
 asks_for_a_command words none =
     asked (built usbreg_app) refl
-    (trial_asks, (found_asks, (apply_asks, (import_asks, (replay_asks, (serve_asks, (export_asks, (report_asks, (history_asks, (check_asks, (lookup_asks, (help_asks, tt))))))))))))
+    (trial_asks, (found_asks, (apply_asks, (import_asks, (replay_asks, (serve_asks, (export_asks, (report_asks, (history_asks, (head_asks, (check_asks, (lookup_asks, (help_asks, tt)))))))))))))
     (argument_words usbreg_app words) none

@@ -3,12 +3,12 @@ use Rattle.std.proofs.Common.{◌≡◌, List, [], ◌∷◌, codes, true, false
 use Rattle.std.specs.Prelude.{⊤}
 use Rattle.clap.specs.Words.{Text}
 use Rattle.clap.proofs.OnLiterals.{clap_on_literals}
-use Rattle.registry_arguments.specs.Commands.{accepts, apply_app, asked_by, bare_app, check_app, chosen, command_of, export_app, found_app, import_app, is_verbose, lookup_app, number_in, history_app, replay_app, report_app, serve_app, trial_app, verbose_by}
+use Rattle.registry_arguments.specs.Commands.{accepts, apply_app, asked_by, bare_app, check_app, chosen, command_of, export_app, found_app, head_app, import_app, is_verbose, lookup_app, number_in, history_app, replay_app, report_app, serve_app, trial_app, verbose_by}
 use Rattle.registry_arguments.specs.declared.command.Command.TheVariants as command
 
 -- unfolded by a proof to compute the command of literal arguments
 unfoldable on_literals : ⊤
-unfolding clap_on_literals bare_app trial_app found_app apply_app import_app replay_app serve_app export_app report_app history_app check_app lookup_app asked_by chosen number_in accepts verbose_by
+unfolding clap_on_literals bare_app trial_app found_app apply_app import_app replay_app serve_app export_app report_app history_app head_app check_app lookup_app asked_by chosen number_in accepts verbose_by
 on_literals = tt
 
 abbrev usbreg : List Text → List Text
@@ -62,6 +62,10 @@ records = refl
 pub records_from : command_of (usbreg (codes "history" ∷ codes "--after" ∷ codes "0" ∷ codes "s" ∷ [])) ≡ Some (command.History (codes "s") (Some 0))
 unfolding on_literals
 records_from = refl
+
+pub heads : command_of (usbreg (codes "head" ∷ codes "s" ∷ [])) ≡ Some (command.Head (codes "s"))
+unfolding on_literals
+heads = refl
 
 pub checks : command_of (usbreg (codes "check" ∷ codes "s" ∷ [])) ≡ Some (command.Check (codes "s"))
 unfolding on_literals

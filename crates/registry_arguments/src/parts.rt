@@ -114,6 +114,40 @@ pub(crate) fn with_check<'a>(
     with_arg(command, flag(alloc, "check", help))
 }
 
+/// Adds the option for the vendor, and the flag for a dry run.
+pub(crate) fn with_vendor<'a>(
+    alloc: Global,
+    command: Command<'a>,
+) -> Result<Command<'a>, AllocError>
+    ensures app { IfOk result (λ c. app_of c ≡ with_rule (with_rule (app_of command.entry) (option (codes "vendor"))) (flag (codes "check"))) }
+    ensures local { IfOk result (λ c. (out-Command c).has_globals ≡ (out-Command command.entry).has_globals) }
+{
+    let vendor = option(alloc, "vendor", "V", "The vendor, if not the founding one");
+    let command = with_arg(command, vendor)?;
+    with_check(
+        alloc,
+        command,
+        "Only print the reply, and import nothing; fails if nothing would be imported",
+    )
+}
+
+/// Adds the options for the caller, the key and the organisation.
+pub(crate) fn with_sender<'a>(
+    alloc: Global,
+    command: Command<'a>,
+) -> Result<Command<'a>, AllocError>
+    ensures app { IfOk result (λ c. app_of c ≡ with_rule (with_rule (with_rule (app_of command.entry)
+        (needed_option (codes "caller"))) (needed_option (codes "key"))) (needed_option (codes "org"))) }
+    ensures local { IfOk result (λ c. (out-Command c).has_globals ≡ (out-Command command.entry).has_globals) }
+{
+    let caller = needed_option(alloc, "caller", "C", "Who asks");
+    let key = needed_option(alloc, "key", "K", "A key that this caller uses once");
+    let org = needed_option(alloc, "org", "O", "The organisation that gets the numbers");
+    let command = with_arg(command, caller)?;
+    let command = with_arg(command, key)?;
+    with_arg(command, org)
+}
+
 /// Adds `--verbose`, which each subcommand has.
 pub(crate) fn with_verbose<'a>(
     alloc: Global,

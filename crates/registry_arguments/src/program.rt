@@ -1,13 +1,13 @@
 //! The definition of the program's command line for `clap`.
 
 ghost use Rattle.std.specs.Prelude.{◌≡◌, IfOk, Some, false, codes, option_copied};
-ghost use Rattle.clap.specs.Words.{app_of, new_app, with_rule, with_subcommand};
+ghost use Rattle.clap.specs.Words.{app_of, new_app, with_subcommand};
 ghost use Rattle.clap.specs.declared.builder.command.Command.TheViews.{out-Command};
-ghost use Rattle.registry_arguments.specs.Commands.{apply_app, check_app, export_app, flag, found_app, history_app, import_app, lookup_app, needed_option, option, replay_app, report_app, serve_app, trial_app, usbreg_app, versioned};
+ghost use Rattle.registry_arguments.specs.Commands.{apply_app, check_app, export_app, found_app, head_app, history_app, import_app, lookup_app, replay_app, report_app, serve_app, trial_app, usbreg_app, versioned};
 
 use crate::parts::{
     MOST_CONNECTIONS, MOST_PASSED, MOST_PORT, needed_option, numeric, option, positional,
-    subcommand, with_arg, with_check, with_command, with_verbose,
+    subcommand, with_arg, with_check, with_command, with_sender, with_vendor, with_verbose,
 };
 use clap::Command;
 use std::alloc::{AllocError, Global};
@@ -119,34 +119,6 @@ fn import<'a>(alloc: Global) -> Result<Command<'a>, AllocError>
     let command = with_sender(alloc, command)?;
     let command = with_vendor(alloc, command)?;
     with_verbose(alloc, command)
-}
-
-/// Adds the option for the vendor, and the flag for a dry run.
-fn with_vendor<'a>(alloc: Global, command: Command<'a>) -> Result<Command<'a>, AllocError>
-    ensures app { IfOk result (λ c. app_of c ≡ with_rule (with_rule (app_of command.entry) (option (codes "vendor"))) (flag (codes "check"))) }
-    ensures local { IfOk result (λ c. (out-Command c).has_globals ≡ (out-Command command.entry).has_globals) }
-{
-    let vendor = option(alloc, "vendor", "V", "The vendor, if not the founding one");
-    let command = with_arg(command, vendor)?;
-    with_check(
-        alloc,
-        command,
-        "Only print the reply, and import nothing; fails if nothing would be imported",
-    )
-}
-
-/// Adds the options for the caller, the key and the organisation.
-fn with_sender<'a>(alloc: Global, command: Command<'a>) -> Result<Command<'a>, AllocError>
-    ensures app { IfOk result (λ c. app_of c ≡ with_rule (with_rule (with_rule (app_of command.entry)
-        (needed_option (codes "caller"))) (needed_option (codes "key"))) (needed_option (codes "org"))) }
-    ensures local { IfOk result (λ c. (out-Command c).has_globals ≡ (out-Command command.entry).has_globals) }
-{
-    let caller = needed_option(alloc, "caller", "C", "Who asks");
-    let key = needed_option(alloc, "key", "K", "A key that this caller uses once");
-    let org = needed_option(alloc, "org", "O", "The organisation that gets the numbers");
-    let command = with_arg(command, caller)?;
-    let command = with_arg(command, key)?;
-    with_arg(command, org)
 }
 
 #[tactic(auto, unfolding(crate::specs::Commands::replay_app))]
@@ -272,6 +244,26 @@ fn history<'a>(alloc: Global) -> Result<Command<'a>, AllocError>
     with_verbose(alloc, command)
 }
 
+#[tactic(auto, unfolding(crate::specs::Commands::head_app))]
+fn head<'a>(alloc: Global) -> Result<Command<'a>, AllocError>
+    ensures app { IfOk result (λ c. app_of c ≡ head_app) }
+    ensures local { IfOk result (λ c. (out-Command c).has_globals ≡ false) }
+{
+    let command = subcommand(
+        alloc,
+        "head",
+        "Print where the record ends: how many requests it has, and their digest",
+        "One JSON object, with the time of the last request if it has one. Two records with the same head have \
+         the same lines.\n\nExample:\n  usbreg found numbers.db examples/founding.toml\n  usbreg head \
+         numbers.db",
+    );
+    let command = with_arg(
+        command,
+        positional(alloc, "store", "STORE", "The registry's file"),
+    )?;
+    with_verbose(alloc, command)
+}
+
 #[tactic(auto, unfolding(crate::specs::Commands::check_app))]
 fn check<'a>(alloc: Global) -> Result<Command<'a>, AllocError>
     ensures app { IfOk result (λ c. app_of c ≡ check_app) }
@@ -326,8 +318,8 @@ fn bare<'a>(alloc: Global) -> Command<'a>
         .about("A registry of shared USB product numbers that never loses or duplicates a grant")
         .after_help(
             "Without a command, `usbreg` runs `trial`. `found`, `apply`, `import`, `replay` and `serve` \
-             change a registry. `export`, `report`, `history` and `check` only read one, but they need to write \
-             its files too: they bring the store of an older version to the newest first. With `--check`, `found` \
+             change a registry. `export`, `report`, `history`, `head` and `check` only read one, but they need to \
+             write its files too: they bring the store of an older version to the newest first. With `--check`, `found` \
              and `import` change no registry, and say what they would do.\n\nExit status: 0 on \
              success; 1 after a fault of the store, of memory, of a file or of a socket; 2 if arguments, an \
              input, a line of a record or an import are refused, or if no device is found.",
@@ -346,15 +338,16 @@ fn with_requests<'a>(alloc: Global, program: Command<'a>) -> Result<Command<'a>,
     with_command(program, replay(alloc)?)
 }
 
-/// Adds `serve`, `export`, `report`, `history`, `check` and `lookup`.
+/// Adds `serve`, `export`, `report`, `history`, `head`, `check` and `lookup`.
 fn with_views<'a>(alloc: Global, program: Command<'a>) -> Result<Command<'a>, AllocError>
-    ensures { IfOk result (λ c. app_of c ≡ with_subcommand (with_subcommand (with_subcommand (with_subcommand (with_subcommand (with_subcommand
-        (app_of program.entry) serve_app.top) export_app.top) report_app.top) history_app.top) check_app.top) lookup_app.top) }
+    ensures { IfOk result (λ c. app_of c ≡ with_subcommand (with_subcommand (with_subcommand (with_subcommand (with_subcommand (with_subcommand (with_subcommand
+        (app_of program.entry) serve_app.top) export_app.top) report_app.top) history_app.top) head_app.top) check_app.top) lookup_app.top) }
 {
     let program = with_command(program, serve(alloc)?)?;
     let program = with_command(program, export(alloc)?)?;
     let program = with_command(program, report(alloc)?)?;
     let program = with_command(program, history(alloc)?)?;
+    let program = with_command(program, head(alloc)?)?;
     let program = with_command(program, check(alloc)?)?;
     with_command(program, lookup(alloc)?)
 }

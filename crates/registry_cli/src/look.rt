@@ -11,9 +11,9 @@ const SUM: usize = 8;
 
 /// The newest schema, and its tables in their order, as docs/schema.md has them. An older one has the
 /// first of these.
-const NEWEST: u64 = 3;
+const NEWEST: u64 = 4;
 
-const TABLES: [&str; 14] = [
+const TABLES: [&str; 16] = [
     "meta",
     "curators",
     "licences",
@@ -28,6 +28,8 @@ const TABLES: [&str; 14] = [
     "spans3",
     "entries3",
     "petitions3",
+    "digests4",
+    "reasons4",
 ];
 
 /// The most characters that are shown of a name.
@@ -157,6 +159,7 @@ fn count_in(version: u64) -> Option<usize> {
         1 => Some(9),
         2 => Some(10),
         3 => Some(14),
+        4 => Some(16),
         _ => None,
     }
 }

@@ -29,21 +29,21 @@ too_long line long = go (nat_le (length line) most_line) refl
 
 pub takes_passed : (old new : Option (List ℕ)) (n m : ℕ) (entry : Entry) → is_followed entry ≡ true → PassesOne old new entry → m ≡ n + 1 → TakesEntry old new n m entry
 takes_passed old new n m Blank is one more = (one, more)
-takes_passed old new n m (Request a) is one more = (one, more)
+takes_passed old new n m (Request a d) is one more = (one, more)
 takes_passed old new n m End is one more = absurd cc
 takes_passed old new n m (Founding f) is one more = absurd cc
 takes_passed old new n m (Bad r) is one more = absurd cc
 
 pub takes_none : (old new : Option (List ℕ)) (n m : ℕ) (entry : Entry) → is_followed entry ≡ false → NextSays old entry → m ≡ n → TakesEntry old new n m entry
 takes_none old new n m Blank is next same = absurd cc
-takes_none old new n m (Request a) is next same = absurd cc
+takes_none old new n m (Request a d) is next same = absurd cc
 takes_none old new n m End is next same = (next, same)
 takes_none old new n m (Founding f) is next same = (next, same)
 takes_none old new n m (Bad r) is next same = (next, same)
 
 pub followed_may_pass : (entry : Entry) → is_followed entry ≡ true → MayPass entry
 followed_may_pass Blank is = tt
-followed_may_pass (Request a) is = tt
+followed_may_pass (Request a d) is = tt
 followed_may_pass End is = absurd cc
 followed_may_pass (Founding f) is = absurd cc
 followed_may_pass (Bad r) is = absurd cc
@@ -54,7 +54,7 @@ never_end line is = go (nat_le (length line) most_line) is
   where
     by : (r : Result RecordLine WireRefusal) → entry_by r ≡ End → ⊥
     by (Ok (wire.Founding f)) e = cc
-    by (Ok (wire.Accepted a)) e = cc
+    by (Ok (wire.Accepted a d)) e = cc
     by (Err refusal) e = cc
 
     short : (t : Bool) → (if t then Blank else entry_by (record_reading line)) ≡ End → ⊥

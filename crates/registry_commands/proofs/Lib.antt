@@ -13,3 +13,4 @@ pub mod BeginLemmas
 pub mod FoundOrOpenLemmas
 pub mod KeyLemmas
 pub mod CheckLemmas
+pub mod DigestLemmas

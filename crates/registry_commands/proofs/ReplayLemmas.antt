@@ -29,7 +29,7 @@ use Rattle.byte_streams.specs.Streams.{FailsOnce}
 use Rattle.registry_commands.specs.Messages.{failure_of, input_failure}
 use Rattle.registry_commands.specs.Entries.{FirstSays, PassesOne, entry_in, is_followed}
 use Rattle.registry_commands.specs.RecordLines.{MayHaveLines, Passes}
-use Rattle.registry_commands.specs.Replayed.{ActsOnNone, GetTheirReplies, IsOfActing, IsOfReplay, IsRefusedFor, IsReplayOf, accepted_in, after_lines, foreign_by, replies_of, requests_of, with_entry}
+use Rattle.registry_commands.specs.Replayed.{ActsOnNone, AreContinued, Continues, ContinuesBy, GetTheirReplies, IsAnother, IsOfActing, IsOfReplay, IsRefusedFor, IsReplayOf, accepted_in, after_entry, after_lines, foreign_by, replies_of, requests_of, with_entry}
 use Rattle.registry_commands.proofs.ApplyLemmas.{endures_itself}
 use Rattle.registry_commands.proofs.RecordLineLemmas.{may_have, passes_none, passes_then}
 
@@ -41,7 +41,7 @@ with_last (first ∷ front) line = go (entry_in first) (with_last front line)
   where
     go : (e : Entry) → accepted_in (front ++ line ∷ []) ≡ accepted_in front ++ with_entry (entry_in line) []
         → with_entry e (accepted_in (front ++ line ∷ [])) ≡ with_entry e (accepted_in front) ++ with_entry (entry_in line) []
-    go (Request a) below = ap (λ (l : List Accepted). a ∷ l) below
+    go (Request a d) below = ap (λ (l : List Accepted). a ∷ l) below
     go End below = below
     go Blank below = below
     go (Founding f) below = below
@@ -50,8 +50,8 @@ with_last (first ∷ front) line = go (entry_in first) (with_last front line)
 with_blank : (front : List (List ℕ)) (line : List ℕ) → entry_in line ≡ Blank → accepted_in (front ++ line ∷ []) ≡ accepted_in front
 with_blank front line is = with_last front line ∙ ap (λ (e : Entry). accepted_in front ++ with_entry e []) is ∙ append-nil (accepted_in front)
 
-with_request : (front : List (List ℕ)) (line : List ℕ) (a : Accepted) → entry_in line ≡ Request a → accepted_in (front ++ line ∷ []) ≡ accepted_in front ++ a ∷ []
-with_request front line a is = with_last front line ∙ ap (λ (e : Entry). accepted_in front ++ with_entry e []) is
+with_request : (front : List (List ℕ)) (line : List ℕ) (a : Accepted) (d : Option (List ℕ)) → entry_in line ≡ Request a d → accepted_in (front ++ line ∷ []) ≡ accepted_in front ++ a ∷ []
+with_request front line a d is = with_last front line ∙ ap (λ (e : Entry). accepted_in front ++ with_entry e []) is
 
 after_more : (h : History) (list : List Accepted) (a : Accepted) → after h (requests_of (list ++ a ∷ [])) ≡ after_one (after h (requests_of list)) a.request
 after_more h [] a = refl
@@ -64,18 +64,32 @@ replies_more h (first ∷ list) a = ap (λ (l : List Reply). reply_to h first.re
 told_more : (list : List Accepted) (a : Accepted) → replies_of (list ++ a ∷ []) ≡ replies_of list ++ Done a.reply ∷ []
 told_more list a = map-append (λ (accepted : Accepted). Done accepted.reply) list (a ∷ [])
 
-pub after_request : (h : History) (front : List (List ℕ)) (line : List ℕ) (a : Accepted) → entry_in line ≡ Request a → after_lines h (front ++ line ∷ []) ≡ after_one (after_lines h front) a.request
-after_request h front line a is = ap (λ (l : List Accepted). after h (requests_of l)) (with_request front line a is) ∙ after_more h (accepted_in front) a
+pub after_request : (h : History) (front : List (List ℕ)) (line : List ℕ) (a : Accepted) (d : Option (List ℕ)) → entry_in line ≡ Request a d → after_lines h (front ++ line ∷ []) ≡ after_one (after_lines h front) a.request
+after_request h front line a d is = ap (λ (l : List Accepted). after h (requests_of l)) (with_request front line a d is) ∙ after_more h (accepted_in front) a
 
-pub replied_request : (h : History) (front : List (List ℕ)) (line : List ℕ) (a : Accepted) → entry_in line ≡ Request a → GetTheirReplies h front → reply_to (after_lines h front) a.request ≡ Done a.reply
+pub replied_request : (h : History) (front : List (List ℕ)) (line : List ℕ) (a : Accepted) (d : Option (List ℕ)) → entry_in line ≡ Request a d → GetTheirReplies h front → reply_to (after_lines h front) a.request ≡ Done a.reply
     → GetTheirReplies h (front ++ line ∷ [])
-replied_request h front line a is so_far same =
-    ap (λ (l : List Accepted). replies_to h (requests_of l)) (with_request front line a is)
+replied_request h front line a d is so_far same =
+    ap (λ (l : List Accepted). replies_to h (requests_of l)) (with_request front line a d is)
     ∙ replies_more h (accepted_in front) a
     ∙ ap (λ (l : List Reply). l ++ reply_to (after_lines h front) a.request ∷ []) so_far
     ∙ ap (λ (r : Reply). replies_of (accepted_in front) ++ r ∷ []) same
     ∙ sym (told_more (accepted_in front) a)
-    ∙ ap replies_of (sym (with_request front line a is))
+    ∙ ap replies_of (sym (with_request front line a d is))
+
+after_first : (h : History) (e : Entry) (list : List Accepted) → after h (requests_of (with_entry e list)) ≡ after (after_entry h e) (requests_of list)
+after_first h (Request a d) list = refl
+after_first h End list = refl
+after_first h Blank list = refl
+after_first h (Founding f) list = refl
+after_first h (Bad r) list = refl
+
+-- one more line continues the history after those before it
+pub continued_more : (h : History) (front : List (List ℕ)) (line : List ℕ) → AreContinued h front → ContinuesBy (after_lines h front) (entry_in line) → AreContinued h (front ++ line ∷ [])
+continued_more h [] line all last = (last, tt)
+continued_more h (first ∷ front) line all last =
+    let step = after_first h (entry_in first) (accepted_in front) in
+    (all.0, continued_more (after_entry h (entry_in first)) front line all.1 (subst (λ (x : History). ContinuesBy x (entry_in line)) step last))
 
 -- ---- the registry so far
 
@@ -103,7 +117,7 @@ module _ {S : Type 0} {g : Ghosts S} where
     pub passed : Passes to_come now front
     pub each : All (λ line. is_followed (entry_in line) ≡ true) front
     pub counted : count ≡ before + length front
-    pub replied : (h : History) → Represents it h → HasCleanDisk (state_of mid) → GetTheirReplies h front × Represents mid (after_lines h front)
+    pub replied : (h : History) → Represents it h → HasCleanDisk (state_of mid) → GetTheirReplies h front × Represents mid (after_lines h front) × AreContinued h front
     pub sound : is_poisoned mid ≡ is_poisoned it
     pub poisoned : is_poisoned it ≡ true → (mid ≡ it) × (accepted_in front ≡ [])
     pub endures : Endures (state_of it) (state_of mid)
@@ -115,7 +129,7 @@ module _ {S : Type 0} {g : Ghosts S} where
     passed = passes_none to_come;
     each = All-nil (λ line. is_followed (entry_in line) ≡ true);
     counted = omega arith;
-    replied = λ h stands clean. (refl, stands);
+    replied = λ h stands clean. (refl, stands, tt);
     sound = refl;
     poisoned = λ _. (refl, refl);
     endures = endures_itself (state_of it);
@@ -154,8 +168,8 @@ module _ {S : Type 0} {g : Ghosts S} where
 
   module _ (to_come now : Option (List ℕ)) (before count : ℕ) (it mid : Registry S g) (so_far : AreReplayed to_come now before count it mid) where
     -- the lines passed so far are all that were acted on
-    none_acted : (result : Result (Unit {0}) ReplayStop) → ((number : ℕ) (reply : Reply) → result ≢ Err (stop.Reply number reply)) → is_poisoned it ≡ true → ActsOnNone so_far.front it mid result
-    none_acted result unreplied spent = let old = so_far.poisoned spent in record { same = old.0; passed = old.1; unreplied = unreplied }
+    none_acted : (result : Result (Unit {0}) ReplayStop) → ((number : ℕ) (reply : Reply) → result ≢ Err (stop.Reply number reply)) → ((number : ℕ) → result ≢ Err (stop.Digest number)) → is_poisoned it ≡ true → ActsOnNone so_far.front it mid result
+    none_acted result unreplied undigested spent = let old = so_far.poisoned spent in record { same = old.0; passed = old.1; unreplied = unreplied; undigested = undigested }
 
     not_poisoned : is_poisoned mid ≡ false → is_poisoned it ≡ true → ⊥
     not_poisoned sound spent = true≢false (sym spent ∙ sym so_far.sound ∙ sound)
@@ -172,6 +186,7 @@ module _ {S : Type 0} {g : Ghosts S} where
           let same : accepted_in (so_far.front ++ one.0 ∷ []) ≡ accepted_in so_far.front = with_blank so_far.front one.0 one.1 in (
             subst (λ (l : List Accepted). replies_to h (requests_of l) ≡ replies_of l) (sym same) old.0,
             subst (λ (l : List Accepted). Represents mid (after h (requests_of l))) (sym same) old.1,
+            continued_more h so_far.front one.0 old.2 (subst (ContinuesBy (after_lines h so_far.front)) (sym one.1) tt),
           );
       sound = so_far.sound;
       poisoned = λ spent. let old = so_far.poisoned spent in (old.0, with_blank so_far.front one.0 one.1 ∙ old.1);
@@ -180,10 +195,10 @@ module _ {S : Type 0} {g : Ghosts S} where
     }
 
     -- an accepted request was acted on, and got its reply
-    pub then_request : (next : Option (List ℕ)) (more : ℕ) (a : Accepted) (new : Registry S g) → PassesOne now next (Request a) → more ≡ count + 1
-        → ((h : History) → Represents mid h → HasCleanDisk (state_of new) → Represents new (after_one h a.request) × (reply_to h a.request ≡ Done a.reply))
+    pub then_request : (next : Option (List ℕ)) (more : ℕ) (a : Accepted) (d : Option (List ℕ)) (new : Registry S g) → PassesOne now next (Request a d) → more ≡ count + 1
+        → ((h : History) → Represents mid h → HasCleanDisk (state_of new) → Represents new (after_one h a.request) × (reply_to h a.request ≡ Done a.reply) × Continues h a.request d)
         → (is_poisoned mid ≡ false) × (is_poisoned new ≡ false) → Endures (state_of mid) (state_of new) → NotesForeign mid new None → AreReplayed to_come next before more it new
-    then_request next more a new one is acted sound more_endures more_notes = record {
+    then_request next more a d new one is acted sound more_endures more_notes = record {
       front = so_far.front ++ one.0 ∷ [];
       passed = passes_then to_come now next so_far.front (one.0 ∷ []) so_far.passed one.2;
       each = All-push (λ line. is_followed (entry_in line) ≡ true) so_far.front one.0 so_far.each (rw one.1 refl);
@@ -192,8 +207,9 @@ module _ {S : Type 0} {g : Ghosts S} where
           let early : HasCleanDisk (state_of mid) = omega (arith, more_endures.clean, clean) in
           let old = so_far.replied h stands early in
           let did = acted (after_lines h so_far.front) old.1 clean in (
-            replied_request h so_far.front one.0 a one.1 old.0 did.1,
-            subst (Represents new) (sym (after_request h so_far.front one.0 a one.1)) did.0,
+            replied_request h so_far.front one.0 a d one.1 old.0 did.1,
+            subst (Represents new) (sym (after_request h so_far.front one.0 a d one.1)) did.0,
+            continued_more h so_far.front one.0 old.2 (subst (ContinuesBy (after_lines h so_far.front)) (sym one.1) did.2),
           );
       sound = sound.1 ∙ sym sound.0 ∙ so_far.sound;
       poisoned = λ spent. absurd (not_poisoned sound.0 spent);
@@ -216,7 +232,7 @@ module _ {S : Type 0} {g : Ghosts S} where
         stops = refl;
         replied = so_far.replied;
         cause = λ failure never. absurd cc;
-        poisoned = none_acted (Ok tt) (λ number reply never. cc);
+        poisoned = none_acted (Ok tt) (λ number reply never. cc) (λ number never. cc);
       };
       endures = so_far.endures;
       notes = so_far.notes;
@@ -236,18 +252,18 @@ module _ {S : Type 0} {g : Ghosts S} where
         stops = (is ∙ ap (λ (n : ℕ). n + 1) so_far.counted, (entry, first, refused));
         replied = so_far.replied;
         cause = λ failure never. absurd cc;
-        poisoned = none_acted (Err (stop.Line number why)) (λ n reply never. cc);
+        poisoned = none_acted (Err (stop.Line number why)) (λ n reply never. cc) (λ n never. cc);
       };
       endures = so_far.endures;
       notes = so_far.notes;
     }
 
     -- the next request got another reply
-    pub at_reply : (failures failures_new : ℕ) (number : ℕ) (reply : Reply) (a : Accepted) (new : Registry S g) (next : Option (List ℕ)) → PassesOne now next (Request a) → number ≡ count + 1
+    pub at_reply : (failures failures_new : ℕ) (number : ℕ) (reply : Reply) (a : Accepted) (d : Option (List ℕ)) (new : Registry S g) (next : Option (List ℕ)) → PassesOne now next (Request a d) → number ≡ count + 1
         → ((h : History) → Represents mid h → HasCleanDisk (state_of new) → Represents new (after_one h a.request) × (reply_to h a.request ≡ reply))
         → reply ≢ Done a.reply → is_poisoned mid ≡ false → Endures (state_of mid) (state_of new) → NotesForeign mid new None
         → IsReplayOf to_come before failures failures_new it new (Err (stop.Reply number reply))
-    at_reply failures failures_new number reply a new next one is acted other sound more_endures more_notes =
+    at_reply failures failures_new number reply a d new next one is acted other sound more_endures more_notes =
         let later = may_have next in
         record {
           lines = so_far.front ++ one.0 ∷ later.0;
@@ -257,12 +273,40 @@ module _ {S : Type 0} {g : Ghosts S} where
             rest = one.0 ∷ later.0;
             split = refl;
             each = so_far.each;
-            stops = (is ∙ ap (λ (n : ℕ). n + 1) so_far.counted, (a, one.1, other));
+            stops = (is ∙ ap (λ (n : ℕ). n + 1) so_far.counted, (a, (d, one.1), other));
             replied = λ h stands clean.
                 let early : HasCleanDisk (state_of mid) = omega (arith, more_endures.clean, clean) in
                 let old = so_far.replied h stands early in
                 let did = acted (after_lines h so_far.front) old.1 clean in
-                (old.0, (a, one.1, sym did.1, did.0));
+                (old.0, (a, (d, one.1), sym did.1, did.0), old.2);
+            cause = λ failure never. absurd cc;
+            poisoned = λ spent. absurd (not_poisoned sound spent);
+          };
+          endures = endures_then (state_of it) (state_of mid) (state_of new) so_far.endures more_endures;
+          notes = notes_then it mid new None so_far.notes more_notes;
+        }
+
+    -- the next request got its reply, in another record
+    pub at_digest : (failures failures_new : ℕ) (number : ℕ) (a : Accepted) (d : List ℕ) (new : Registry S g) (next : Option (List ℕ)) → PassesOne now next (Request a (Some d)) → number ≡ count + 1
+        → ((h : History) → Represents mid h → HasCleanDisk (state_of new) → Represents new (after_one h a.request) × (reply_to h a.request ≡ Done a.reply) × IsAnother h a.request (Some d))
+        → is_poisoned mid ≡ false → Endures (state_of mid) (state_of new) → NotesForeign mid new None
+        → IsReplayOf to_come before failures failures_new it new (Err (stop.Digest number))
+    at_digest failures failures_new number a d new next one is acted sound more_endures more_notes =
+        let later = may_have next in
+        record {
+          lines = so_far.front ++ one.0 ∷ later.0;
+          come = so_far.passed (one.0 ∷ later.0) (one.2 later.0 later.1);
+          replayed = record {
+            front = so_far.front;
+            rest = one.0 ∷ later.0;
+            split = refl;
+            each = so_far.each;
+            stops = (is ∙ ap (λ (n : ℕ). n + 1) so_far.counted, (a, d, one.1));
+            replied = λ h stands clean.
+                let early : HasCleanDisk (state_of mid) = omega (arith, more_endures.clean, clean) in
+                let old = so_far.replied h stands early in
+                let did = acted (after_lines h so_far.front) old.1 clean in
+                (old.0, (a, Some d, one.1, did.1, did.2, did.0), old.2);
             cause = λ failure never. absurd cc;
             poisoned = λ spent. absurd (not_poisoned sound spent);
           };
@@ -271,11 +315,11 @@ module _ {S : Type 0} {g : Ghosts S} where
         }
 
     -- acting on the next request failed
-    pub at_fault : (failures failures_new : ℕ) (failure : Failure) (a : Accepted) (new : Registry S g) (next : Option (List ℕ)) → PassesOne now next (Request a)
+    pub at_fault : (failures failures_new : ℕ) (failure : Failure) (a : Accepted) (d : Option (List ℕ)) (new : Registry S g) (next : Option (List ℕ)) → PassesOne now next (Request a d)
         → ((h : History) → Represents mid h → HasCleanDisk (state_of new) → Leaves newest (state_of new) (λ x. (x ≡ h) ⊎ (x ≡ after_one h a.request)))
         → IsOfActing mid new failure → (is_poisoned mid ≡ true → new ≡ mid) → Endures (state_of mid) (state_of new) → NotesForeign mid new (foreign_by failure)
         → IsReplayOf to_come before failures failures_new it new (Err (stop.Failure failure))
-    at_fault failures failures_new failure a new next one crash why same more_endures more_notes =
+    at_fault failures failures_new failure a d new next one crash why same more_endures more_notes =
         let later = may_have next in
         record {
           lines = so_far.front ++ one.0 ∷ later.0;
@@ -292,7 +336,8 @@ module _ {S : Type 0} {g : Ghosts S} where
                   old.0,
                   λ db may.
                       let left = crash (after_lines h so_far.front) old.1 clean db may in
-                      (left.0, elim left.1 [ inl before_it ↦ inl before_it | inr after_it ↦ inr (a, one.1, after_it) ], left.2),
+                      (left.0, elim left.1 [ inl before_it ↦ inl before_it | inr after_it ↦ inr (a, (d, one.1), after_it) ], left.2),
+                  old.2,
                 );
             cause = λ failed told.
                 let is : failure ≡ failed = cc in
@@ -302,7 +347,7 @@ module _ {S : Type 0} {g : Ghosts S} where
                 (after_lines h so_far.front, (so_far.replied h stands early).1)) failure why);
             poisoned = λ spent.
                 let old = so_far.poisoned spent in
-                record { same = same (so_far.sound ∙ spent) ∙ old.0; passed = old.1; unreplied = λ number reply never. cc };
+                record { same = same (so_far.sound ∙ spent) ∙ old.0; passed = old.1; unreplied = λ number reply never. cc; undigested = λ number never. cc };
           };
           endures = endures_then (state_of it) (state_of mid) (state_of new) so_far.endures more_endures;
           notes = notes_then it mid new (foreign_by failure) so_far.notes more_notes;
@@ -324,11 +369,11 @@ module _ {S : Type 0} {g : Ghosts S} where
             stops = tt;
             replied = λ h stands clean.
                 let old = so_far.replied h stands clean in
-                (old.0, λ db may. let left = old.1.at.left clean db may in (left.0, inl left.1, left.2));
+                (old.0, λ db may. let left = old.1.at.left clean db may in (left.0, inl left.1, left.2), old.2);
             cause = λ failed same.
                 let is : failure ≡ failed = cc in
                 subst (λ (f : Failure). IsOfReplay (before + length so_far.front) failures failures_new it mid f) is why;
-            poisoned = none_acted (Err (stop.Failure failure)) (λ number reply never. cc);
+            poisoned = none_acted (Err (stop.Failure failure)) (λ number reply never. cc) (λ number never. cc);
           };
           endures = so_far.endures;
           notes = notes;

@@ -41,6 +41,7 @@ difference_text (row.Petition id) = codes "petition " ++ decimal id
 difference_text (row.Number number) = codes "number " ++ digits_of number.vid ++ codes ":" ++ digits_of number.pid
 difference_text (row.Reserved vid) = codes "reserved numbers of vendor " ++ digits_of vid
 difference_text row.Founding = codes "founding or licences"
+difference_text row.Digest = codes "digest of the record"
 
 -- the message of a store that is sound
 unfoldable pub sound_text : Counts → List ℕ

@@ -15,7 +15,7 @@ use Rattle.registry_commands.specs.RecordLines.{MayHaveLines, Passes, most_line,
 -- what was read in a line
 abbrev pub entry_by : Result RecordLine WireRefusal → Entry
 entry_by (Ok (wire.Founding founding)) = Founding founding
-entry_by (Ok (wire.Accepted accepted)) = Request accepted
+entry_by (Ok (wire.Accepted accepted digest)) = Request accepted digest
 entry_by (Err refusal) = Bad (NoEntry refusal)
 
 -- what a line says, if it is not too long
@@ -42,7 +42,7 @@ PassesOne old new entry = (line : List ℕ) × (entry_in line ≡ entry) × Pass
 -- a line that is blank or an accepted request
 abbrev pub is_followed : Entry → Bool
 is_followed Blank = true
-is_followed (Request accepted) = true
+is_followed (Request accepted digest) = true
 is_followed entry = false
 
 -- a line that may be passed
@@ -61,5 +61,5 @@ pub record Peeks (old rest : Option (List ℕ)) (it : Unread) (entry : Entry) (s
 -- and now.
 abbrev pub TakesEntry : Option (List ℕ) → Option (List ℕ) → ℕ → ℕ → Entry → Type 0
 TakesEntry old new n m Blank = PassesOne old new Blank × (m ≡ n + 1)
-TakesEntry old new n m (Request accepted) = PassesOne old new (Request accepted) × (m ≡ n + 1)
+TakesEntry old new n m (Request accepted digest) = PassesOne old new (Request accepted digest) × (m ≡ n + 1)
 TakesEntry old new n m entry = NextSays old entry × (m ≡ n)

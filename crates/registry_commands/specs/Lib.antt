@@ -20,3 +20,4 @@ pub mod Replayed
 pub mod Keys
 pub mod DryRuns
 pub mod Checks
+pub mod Heads

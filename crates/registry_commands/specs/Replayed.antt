@@ -6,6 +6,7 @@ use Rattle.sqlite.specs.State.{State, HasCleanDisk, IsLive, Survives}
 use Rattle.sqlite.specs.Tree.{Trees}
 use Rattle.table_laws.specs.Making.{no_schema}
 use Rattle.byte_streams.specs.Streams.{FailsOnce}
+use Rattle.registry_rules.specs.Accepted.{AreValid}
 use Rattle.registry_rules.specs.declared.accepted.Accepted.{Accepted}
 use Rattle.registry_rules.specs.declared.order.Request.{Request}
 use Rattle.registry_rules.specs.declared.verdict.Reply.{Reply}
@@ -23,7 +24,10 @@ use Rattle.registry_store.specs.declared.fault.Fault.TheVariants as faults
 use Rattle.registry_store.specs.declared.registry.Registry.{Registry}
 use Rattle.registry_store.specs.Promise.{Endures, IsFreshAt, IsNew, Leaves, LeavesLater, NotesForeign, Represents, connection_of, is_poisoned, poisoned_by, state_of}
 use Rattle.registry_store.specs.Queries.{IsUntouched}
+use Rattle.registry_wire.specs.Digests.{digest_of}
 use Rattle.registry_wire.specs.Record.{founding_line}
+use Rattle.registry_commands.specs.declared.following.Answered.{Answered}
+use Rattle.registry_commands.specs.declared.following.Answered.TheVariants.{Same, Other, Elsewhere}
 use Rattle.registry_commands.specs.declared.entries.Entry.{Entry}
 use Rattle.registry_commands.specs.declared.entries.Entry.TheVariants as says
 use Rattle.registry_commands.specs.declared.entries.LineRefusal.{LineRefusal}
@@ -47,7 +51,7 @@ use Rattle.registry_commands.specs.Stops.{TellsStop}
 
 -- an accepted request before others, if the line says one
 abbrev pub with_entry : Entry → List Accepted → List Accepted
-with_entry (says.Accepted accepted) more = accepted ∷ more
+with_entry (says.Accepted accepted digest) more = accepted ∷ more
 with_entry entry more = more
 
 -- the accepted requests of lines, in order
@@ -76,6 +80,50 @@ abbrev pub Differs : Reply → List ℕ → Option Reply → Type 0
 Differs reply done None = reply ≡ Done done
 Differs reply done (Some other) = reply ≡ other
 
+-- ---- the digests of lines
+
+-- the first of these lines is this accepted request
+abbrev pub FirstAccepts : List (List ℕ) → Accepted → Type 0
+FirstAccepts lines accepted = (digest : Option (List ℕ)) × FirstSays lines (says.Accepted accepted digest)
+
+-- If one is given, this is the digest of the history, or so many requests are all that it accepted, if those have valid fields.
+abbrev pub HasDigest : ℕ → History → Option (List ℕ) → Type 0
+HasDigest before h None = ⊤
+HasDigest before h (Some digest) = AreValid h.deeds → (length h.deeds ≡ before) ⊎ (digest ≡ digest_of h)
+
+-- One is given, and it is not the digest of the history, which accepted another number of requests than this, if those have valid
+-- fields.
+abbrev pub HasAnother : ℕ → History → Option (List ℕ) → Type 0
+HasAnother before h None = ⊥
+HasAnother before h (Some digest) = AreValid h.deeds → (length h.deeds ≢ before) × (digest ≢ digest_of h)
+
+-- the digest in a line is that of the history with its request, if the request was accepted now
+abbrev pub Continues : History → Request → Option (List ℕ) → Type 0
+Continues h request digest = HasDigest (length h.deeds) (after_one h request) digest
+
+-- the request was accepted now, and the digest in its line is not that of the history with it
+abbrev pub IsAnother : History → Request → Option (List ℕ) → Type 0
+IsAnother h request digest = HasAnother (length h.deeds) (after_one h request) digest
+
+-- how the request of a line is answered over a history
+abbrev pub IsAnsweredAs : History → Accepted → Option (List ℕ) → Answered → Type 0
+IsAnsweredAs h accepted digest Same = (reply_to h accepted.request ≡ Done accepted.reply) × Continues h accepted.request digest
+IsAnsweredAs h accepted digest (Other reply) = reply_to h accepted.request ≡ reply
+IsAnsweredAs h accepted digest Elsewhere = (reply_to h accepted.request ≡ Done accepted.reply) × IsAnother h accepted.request digest
+
+abbrev pub ContinuesBy : History → Entry → Type 0
+ContinuesBy h (says.Accepted accepted digest) = Continues h accepted.request digest
+ContinuesBy h entry = ⊤
+
+abbrev pub after_entry : History → Entry → History
+after_entry h (says.Accepted accepted digest) = after_one h accepted.request
+after_entry h entry = h
+
+-- each of these lines continues the history after those before it
+abbrev pub AreContinued : History → List (List ℕ) → Type 0
+AreContinued h [] = ⊤
+AreContinued h (line ∷ lines) = ContinuesBy h (entry_in line) × AreContinued (after_entry h (entry_in line)) lines
+
 -- ---- why a replay ends
 
 -- the line says something for which it is refused like this, whatever the registry is
@@ -85,11 +133,12 @@ IsRefusedFor (says.Founding founding) why = why ≡ LateFounding
 IsRefusedFor entry why = ⊥
 
 -- The lines that follow those that were acted on, whose count is given: none, or the first of them is refused, or is an accepted
--- request that got another reply.
+-- request that got another reply, or is of another record.
 abbrev pub StopsBefore : Result (Unit {0}) ReplayStop → ℕ → List (List ℕ) → Type 0
 StopsBefore (Ok done) n rest = rest ≡ []
 StopsBefore (Err (stop.Line number why)) n rest = (number ≡ n + 1) × ((entry : Entry) × FirstSays rest entry × IsRefusedFor entry why)
-StopsBefore (Err (stop.Reply number reply)) n rest = (number ≡ n + 1) × ((accepted : Accepted) × FirstSays rest (says.Accepted accepted) × (reply ≢ Done accepted.reply))
+StopsBefore (Err (stop.Reply number reply)) n rest = (number ≡ n + 1) × ((accepted : Accepted) × FirstAccepts rest accepted × (reply ≢ Done accepted.reply))
+StopsBefore (Err (stop.Digest number)) n rest = (number ≡ n + 1) × ((accepted : Accepted) × (digest : List ℕ) × FirstSays rest (says.Accepted accepted (Some digest)))
 StopsBefore (Err (stop.Failure failure)) n rest = ⊤
 
 -- the fault Foreign, if this is its failure
@@ -102,6 +151,7 @@ abbrev pub foreign_in : Result (Unit {0}) ReplayStop → Option Fault
 foreign_in (Ok done) = None
 foreign_in (Err (stop.Line number why)) = None
 foreign_in (Err (stop.Reply number reply)) = None
+foreign_in (Err (stop.Digest number)) = None
 foreign_in (Err (stop.Failure failure)) = foreign_by failure
 
 -- ---- how a record begins
@@ -132,7 +182,7 @@ HasReadBlank to_come now it = (blank : List (List ℕ)) × AreBlank blank × Has
 -- an accepted request, or the end
 abbrev pub is_later : Entry → Bool
 is_later says.End = true
-is_later (says.Accepted accepted) = true
+is_later (says.Accepted accepted digest) = true
 is_later entry = false
 
 -- The first line that is not blank is a founding, and was passed with the blank ones; or it is an accepted request or the end,
@@ -146,6 +196,7 @@ Begins to_come now before count failures failures_new (Ok None) =
 Begins to_come now before count failures failures_new (Err (stop.Line number why)) =
     (blank : List (List ℕ)) × AreBlank blank × (number ≡ before + length blank + 1) × ((lines : List (List ℕ)) × FirstSays lines (says.Bad why) × MayHaveLines to_come (blank ++ lines))
 Begins to_come now before count failures failures_new (Err (stop.Reply number reply)) = ⊥
+Begins to_come now before count failures failures_new (Err (stop.Digest number)) = ⊥
 Begins to_come now before count failures failures_new (Err (stop.Failure failure)) =
     (blank : List (List ℕ)) × AreBlank blank × (count ≡ before + length blank) × ((rest : List (List ℕ)) × MayHaveLines to_come (blank ++ rest)) × IsOfRecordInput count failures failures_new failure
 
@@ -168,30 +219,34 @@ module _ {S : Type 0} {g : Ghosts S} where
   IsOfReplay lines old_failures new_failures it new failure = IsOfActing it new failure
 
   -- What the registry then is. After a refused line it represents the history after the lines before it; after another reply
-  -- the one after that request too; and after a failure a crash leaves one of the two.
+  -- the one after that request too, as after a line of another record; and after a failure a crash leaves one of the two.
   abbrev pub IsLeftReplayed : Result (Unit {0}) ReplayStop → Registry S g → History → List (List ℕ) → Type 0
   IsLeftReplayed (Ok done) new h rest = Represents new h
   IsLeftReplayed (Err (stop.Line number why)) new h rest = Represents new h
   IsLeftReplayed (Err (stop.Reply number reply)) new h rest =
-      (accepted : Accepted) × FirstSays rest (says.Accepted accepted) × (reply ≡ reply_to h accepted.request) × Represents new (after_one h accepted.request)
+      (accepted : Accepted) × FirstAccepts rest accepted × (reply ≡ reply_to h accepted.request) × Represents new (after_one h accepted.request)
+  IsLeftReplayed (Err (stop.Digest number)) new h rest =
+      (accepted : Accepted) × (digest : Option (List ℕ)) × FirstSays rest (says.Accepted accepted digest) × (reply_to h accepted.request ≡ Done accepted.reply)
+      × IsAnother h accepted.request digest × Represents new (after_one h accepted.request)
   IsLeftReplayed (Err (stop.Failure failure)) new h rest =
-      Leaves newest (state_of new) (λ x. (x ≡ h) ⊎ ((accepted : Accepted) × FirstSays rest (says.Accepted accepted) × (x ≡ after_one h accepted.request)))
+      Leaves newest (state_of new) (λ x. (x ≡ h) ⊎ ((accepted : Accepted) × FirstAccepts rest accepted × (x ≡ after_one h accepted.request)))
 
-  -- The registry is the same, the lines that were passed have no accepted request, and no other reply ended the replay.
+  -- The registry is the same, the lines that were passed have no accepted request, and no other reply or record ended the replay.
   pub record ActsOnNone (front : List (List ℕ)) (it new : Registry S g) (result : Result (Unit {0}) ReplayStop) : Type 0 where
     pub same : new ≡ it
     pub passed : accepted_in front ≡ []
     pub unreplied : (number : ℕ) (reply : Reply) → result ≢ Err (stop.Reply number reply)
+    pub undigested : (number : ℕ) → result ≢ Err (stop.Digest number)
 
   -- These lines were to come, after so many that were passed before. The first of them were acted on, in order, and each got
-  -- the reply that it says; and then this ended it. A poisoned registry acts on none.
+  -- the reply that it says, and continued the record by its digest; and then this ended it. A poisoned registry acts on none.
   pub record HasReplayed (lines : List (List ℕ)) (before failures failures_new : ℕ) (it new : Registry S g) (result : Result (Unit {0}) ReplayStop) : Type 0 where
     pub front : List (List ℕ)
     pub rest : List (List ℕ)
     pub split : lines ≡ front ++ rest
     pub each : All (λ line. is_followed (entry_in line) ≡ true) front
     pub stops : StopsBefore result (before + length front) rest
-    pub replied : (h : History) → Represents it h → HasCleanDisk (state_of new) → GetTheirReplies h front × IsLeftReplayed result new (after_lines h front) rest
+    pub replied : (h : History) → Represents it h → HasCleanDisk (state_of new) → GetTheirReplies h front × IsLeftReplayed result new (after_lines h front) rest × AreContinued h front
     pub cause : (failure : Failure) → result ≡ Err (stop.Failure failure) → IsOfReplay (before + length front) failures failures_new it new failure
     pub poisoned : is_poisoned it ≡ true → ActsOnNone front it new result
 
@@ -210,7 +265,7 @@ module _ {S : Type 0} {g : Ghosts S} where
     pub lines : List (List ℕ)
     pub each : All (λ line. is_followed (entry_in line) ≡ true) lines
     pub read : HasReadTo to_come now lines unread
-    pub replied : (h : History) → Represents it h → HasCleanDisk (state_of new) → GetTheirReplies h lines × Represents new (after_lines h lines)
+    pub replied : (h : History) → Represents it h → HasCleanDisk (state_of new) → GetTheirReplies h lines × Represents new (after_lines h lines) × AreContinued h lines
     pub poisoned : is_poisoned it ≡ true → (new ≡ it) × (accepted_in lines ≡ [])
 
   -- ---- with the founding
@@ -221,6 +276,7 @@ module _ {S : Type 0} {g : Ghosts S} where
   ChecksAs it new number founding (Err (stop.Line n why)) =
       (n ≡ number) × (why ≡ OtherFounding) × HoldsOfHistory it new (λ h. founding_line h.founding ≢ founding_line founding)
   ChecksAs it new number founding (Err (stop.Reply n reply)) = ⊥
+  ChecksAs it new number founding (Err (stop.Digest n)) = ⊥
   ChecksAs it new number founding (Err (stop.Failure failure)) = IsOfReading it new failure
 
   -- So it was checked; and unless that ended with Foreign, no rows of no history were found. If the registry is poisoned, that

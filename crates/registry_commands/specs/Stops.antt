@@ -27,6 +27,10 @@ refused_line_text number refusal = codes "line " ++ decimal number ++ codes ": "
 unfoldable pub other_reply_text : ℕ → Reply → List ℕ
 other_reply_text number reply = codes "line " ++ decimal number ++ codes ": another reply: " ++ reply_line reply
 
+-- the message for a line of another record
+unfoldable pub another_record_text : ℕ → List ℕ
+another_record_text number = codes "line " ++ decimal number ++ codes ": another record\n"
+
 -- the message is written with the status Rejected; or memory ran out for it
 abbrev pub TellsText : List ℕ → Output → ExitStatus → Type 0
 TellsText text errors status = ((status ≡ Rejected) × Prints errors text) ⊎ ((status ≡ Failed) × PrintsFailure IsOfMemory errors)
@@ -36,4 +40,5 @@ abbrev pub TellsStop : Result (Unit {0}) ReplayStop → Output → ExitStatus �
 TellsStop (Ok done) errors status = (status ≡ Success) × (errors.new ≡ errors.old)
 TellsStop (Err (stop.Line number refusal)) errors status = TellsText (refused_line_text number refusal) errors status
 TellsStop (Err (stop.Reply number reply)) errors status = TellsText (other_reply_text number reply) errors status
+TellsStop (Err (stop.Digest number)) errors status = TellsText (another_record_text number) errors status
 TellsStop (Err (stop.Failure failure)) errors status = (status ≡ Failed) × Prints errors (failure_line failure)

@@ -130,7 +130,7 @@ fn compare_rows<S: Alter>(
     ensures left { IsUntouched registry.old registry.new }
     ensures notes { OnOk result (NotesForeign registry.old registry.new None) }
     ensures ok { IfOk result (λ held. HoldsOfHistory registry.old registry.new (λ h. IsHeldCount h held)) }
-    ensures err { (x : History) → Represents replayed.old x → IfErr result (StopsFor registry.old registry.new (λ h. x ≡ h)) }
+    ensures err { (x : History) → Represents replayed.old x → IfErr result (StopsFor registry.old registry.new (λ h. (x ≡ h) × AreValid h.deeds)) }
 {
     let stored = match lists_of(registry) {
         Ok(lists) => lists,

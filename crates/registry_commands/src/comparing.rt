@@ -1,7 +1,8 @@
 //! Compares the rows of a store with those that its record makes.
 
-ghost use Rattle.std.specs.Prelude.{◌≡◌, ◌≢◌, ◌+◌, ◌-◌, ◌<◌, ◌^◌, cond, false, Ok, None, Some, IfErr, IfOk};
+ghost use Rattle.std.specs.Prelude.{◌≡◌, ◌≢◌, ◌+◌, ◌-◌, ◌<◌, ◌^◌, cond, true, false, Ok, None, Some, IfErr, IfOk};
 ghost use Rattle.std.specs.List.{count_by};
+ghost use Rattle.registry_rules.specs.Accepted.{AreValid};
 ghost use Rattle.registry_rules.specs.History.{History};
 ghost use Rattle.registry_store.specs.Promise.{Represents, is_poisoned};
 ghost use Rattle.registry_views.specs.Lists.{AreLists};
@@ -14,7 +15,7 @@ use registry_views::Lists;
 use sqlite::Alter;
 use std::alloc::Global;
 use std::fmt;
-use usbnum_core::{NoMemory, Number, Slug, Vid};
+use usbnum_core::{Digest, NoMemory, Number, Slug, Vid};
 
 /// What is other in the rows of a store than in those that its record makes.
 #[derive(Debug, Drop)]
@@ -31,6 +32,8 @@ pub enum Difference {
     Reserved(Vid),
     /// The founding, or the licences that are allowed now.
     Founding,
+    /// The digest of the record.
+    Digest,
 }
 
 /// Writes the difference, as in `petition 12` or `number 1209:0011`.
@@ -45,6 +48,7 @@ impl fmt::Display for Difference {
             Difference::Number(number) => write!(f, "number {}:{}", number.vid, number.pid),
             Difference::Reserved(vid) => write!(f, "reserved numbers of vendor {vid}"),
             Difference::Founding => f.write_str("founding or licences"),
+            Difference::Digest => f.write_str("digest of the record"),
         }
     }
 }
@@ -175,15 +179,36 @@ fn other_reserved<S: Alter, T: Alter>(
     Ok(None)
 }
 
+/// Returns whether two digests are the same.
+fn is_same(a: &Digest, b: &Digest) -> bool
+    ensures { a.now ≡ b.now → result ≡ true }
+{
+    a.as_str() == b.as_str()
+}
+
+/// Returns whether the records of two registries have the same digest. It covers the times of their
+/// requests too.
+fn has_same_digest<S: Alter, T: Alter>(
+    stored: &Registry<S>,
+    made: &Registry<T>,
+) -> Result<bool, Fault>
+    ensures same { (h : History) → AreValid h.deeds → Represents stored.now h → Represents made.now h → result ≢ Ok false }
+    ensures kind { is_poisoned stored.now ≡ false → is_poisoned made.now ≡ false → IfErr result (λ fault. fault ≡ Fault.NoMemory) }
+{
+    let here = stored.head()?;
+    let there = made.head()?;
+    Ok(is_same(&here.digest, &there.digest))
+}
+
 /// Returns what is other in what two registries keep in memory: the founding, with the licences of
-/// now, or the reserved numbers of one of these vendors.
+/// now, the reserved numbers of one of these vendors, or the digest of the record.
 pub(crate) fn other_totals<S: Alter, T: Alter>(
     alloc: Global,
     stored: &Registry<S>,
     made: &Registry<T>,
     vendors: &[Vendor],
 ) -> Result<Option<Difference>, Fault>
-    ensures same { (h : History) → Represents stored.now h → Represents made.now h → IfOk result (λ other. other ≡ None) }
+    ensures same { (h : History) → AreValid h.deeds → Represents stored.now h → Represents made.now h → IfOk result (λ other. other ≡ None) }
     ensures kind { is_poisoned stored.now ≡ false → is_poisoned made.now ≡ false → IfErr result (λ fault. fault ≡ Fault.NoMemory) }
 {
     match has_same_founding(alloc, stored, made) {
@@ -191,9 +216,13 @@ pub(crate) fn other_totals<S: Alter, T: Alter>(
         Ok(false) => return Ok(Some(Difference::Founding)),
         Err(NoMemory) => return Err(Fault::NoMemory),
     }
-    match other_reserved(stored, made, vendors)? {
-        Some(vid) => Ok(Some(Difference::Reserved(vid))),
-        None => Ok(None),
+    if let Some(vid) = other_reserved(stored, made, vendors)? {
+        return Ok(Some(Difference::Reserved(vid)));
+    }
+    if has_same_digest(stored, made)? {
+        Ok(None)
+    } else {
+        Ok(Some(Difference::Digest))
     }
 }
 

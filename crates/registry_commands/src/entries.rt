@@ -13,7 +13,7 @@ use byte_streams::Source;
 use registry_rules::{Accepted, Founding, Rejection};
 use registry_wire::{RecordLine, WireRefusal, record_line};
 use std::alloc::Global;
-use usbnum_core::NoMemory;
+use usbnum_core::{Digest, NoMemory};
 
 /// Why a line ends a replay before its request is acted on.
 #[derive(Clone, Copy, Debug, PartialEq, Eq)]
@@ -37,8 +37,8 @@ pub enum Entry {
     Blank,
     /// The founding of the registry.
     Founding(Founding),
-    /// An accepted request, and its reply.
-    Accepted(Accepted),
+    /// An accepted request with its reply, and the digest of the record with this line, if the line has it.
+    Accepted(Accepted, Option<Digest>),
     /// It is no line of a record.
     Bad(LineRefusal),
 }
@@ -53,7 +53,7 @@ fn entry_of(alloc: Global, line: &[u8]) -> Result<Entry, NoMemory>
     }
     match record_line(alloc, line) {
         Ok(RecordLine::Founding(founding)) => Ok(Entry::Founding(founding)),
-        Ok(RecordLine::Accepted(accepted)) => Ok(Entry::Accepted(accepted)),
+        Ok(RecordLine::Accepted(accepted, digest)) => Ok(Entry::Accepted(accepted, digest)),
         Err(Rejection::Refused(refusal)) => Ok(Entry::Bad(LineRefusal::NoEntry(refusal))),
         Err(Rejection::NoMemory) => Err(NoMemory),
     }
@@ -94,7 +94,7 @@ pub(crate) fn peek<R: Source>(
 fn is_followed(entry: &Entry) -> bool
     ensures { result ≡ is_followed entry.now }
 {
-    matches!(entry, Entry::Blank | Entry::Accepted(_))
+    matches!(entry, Entry::Blank | Entry::Accepted(_, _))
 }
 
 /// Reads what the next line says. Passes it if it is blank or an accepted request.

@@ -50,7 +50,7 @@ pub fn take_founding<R: Source>(
                     return Ok(Some(founding));
                 }
                 Entry::Bad(refusal) => return Err(ReplayStop::Line(unread.lines() + 1, refusal)),
-                Entry::Accepted(_) => return Ok(None),
+                Entry::Accepted(_, _) => return Ok(None),
                 Entry::End => return Ok(None),
             },
             Err(fault) => return Err(ReplayStop::Failure(input_failure(fault))),

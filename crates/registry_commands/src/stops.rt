@@ -3,7 +3,7 @@
 ghost use Rattle.std.specs.Prelude.{◌≡◌, ◌⊎◌, ℕ, List, IfOk, Err, string_bytes};
 ghost use Rattle.registry_commands.specs.Ends.{output_of};
 ghost use Rattle.registry_commands.specs.Failures.{IsOfMemory, Prints, PrintsFailure};
-ghost use Rattle.registry_commands.specs.Stops.{TellsStop, line_refusal_text, other_reply_text, refused_line_text};
+ghost use Rattle.registry_commands.specs.Stops.{TellsStop, another_record_text, line_refusal_text, other_reply_text, refused_line_text};
 
 use crate::entries::LineRefusal;
 use crate::following::ReplayStop;
@@ -50,6 +50,14 @@ fn other_reply_text(alloc: Global, number: u64, reply: &Reply) -> Result<String,
     Ok(format!(in alloc; "line {number}: another reply: {line}")?)
 }
 
+/// Returns which line is of another record.
+#[tactic(auto, unfolding(crate::specs::Stops::another_record_text))]
+fn another_record_text(alloc: Global, number: u64) -> Result<String, NoMemory>
+    ensures { IfOk result (λ text. string_bytes text ≡ another_record_text number) }
+{
+    Ok(format!(in alloc; "line {number}: another record\n")?)
+}
+
 /// Prints a text, if there was memory for it, and returns the exit status.
 fn reject_with<E: Sink>(errors: &mut E, text: Result<String, NoMemory>) -> ExitStatus
     ensures { (bytes : List ℕ) → IfOk text (λ text. string_bytes text ≡ bytes)
@@ -63,9 +71,9 @@ fn reject_with<E: Sink>(errors: &mut E, text: Result<String, NoMemory>) -> ExitS
     ExitStatus::Rejected
 }
 
-/// Prints why a replay ended early, and returns the exit status: `Rejected` if a line is refused or
-/// got another reply, which the text names, and `Failed` after a failure, or if memory runs out for
-/// that text.
+/// Prints why a replay ended early, and returns the exit status: `Rejected` if a line is refused, got
+/// another reply, or is of another record, which the text names, and `Failed` after a failure, or if
+/// memory runs out for that text.
 pub fn tell_stop<E: Sink>(alloc: Global, errors: &mut E, stop: ReplayStop) -> ExitStatus
     ensures { TellsStop (Err stop) (output_of E.Sink errors.old errors.new) result }
 {
@@ -76,6 +84,7 @@ pub fn tell_stop<E: Sink>(alloc: Global, errors: &mut E, stop: ReplayStop) -> Ex
         ReplayStop::Reply(number, reply) => {
             reject_with(errors, other_reply_text(alloc, number, &reply))
         }
+        ReplayStop::Digest(number) => reject_with(errors, another_record_text(alloc, number)),
         ReplayStop::Failure(failure) => fail(errors, failure),
     }
 }

@@ -14,7 +14,7 @@ use Rattle.registry_program.specs.Serving.{limit_of}
 use Rattle.registry_program.specs.Whole.{IsWhole}
 use Rattle.registry_program.proofs.CheckWholeLemmas.{check_whole}
 use Rattle.registry_program.proofs.ReplayWholeLemmas.{replays_wholly}
-use Rattle.registry_program.proofs.WholeLemmas.{apply_whole, exports_whole, foretells_whole, found_whole, imports_whole, record_whole, reports_whole, serves_whole}
+use Rattle.registry_program.proofs.WholeLemmas.{apply_whole, exports_whole, foretells_whole, found_whole, head_whole, imports_whole, record_whole, reports_whole, serves_whole}
 
 module _ {H F I R W IN : Type 0} (m : host.Ghosts H F I) (d : disk.Ghosts F) (s : source.Ghosts I) (c : connections.Ghosts H R W) (r : source.Ghosts R) (w : sink.Ghosts W) (i : source.Ghosts IN) where
   pub performs_whole : (command : Command (List ℕ)) (old new : H) (input input_new : IN) (ends : Ends) → Performs m d s c r w i command old new input input_new ends → IsWhole m d s c r w i command old new input input_new ends
@@ -29,5 +29,6 @@ module _ {H F I R W IN : Type 0} (m : host.Ghosts H F I) (d : disk.Ghosts F) (s 
   performs_whole (command.Export path stamp) old new input input_new ends is = (is.1.0, is.1.1, exports_whole m d s old new path is.1.0 ends is.1.2)
   performs_whole (command.Report path name) old new input input_new ends is = reports_whole m d s old new path (report_named name) ends is.1
   performs_whole (command.History path from) old new input input_new ends is = record_whole m d old new path from ends is.1
+  performs_whole (command.Head path) old new input input_new ends is = head_whole m d old new path ends is.1
   performs_whole (command.Check path) old new input input_new ends is = check_whole m d old new path ends is.1
   performs_whole (command.Lookup list vid pid) old new input input_new ends is = tt

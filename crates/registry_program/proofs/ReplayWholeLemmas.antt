@@ -67,6 +67,7 @@ all_told : (result : Result (Unit {0}) ReplayStop) (errors : Output) (status : E
 all_told (Ok done) errors status told success = refl
 all_told (Err (stop.Line number why)) errors status told success = elim told [ inl said ↦ absurd (cc (said.0, success)) | inr failed ↦ absurd (cc (failed.0, success)) ]
 all_told (Err (stop.Reply number reply)) errors status told success = elim told [ inl said ↦ absurd (cc (said.0, success)) | inr failed ↦ absurd (cc (failed.0, success)) ]
+all_told (Err (stop.Digest number)) errors status told success = elim told [ inl said ↦ absurd (cc (said.0, success)) | inr failed ↦ absurd (cc (failed.0, success)) ]
 all_told (Err (stop.Failure failure)) errors status told success = absurd (cc (told.0, success))
 
 -- the history after the request of the next line, if that is one
@@ -79,27 +80,27 @@ next_history : (h : History) (front rest : List (List ℕ)) → HasNext h front 
 next_history h front [] = record {
   y = after_lines h front;
   near = inl refl;
-  other = λ x. elim [ inl e ↦ inl e | inr one ↦ absurd cc ];
+  other = λ x. elim [ inl e ↦ inl e | inr one ↦ absurd (cc one.1.1) ];
 }
 next_history h front (line ∷ later) = go (entry_in line) refl
   where
-    none : (e : Entry) → entry_in line ≡ e → ((a : Accepted) → e ≢ says.Accepted a) → HasNext h front (line ∷ later)
+    none : (e : Entry) → entry_in line ≡ e → ((a : Accepted) (d : Option (List ℕ)) → e ≢ says.Accepted a d) → HasNext h front (line ∷ later)
     none e is not = record {
       y = after_lines h front;
       near = inl refl;
-      other = λ x. elim [ inl same ↦ inl same | inr one ↦ absurd (not one.0 (sym is ∙ one.1)) ];
+      other = λ x. elim [ inl same ↦ inl same | inr one ↦ absurd (not one.0 one.1.0 (sym is ∙ one.1.1)) ];
     }
 
     go : (e : Entry) → entry_in line ≡ e → HasNext h front (line ∷ later)
-    go (says.Accepted a) is = record {
+    go (says.Accepted a d) is = record {
       y = after_one (after_lines h front) a.request;
-      near = inr (a, is, refl);
-      other = λ x. elim [ inl same ↦ inl same | inr one ↦ let is_a : one.0 ≡ a = cc (is, one.1) in inr (one.2 ∙ ap (λ (b : Accepted). after_one (after_lines h front) b.request) is_a) ];
+      near = inr (a, (d, is), refl);
+      other = λ x. elim [ inl same ↦ inl same | inr one ↦ let is_a : one.0 ≡ a = cc (is, one.1.1) in inr (one.2 ∙ ap (λ (b : Accepted). after_one (after_lines h front) b.request) is_a) ];
     }
-    go says.End is = none says.End is (λ a e. cc)
-    go says.Blank is = none says.Blank is (λ a e. cc)
-    go (says.Founding f) is = none (says.Founding f) is (λ a e. cc)
-    go (says.Bad r) is = none (says.Bad r) is (λ a e. cc)
+    go says.End is = none says.End is (λ a d e. cc)
+    go says.Blank is = none says.Blank is (λ a d e. cc)
+    go (says.Founding f) is = none (says.Founding f) is (λ a d e. cc)
+    go (says.Bad r) is = none (says.Bad r) is (λ a d e. cc)
 
 module _ {S : Type 0} {g : Ghosts S} where
   replay_leaves : (lines : List (List ℕ)) (before failures failures_new : ℕ) (it new : Registry S g) (result : Result (Unit {0}) ReplayStop) (errors : Output) (status : ExitStatus)
@@ -110,7 +111,7 @@ module _ {S : Type 0} {g : Ghosts S} where
       let x = after_lines h did.front in (
         x,
         x,
-        record { front = did.front; rest = did.rest; split = did.split; replied = left.0; whole = λ _. did.stops; x_is = inl refl; y_is = inl refl },
+        record { front = did.front; rest = did.rest; split = did.split; replied = left.0; continued = left.2; whole = λ _. did.stops; x_is = inl refl; y_is = inl refl },
         leaves_itself new x left.1 clean,
       )
   replay_leaves lines before failures failures_new it new (Err (stop.Line number why)) errors status did told h stands clean =
@@ -118,7 +119,7 @@ module _ {S : Type 0} {g : Ghosts S} where
       let x = after_lines h did.front in (
         x,
         x,
-        record { front = did.front; rest = did.rest; split = did.split; replied = left.0; whole = λ success. absurd (cc (all_told (Err (stop.Line number why)) errors status told success)); x_is = inl refl; y_is = inl refl },
+        record { front = did.front; rest = did.rest; split = did.split; replied = left.0; continued = left.2; whole = λ success. absurd (cc (all_told (Err (stop.Line number why)) errors status told success)); x_is = inl refl; y_is = inl refl },
         leaves_itself new x left.1 clean,
       )
   replay_leaves lines before failures failures_new it new (Err (stop.Reply number reply)) errors status did told h stands clean =
@@ -127,15 +128,24 @@ module _ {S : Type 0} {g : Ghosts S} where
       let near : IsNear h did.front did.rest x = inr (left.1.0, left.1.1, refl) in (
         x,
         x,
-        record { front = did.front; rest = did.rest; split = did.split; replied = left.0; whole = λ success. absurd (cc (all_told (Err (stop.Reply number reply)) errors status told success)); x_is = near; y_is = near },
+        record { front = did.front; rest = did.rest; split = did.split; replied = left.0; continued = left.2; whole = λ success. absurd (cc (all_told (Err (stop.Reply number reply)) errors status told success)); x_is = near; y_is = near },
         leaves_itself new x left.1.3 clean,
+      )
+  replay_leaves lines before failures failures_new it new (Err (stop.Digest number)) errors status did told h stands clean =
+      let left = did.replied h stands clean in
+      let x = after_one (after_lines h did.front) left.1.0.request in
+      let near : IsNear h did.front did.rest x = inr (left.1.0, (left.1.1, left.1.2), refl) in (
+        x,
+        x,
+        record { front = did.front; rest = did.rest; split = did.split; replied = left.0; continued = left.2; whole = λ success. absurd (cc (all_told (Err (stop.Digest number)) errors status told success)); x_is = near; y_is = near },
+        leaves_itself new x left.1.5 clean,
       )
   replay_leaves lines before failures failures_new it new (Err (stop.Failure failure)) errors status did told h stands clean =
       let left = did.replied h stands clean in
       let next = next_history h did.front did.rest in (
         after_lines h did.front,
         next.y,
-        record { front = did.front; rest = did.rest; split = did.split; replied = left.0; whole = λ success. absurd (cc (all_told (Err (stop.Failure failure)) errors status told success)); x_is = inl refl; y_is = next.near },
+        record { front = did.front; rest = did.rest; split = did.split; replied = left.0; continued = left.2; whole = λ success. absurd (cc (all_told (Err (stop.Failure failure)) errors status told success)); x_is = inl refl; y_is = next.near },
         leaves_weaker newest (state_of new) (IsNear h did.front did.rest) (IsEither (after_lines h did.front) next.y) next.other left.1,
       )
 
@@ -174,7 +184,7 @@ module _ {S : Type 0} {g : Ghosts S} where
         leaves = λ h stands clean. (
           h,
           h,
-          record { front = []; rest = lines.0; split = refl; replied = refl; whole = λ success. absurd (cc (then.1, all_told result errors status told success)); x_is = inl refl; y_is = inl refl },
+          record { front = []; rest = lines.0; split = refl; replied = refl; continued = tt; whole = λ success. absurd (cc (then.1, all_told result errors status told success)); x_is = inl refl; y_is = inl refl },
           leaves_itself new h (subst (λ (x : Registry S g). Represents x h) (sym then.0) (stays h stands)) clean,
         );
         was_clean = λ clean. was (subst (λ (x : Registry S g). HasCleanDisk (state_of x)) then.0 clean);

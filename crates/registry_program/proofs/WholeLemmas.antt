@@ -24,6 +24,7 @@ use Rattle.registry_store.specs.Promise.{Leaves, Represents, connection_of, stat
 use Rattle.registry_store.specs.Queries.{IsUntouched}
 use Rattle.registry_store.specs.Files.{FilesHoldEither, IsEither}
 use Rattle.registry_store.proofs.CrashLemmas.{closed_clean, in_newest}
+use Rattle.registry_store.proofs.IsQueryLemmas.{untouched_itself}
 use Rattle.registry_store.proofs.RunLemmas.{leaves_weaker}
 use Rattle.registry_store.proofs.RunToLemmas.{at_place}
 use Rattle.registry_commands.specs.declared.arguments.BadArgument.{BadArgument}
@@ -32,17 +33,18 @@ use Rattle.registry_reports.specs.declared.kinds.ReportKind.{ReportKind}
 use Rattle.registry_commands.specs.declared.status.ExitStatus.{ExitStatus}
 use Rattle.registry_commands.specs.declared.status.ExitStatus.TheVariants.{Success, Failed}
 use Rattle.registry_commands.specs.Ends.{Ends, Receives, Sunk, effect}
+use Rattle.registry_commands.specs.Heads.{head_text}
 use Rattle.registry_commands.specs.Recorded.{record_text}
 use Rattle.registry_commands.proofs.ApplyLemmas.{applied_endures}
 use Rattle.registry_desk.specs.declared.server.Connections as connections
 use Rattle.registry_desk.specs.Server.{fault_in}
 use Rattle.registry_program.specs.declared.host.Host as host
-use Rattle.registry_program.specs.Commands.{ActsOnFile, ActsOnLines, Applies, ExportsAs, FoundsBy, FoundsIn, ImportsAs, ImportsFile, ImportsList, IsFoundedOn, ReadsFoundingAt, ReportsAs, RunsReading, WritesList, WritesRecord, WritesReport}
+use Rattle.registry_program.specs.Commands.{ActsOnFile, ActsOnLines, Applies, ExportsAs, FoundsBy, FoundsIn, ImportsAs, ImportsFile, ImportsList, IsFoundedOn, ReadsFoundingAt, ReportsAs, RunsReading, WritesHead, WritesList, WritesRecord, WritesReport}
 use Rattle.registry_program.specs.DryRuns.{TriesFile, TriesImportAs, TriesList}
 use Rattle.registry_program.specs.Outputs.{earlier, later}
 use Rattle.registry_program.specs.Serving.{Serves, ServesOn}
 use Rattle.registry_program.specs.Stores.{ClosesStore, IsRunOver, Runs, TheRegistry}
-use Rattle.registry_program.specs.Whole.{AppliesWholly, AreLeftAfter, ExportsWhollyAs, ForetellsWhollyAs, Foretells, FoundsWholly, ImportsWhollyAs, IsAfterImport, IsAfterLines, IsAppliedTo, IsCarriedOn, IsForetoldOf, IsForetoldTo, IsFoundedWholly, IsGivenBy, IsImportedTo, IsListed, IsRecordedOn, IsReportedOn, IsServedTo, IsUnbegun, IsUsed, LeadsFilesTo, ReportsWholly, ServesWholly, Stays, UnlessStopped}
+use Rattle.registry_program.specs.Whole.{AppliesWholly, AreLeftAfter, ExportsWhollyAs, ForetellsWhollyAs, Foretells, FoundsWholly, ImportsWhollyAs, IsAfterImport, IsAfterLines, IsAppliedTo, IsCarriedOn, IsForetoldOf, IsForetoldTo, IsFoundedWholly, IsGivenBy, IsHeadOn, IsImportedTo, IsListed, IsRecordedOn, IsReportedOn, IsServedTo, IsUnbegun, IsUsed, LeadsFilesTo, ReportsWholly, ServesWholly, Stays, UnlessStopped}
 use Rattle.registry_program.proofs.ForetoldLemmas.{import_said}
 use Rattle.registry_program.proofs.LeavesLemmas.{success_or, same_of_either, LeavesSome, leaves_itself, stayed, applied, unacted, LeavesImport, imported, import_endures, served}
 
@@ -135,6 +137,18 @@ module _ {H F I : Type 0} (m : host.Ghosts H F I) (d : disk.Ghosts F) where
   pub record_whole : (old new : H) (path : List ℕ) (from : Option ℕ) (ends : Ends) → Runs m d old new path ends (WritesRecord from) → UnlessStopped m d old new path ends (WritesRecord from) (IsCarriedOn m d old new path (IsRecordedOn from ends))
   record_whole old new path from ends = show_whole old new path ends (WritesRecord from) (λ h. AreValid h.deeds → Receives ends.out (record_text h from)) (λ over.
       let is = over.does.1 in (is.left, λ h stands clean success. is.whole success h stands clean))
+
+  pub head_whole : (old new : H) (path : List ℕ) (ends : Ends) → Runs m d old new path ends WritesHead → UnlessStopped m d old new path ends WritesHead (IsCarriedOn m d old new path (IsHeadOn ends))
+  head_whole old new path ends = show_whole old new path ends WritesHead (λ h. AreValid h.deeds → Receives ends.out (head_text h)) (λ over.
+      let is = over.does in (
+        subst (λ (x : TheRegistry m d). IsUntouched over.it x) (sym is.1) (untouched_itself over.it),
+        λ h stands clean success valid. elim is.2.shown [
+          | inl all ↦
+              let received : Receives ends.out all.0 = elim all.2 [ inl whole ↦ whole.1 | inr cut ↦ absurd (cc (cut.0, success)) ] in
+              subst (Receives ends.out) (all.1 h stands valid) received
+          | inr none ↦ absurd (cc (none.0, success))
+        ],
+      ))
 
   module _ (s : source.Ghosts I) where
     module _ {R : Type 0} (r : source.Ghosts R) (input input_new : R) where

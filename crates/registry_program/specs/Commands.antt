@@ -28,6 +28,7 @@ use Rattle.registry_commands.specs.Apply.{IsApplied, IsUnread}
 use Rattle.registry_commands.specs.Ends.{Ends, Output, ReceivesNothing, Sunk, effect}
 use Rattle.registry_commands.specs.Failures.{IsOfInput, IsTooLong, Prints, PrintsFailure, TellsFailedReads}
 use Rattle.registry_commands.specs.Found.{IsTriedOn, ReadsFounding, attempt}
+use Rattle.registry_commands.specs.Heads.{IsHeadShown}
 use Rattle.registry_commands.specs.Imports.{AsksFor, IsImported}
 use Rattle.registry_commands.specs.Lines.{requests_in}
 use Rattle.registry_commands.specs.LookUp.{IsLookedUp}
@@ -129,6 +130,10 @@ WritesReport name old new it after ends = (new ≡ old) × IsReported (effect it
 abbrev pub WritesRecord : {H S : Type 0} {g : store.Ghosts S} → Option ℕ → H → H → Registry S g → Registry S g → Ends → Type 0
 WritesRecord from old new it after ends = (new ≡ old) × IsRecorded (effect it after ends) from
 
+-- where the record of a registry ends is written
+abbrev pub WritesHead : {H S : Type 0} {g : store.Ghosts S} → H → H → Registry S g → Registry S g → Ends → Type 0
+WritesHead old new it after ends = (new ≡ old) × (after ≡ it) × IsHeadShown it ends
+
 module _ {H F I : Type 0} (m : host.Ghosts H F I) (s : source.Ghosts I) where
   -- a device is looked up in the list in the file at this path; or it could not be opened
   abbrev pub LooksUpIn : H → H → List ℕ → Wanted → Ends → Type 0
@@ -158,6 +163,10 @@ module _ {H F I : Type 0} (m : host.Ghosts H F I) (d : disk.Ghosts F) where
   -- history STORE
   abbrev pub PrintsRecord : H → H → List ℕ → Option ℕ → Ends → Type 0
   PrintsRecord old new path from ends = Runs m d old new path ends (WritesRecord from)
+
+  -- head STORE
+  abbrev pub PrintsHead : H → H → List ℕ → Ends → Type 0
+  PrintsHead old new path ends = Runs m d old new path ends WritesHead
 
 module _ {H F I : Type 0} (m : host.Ghosts H F I) (d : disk.Ghosts F) where
   -- the store was opened, or made, this registry was founded on it, and it was closed

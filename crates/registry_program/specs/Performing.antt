@@ -10,7 +10,7 @@ use Rattle.registry_reports.specs.Kinds.{report_named}
 use Rattle.registry_commands.specs.Ends.{Ends}
 use Rattle.registry_desk.specs.declared.server.Connections as connections
 use Rattle.registry_program.specs.declared.host.Host as host
-use Rattle.registry_program.specs.Commands.{Applies, Exports, FoundsIn, Imports, LooksUp, PrintsRecord, ReportsAs, Tries}
+use Rattle.registry_program.specs.Commands.{Applies, Exports, FoundsIn, Imports, LooksUp, PrintsHead, PrintsRecord, ReportsAs, Tries}
 use Rattle.registry_program.specs.DryRuns.{ChecksFounding, TriesImport}
 use Rattle.registry_program.specs.Checking.{ChecksStore}
 use Rattle.registry_program.specs.Replaying.{ReplaysRecord}
@@ -33,5 +33,6 @@ Performs m d s c r w i (command.Serve path port count) old new input input_new e
 Performs m d s c r w i (command.Export path stamp) old new input input_new ends = (input_new ≡ input) × Exports m d s old new path stamp ends
 Performs m d s c r w i (command.Report path name) old new input input_new ends = (input_new ≡ input) × ReportsAs m d s old new path (report_named name) ends
 Performs m d s c r w i (command.History path from) old new input input_new ends = (input_new ≡ input) × PrintsRecord m d old new path from ends
+Performs m d s c r w i (command.Head path) old new input input_new ends = (input_new ≡ input) × PrintsHead m d old new path ends
 Performs m d s c r w i (command.Check path) old new input input_new ends = (input_new ≡ input) × ChecksStore m d old new path ends
 Performs m d s c r w i (command.Lookup list vid pid) old new input input_new ends = (input_new ≡ input) × LooksUp m d s old new list (number_of vid) (code_of pid) ends

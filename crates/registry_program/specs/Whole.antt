@@ -44,20 +44,19 @@ use Rattle.registry_commands.specs.Ends.{Ends, Receives, Output}
 use Rattle.registry_commands.specs.declared.checking.Counts.{Counts}
 use Rattle.registry_commands.specs.Checks.{IsCountOf, sound_text}
 use Rattle.registry_commands.specs.Failures.{IsOfOpening, IsOfSoundRun, PrintsFailure}
+use Rattle.registry_commands.specs.Heads.{head_text}
 use Rattle.registry_commands.specs.Imports.{AsksFor, request_of_import, exit_status_of}
 use Rattle.registry_commands.specs.Lines.{requests_in}
-use Rattle.registry_commands.specs.declared.entries.Entry.TheVariants as says
-use Rattle.registry_commands.specs.Entries.{FirstSays}
 use Rattle.registry_commands.specs.Messages.{reply_line}
 use Rattle.registry_commands.specs.RecordLines.{MayHaveLines}
-use Rattle.registry_commands.specs.Replayed.{AreBeginning, GetTheirReplies, after_lines}
+use Rattle.registry_commands.specs.Replayed.{AreBeginning, AreContinued, FirstAccepts, GetTheirReplies, after_lines}
 use Rattle.registry_commands.specs.Recorded.{record_text}
 use Rattle.registry_reports.specs.Kinds.{report_named}
 use Rattle.registry_views.specs.Reports.{IsReport}
 use Rattle.registry_desk.specs.declared.server.Connections as connections
 use Rattle.registry_desk.specs.Server.{HaveVisited, IsLeftAfter, Visit}
 use Rattle.registry_program.specs.declared.host.Host as host
-use Rattle.registry_program.specs.Commands.{ActsOnFile, ImportsFile, IsStampOf, WritesList, WritesRecord, WritesReport, is_standard}
+use Rattle.registry_program.specs.Commands.{ActsOnFile, ImportsFile, IsStampOf, WritesHead, WritesList, WritesRecord, WritesReport, is_standard}
 use Rattle.registry_program.specs.DryRuns.{TriesFile}
 use Rattle.registry_program.specs.Checking.{ChecksRows}
 use Rattle.registry_program.specs.Opening.{HoldsNoHistory}
@@ -98,6 +97,10 @@ IsReportedOn name ends h x y = Stays h x y × (ends.status ≡ Success → (text
 abbrev pub IsRecordedOn : Option ℕ → Ends → History → History → History → Type 0
 IsRecordedOn from ends h x y = Stays h x y × (ends.status ≡ Success → AreValid h.deeds → Receives ends.out (record_text h from))
 
+-- at the status Success the line of the head of the history is written, if its requests are valid
+abbrev pub IsHeadOn : Ends → History → History → History → Type 0
+IsHeadOn ends h x y = Stays h x y × (ends.status ≡ Success → AreValid h.deeds → Receives ends.out (head_text h))
+
 -- A store was checked. If the requests of the history are valid: at the status Success the line with its counts is written, and at any
 -- other the error output has the message of a failure, and so none that the store is not sound.
 abbrev pub IsCheckedOn : Ends → History → History → History → Type 0
@@ -134,15 +137,16 @@ AreLeftAfter visits h x y = IsLeftAfter h visits x × IsLeftAfter h visits y
 
 -- the history after the requests of these lines of a record, or after that of the next line too
 abbrev pub IsNear : History → List (List ℕ) → List (List ℕ) → History → Type 0
-IsNear h front rest x = (x ≡ after_lines h front) ⊎ ((accepted : Accepted) × FirstSays rest (says.Accepted accepted) × (x ≡ after_one (after_lines h front) accepted.request))
+IsNear h front rest x = (x ≡ after_lines h front) ⊎ ((accepted : Accepted) × FirstAccepts rest accepted × (x ≡ after_one (after_lines h front) accepted.request))
 
--- The first lines of a record were acted on, and each got the reply that it says; at the status Success these are all. Both
+-- The first lines of a record were acted on, and each got the reply that it says and continued the record by its digest; at the status Success these are all. Both
 -- histories are the one after them, or after the request of the next line too.
 pub record IsAfterRecord (lines : List (List ℕ)) (status : ExitStatus) (h x y : History) : Type 0 where
   pub front : List (List ℕ)
   pub rest : List (List ℕ)
   pub split : lines ≡ front ++ rest
   pub replied : GetTheirReplies h front
+  pub continued : AreContinued h front
   pub whole : status ≡ Success → rest ≡ []
   pub x_is : IsNear h front rest x
   pub y_is : IsNear h front rest y
@@ -282,6 +286,9 @@ module _ {H F I : Type 0} (m : host.Ghosts H F I) (d : disk.Ghosts F) where
   abbrev pub PrintsRecordWholly : H → H → List ℕ → Option ℕ → Ends → Type 0
   PrintsRecordWholly old new path from ends = UnlessStopped old new path ends (WritesRecord from) (IsCarriedOn old new path (IsRecordedOn from ends))
 
+  abbrev pub PrintsHeadWholly : H → H → List ℕ → Ends → Type 0
+  PrintsHeadWholly old new path ends = UnlessStopped old new path ends WritesHead (IsCarriedOn old new path (IsHeadOn ends))
+
   -- The store was opened, or made, and its registry could neither be founded nor opened, for this failure: what its files held
   -- is left, in its schema or a later one. Foreign only if they held no legal history. `performs` says what is committed.
   pub record IsUnreplayed (old new : H) (path : List ℕ) (ends : Ends) : Type 0 where
@@ -360,5 +367,6 @@ IsWhole m d s c r w i (command.Serve path port count) old new input input_new en
 IsWhole m d s c r w i (command.Export path stamp) old new input input_new ends = ExportsWholly m d old new path stamp ends
 IsWhole m d s c r w i (command.Report path name) old new input input_new ends = ReportsWholly m d old new path (report_named name) ends
 IsWhole m d s c r w i (command.History path from) old new input input_new ends = PrintsRecordWholly m d old new path from ends
+IsWhole m d s c r w i (command.Head path) old new input input_new ends = PrintsHeadWholly m d old new path ends
 IsWhole m d s c r w i (command.Check path) old new input input_new ends = ChecksWholly m d old new path ends
 IsWhole m d s c r w i (command.Lookup list vid pid) old new input input_new ends = ⊤

@@ -60,6 +60,7 @@ fn store_of<'a>(command: Command<&'a str>) -> Option<&'a str> {
         Command::Export { store, .. } => Some(store),
         Command::Report { store, .. } => Some(store),
         Command::History { store, .. } => Some(store),
+        Command::Head { store } => Some(store),
         Command::Check { store } => Some(store),
         Command::Lookup { .. } => None,
     }

@@ -36,5 +36,5 @@ pub use performing::perform;
 pub use replaying::run_replay;
 pub use running::{Terminals, run_over};
 pub use serving::run_serve;
-pub use showing::{run_export, run_history, run_lookup, run_report};
+pub use showing::{run_export, run_head, run_history, run_lookup, run_report};
 pub use stores::{close_connection, close_registry, connect, open_registry};

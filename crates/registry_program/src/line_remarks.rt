@@ -124,6 +124,8 @@ fn rule_of_field(field: &str) -> Option<&'static str> {
         "petition" => Some("it must be a whole number from 1 to 4294967295"),
         "items" => Some("it must be an array of pairs, each of four digits and a title or null"),
         "done" => Some("it must be a text"),
+        "at" => Some("it must be a time as 2026-11-28T20:34:13Z"),
+        "digest" => Some("it must be a text of 64 of 0-9 and a-f"),
         _ => None,
     }
 }
@@ -178,6 +180,15 @@ fn recorded_reply(alloc: Global, line: &[u8]) -> Result<Option<String>, NoMemory
     Ok(Some(format!(in alloc; "the record has {{\"done\":{front}}}")?))
 }
 
+/// Returns the words for the digest that a line of a record has.
+fn recorded_digest(alloc: Global, line: &[u8]) -> Result<Option<String>, NoMemory> {
+    let Some(value) = value_of(alloc, line)? else {
+        return Ok(None);
+    };
+    let words = found_at(alloc, &value, "digest")?;
+    Ok(Some(format!(in alloc; "{words}; the record of the registry has another there")?))
+}
+
 /// Returns the words for a line, by the message about it after its number. Those for JSON have the
 /// column, which counts bytes, before a colon.
 fn words_for_line(
@@ -196,6 +207,8 @@ fn words_for_line(
         bad_founding(alloc, line, key)?
     } else if message.starts_with("another reply: ".as_bytes()) {
         recorded_reply(alloc, line)?
+    } else if message == "another record".as_bytes() {
+        recorded_digest(alloc, line)?
     } else {
         None
     };

@@ -19,7 +19,7 @@ use crate::importing::run_import;
 use crate::last_line::LastLine;
 use crate::replaying::run_replay;
 use crate::serving::run_serve;
-use crate::showing::{run_export, run_history, run_lookup, run_report};
+use crate::showing::{run_export, run_head, run_history, run_lookup, run_report};
 use byte_streams::{Sink, Source};
 use registry_arguments::Command;
 use registry_commands::{ExitStatus, import_of_arguments, trial};
@@ -87,6 +87,7 @@ fn act_by<H: Host + Connections, R: Source, W: Sink, E: Sink>(
         Command::History { store, after } => {
             run_history(alloc, host, store, after, output, errors)
         }
+        Command::Head { store } => run_head(alloc, host, store, output, errors),
         Command::Check { store } => run_check(alloc, host, store, output, errors),
         Command::Lookup { list, vid, pid } => {
             run_lookup(alloc, host, list, vid, pid, output, errors)

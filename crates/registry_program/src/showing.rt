@@ -4,13 +4,13 @@ ghost use Rattle.std.specs.Prelude.{option_copied};
 ghost use Rattle.usbnum_core.specs.Number.{code_of, number_of};
 ghost use Rattle.registry_reports.specs.Kinds.{report_named};
 ghost use Rattle.registry_commands.specs.Ends.{ends_of};
-ghost use Rattle.registry_program.specs.Commands.{Exports, IsStampOf, LooksUp, PrintsRecord, ReportsAs};
+ghost use Rattle.registry_program.specs.Commands.{Exports, IsStampOf, LooksUp, PrintsHead, PrintsRecord, ReportsAs};
 
 use crate::host::{Host, MOST_INPUT};
 use crate::stores::{close_registry, open_registry};
 use byte_streams::Sink;
 use registry_commands::{
-    BadArgument, ExitStatus, export, fail, history, look_up, reject_argument, report,
+    BadArgument, ExitStatus, export, fail, head, history, look_up, reject_argument, report,
 };
 use registry_reports::report_named;
 use registry_wire::stamp_from_text;
@@ -98,6 +98,25 @@ pub fn run_history<H: Host, W: Sink, E: Sink>(
         Err(failure) => return fail(errors, failure),
     };
     let status = history(alloc, &mut registry, after, output, errors);
+    close_registry(host, registry, errors, status)
+}
+
+/// Prints where the record of the registry in a store ends, and returns the exit status.
+pub fn run_head<H: Host, W: Sink, E: Sink>(
+    alloc: Global,
+    host: &mut H,
+    store: &str,
+    output: &mut W,
+    errors: &mut E,
+) -> ExitStatus
+    ensures { PrintsHead H.Host H.File.Disk host.old host.new store.now
+        (ends_of W.Sink E.Sink output.old output.new errors.old errors.new result) }
+{
+    let registry = match open_registry(alloc, host, store) {
+        Ok(registry) => registry,
+        Err(failure) => return fail(errors, failure),
+    };
+    let status = head(alloc, &registry, output, errors);
     close_registry(host, registry, errors, status)
 }
 

@@ -1,5 +1,6 @@
 use Rattle.std.proofs.Common.{◌≡◌, ◌∙◌, sym, subst, ap, refl}
 use Rattle.std.specs.Prelude.{None}
+use Rattle.registry_rules.specs.Accepted.{AreValid}
 use Rattle.registry_store.proofs.IsQueryLemmas.{notes_then}
 use Rattle.registry_commands.proofs.CheckLemmas.{stops_later}
 use Rattle.registry_commands.proofs.RecordedLemmas.{clean_before, untouched_then}
@@ -29,5 +30,5 @@ returns-in-Err-compare_rows-clause-left g c = untouched_then c.args.registry.now
 pub returns-in-Err-compare_rows-clause-over : goal.returns-in-Err-compare_rows-clause-over
 returns-in-Err-compare_rows-clause-over g c now stands =
     let end = c.in-Ok.ensures.ok now stands in
-    stops_later c.args.registry.now c.follow_record.new.registry c.compare_rows.new.registry (λ h. end.0 ≡ h) _ c.in-Ok.ensures.left c.in-Ok.ensures.notes c.in-Err-compare_rows.ensures.left
-    (λ h at clean way. (end.2 h at clean way.0 way.1).0) c.in-Err-compare_rows.stop (c.in-Err-compare_rows.ensures.err end.0 end.1)
+    stops_later c.args.registry.now c.follow_record.new.registry c.compare_rows.new.registry (λ h. (end.0 ≡ h) × AreValid h.deeds) _ c.in-Ok.ensures.left c.in-Ok.ensures.notes c.in-Err-compare_rows.ensures.left
+    (λ h at clean way. ((end.2 h at clean way.0 way.1).0, way.0)) c.in-Err-compare_rows.stop (c.in-Err-compare_rows.ensures.err end.0 end.1)

@@ -22,6 +22,6 @@ returns-in-Ok-Some-clause-err g c x stands = (
   c.in-Ok.ensures.notes,
   λ h at clean same.
       let there = c.in-Ok.ensures.answered h at clean in
-      let here = c.in-Ok-lists_of.ensures.answered h (subst (Represents c.args.replayed.now) same stands) (memory_is_clean c.lists_of-2.new.registry) in
+      let here = c.in-Ok-lists_of.ensures.answered h (subst (Represents c.args.replayed.now) same.0 stands) (memory_is_clean c.lists_of-2.new.registry) in
       let none = c.in-Ok-Some.ensures h there here in cc (none, c.in-Ok-Some.field-0-is),
 )

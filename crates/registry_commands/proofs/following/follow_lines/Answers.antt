@@ -1,13 +1,15 @@
-use Rattle.std.proofs.Common.{◌≡◌, ◌⊎◌, ◌∙◌, ◌+◌, ◌-◌, ◌^◌, ℕ, refl, sym, ap, subst, inl, inr, length, arith}
+use Rattle.std.proofs.Common.{◌≡◌, ◌⊎◌, ◌∙◌, ◌+◌, ◌-◌, ◌^◌, ℕ, List, Option, refl, sym, ap, subst, inl, inr, length, arith}
 use Rattle.std.specs.Prelude.{Err}
 use Rattle.std.proofs.lemmas.Bool.{cases_lt}
 use Rattle.byte_streams.specs.Streams.{FailsOnce}
+use Rattle.registry_commands.specs.declared.entries.Entry.TheVariants.{Accepted as Request}
 use Rattle.registry_commands.specs.declared.following.ReplayStop.TheVariants as stop
+use Rattle.registry_commands.specs.Entries.{PassesOne}
 use Rattle.registry_commands.specs.declared.input.ReadAllFault.TheVariants as inputs
 use Rattle.registry_commands.specs.RecordLines.{ahead}
 use Rattle.registry_commands.proofs.EntryLemmas.{none_left}
-use Rattle.registry_commands.proofs.ReplayLemmas.{at_end, at_fault, at_reply, at_unread, none_yet, noted_record, of_record, then_blank, then_request}
-use Rattle.registry_commands.specs.Replayed.{IsOfActing}
+use Rattle.registry_commands.proofs.ReplayLemmas.{at_digest, at_end, at_fault, at_reply, at_unread, none_yet, noted_record, of_record, then_blank, then_request}
+use Rattle.registry_commands.specs.Replayed.{IsAnother, IsOfActing}
 use Rattle.registry_commands.specs.declared.messages.Failure.{Failure}
 use Rattle.registry_commands.specs.declared.messages.Failure.TheVariants.{File}
 use Rattle.registry_commands.proofs.BeginLemmas.{file_input, kept_unless_file}
@@ -32,13 +34,25 @@ returns-in-Ok-End-clause-passed g c =
     let taken = rw c.in-Ok-End.field-0-is at c.in-Ok-End.ensures.taken in
     (so_far.front, λ rest has. so_far.passed rest (same_lines _ _ rest end has), taken.1 ∙ so_far.counted)
 
-pub returns-in-Ok-Some-clause-replays : goal.returns-in-Ok-Some-clause-replays
-returns-in-Ok-Some-clause-replays g c =
+pub returns-in-Ok-Other-clause-replays : goal.returns-in-Ok-Other-clause-replays
+returns-in-Ok-Other-clause-replays g c =
     let taken = rw c.in-Ok-Accepted.field-0-is at c.in-Ok-Accepted.ensures.taken in
     at_reply _ _ _ _ _ _ c.loop-accepted.invariant.so_far (g.R.Source.failures c.args.source.now) (g.R.Source.failures c.next_entry.new.source)
-    c.lines.result c.in-Ok-Some.reply c.in-Ok-Accepted.accepted c.follow.new.registry _ taken.0 (c.lines.ensures ∙ taken.1)
-    (λ h stands clean. rw c.in-Ok-Some.field-0-is at (c.in-Ok-Some.ensures.replied h stands clean))
-    (c.in-Ok-Some.ensures.other c.in-Ok-Some.reply c.in-Ok-Some.field-0-is) c.in-Ok-Some.ensures.goes_on.0 c.in-Ok-Some.ensures.endures c.in-Ok-Some.ensures.notes
+    c.lines.result c.in-Ok-Other.reply c.in-Ok-Accepted.accepted c.in-Ok-Accepted.digest c.follow_line.new.registry _ taken.0 (c.lines.ensures ∙ taken.1)
+    (λ h stands clean. rw c.in-Ok-Other.field-0-is at (c.in-Ok-Other.ensures.answered h stands clean))
+    (c.in-Ok-Other.ensures.other c.in-Ok-Other.reply c.in-Ok-Other.field-0-is) c.in-Ok-Other.ensures.goes_on.0 c.in-Ok-Other.ensures.endures c.in-Ok-Other.ensures.notes
+
+pub returns-in-Ok-Elsewhere-clause-replays : goal.returns-in-Ok-Elsewhere-clause-replays
+returns-in-Ok-Elsewhere-clause-replays g c =
+    let old = ahead (g.R.Source.remaining c.loop-accepted.source) c.loop-accepted.unread in
+    let new = ahead (g.R.Source.remaining c.next_entry.new.source) c.next_entry.new.unread in
+    let a = c.in-Ok-Accepted.accepted in
+    let taken = rw c.in-Ok-Accepted.field-0-is at c.in-Ok-Accepted.ensures.taken in
+    let given = c.in-Ok-Elsewhere.ensures.given c.in-Ok-Elsewhere.field-0-is in
+    at_digest _ _ _ _ _ _ c.loop-accepted.invariant.so_far (g.R.Source.failures c.args.source.now) (g.R.Source.failures c.next_entry.new.source)
+    c.lines-in-Ok-Elsewhere.result a given.0 c.follow_line.new.registry new (subst (λ (d : Option (List ℕ)). PassesOne old new (Request a d)) given.1 taken.0) (c.lines-in-Ok-Elsewhere.ensures ∙ taken.1)
+    (λ h stands clean. let did = rw c.in-Ok-Elsewhere.field-0-is at (c.in-Ok-Elsewhere.ensures.answered h stands clean) in (did.0, did.1.0, subst (IsAnother h a.request) given.1 did.1.1))
+    c.in-Ok-Elsewhere.ensures.goes_on.0 c.in-Ok-Elsewhere.ensures.endures c.in-Ok-Elsewhere.ensures.notes
 
 pub returns-in-Err-clause-replays : goal.returns-in-Err-clause-replays
 returns-in-Err-clause-replays g c =
@@ -74,17 +88,17 @@ returns-in-Err-clause-waits g c = λ told.
       | inr full ↦ inl (so_far.front, rest.0, so_far.passed rest.0 rest.1, c.in-Err.ensures.lines ∙ so_far.counted, omega (arith, full, c.in-Err.ensures.lines))
     ]
 
-pub returns-in-Err-follow-clause-waits : goal.returns-in-Err-follow-clause-waits
-returns-in-Err-follow-clause-waits g c = λ told.
-    let is : c.in-Err-follow.failure ≡ File = cc told in
-    absurd (subst (IsOfActing c.loop-accepted.registry c.follow.new.registry) is c.in-Err-follow.ensures.failure)
+pub returns-in-Err-follow_line-clause-waits : goal.returns-in-Err-follow_line-clause-waits
+returns-in-Err-follow_line-clause-waits g c = λ told.
+    let is : c.in-Err-follow_line.failure ≡ File = cc told in
+    absurd (subst (IsOfActing c.loop-accepted.registry c.follow_line.new.registry) is c.in-Err-follow_line.ensures.failure)
 
-pub returns-in-Err-follow-clause-replays : goal.returns-in-Err-follow-clause-replays
-returns-in-Err-follow-clause-replays g c =
+pub returns-in-Err-follow_line-clause-replays : goal.returns-in-Err-follow_line-clause-replays
+returns-in-Err-follow_line-clause-replays g c =
     let taken = rw c.in-Ok-Accepted.field-0-is at c.in-Ok-Accepted.ensures.taken in
     at_fault _ _ _ _ _ _ c.loop-accepted.invariant.so_far (g.R.Source.failures c.args.source.now) (g.R.Source.failures c.next_entry.new.source)
-    c.in-Err-follow.failure c.in-Ok-Accepted.accepted c.follow.new.registry _ taken.0 c.in-Err-follow.ensures.crash c.in-Err-follow.ensures.failure
-    c.in-Err-follow.ensures.when_poisoned c.in-Err-follow.ensures.endures c.in-Err-follow.ensures.notes
+    c.in-Err-follow_line.failure c.in-Ok-Accepted.accepted c.in-Ok-Accepted.digest c.follow_line.new.registry _ taken.0 c.in-Err-follow_line.ensures.crash c.in-Err-follow_line.ensures.failure
+    c.in-Err-follow_line.ensures.when_poisoned c.in-Err-follow_line.ensures.endures c.in-Err-follow_line.ensures.notes
 
 pub loop-accepted-preserved-in-Ok-Blank : goal.loop-accepted-preserved-in-Ok-Blank
 loop-accepted-preserved-in-Ok-Blank g c =
@@ -98,7 +112,7 @@ pub loop-accepted-preserved : goal.loop-accepted-preserved
 loop-accepted-preserved g c =
     let taken = rw c.in-Ok-Accepted.field-0-is at c.in-Ok-Accepted.ensures.taken in
     record {
-      so_far = then_request _ _ _ _ _ _ c.loop-accepted.invariant.so_far _ _ c.in-Ok-Accepted.accepted c.follow.new.registry taken.0 taken.1
-          (λ h stands clean. rw c.in-Ok-None.field-0-is at (c.in-Ok-None.ensures.replied h stands clean)) c.in-Ok-None.ensures.goes_on c.in-Ok-None.ensures.endures c.in-Ok-None.ensures.notes;
+      so_far = then_request _ _ _ _ _ _ c.loop-accepted.invariant.so_far _ _ c.in-Ok-Accepted.accepted c.in-Ok-Accepted.digest c.follow_line.new.registry taken.0 taken.1
+          (λ h stands clean. let did = rw c.in-Ok-Same.field-0-is at (c.in-Ok-Same.ensures.answered h stands clean) in (did.0, did.1.0, did.1.1)) c.in-Ok-Same.ensures.goes_on c.in-Ok-Same.ensures.endures c.in-Ok-Same.ensures.notes;
       kept = c.in-Ok-Accepted.ensures.kept ∙ c.loop-accepted.invariant.kept;
     }

@@ -35,6 +35,9 @@ returns-in-Report g c = rw c.in-Report.is (refl, c.run_report.ensures)
 pub returns-in-History : goal.returns-in-History
 returns-in-History g c = rw c.in-History.is (refl, c.run_history.ensures)
 
+pub returns-in-Head : goal.returns-in-Head
+returns-in-Head g c = rw c.in-Head.is (refl, c.run_head.ensures)
+
 pub returns-in-Check : goal.returns-in-Check
 returns-in-Check g c = rw c.in-Check.is (refl, c.run_check.ensures)
 
