@@ -7,7 +7,7 @@ import {
 } from './elements.js';
 import { isCurator, known, loaded, noteClosed, openPetitions, petitionNow } from './registry.js';
 import { me } from './session.js';
-import { Decision } from './decision.js';
+import { Decision, reasonInput } from './decision.js';
 import { aboutPetition, numbersTable, standingOf, termsOf, vendorChoice, wishNow } from './pieces.js';
 import { follow } from './entries.js';
 import { openInFiles } from './record.js';
@@ -59,21 +59,21 @@ class Card {
     });
     waiting.replaceWith(h('div', { class: 'both' }, h('div', {}, about, this.decision.element),
       h('div', {}, h('h3', {}, 'Its other numbers'), numbersTable(petition.org, OTHERS))));
-    if (petition.state !== 'open') this.close(petition.state);
+    if (petition.state !== 'open') this.close(petition);
     else if (document.activeElement === this.element) this.focus();
   }
 
   // The petition was closed by somebody else.
-  close(state, by) {
-    this.end.textContent = by ? `It was ${state} by ${by}.` : `It is ${state}.`;
+  close({ state, by, reason }) {
+    const told = by ? `It was ${state} by ${by}` : `It is ${state}`;
+    this.end.replaceChildren(...(reason ? [`${told}: `, written(reason)] : [`${told}.`]));
     this.decision?.end();
     this.queue.ended(this, false);
   }
 
   async refused({ refused }) {
     if (refused !== 7) return;
-    const { state } = await petitionNow(this.listed.id);
-    this.close(state);
+    this.close(await petitionNow(this.listed.id));
   }
 
   // Chooses the card: its first button, once that is there.
@@ -176,20 +176,21 @@ class Queue {
   async decideAll(kind, question, chosen) {
     const ready = chosen.filter(it => it.decision?.isOpen);
     const list = h('div', { class: 'list' }, ready.map(it => aboutPetition(it.decision.petition)));
-    if (!await confirmed(question, list, kind === 'grant' ? 'Grant them' : 'Decline them')) return;
+    const { input, parts = [] } = kind === 'decline' ? reasonInput() : {};
+    if (!await confirmed(question, [list, parts], kind === 'grant' ? 'Grant them' : 'Decline them')) return;
     this.isMany = true;
-    for (const it of ready) if (it.decision.isOpen) await it.decision.send(kind);
+    for (const it of ready) if (it.decision.isOpen) await it.decision.send(kind, { reason: input?.value });
     this.isMany = false;
     this.count.scrollIntoView();
   }
 
   // What somebody else decided, as the record tells.
-  heard({ order, petition, caller }) {
+  heard({ order, petition, caller, reason }) {
     if (!ENDS[order]) return;
     noteClosed(petition);
     if (this.closed.has(petition) || !this.open.some(it => it.id === petition)) return;
     const card = this.cards.find(it => it.listed.id === petition);
-    if (card) card.close(ENDS[order], caller);
+    if (card) card.close({ state: ENDS[order], by: caller, reason });
     else {
       this.closed.add(petition);
       this.tell();

@@ -2,13 +2,11 @@
 
 import { confirmed } from './dialogs.js';
 import { button, h, note } from './elements.js';
-import { numberIn } from './orders.js';
+import { ORDERS, numberIn, orderOf, wrongIn } from './orders.js';
 import { foundingVendor, isCurator } from './registry.js';
 import { me } from './session.js';
 import { order, placeForAnswer } from './acting.js';
 import { aboutPetition } from './pieces.js';
-
-const NO_REASON = 'The registry keeps no reason: write to the maker.';
 
 // Says what is wrong with the number to grant for a petition, or nothing.
 function wrongNumber(text, petition) {
@@ -25,6 +23,15 @@ function numberInput(petition) {
   return input;
 }
 
+// Asks for the reason to decline, which may be empty.
+const WHY_NOT = ORDERS.decline.fields.find(it => it.name === 'reason');
+export function reasonInput() {
+  const input = h('input', { name: 'reason', autocomplete: 'off' });
+  input.addEventListener('input', () => input.setCustomValidity(wrongIn(WHY_NOT, input.value)));
+  const parts = [h('p', {}, h('label', {}, 'Reason (may be empty) ', input)), note(WHY_NOT.hint)];
+  return { input, parts };
+}
+
 // The buttons that decide on a petition. `ended` is told once it is decided, and `refused` when the registry refuses.
 export class Decision {
   constructor(petition, { ended = () => {}, refused = () => {} } = {}) {
@@ -39,22 +46,22 @@ export class Decision {
   async grant() {
     const input = numberInput(this.petition), label = h('label', {}, 'Number (empty: the least free one) ', input);
     const parts = this.petition.want ? [] : [h('p', {}, label)];
-    if (await this.asks('Grant', parts)) await this.send('grant', numberIn(input.value)?.number);
+    if (await this.asks('Grant', parts)) await this.send('grant', { number: numberIn(input.value)?.number });
   }
 
   async decline() {
-    if (await this.asks('Decline', [note(NO_REASON)])) await this.send('decline');
+    const { input, parts } = reasonInput();
+    if (await this.asks('Decline', parts)) await this.send('decline', { reason: input.value });
   }
 
   asks(words, parts) {
     return confirmed(`${words} petition ${this.petition.id}?`, [aboutPetition(this.petition), ...parts], words);
   }
 
-  // Sends the order, and says whether the petition is decided.
-  async send(kind, number) {
+  // Sends the order, with what is given, and says whether the petition is decided.
+  async send(kind, given) {
     this.disable(true);
-    const body = { order: kind, petition: this.petition.id };
-    const got = await order(number ? { ...body, number } : body, this.place);
+    const got = await order(orderOf(kind, { petition: this.petition.id, ...given }), this.place);
     if (got.done != null) this.end();
     else this.disable(false);
     if (got.done != null) this.ended(kind);

@@ -43,6 +43,14 @@ export function outside(text) {
     h('span', { class: isOdd ? 'host fault' : 'host' }, isOdd ? `leads to ${url.host}` : `at ${url.host}`));
 }
 
+// The day of a time of the record, as it is here; who points at it sees the whole time. A day that its month does not
+// have is only shown.
+const DAY = new Intl.DateTimeFormat('en-GB', { day: 'numeric', month: 'short', year: 'numeric' });
+export function day(at) {
+  const time = new Date(at);
+  return Number.isNaN(time.getTime()) ? written(at) : h('time', { datetime: at, title: at }, DAY.format(time));
+}
+
 // Links inside the page.
 export const numberLink = (vid, pid) => h('a', { href: `#/number/${vid}/${pid}`, class: 'code' }, `${vid}:${pid}`);
 export const orgLink = org => h('a', { href: `#/org/${org}` }, org);

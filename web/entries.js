@@ -44,23 +44,24 @@ const readFiled = () => once('filed', async () => {
   return text && /^\d+\n$/.test(text) ? Number(text) : null;
 });
 
-// The number of requests, where the server tells it. One that does not is asked once.
+// Where the record ends, if the server tells it: the number of requests, their digest, and the time of the last one. A
+// server that does not is asked once.
 let hasHead = true;
-async function readHead() {
+export const readHead = () => once('head', async () => {
   if (!hasHead) return null;
-  try { return Number((await read('/head')).match(/\d+/)[0]); } catch (why) {
+  try { return JSON.parse(await read('/head')); } catch (why) {
     if (!(why instanceof Refused) || ![404, 405].includes(why.status)) throw why;
     hasHead = false;
     return null;
   }
-}
+});
 
 // Finds how many entries there are. Where no route tells it, there are those of the files at least, and none after the
 // last one. After a piece that is not full there is most likely none; else the steps grow until nothing comes, and then
 // the places between are halved.
 export const findEnd = () => once('end', async () => {
   const told = await readHead();
-  if (told !== null) return end = Math.max(end, told);
+  if (told !== null) return end = Math.max(end, told.requests);
   end = Math.max(end, await readFiled() ?? 0);
   let none = Infinity, step = PIECE, isLast = true;
   while (end < none) {

@@ -65,6 +65,7 @@ const granted = field('number', 'id', 'Number',
 const petition = field('petition', 'petition', 'Petition', 'Its number.');
 const keeper = field('keeper', 'slug', 'New keeper', 'The name that this person signs in with.');
 const reason = field('reason', 'title', 'Reason', 'It stands in the record, for all to read; at most 200 bytes.');
+const whyNot = { ...reason, hint: 'The maker and all others can read it; at most 200 bytes.', optional: true };
 const first = field('first', 'id', 'First number', DIGITS);
 const last = field('last', 'id', 'Last number', DIGITS);
 
@@ -90,7 +91,7 @@ export const ORDERS = {
     sure('Withdraw this petition?')),
   grant: order('Grant a petition', 'Its organisation then holds the number.', [petition, granted],
     sure('Grant this petition?', curators)),
-  decline: order('Decline a petition', 'The registry keeps no reason: write to the maker.', [petition],
+  decline: order('Decline a petition', 'Say why: the maker can ask again.', [petition, whyNot],
     sure('Decline this petition?', curators)),
   correct: order('Correct a number', 'It puts right what the number of any organisation says.',
     [vendor, number, ...terms], curators),

@@ -12,7 +12,8 @@ export async function petitionView({ petition: id }) {
   const isOpen = got.state === 'open', isKeeper = owner.keeper === me()?.name;
   return [
     `Petition ${id}`,
-    facts(['State', got.state], ['Title', written(got.title)], ['Organisation', orgAndKeeper(got.org, owner)],
+    facts(['State', got.state], ['Reason', got.reason == null ? null : written(got.reason)],
+      ['Title', written(got.title)], ['Organisation', orgAndKeeper(got.org, owner)],
       ['Wants', wish(got)], ['Granted', got.granted ? numberLink(got.vid, got.granted) : null], ...termsOf(got)),
     isOpen && isKeeper && choices(orderLink('withdraw', 'Withdraw it', { petition: id })),
     ['declined', 'withdrawn'].includes(got.state) && isKeeper && choices(askAgain(got)),

@@ -76,12 +76,13 @@ async function aboutKeeper({ org: slug, keeper }) {
 // says it now.
 export async function about(body) {
   if (body.keeper) return aboutKeeper(body);
+  const reason = ['Reason', body.reason ? written(body.reason) : null];
   if (body.petition) {
     const it = await petitionNow(body.petition), org = await orgNow(it.org);
-    return aboutPetition(it, org, ['Number to grant', body.number ? `${it.vid}:${body.number}` : null]);
+    return aboutPetition(it, org, ['Number to grant', body.number ? `${it.vid}:${body.number}` : null], reason);
   }
   if (!body.number) return null;
   const vid = body.vendor ?? foundingVendor(), it = await numberNow(vid, body.number);
   const org = it.org ? await orgNow(it.org) : null;
-  return aboutNumber(vid, it, org, ['Reason', body.reason ? written(body.reason) : null]);
+  return aboutNumber(vid, it, org, reason);
 }

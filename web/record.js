@@ -1,9 +1,9 @@
 // The record of accepted requests: its entries, and those about a number or a petition.
 
 import {
-  button, counted, fault, grouped, h, note, orderLink, orgLink, pager, petitionLink, table, written,
+  button, counted, day, facts, fault, grouped, h, note, orderLink, orgLink, pager, petitionLink, table, written,
 } from './elements.js';
-import { GLANCE, PIECE, between, findEnd, numbered, readFiles } from './entries.js';
+import { GLANCE, PIECE, between, findEnd, numbered, readFiles, readHead } from './entries.js';
 import { readReply } from './reading.js';
 import { founded, foundingVendor } from './registry.js';
 import { wish } from './pieces.js';
@@ -24,9 +24,18 @@ function deed(entry) {
 
 const placeLink = place => h('a', { href: `#/record/${place}` }, grouped(place));
 
+// Entries from before the registry kept times have none.
 function entryTable(caption, shown) {
-  const cells = ([at, entry]) => [placeLink(at + 1), entry.caller, deed(entry)];
-  return table(caption, [['No.', 'count few'], ['Who', 'few'], ['What', 'long']], shown.map(cells));
+  const when = shown.some(([, it]) => it.at) ? [['When', 'few']] : [];
+  const times = ({ at }) => when.map(() => at ? day(at) : '');
+  const cells = ([at, entry]) => [placeLink(at + 1), ...times(entry), entry.caller, deed(entry)];
+  return table(caption, [['No.', 'count few'], ...when, ['Who', 'few'], ['What', 'long']], shown.map(cells));
+}
+
+// Where the record ends. The digest stands for all entries: of another record it is another one.
+function endFacts({ requests, digest, time }) {
+  return facts(['Entries', grouped(requests)], ['Newest', time ? day(time) : null],
+    ['Digest', h('code', { class: 'digest' }, digest)]);
 }
 
 function placeForm(all) {
@@ -42,7 +51,8 @@ function placeForm(all) {
 // The entries up to one, newest first; the newest if none is named.
 export async function recordView({ place }) {
   await founded();
-  const all = await findEnd(), last = Math.min(Number(place ?? all), all), first = Math.max(0, last - PER_PAGE);
+  const [all, head] = await Promise.all([findEnd(), readHead()]);
+  const last = Math.min(Number(place ?? all), all), first = Math.max(0, last - PER_PAGE);
   const shown = numbered(first, await between(first, last)).reverse();
   const part = shown.length ? `; ${grouped(last)} down to ${grouped(first + 1)} shown` : '';
   const at = it => it >= all ? '#/record' : `#/record/${it}`;
@@ -51,7 +61,7 @@ export async function recordView({ place }) {
     h('p', { role: 'status', id: 'count' }, `${counted(all, 'entry', 'entries')}${part}`),
     h('div', { id: 'entries' }, entryTable('Entries', shown)),
     pager(['Newer', 'Older'], [last < all ? at(last + PER_PAGE) : null, first > 0 ? at(first) : null]),
-    all > PER_PAGE && placeForm(all),
+    all > PER_PAGE && placeForm(all), head && endFacts(head),
   ];
 }
 
@@ -139,14 +149,13 @@ const ENDS = { grant: 'granted', decline: 'declined', withdraw: 'withdrawn' };
 
 // A petition of the record: what it asked for, and what became of it.
 function petitionIn(entry, ends) {
-  const id = Number(readReply(entry.done).petition), { state = 'open', granted, by } = ends.get(id) ?? {};
-  const { number, vendor } = entry, vid = vendor ?? foundingVendor();
-  return { ...entry, id, want: number?.toLowerCase() ?? null, vid, state, granted, by };
+  const id = Number(readReply(entry.done).petition), { number, vendor } = entry, vid = vendor ?? foundingVendor();
+  return { ...entry, id, want: number?.toLowerCase() ?? null, vid, ...(ends.get(id) ?? { state: 'open' }) };
 }
 
-function endOf({ order, done, caller }) {
-  const { number, vendor } = readReply(done);
-  return { state: ENDS[order], by: caller, granted: number && `${vendor ?? foundingVendor()}:${number}` };
+function endOf({ order, done, caller, at, reason }) {
+  const { number, vendor } = readReply(done), granted = number && `${vendor ?? foundingVendor()}:${number}`;
+  return { state: ENDS[order], by: caller, ended: at, granted, reason };
 }
 
 const canAskAgain = it => it.state === 'declined' || it.state === 'withdrawn';
@@ -156,8 +165,9 @@ export function askAgain({ org, want, title, licence, site, source, vendor }) {
 
 function petitionCells(it, isKeeper) {
   const end = it.granted ? `granted ${it.granted}` : it.state;
-  return [petitionLink(it.id), written(it.title), wish(it), it.by ? `${end} by ${it.by}` : end,
-    isKeeper && canAskAgain(it) ? askAgain(it) : ''];
+  const told = [it.by ? `${end} by ${it.by}` : end, it.ended && [', ', day(it.ended)],
+    it.reason && [': ', written(it.reason)]];
+  return [petitionLink(it.id), written(it.title), wish(it), told, isKeeper && canAskAgain(it) ? askAgain(it) : ''];
 }
 
 // The petitions of an organisation in the record with what became of them, newest first. `heard` is told each that was
@@ -171,7 +181,7 @@ export function petitionsInRecord(org, isKeeper, heard = () => {}) {
     if (found.at(-1).granted) heard(found.at(-1));
     return true;
   };
-  const heads = ['Petition', ['Title', 'long'], 'Wanted', 'State', ''];
+  const heads = [['Petition', 'few'], ['Title', 'long'], ['Wanted', 'few'], ['State', 'long'], ['', 'few']];
   const show = () => table('Petitions', heads, found.map(it => petitionCells(it, isKeeper)));
   return story([[`orgs/${org}`]], look, show, 'It never asked for a number.');
 }
